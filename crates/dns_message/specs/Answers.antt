@@ -15,7 +15,7 @@ use Rattle.dns_message.specs.declared.query.Question.{Question}
 
 -- a record as it is sent
 abbrev pub sent : SentRecord → Record
-sent r = record { owner = r.owner; rtype = r.rtype.0; ttl = r.ttl.0; rdata = r.rdata.now }
+sent r = record { owner = r.owner.now; rtype = r.rtype.0; ttl = r.ttl.0; rdata = r.rdata.now }
 
 -- the first element of a list
 abbrev pub first_of : {A : Type 0} → List A → Option A

@@ -20,7 +20,7 @@ use wire_names::NameWriter;
 #[derive(Drop)]
 pub struct SentRecord<'a> {
     /// The owner, as it is to be spelt.
-    pub owner: Name,
+    pub owner: &'a Name,
     /// The type.
     pub rtype: RType,
     /// The TTL.
@@ -137,7 +137,7 @@ fn put_first<L: RecordList>(
         out,
         at,
         names,
-        &record.owner,
+        record.owner,
         record.rtype,
         record.ttl,
         record.rdata,

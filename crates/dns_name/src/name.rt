@@ -6,6 +6,7 @@ ghost use Rattle.dns_name.specs.Name.{wire_of, IsName, fold_name, parent_of, nam
 use crate::compare::names_order;
 use crate::labels::Labels;
 use crate::octets::{append, ends_in, first_label, first_name, name_len};
+use crate::stored::{StoredName, put_name_front};
 use arrayvec::ArrayVec;
 use std::cmp::Ordering;
 use std::marker::Model;
@@ -146,6 +147,17 @@ impl Name {
         self.octets.clear();
         append(&mut self.octets, own);
         Some(own.len())
+    }
+
+    /// Becomes a name that a zone keeps, in lower case.
+    pub fn set_stored(&mut self, name: &StoredName)
+        ensures name { self.new ≡ name.now }
+        ensures folded { self.new ≡ fold_name self.new }
+        ensures lawful { IsName self.new }
+    {
+        self.octets.clear();
+        put_name_front(&mut self.octets, name.octets());
+        self.octets.push(0);
     }
 
     /// The label `*` in front of the name; None where that has more than 255 octets (RFC 4592, 2.1.1).

@@ -176,7 +176,7 @@ fn write_front(out: &mut [u8], octets: &[u8])
 
 /// The labels of a stored name, each behind its length, as they stand on the wire, where nothing is yet. Where no octet stands for
 /// another, which is so of most names, they are as many octets as are stored.
-fn put_name_front(to: &mut ArrayVec<u8, MAX_NAME>, octets: &[u8])
+pub(crate) fn put_name_front(to: &mut ArrayVec<u8, MAX_NAME>, octets: &[u8])
     requires stored { IsStored octets.now }
     requires empty { to.old.items ≡ [] }
     ensures { to.new.items ≡ front_of (name_stored octets.now) }

@@ -1,10 +1,10 @@
 -- The messages of a transfer, one after another.
-use Rattle.std.proofs.Common.{◌≡◌, ◌≢◌, ℕ, ◌+◌, ◌-◌, ◌≤◌, Bool, true, false, MatchOption, IfSome, All, List, [], ◌∷◌, ◌++◌, length, drop, map, Option, Some, None, is_some, Bor, refl, sym, ap, ◌∙◌, arith, append_assoc}
+use Rattle.std.proofs.Common.{◌≡◌, ◌≢◌, ℕ, ◌+◌, ◌-◌, ◌≤◌, Bool, true, false, cond, MatchOption, IfSome, All, List, [], ◌∷◌, ◌++◌, length, drop, map, Option, Some, None, is_some, Bor, refl, sym, ap, ◌∙◌, arith, append_assoc}
 use Rattle.std.proofs.lemmas.List.{drop_at, drop-drop}
 use Rattle.std.proofs.lemmas.List.Elements.{All-nil, All-cons}
 use Rattle.std.specs.List.{flat_map}
 use Rattle.std.specs.Option.{option_map, option_copied, option_to_list}
-use Rattle.dns_name.specs.Name.{Name, IsName}
+use Rattle.dns_name.specs.Name.{Name, IsName, is_same}
 use Rattle.dns_rdata.specs.Record.{Record}
 use Rattle.dns_message.specs.Answers.{sent, first_of, answers, filled}
 use Rattle.dns_message.specs.Message.{Message}
@@ -30,12 +30,20 @@ drop-map f (x ∷ xs) = refl
 pub none_first : (name : Name) (next : Option Record) (rest : List Record) → next ≡ None → rest ≡ [] → None ≡ first_of (map (spelt name) (option_to_list next ++ rest))
 none_first name next rest e f = rw (e, f) refl
 
+pub some_first : (name : Name) (next : Option Record) (rest : List Record) (r shown : Record) → next ≡ Some r → shown ≡ spelt name r → Some shown ≡ first_of (map (spelt name) (option_to_list next ++ rest))
+some_first name next rest r shown e f = rw e (ap Some f)
+
+-- a record with its owner as the one who asked for a name is shown it
+pub spelt_by : (name owner : Name) (r : Record) (b : Bool) → is_same r.owner name ≡ b → owner ≡ cond b name r.owner → record r { owner = owner } ≡ spelt name r
+spelt_by name owner r true e f = rw (e, f) refl
+spelt_by name owner r false e f = rw (e, f) refl
+
 -- the first record of a list is a small one: its owner is a name, and its data has at most 4,096 octets
 abbrev pub BeginsSmall : List Record → Type 0
 BeginsSmall [] = Unit {0}
 BeginsSmall (r ∷ rs) = IsName r.owner × (length r.rdata ≤ 4096)
 
-pub begins_small : (o : Option SentRecord) (list : List Record) → option_map sent o ≡ first_of list → IfSome o (λ r. IsName r.owner) → IfSome o (λ r. length r.rdata.now ≤ 4096) → BeginsSmall list
+pub begins_small : (o : Option SentRecord) (list : List Record) → option_map sent o ≡ first_of list → IfSome o (λ r. IsName r.owner.now) → IfSome o (λ r. length r.rdata.now ≤ 4096) → BeginsSmall list
 begins_small o [] e name short = tt
 begins_small None (r ∷ rs) e name short = cc
 begins_small (Some s) (r ∷ rs) e name short =

@@ -2,7 +2,7 @@
 ghost use Rattle.std.specs.Prelude.{◌≡◌, ◌≤◌, List, [], ◌∷◌, ◌++◌, length, take, drop, map, MatchOption, IfSome, Some, None, nat_le, if◌then◌else◌};
 ghost use Rattle.std.specs.Option.{option_copied, option_map, option_to_list};
 ghost use Rattle.dns_rdata.specs.Limits.{max_data};
-ghost use Rattle.dns_name.specs.Name.{IsName, is_same};
+ghost use Rattle.dns_name.specs.Name.{IsName};
 ghost use Rattle.dns_rdata.specs.Record.{Record};
 ghost use Rattle.dns_message.specs.Answers.{sent, first_of};
 ghost use Rattle.dns_message.specs.Message.{number_at};
@@ -59,11 +59,14 @@ impl<'a, C: ChainView> TransferRecords<'a, C> {
     }
 }
 
-/// The records of a list as the one who asked for a name is shown them: that name keeps the spelling asked (own).
+/// The records of a list as the one who asked for a name is shown them: that name keeps the spelling asked (own). The owner of the next
+/// one is kept as it is shown.
 pub(crate) struct SpeltList<'a, C: ChainView> {
     name: &'a Name,
     next: Option<LentRecord<'a>>,
+    owner: Name,
     rest: TransferRecords<'a, C>,
+    ghost owned: { (r : Record) → next ≡ Some r → record r { owner = owner } ≡ spelt name.now r },
     ghost ended: { next ≡ None → listed rest ≡ [] },
 }
 
@@ -72,6 +75,7 @@ impl<'a, C: ChainView> Drop for SpeltList<'a, C> {
         let SpeltList {
             name: _,
             next: _,
+            owner: _,
             rest: _,
         } = self;
     }
@@ -82,9 +86,12 @@ impl<'a, C: ChainView> SpeltList<'a, C> {
         ensures { map (spelt result.name.now) (option_to_list result.next ++ listed result.rest) ≡ map (spelt name.now) (listed list.entry) }
     {
         let next = list.next_record();
+        let mut owner = Name::root();
+        spell_owner(&mut owner, name, &next);
         SpeltList {
             name,
             next,
+            owner,
             rest: list,
         }
     }
@@ -95,42 +102,47 @@ impl<'a, C: ChainView> RecordList for SpeltList<'a, C> {
 
     fn first(&self) -> Option<SentRecord<'_>>
         ensures shown { option_map sent result ≡ first_of (map (spelt self.now.name.now) (option_to_list self.now.next ++ listed self.now.rest)) }
-        ensures lawful { IfSome result (λ r. IsName r.owner) }
+        ensures lawful { IfSome result (λ r. IsName r.owner.now) }
         ensures short { IfSome result (λ r. length r.rdata.now ≤ max_data) }
     {
         match &self.next {
             None => None,
-            Some(record) => Some(sent_to(self.name, record)),
+            Some(record) => Some(sent_to(&self.owner, record)),
         }
     }
 
     fn advance(&mut self) {
         self.next = self.rest.next_record();
+        spell_owner(&mut self.owner, self.name, &self.next);
     }
 }
 
-/// A record as the one who asked for a name is shown it.
-fn sent_to<'a>(name: &Name, lent: &LentRecord<'a>) -> SentRecord<'a>
-    ensures shown { sent result ≡ spelt name.now lent.now }
-    ensures lawful { IsName result.owner }
+/// Becomes the owner of the next record, where there is one, as the one who asked for a name is shown it.
+fn spell_owner(owner: &mut Name, name: &Name, next: &Option<LentRecord<'_>>)
+    ensures { (r : Record) → next.now ≡ Some r → record r { owner = owner.new } ≡ spelt name.now r }
+{
+    let Some(record) = next else {
+        return;
+    };
+    owner.set_stored(record.owner());
+    if *owner == *name {
+        *owner = name.copy();
+    }
+}
+
+/// A record whose owner is shown so.
+fn sent_to<'a>(owner: &'a Name, lent: &LentRecord<'a>) -> SentRecord<'a>
+    ensures shown { sent result ≡ record lent.now { owner = owner.now } }
+    ensures lawful { IsName result.owner.now }
     ensures short { length result.rdata.now ≤ max_data }
 {
+    learn_lawful(owner);
     SentRecord {
-        owner: owner_to(name, lent.owner().to_name()),
+        owner,
         rtype: lent.rtype(),
         ttl: lent.ttl(),
         rdata: lent.rdata().octets(),
     }
-}
-
-/// An owner as the one who asked for a name is shown it.
-fn owner_to(name: &Name, owner: Name) -> Name
-    ensures spelt { result ≡ (if is_same owner name.now then name.now else owner) }
-    ensures lawful { IsName result }
-{
-    let shown = if owner == *name { name.copy() } else { owner };
-    learn_lawful(&shown);
-    shown
 }
 
 /// Looks at a name's octets for a proof alone, which learns by it that they are those of a name.
