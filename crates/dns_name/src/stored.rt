@@ -95,45 +95,18 @@ fn first_octet(piece: &[u8]) -> Option<(u8, &[u8])>
     }
 }
 
-/// How many octets a piece stands for.
-fn octet_count(piece: &[u8]) -> usize
-    requires { length (octets_stored piece.now) ≤ MAX_LABEL }
-    ensures { result ≡ length (octets_stored piece.now) }
+/// How many octets others stand for.
+fn octet_count(octets: &[u8]) -> usize
+    requires { length (octets_stored octets.now) < MAX_NAME }
+    ensures { result ≡ length (octets_stored octets.now) }
 {
     let mut count = 0;
-    let mut rest = piece;
+    let mut rest = octets;
     while let Some((_octet, behind)) = first_octet(rest) {
         count += 1;
         rest = behind;
     }
     count
-}
-
-/// Labels behind the others, each behind its length, as they stand on the wire.
-fn put_front(to: &mut ArrayVec<u8, MAX_NAME>, octets: &[u8])
-    requires closed { IsClosed octets.now }
-    requires room { length to.old.items + length (front_of (reverse (labels_stored octets.now))) < MAX_NAME }
-    requires short { All (λ label. length label < 64) (labels_stored octets.now) }
-    ensures { to.new.items ≡ to.old.items ++ front_of (reverse (labels_stored octets.now)) }
-{
-    if let Some((piece, behind)) = first_piece(octets) {
-        put_front(to, behind);
-        put_piece(to, piece);
-    }
-}
-
-/// The label that a piece stands for behind the others, behind its length.
-fn put_piece(to: &mut ArrayVec<u8, MAX_NAME>, piece: &[u8])
-    requires short { length (octets_stored piece.now) ≤ MAX_LABEL }
-    requires room { length to.old.items + length (octets_stored piece.now) + 2 ≤ MAX_NAME }
-    ensures { to.new.items ≡ to.old.items ++ length (octets_stored piece.now) ∷ octets_stored piece.now }
-{
-    to.push(octet_count(piece) as u8);
-    let mut rest = piece;
-    while let Some((octet, behind)) = first_octet(rest) {
-        to.push(octet);
-        rest = behind;
-    }
 }
 
 /// Writes octets over as many; a single one, as many labels of a long name are, without a call.
@@ -174,6 +147,56 @@ fn write_front(out: &mut [u8], octets: &[u8])
     }
 }
 
+/// Writes the octets that a piece stands for over as many.
+fn write_piece(out: &mut [u8], piece: &[u8])
+    requires { length out.old ≡ length (octets_stored piece.now) }
+    ensures { out.new ≡ octets_stored piece.now }
+{
+    let mut at = 0;
+    let mut rest = piece;
+    while let Some((octet, behind)) = first_octet(rest) {
+        out[at] = octet;
+        at += 1;
+        rest = behind;
+    }
+}
+
+/// Writes the label that a piece stands for behind its length over as many octets.
+fn write_escaped_label(out: &mut [u8], piece: &[u8])
+    requires room { length out.old ≡ length (octets_stored piece.now) + 1 }
+    requires short { length (octets_stored piece.now) ≤ MAX_LABEL }
+    ensures { out.new ≡ length (octets_stored piece.now) ∷ octets_stored piece.now }
+{
+    out[0] = (out.len() - 1) as u8;
+    write_piece(&mut out[1..], piece);
+}
+
+/// Writes the labels that octets stand for, some of them by two, over as many as they take on the wire, as [`write_front`] does.
+fn write_escaped_front(out: &mut [u8], octets: &[u8])
+    requires closed { IsClosed octets.now }
+    requires room { length out.old ≡ length (front_of (reverse (labels_stored octets.now))) }
+    requires short { All (λ label. length label < 64) (labels_stored octets.now) }
+    ensures { out.new ≡ front_of (reverse (labels_stored octets.now)) }
+{
+    if let Some((piece, behind)) = first_piece(octets) {
+        let len = octet_count(piece) + 1;
+        let (front, own) = out.split_at_mut(out.len() - len);
+        write_escaped_label(own, piece);
+        write_escaped_front(front, behind);
+    }
+}
+
+/// The labels of a stored name, as [`put_name_front`] puts them, where some octet stands for another.
+fn put_escaped_front(to: &mut ArrayVec<u8, MAX_NAME>, octets: &[u8])
+    requires stored { IsStored octets.now }
+    requires empty { to.old.items ≡ [] }
+    ensures { to.new.items ≡ front_of (name_stored octets.now) }
+{
+    let len = octet_count(octets);
+    append(to, &octets[..len]);
+    write_escaped_front(to.as_mut_slice(), octets);
+}
+
 /// The labels of a stored name, each behind its length, as they stand on the wire, where nothing is yet. Where no octet stands for
 /// another, which is so of most names, they are as many octets as are stored.
 pub(crate) fn put_name_front(to: &mut ArrayVec<u8, MAX_NAME>, octets: &[u8])
@@ -182,7 +205,7 @@ pub(crate) fn put_name_front(to: &mut ArrayVec<u8, MAX_NAME>, octets: &[u8])
     ensures { to.new.items ≡ front_of (name_stored octets.now) }
 {
     if octets.contains(&ESCAPE) {
-        put_front(to, octets);
+        put_escaped_front(to, octets);
         return;
     }
     append(to, octets);

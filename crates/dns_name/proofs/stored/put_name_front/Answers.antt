@@ -1,23 +1,10 @@
-use Rattle.std.proofs.Common.{◌≡◌, ◌<◌, ◌∙◌, ◌++◌, [], List, ℕ, length, reverse, refl, sym, ap, arith}
+use Rattle.std.proofs.Common.{◌≡◌, ◌∙◌, ◌++◌, [], List, ℕ, length, reverse, sym, ap, arith}
 use Rattle.std.specs.List.{refill}
 use Rattle.dns_name.specs.Gather.{front_of}
 use Rattle.dns_name.specs.Stored.{labels_stored, name_stored, IsStored, IsPlain}
-use Rattle.dns_name.proofs.PieceLemmas.{closed_of, plain_size, refill_whole}
-use Rattle.dns_name.proofs.StoredLemmas.{front_room, short_labels}
+use Rattle.dns_name.proofs.PieceLemmas.{closed_of, plain_size, refill_whole, room_of}
+use Rattle.dns_name.proofs.StoredLemmas.{short_labels}
 use Rattle.dns_name.proofs.stored.put_name_front.Goals as goal
-
--- a name's labels leave room for the closing octet
-room_of : (octets : List ℕ) → IsStored octets → length (front_of (name_stored octets)) < 255
-room_of octets stored = front_room (front_of (name_stored octets)) [] (name_stored octets) stored.name refl refl
-
-pub put_front-requires-clause-closed : goal.put_front-requires-clause-closed
-put_front-requires-clause-closed c = closed_of _ c.requires.stored
-
-pub put_front-requires-clause-room : goal.put_front-requires-clause-room
-put_front-requires-clause-room c = omega (arith, ap length c.requires.empty, room_of _ c.requires.stored)
-
-pub put_front-requires-clause-short : goal.put_front-requires-clause-short
-put_front-requires-clause-short c = short_labels _ c.requires.stored.name.labels
 
 pub append-requires : goal.append-requires
 append-requires c =
