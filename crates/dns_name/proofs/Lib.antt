@@ -10,6 +10,7 @@ pub mod ReadLemmas
 pub mod RoundLemmas
 pub mod SameLemmas
 pub mod StoredLemmas
+pub mod SizedLemmas
 pub mod TextLemmas
 pub mod NamedLemmas
 pub mod SoughtLemmas

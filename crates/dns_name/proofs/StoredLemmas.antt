@@ -249,7 +249,7 @@ place_in (suc (suc c) ∷ label) rest = let e = place_in label rest in rw (not_c
 lt_true : (n m : ℕ) → n < m → nat_lt n m ≡ true
 lt_true n m h = grind (arith, nat_tests)
 
-place_is : (label rest : List ℕ) → position closes (flat_map stored_octet label ++ 0 ∷ rest) ≡ Some (length (flat_map stored_octet label))
+pub place_is : (label rest : List ℕ) → position closes (flat_map stored_octet label ++ 0 ∷ rest) ≡ Some (length (flat_map stored_octet label))
 place_is label rest =
     let place = place_in label rest in
     let both = length-append (flat_map stored_octet label) (0 ∷ rest) in

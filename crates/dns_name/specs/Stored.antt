@@ -60,3 +60,8 @@ pub record IsFirstPiece (octets piece rest : List ℕ) : Type 0 where
   pub octets_are : octets ≡ piece ++ 0 ∷ rest
   pub closed : IsClosed rest
   pub shorter : length rest < length octets
+
+-- and that label has so many octets
+pub record IsSized (octets piece rest : List ℕ) (len : ℕ) : Type 0 where
+  pub first : IsFirstPiece octets piece rest
+  pub size : len ≡ length (octets_stored piece)

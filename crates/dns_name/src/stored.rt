@@ -3,7 +3,7 @@ ghost use Rattle.std.specs.Prelude.{◌≡◌, ◌==◌, ◌+◌, ◌*◌, ◌<�
 ghost use Rattle.dns_name.specs.Gather.{front_of};
 ghost use Rattle.dns_name.specs.Labels.{labels_in, IsWhole};
 ghost use Rattle.dns_name.specs.Name.{Name, IsName, fold_name, is_under, canonical_cmp};
-ghost use Rattle.dns_name.specs.Stored.{stored_octet, stored_label, octets_stored, labels_stored, name_stored, IsStored, IsClosed, IsFirstPiece, IsPlain};
+ghost use Rattle.dns_name.specs.Stored.{stored_octet, stored_label, octets_stored, labels_stored, name_stored, IsStored, IsClosed, IsFirstPiece, IsSized, IsPlain};
 ghost use Rattle.dns_name.specs.Text.{text_of};
 
 use crate::kept::KeptOctets;
@@ -171,6 +171,24 @@ fn write_escaped_label(out: &mut [u8], piece: &[u8])
     write_piece(&mut out[1..], piece);
 }
 
+/// What stands for the first label, the octets behind the one that closes it, and how many octets the label has, in one pass; None where
+/// there is no label.
+fn first_sized(octets: &[u8]) -> Option<(&[u8], &[u8], usize)>
+    requires { IsClosed octets.now }
+    ensures { MatchOption result (labels_stored octets.now ≡ []) (λ parts. IsSized octets.now parts.0.now parts.1.now parts.2) }
+{
+    let mut at = 0;
+    let mut len = 0;
+    while let Some(octet) = octets.get(at) {
+        if *octet == CLOSING {
+            return Some((&octets[..at], &octets[at + 1..], len));
+        }
+        at += if *octet == ESCAPE { 2 } else { 1 };
+        len += 1;
+    }
+    None
+}
+
 /// Writes the labels that octets stand for, some of them by two, over as many as they take on the wire, as [`write_front`] does.
 fn write_escaped_front(out: &mut [u8], octets: &[u8])
     requires closed { IsClosed octets.now }
@@ -178,9 +196,8 @@ fn write_escaped_front(out: &mut [u8], octets: &[u8])
     requires short { All (λ label. length label < 64) (labels_stored octets.now) }
     ensures { out.new ≡ front_of (reverse (labels_stored octets.now)) }
 {
-    if let Some((piece, behind)) = first_piece(octets) {
-        let len = octet_count(piece) + 1;
-        let (front, own) = out.split_at_mut(out.len() - len);
+    if let Some((piece, behind, len)) = first_sized(octets) {
+        let (front, own) = out.split_at_mut(out.len() - len - 1);
         write_escaped_label(own, piece);
         write_escaped_front(front, behind);
     }

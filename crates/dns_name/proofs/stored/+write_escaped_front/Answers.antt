@@ -24,30 +24,29 @@ nothing out octets e size =
     let none = ap (λ (ls : List (List ℕ)). front_of (reverse ls)) e in
     nil_from_length out (size ∙ ap length none) ∙ sym none
 
-pub octet_count-len-requires : goal.octet_count-len-requires
-octet_count-len-requires t c = omega (arith, short_first _ _ _ c.in-Some.ensures c.requires.short)
-
-pub overflow_add-len : goal.overflow_add-len
-overflow_add-len t c = omega (arith, short_first _ _ _ c.in-Some.ensures c.requires.short, c.octet_count-len.ensures)
-
 pub overflow_sub-out : goal.overflow_sub-out
-overflow_sub-out t c = omega (arith, size_at _ _ _ c.in-Some.ensures, c.octet_count-len.ensures, c.requires.room)
+overflow_sub-out t c = omega (arith, size_at _ _ _ c.in-Some.ensures.first, c.in-Some.ensures.size, c.requires.room)
+
+pub overflow_sub-out-in-Some : goal.overflow_sub-out-in-Some
+overflow_sub-out-in-Some t c = omega (arith, size_at _ _ _ c.in-Some.ensures.first, c.in-Some.ensures.size, c.requires.room)
 
 pub write_escaped_label-requires-clause-room : goal.write_escaped_label-requires-clause-room
-write_escaped_label-requires-clause-room t c = omega (arith, size_at _ _ _ c.in-Some.ensures, c.octet_count-len.ensures, c.split_at_mut-front.ensures.back_len, c.requires.room)
+write_escaped_label-requires-clause-room t c = omega (arith, size_at _ _ _ c.in-Some.ensures.first, c.in-Some.ensures.size, c.split_at_mut-front.ensures.back_len, c.requires.room)
 
 pub write_escaped_label-requires-clause-short : goal.write_escaped_label-requires-clause-short
-write_escaped_label-requires-clause-short t c = omega (arith, short_first _ _ _ c.in-Some.ensures c.requires.short)
+write_escaped_label-requires-clause-short t c = omega (arith, short_first _ _ _ c.in-Some.ensures.first c.requires.short)
 
 pub write_escaped_front-requires : goal.write_escaped_front-requires
 write_escaped_front-requires t c =
-    let first = c.in-Some.ensures in
+    let sized = c.in-Some.ensures in
+    let first = sized.first in
     let size = size_at _ _ _ first in
+    let len = sized.size in
     let shorter = first.shorter in
-    (search rules, (first.closed, (omega (arith, c.octet_count-len.ensures, c.split_at_mut-front.ensures.front_len, c.requires.room), short_rest _ _ _ first c.requires.short)))
+    (search rules, (first.closed, (omega (arith, c.split_at_mut-front.ensures.front_len, c.requires.room), short_rest _ _ _ first c.requires.short)))
 
 pub returns-in-Some : goal.returns-in-Some
-returns-in-Some t c = laid _ _ _ _ _ c.in-Some.ensures c.write_escaped_front.ensures c.write_escaped_label.ensures
+returns-in-Some t c = laid _ _ _ _ _ c.in-Some.ensures.first c.write_escaped_front.ensures c.write_escaped_label.ensures
 
 pub returns-in_default : goal.returns-in_default
 returns-in_default t c = nothing _ c.args.octets.now c.in_default.ensures c.requires.room
