@@ -1,12 +1,12 @@
 -- Records of an update that have no effect: deletions of what isn't there, and adds of what is (RFC 2136, 3.4.2.2 to 3.4.2.4).
-use Rattle.std.proofs.Common.{◌≡◌, ◌≢◌, ℕ, ◌<◌, ◌≤◌, Bool, true, false, not, ◌&&◌, ◌||◌, ◌==◌, nat_lt, bytes_eq, List, [], ◌∷◌, map, length, Some, refl, sym, ap, subst, ◌∙◌, arith}
+use Rattle.std.proofs.Common.{◌≡◌, ◌≢◌, ℕ, ◌<◌, ◌≤◌, Bool, true, false, not, ◌&&◌, ◌==◌, bytes_eq, List, [], ◌∷◌, map, length, Some, refl, sym, ap, subst, ◌∙◌, arith}
 use Rattle.std.specs.Bool.{OnTrue}
-use Rattle.std.specs.List.{AllByRecursion, list_any}
+use Rattle.std.specs.List.{AllByRecursion}
 use Rattle.std.proofs.lemmas.Bool.Decides.{nat_tests}
 use Rattle.std.proofs.lemmas.List.Elements.{All-from_recursion}
-use Rattle.dns_rdata.specs.Numbers.{type_ANY, type_CNAME, type_SOA, class_IN, class_ANY, class_NONE}
+use Rattle.dns_rdata.specs.Numbers.{type_ANY, type_SOA, class_IN, class_ANY, class_NONE}
 use Rattle.dns_rdata.specs.Data.{Data}
-use Rattle.dns_rdata.specs.Record.{Record, records_with, owner_of, rtype_of, ttl_of, IsSet, with_data, with_record, has_data}
+use Rattle.dns_rdata.specs.Record.{Record, records_with, owner_of, rtype_of, ttl_of, IsSet, with_record, has_data}
 use Rattle.dns_rdata.specs.Raw.{RawRecord}
 use Rattle.dns_rdata.proofs.InsertLemmas.{same-from_has, records_with-with_data}
 use Rattle.zone_tree.specs.Zone.{IsZone, IsBefore, is_of, rrset_of}

@@ -1,12 +1,10 @@
 -- The rows of an update that make another set of one, or take it away (RFC 2136, 3.4.2.2 to 3.4.2.4).
-use Rattle.std.proofs.Common.{◌≡◌, ◌≢◌, ℕ, ◌<◌, ◌≤◌, Bool, true, false, not, ◌&&◌, ◌==◌, cond, if◌then◌else◌, List, [], ◌∷◌, length, Option, None, Some, refl, sym, ap, subst, ◌∙◌, arith}
+use Rattle.std.proofs.Common.{◌≡◌, ◌≢◌, ◌<◌, ◌≤◌, true, false, not, ◌&&◌, ◌==◌, cond, if◌then◌else◌, List, [], ◌∷◌, length, None, Some, refl, sym, ap, subst, ◌∙◌, arith}
 use Rattle.dns_rdata.specs.Numbers.{class_IN, class_NONE, class_ANY, type_ANY, type_SOA}
 use Rattle.dns_rdata.specs.Data.{Data}
 use Rattle.dns_rdata.specs.Raw.{RawRecord}
 use Rattle.dns_rdata.specs.Record.{Record, without_data}
 use Rattle.zone_tree.specs.Zone.{IsZone, rrset_of}
-use Rattle.zone_tree.specs.Sets.{IsRRset}
-use Rattle.zone_tree.specs.declared.change.Change.{Change}
 use Rattle.zone_tree.specs.declared.change.Change.TheVariants.{Put, Remove}
 use Rattle.update_core.specs.Verdict.{prescan_of}
 use Rattle.update_core.specs.Act.{entered, effect, has_lesser_soa, is_apex_set, is_last_apex_record, IsSent}

@@ -1,5 +1,5 @@
 -- What stands of a type among an owner's sets, and what they are with another set in its place.
-use Rattle.std.proofs.Common.{◌≡◌, ℕ, ◌<◌, ◌≤◌, Bool, true, false, not, ◌==◌, cond, bytes_eq, List, [], ◌∷◌, length, filter, Option, None, Some, MatchOption, refl, sym, ap, subst, ◌∙◌, arith}
+use Rattle.std.proofs.Common.{◌≡◌, ℕ, ◌<◌, ◌≤◌, Bool, true, false, not, ◌==◌, cond, bytes_eq, List, [], ◌∷◌, length, filter, Option, None, Some, MatchOption, sym, ap, subst, ◌∙◌, arith}
 use Rattle.std.specs.List.{find, AllByRecursion}
 use Rattle.std.specs.Ordering.{nat_cmp}
 use Rattle.dns_name.specs.Name.{Name}

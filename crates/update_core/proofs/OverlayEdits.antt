@@ -18,7 +18,7 @@ use Rattle.dns_rdata.specs.Numbers.{class_IN, class_NONE}
 use Rattle.zone_tree.specs.Zone.{IsZone, IsBefore, stands_at, is_of, rrset_of, rrsets_of, apex_of}
 use Rattle.zone_tree.specs.Sets.{records_in, IsRRset, IsOf}
 use Rattle.zone_tree.specs.Filed.{Owned}
-use Rattle.zone_tree.specs.Change.{with_rrset, without_rrset, beside, changed, edited}
+use Rattle.zone_tree.specs.Change.{with_rrset, without_rrset, beside, edited}
 use Rattle.zone_tree.specs.Edit.{AreOwn}
 use Rattle.zone_tree.specs.declared.change.Change.{Change}
 use Rattle.zone_tree.specs.declared.change.Change.TheVariants.{Put, Remove}

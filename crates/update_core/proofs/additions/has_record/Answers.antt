@@ -1,4 +1,4 @@
-use Rattle.std.proofs.Common.{◌≡◌, true, sym, ap, ◌∙◌, rules}
+use Rattle.std.proofs.Common.{◌≡◌, sym, ap, ◌∙◌, rules}
 use Rattle.dns_rdata.specs.Record.{ttl_of, has_data}
 use Rattle.update_core.proofs.NoEffects.{by_true, joined_same}
 use Rattle.update_core.proofs.additions.has_record.Goals as goal

@@ -1,4 +1,4 @@
-use Rattle.std.proofs.Common.{◌<◌, ◌≤◌, [], length, sym, refl, ◌∙◌, rules}
+use Rattle.std.proofs.Common.{◌<◌, [], length, sym, refl, ◌∙◌, rules}
 use Rattle.update_core.proofs.RowEffects.{effect_beside, effect_lesser, addition_too_long}
 use Rattle.update_core.proofs.NoEffects.{stands_of}
 use Rattle.update_core.proofs.OneSetRows.{nothing_from, addition_row}

@@ -1,7 +1,6 @@
 use Rattle.std.proofs.Common.{◌≢◌, ◌≤◌, [], length, sym, subst, ap, ◌∙◌, true≢false}
 use Rattle.dns_rdata.specs.Raw.{RawRecord, ttl_in_zone}
 use Rattle.zone_tree.specs.Zone.{rrset_of}
-use Rattle.update_core.specs.Applied.{set_behind}
 use Rattle.update_core.proofs.NoEffects.{if_true, if_both}
 use Rattle.update_core.proofs.RowEffects.{own_rtype, joined_is}
 use Rattle.update_core.proofs.additions.stands.Goals as goal

@@ -1,6 +1,5 @@
-use Rattle.std.proofs.Common.{Bool, Err, map, ap, ◌∙◌, rules}
+use Rattle.std.proofs.Common.{Bool, Err, rules}
 use Rattle.std.specs.Result.{IsErrOf}
-use Rattle.dns_rdata.specs.Record.{Record}
 use Rattle.dns_rdata.specs.declared.rrset.SetFault.TheVariants.{Limit as set_limit}
 use Rattle.update_core.proofs.RowLemmas.{joined_long}
 use Rattle.update_core.proofs.one_set.joined.Goals as goal

@@ -1,4 +1,3 @@
-use Rattle.zone_tree.proofs.CheckLemmas.{rrset_from_data}
 use Rattle.update_core.proofs.OwnSets.{lawful_of}
 use Rattle.update_core.proofs.own_sets.count_of.Goals as goal
 

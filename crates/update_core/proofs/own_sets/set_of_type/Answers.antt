@@ -1,5 +1,4 @@
 use Rattle.std.proofs.Common.{◌≡◌, ◌<◌, ◌≤◌, ◌==◌, true, false, cond, length, List, Some, None, sym, ap, ◌∙◌, rules}
-use Rattle.std.specs.List.{find}
 use Rattle.std.specs.Ordering.{nat_cmp, is_lt}
 use Rattle.dns_rdata.specs.Record.{Record, rtype_of}
 use Rattle.zone_tree.proofs.Rising.{rises_from_pairs}

@@ -1,5 +1,5 @@
 -- All sets of one owner are replaced.
-use Rattle.std.proofs.Common.{◌≡◌, sym, ap, ◌∙◌}
+use Rattle.std.proofs.Common.{sym, ap, ◌∙◌}
 use Rattle.dns_name.specs.Name.{canonical_cmp, fold_name}
 use Rattle.shared_tree.specs.Pairs.{pairs_with, pairs_without}
 use Rattle.zone_tree.proofs.OwnLemmas.{next_filed, next_records}

@@ -1,7 +1,6 @@
-use Rattle.std.proofs.Common.{◌≡◌, List, [], ap, subst}
+use Rattle.std.proofs.Common.{◌≡◌, [], subst}
 use Rattle.std.specs.Prelude.{◌↔◌}
 use Rattle.std.specs.Option.{IsNone, IfSome, option_copied}
-use Rattle.dns_rdata.specs.Record.{Record}
 use Rattle.zone_tree.specs.Zone.{rrset_of}
 use Rattle.zone_tree.proofs.LookLemmas.{rrset_clauses}
 use Rattle.update_core.specs.Overlay.{Placed}

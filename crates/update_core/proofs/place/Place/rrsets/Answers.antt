@@ -1,4 +1,4 @@
-use Rattle.std.proofs.Common.{◌≡◌, ap, subst, ◌∙◌}
+use Rattle.std.proofs.Common.{ap, subst, ◌∙◌}
 use Rattle.zone_tree.specs.Zone.{rrsets_of}
 use Rattle.zone_tree.specs.Sets.{AreWhole}
 use Rattle.update_core.specs.Overlay.{Placed}

@@ -1,6 +1,6 @@
-use Rattle.std.proofs.Common.{◌≡◌, length, refl, sym, ap, ◌∙◌, arith}
+use Rattle.std.proofs.Common.{length, refl, sym, ap, ◌∙◌, arith}
 use Rattle.dns_rdata.specs.Data.{serial_of}
-use Rattle.zone_tree.specs.Zone.{rrset_of, apex_of}
+use Rattle.zone_tree.specs.Zone.{apex_of}
 use Rattle.update_core.proofs.VerdictLemmas.{rrset_of-same}
 use Rattle.zone_tree.specs.Version.{first_data}
 use Rattle.zone_tree.proofs.LawLemmas.{soa_is_at_apex}

@@ -1,10 +1,9 @@
 -- What stands at the name, or else what the owners next to it tell.
-use Rattle.std.proofs.Common.{◌≡◌, sym, ap, subst, ◌∙◌, Some, None, refl}
+use Rattle.std.proofs.Common.{sym, ap, subst, ◌∙◌, Some, None, refl}
 use Rattle.std.specs.List.{find}
 use Rattle.std.specs.Option.{option_copied, option_map, IsNone}
-use Rattle.dns_name.specs.Name.{canonical_cmp, self_and_ancestors}
-use Rattle.shared_tree.specs.Pairs.{pair_at, pair_before, pair_after}
-use Rattle.zone_tree.specs.Filed.{Filed, items_of, records_under}
+use Rattle.dns_name.specs.Name.{self_and_ancestors}
+use Rattle.zone_tree.specs.Filed.{Filed, records_under}
 use Rattle.zone_tree.specs.Sets.{AreWhole, records_in}
 use Rattle.zone_tree.specs.Zone.{exists, rrsets_of}
 use Rattle.zone_tree.proofs.FiledLemmas.{rrsets_at_key, whole_at_key}
