@@ -1,7 +1,7 @@
 //! A zone, and in place of some owners' sets what the records of an update that were taken so far made of them (RFC 2136,
 //! 3.4.2). An owner's sets are copied once, when a record changes them first, and put into the zone's tree once, at the end.
 ghost use Rattle.std.specs.Prelude.{◌≡◌, ◌≢◌, IfOk, OnOk, MatchBool, Some, None, [], false, if◌then◌else◌};
-ghost use Rattle.std.specs.List.{flat_map, AllByRecursion};
+ghost use Rattle.std.specs.List.{AllByRecursion};
 ghost use Rattle.std.specs.List.Sorted.{IsStrictlySortedBy};
 ghost use Rattle.std.specs.Option.{option_copied, option_map};
 ghost use Rattle.std.specs.BTreeMap.{is_at};
@@ -269,8 +269,8 @@ fn last_sets<'a>(last: &'a Option<Own>, owner: &TaggedName) -> Option<&'a [RRset
     None
 }
 
-/// Takes an owner's sets: those of the owner that was changed last, where it is this one; else that one is put beside the others, and
-/// these sets are taken out of those of others, or copied from the zone's.
+/// Takes an owner's sets: those of the owner that was changed last, where it is this one; else that one is put beside the
+/// others, and these sets are taken out of those of others, or copied from the zone's.
 fn taken(
     alloc: Global,
     zone: &Zone,
