@@ -2,28 +2,38 @@
 use Rattle.std.specs.Prelude.{◌≡◌, ℕ, suc, ◌+◌, ◌*◌, ◌^◌, ◌<◌, ◌≤◌, max, List, [], ◌∷◌, ◌++◌, length, Option, None, Some}
 use Rattle.std.specs.Borrow.{Bor}
 use Rattle.std.specs.declared.cmp.Ordering.{Ordering}
-use Rattle.shared_tree.specs.Pairs.{TreeView, IsAscending}
+use Rattle.shared_tree.specs.Pairs.{TreeView, IsAscending, first_pair}
 use Rattle.shared_tree.specs.declared.node.Entry.{Entry}
-use Rattle.shared_tree.specs.declared.node.Link.{Link, Leaf, Fork'}
+use Rattle.std.specs.List.{AllByRecursion}
+use Rattle.shared_tree.specs.declared.node.Link.{Link, Run, Fork'}
 use Rattle.shared_tree.specs.declared.node.Node.{Node}
+
+-- the pairs of a run's entries (own)
+abbrev pub run_pairs : {K V : Type 0} → List (Entry K V) → List (K × V)
+run_pairs [] = []
+run_pairs (entry ∷ rest) = entry.pair.value ∷ run_pairs rest
 
 -- the pairs below a link, from the left to the right (own)
 abbrev pub link_pairs : {K V : Type 0} → Link K V → List (K × V)
-link_pairs Leaf = []
-link_pairs (Fork' p entry left right h) = link_pairs left ++ entry.pair.value ∷ link_pairs right
+link_pairs (Run run) = run_pairs run.value.items
+link_pairs (Fork' p entry left right h) = link_pairs left ++ link_pairs right
 
--- how many nodes stand on the longest way down (own)
+-- how many links stand on the longest way down (own)
 abbrev pub link_height : {K V : Type 0} → Link K V → ℕ
-link_height Leaf = 0
+link_height (Run run) = 1
 link_height (Fork' p entry left right h) = max (link_height left) (link_height right) + 1
 
 -- neither of two sides is higher than the other by more than one (own)
 abbrev pub IsLevel : {K V : Type 0} → Link K V → Link K V → Type 0
 IsLevel left right = (link_height left ≤ link_height right + 1) × (link_height right ≤ link_height left + 1)
 
--- at each node the two sides are level, and the height that it says is its own and at most 64 (own)
+-- a run has a pair, and at most 16 (own)
+abbrev pub IsRun : {K V : Type 0} → List (Entry K V) → Type 0
+IsRun entries = (0 < length entries) × (length entries ≤ 16)
+
+-- at each node the two sides are level, and the height that it says is its own and at most 64; each run has 1 to 16 pairs (own)
 abbrev pub IsFormed : {K V : Type 0} → Link K V → Type 0
-IsFormed Leaf = Unit {0}
+IsFormed (Run run) = IsRun run.value.items
 IsFormed (Fork' p entry left right h) =
     (h ≡ max (link_height left) (link_height right) + 1) × IsLevel left right × IsFormed left × IsFormed right × (h ≤ 64)
 
@@ -31,10 +41,22 @@ IsFormed (Fork' p entry left right h) =
 abbrev pub IsFronted : {K V : Type 0} → (K → ℕ) → Entry K V → Type 0
 IsFronted front entry = entry.front ≡ front entry.pair.value.0
 
--- so it is at each node (own)
-abbrev pub AreFronted : {K V : Type 0} → (K → ℕ) → Link K V → Type 0
-AreFronted front Leaf = Unit {0}
-AreFronted front (Fork' p entry left right h) = IsFronted front entry × AreFronted front left × AreFronted front right
+-- so it is of each of a run's entries (own)
+abbrev pub AreFronted : {K V : Type 0} → (K → ℕ) → List (Entry K V) → Type 0
+AreFronted front entries = AllByRecursion (IsFronted front) entries
+
+-- a run that has a pair, and its entries' numbers are their keys' (own)
+abbrev pub IsRunFronted : {K V : Type 0} → (K → ℕ) → List (Entry K V) → Type 0
+IsRunFronted front entries = (0 < length entries) × AreFronted front entries
+
+-- an entry is the first of pairs that stand behind others, and so parts the two; its number is its key's (own)
+abbrev pub IsParting : {K V : Type 0} → (K → ℕ) → Entry K V → List (K × V) → Type 0
+IsParting front entry behind = (first_pair behind ≡ Some entry.pair.value) × IsFronted front entry
+
+-- at each node the entry parts the sides, and each number in a run is its key's (own)
+abbrev pub IsParted : {K V : Type 0} → (K → ℕ) → Link K V → Type 0
+IsParted front (Run run) = IsRunFronted front run.value.items
+IsParted front (Fork' p entry left right h) = IsParting front entry (link_pairs right) × IsParted front left × IsParted front right
 
 -- two formed sides, neither higher than the other by more than two: they can be joined, and are level then (own)
 abbrev pub AreJoinable : {K V : Type 0} → Link K V → Link K V → Type 0
@@ -49,7 +71,7 @@ IsJoined left right link =
 
 -- of a node what these words say of its link (own)
 abbrev pub node_pairs : {K V : Type 0} → Node K V → List (K × V)
-node_pairs node = link_pairs node.left ++ node.entry.pair.value ∷ link_pairs node.right
+node_pairs node = link_pairs node.left ++ link_pairs node.right
 
 abbrev pub node_height : {K V : Type 0} → Node K V → ℕ
 node_height node = max (link_height node.left) (link_height node.right) + 1
@@ -57,8 +79,25 @@ node_height node = max (link_height node.left) (link_height node.right) + 1
 abbrev pub IsFormedNode : {K V : Type 0} → Node K V → Type 0
 IsFormedNode node = IsLevel node.left node.right × IsFormed node.left × IsFormed node.right
 
-abbrev pub AreFrontedAt : {K V : Type 0} → (K → ℕ) → Node K V → Type 0
-AreFrontedAt front node = IsFronted front node.entry × AreFronted front node.left × AreFronted front node.right
+abbrev pub IsPartedNode : {K V : Type 0} → (K → ℕ) → Node K V → Type 0
+IsPartedNode front node = IsParting front node.entry (link_pairs node.right) × IsParted front node.left × IsParted front node.right
+
+-- of a tree's root, where it has one, what they say of a link (own)
+abbrev pub root_pairs : {K V : Type 0} → Option (Link K V) → List (K × V)
+root_pairs None = []
+root_pairs (Some link) = link_pairs link
+
+abbrev pub root_height : {K V : Type 0} → Option (Link K V) → ℕ
+root_height None = 0
+root_height (Some link) = link_height link
+
+abbrev pub IsFormedRoot : {K V : Type 0} → Option (Link K V) → Type 0
+IsFormedRoot None = Unit {0}
+IsFormedRoot (Some link) = IsFormed link
+
+abbrev pub IsPartedRoot : {K V : Type 0} → (K → ℕ) → Option (Link K V) → Type 0
+IsPartedRoot front None = Unit {0}
+IsPartedRoot front (Some link) = IsParted front link
 
 -- a formed node on the left, or on the right, and a formed side that is lower by two (own)
 abbrev pub IsHighLeft : {K V : Type 0} → Node K V → Link K V → Type 0
@@ -81,29 +120,33 @@ abbrev pub IsGrown : {K V : Type 0} → Link K V → Link K V → Type 0
 IsGrown old new = (link_height old ≤ link_height new) × (link_height new ≤ link_height old + 1)
 
 -- a link with a pair less: as high as before, or lower by one (own)
-abbrev pub IsShrunk : {K V : Type 0} → Link K V → Link K V → Type 0
-IsShrunk old new = (link_height old ≤ link_height new + 1) × (link_height new ≤ link_height old)
+abbrev pub IsShrunk : {K V : Type 0} → Link K V → Option (Link K V) → Type 0
+IsShrunk old new = (link_height old ≤ root_height new + 1) × (root_height new ≤ link_height old)
 
--- what keeps a tree: its keys ascend, it is formed, and each number is its key's (own)
-pub record IsTree {K V : Type 0} (cmp : K → K → Ordering) (front : K → ℕ) (root : Link K V) : Type 0 where
-  pub ascends : IsAscending cmp (link_pairs root)
-  pub formed : IsFormed root
-  pub fronted : AreFronted front root
+-- what keeps a tree: its keys ascend, it is formed, and each node's entry parts it (own)
+pub record IsTree {K V : Type 0} (cmp : K → K → Ordering) (front : K → ℕ) (root : Option (Link K V)) : Type 0 where
+  pub ascends : IsAscending cmp (root_pairs root)
+  pub formed : IsFormedRoot root
+  pub parted : IsPartedRoot front root
 
 -- how a tree is seen (own)
-abbrev pub view_of : {K V : Type 0} → Link K V → TreeView K V
-view_of root = record { pairs = link_pairs root; height = link_height root }
+abbrev pub view_of : {K V : Type 0} → Option (Link K V) → TreeView K V
+view_of root = record { pairs = root_pairs root; height = root_height root }
 
--- a height is just the binary digits of a count, as where pairs are halved at each node (own)
+-- a height is just that of so many pairs that are halved down to runs of at most 16 (own)
 abbrev pub IsHalved : ℕ → ℕ → Type 0
-IsHalved height count = (count < 2 ^ height) × (2 ^ height ≤ max 1 (2 * count))
+IsHalved height count = (0 < height) × (count ≤ 8 * 2 ^ height) × (1 < height → 4 * 2 ^ height < count)
 
--- the pairs that are left of nodes on the way down to a pair, the highest node first: of each its own and those on its right,
--- behind those of the nodes below it (own)
+-- the pair of an entry (own)
+abbrev pub pair_of : {K V : Type 0} → Entry K V → K × V
+pair_of entry = entry.pair.value
+
+-- the pairs that are left of nodes on the way down to a run, the highest node first: of each those on its right, behind those of
+-- the nodes below it (own)
 abbrev pub pairs_on_way : {K V : Type 0} → List (Option (Bor (Node K V))) → List (K × V)
 pairs_on_way [] = []
 pairs_on_way (None ∷ way) = pairs_on_way way
-pairs_on_way (Some node ∷ way) = pairs_on_way way ++ node.now.entry.pair.value ∷ link_pairs node.now.right
+pairs_on_way (Some node ∷ way) = pairs_on_way way ++ link_pairs node.now.right
 
 -- nodes on a way, of which so many stand above: what stands on the right of each is formed, and no way down from there has
 -- more than 64 nodes (own)

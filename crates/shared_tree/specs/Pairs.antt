@@ -1,10 +1,10 @@
 -- A map as the list of its pairs in the order of their keys, and what is asked of it and made of it (own). cmp is the
 -- order of the keys.
-use Rattle.std.specs.Prelude.{◌≡◌, ℕ, ◌*◌, ◌^◌, ◌<◌, ◌≤◌, List, [], ◌∷◌, ◌++◌, reverse, Option, None, Some}
+use Rattle.std.specs.Prelude.{◌≡◌, ℕ, ◌*◌, ◌^◌, ◌<◌, ◌≤◌, List, [], ◌∷◌, ◌++◌, reverse, length, take, drop, Option, None, Some}
 use Rattle.std.specs.Option.{option_map}
-use Rattle.std.specs.List.{filter, find, AllByRecursion}
+use Rattle.std.specs.List.{filter, find, AllByRecursion, HoldsAt}
 use Rattle.std.specs.declared.cmp.Ordering.{Ordering}
-use Rattle.std.specs.declared.cmp.Ordering.TheVariants.{Less}
+use Rattle.std.specs.declared.cmp.Ordering.TheVariants.{Less, Equal, Greater}
 use Rattle.std.specs.Ordering.{is_lt, is_gt, is_eq, is_ne}
 
 -- a tree is seen as its pairs, and, beside them, as the most nodes from its root down (own)
@@ -53,7 +53,20 @@ module _ {K V : Type 0} (cmp : K → K → Ordering) where
   abbrev pub pairs_without : K → List (K × V) → List (K × V)
   pairs_without key pairs = filter (λ pair. is_ne (cmp key pair.0)) pairs
 
+  -- a key's pair stands at a place of pairs (own)
+  abbrev pub IsAt : K → List (K × V) → ℕ → Type 0
+  IsAt key pairs place = HoldsAt (λ pair. cmp key pair.0 ≡ Equal) pairs place
+
+  -- a key has no pair, and as many pairs of lesser keys as a place says (own)
+  abbrev pub IsBetween : K → List (K × V) → ℕ → Type 0
+  IsBetween key pairs place =
+      (place ≤ length pairs) × AllByRecursion (λ pair. cmp key pair.0 ≡ Greater) (take place pairs) × AllByRecursion (λ pair. cmp key pair.0 ≡ Less) (drop place pairs)
+
 -- the pair of the least key (own)
 abbrev pub first_pair : {K V : Type 0} → List (K × V) → Option (K × V)
 first_pair [] = None
 first_pair (pair ∷ rest) = Some pair
+
+-- the pair of the greatest key (own)
+abbrev pub last_pair : {K V : Type 0} → List (K × V) → Option (K × V)
+last_pair pairs = first_pair (reverse pairs)

@@ -1,11 +1,12 @@
-//! A tree of pairs that ascend, built by halves: as many nodes as pairs.
-ghost use Rattle.std.specs.Prelude.{◌≡◌, ◌+◌, ◌≤◌, ◌++◌, IfOk, length, vec_len};
-ghost use Rattle.shared_tree.specs.Links.{link_pairs, link_height, IsFormed, IsHalved, IsFronted, AreFronted};
+//! A tree of pairs that ascend, built by halves.
+ghost use Rattle.std.specs.Prelude.{◌≡◌, ◌+◌, ◌<◌, ◌≤◌, ◌++◌, IfOk, vec_len};
+ghost use Rattle.shared_tree.specs.Links.{run_pairs, link_pairs, link_height, IsFormed, IsHalved, IsFronted, AreFronted, IsParted, root_pairs, IsFormedRoot, IsPartedRoot};
 ghost use Rattle.shared_tree.specs.Fronts.{front_at};
 
 use crate::fault::NoMemory;
 use crate::front::{Base, Front};
-use crate::node::{Entry, Link, Maker};
+use crate::look::first_entry;
+use crate::node::{Entry, Link, MAX_RUN, Maker, push_entry, share_entry};
 use std::alloc::AllocError;
 use std::sync::Arc;
 
@@ -24,7 +25,28 @@ impl Maker {
         Ok(Entry { front, pair })
     }
 
-    /// The last `count` pairs of a list, which it loses, as a link whose sides differ by at most a pair at each node.
+    /// The last `count` pairs of a list, which it loses, as a tree's root.
+    pub(crate) fn build_root<K: Front + Drop, V: Drop>(
+        &mut self,
+        base: &Base<K>,
+        pairs: &mut Vec<(K, V)>,
+        count: usize,
+    ) -> Result<Option<Link<K, V>>, NoMemory>
+        requires { count ≤ vec_len pairs.old }
+        ensures pairs { IfOk result (λ root. pairs.old.items ≡ pairs.new.items ++ root_pairs root) }
+        ensures length { IfOk result (λ root. vec_len pairs.new + count ≡ vec_len pairs.old) }
+        ensures formed { IfOk result (λ root. IsFormedRoot root) }
+        ensures parted { IfOk result (λ root. IsPartedRoot (front_at K.front base.now) root) }
+    {
+        if count == 0 {
+            return Ok(None);
+        }
+        let root = self.build(base, pairs, count)?;
+        Ok(Some(root))
+    }
+
+    /// The last `count` pairs of a list, which it loses, as a link whose sides differ by at most a pair at each node. Its runs are
+    /// as long as halves can be.
     pub(crate) fn build<K: Front + Drop, V: Drop>(
         &mut self,
         base: &Base<K>,
@@ -33,20 +55,39 @@ impl Maker {
     ) -> Result<Link<K, V>, NoMemory>
         ensures pairs { count ≤ vec_len pairs.old → IfOk result (λ link. pairs.old.items ≡ pairs.new.items ++ link_pairs link) }
         ensures length { count ≤ vec_len pairs.old → IfOk result (λ link. vec_len pairs.new + count ≡ vec_len pairs.old) }
-        ensures formed { count ≤ vec_len pairs.old → IfOk result (λ link. IsFormed link) }
-        ensures fronted { IfOk result (λ link. AreFronted (front_at K.front base.now) link) }
-        ensures height { count ≤ vec_len pairs.old → IfOk result (λ link. IsHalved (link_height link) count) }
+        ensures formed { 0 < count → count ≤ vec_len pairs.old → IfOk result (λ link. IsFormed link) }
+        ensures parted { 0 < count → count ≤ vec_len pairs.old → IfOk result (λ link. IsParted (front_at K.front base.now) link) }
+        ensures height { 0 < count → count ≤ vec_len pairs.old → IfOk result (λ link. IsHalved (link_height link) count) }
     {
-        if count == 0 {
-            return Ok(Link::Leaf);
+        if count <= MAX_RUN {
+            let entries = self.last_entries(base, pairs, count)?;
+            return self.run(entries);
         }
         let left_count = count / 2;
-        let right = self.build(base, pairs, count - left_count - 1)?;
-        let Some(pair) = pairs.pop() else {
-            return Ok(right);
-        };
-        let entry = self.entry(base, pair)?;
+        let right = self.build(base, pairs, count - left_count)?;
+        let parting = share_entry(first_entry(&right).ok_or(NoMemory)?)?;
         let left = self.build(base, pairs, left_count)?;
-        self.fork(left, entry, right)
+        self.fork(left, parting, right)
+    }
+
+    /// The last `count` pairs of a list, which it loses, with the numbers that stand in front of their keys. `NoMemory` where memory
+    /// is refused.
+    fn last_entries<K: Front + Drop, V: Drop>(
+        &self,
+        base: &Base<K>,
+        pairs: &mut Vec<(K, V)>,
+        count: usize,
+    ) -> Result<Vec<Entry<K, V>>, NoMemory>
+        ensures pairs { IfOk result (λ entries. pairs.old.items ≡ pairs.new.items ++ run_pairs entries.items) }
+        ensures length { count ≤ vec_len pairs.old → IfOk result (λ entries. vec_len entries ≡ count) }
+        ensures fronted { IfOk result (λ entries. AreFronted (front_at K.front base.now) entries.items) }
+    {
+        let front = pairs.len().saturating_sub(count);
+        let last = pairs.split_off(front)?;
+        let mut entries = Vec::with_capacity(self.alloc(), last.len())?;
+        for pair in last {
+            push_entry(&mut entries, self.entry(base, pair)?)?;
+        }
+        Ok(entries)
     }
 }

@@ -1,6 +1,6 @@
 //! Two sides and a pair between them, brought level by turning the higher side.
-ghost use Rattle.std.specs.Prelude.{◌≡◌, ℕ, ◌+◌, ◌<◌, ◌≤◌, ◌++◌, ◌∷◌, IfOk, max};
-ghost use Rattle.shared_tree.specs.Links.{link_pairs, link_height, IsFormed, IsLevel, AreJoinable, IsJoined, IsHighLeft, IsHighRight, IsBentLeft, IsBentRight, node_pairs, IsFronted, AreFronted, AreFrontedAt};
+ghost use Rattle.std.specs.Prelude.{◌≡◌, ℕ, ◌+◌, ◌<◌, ◌≤◌, ◌++◌, IfOk, max};
+ghost use Rattle.shared_tree.specs.Links.{link_pairs, link_height, IsFormed, IsLevel, AreJoinable, IsJoined, IsHighLeft, IsHighRight, IsBentLeft, IsBentRight, node_pairs, IsParting, IsParted, IsPartedNode};
 
 use crate::fault::NoMemory;
 use crate::node::{Entry, Link, Maker, Node, share_entry};
@@ -14,10 +14,10 @@ impl Maker {
         entry: Entry<K, V>,
         right: Link<K, V>,
     ) -> Result<Link<K, V>, NoMemory>
-        ensures pairs { IfOk result (λ link. link_pairs link ≡ link_pairs left ++ entry.pair.value ∷ link_pairs right) }
+        ensures pairs { IfOk result (λ link. link_pairs link ≡ link_pairs left ++ link_pairs right) }
         ensures formed { AreJoinable left right → IfOk result (λ link. IsFormed link) }
         ensures height { AreJoinable left right → IfOk result (λ link. IsJoined left right link) }
-        ensures fronted { (front : K → ℕ) → IsFronted front entry → AreFronted front left → AreFronted front right → IfOk result (λ link. AreFronted front link) }
+        ensures parted { (front : K → ℕ) → IsParting front entry (link_pairs right) → IsParted front left → IsParted front right → IfOk result (λ link. IsParted front link) }
         ensures counted { IfOk result (λ _. self.old.made < self.new.made) }
         ensures at_most_three { self.new.made ≤ self.old.made + 3 }
     {
@@ -41,10 +41,10 @@ impl Maker {
         left: Link<K, V>,
         node: &Node<K, V>,
     ) -> Result<Link<K, V>, NoMemory>
-        ensures pairs { IfOk result (λ link. link_pairs link ≡ link_pairs left ++ node.now.entry.pair.value ∷ link_pairs node.now.right) }
+        ensures pairs { IfOk result (λ link. link_pairs link ≡ link_pairs left ++ link_pairs node.now.right) }
         ensures formed { AreJoinable left node.now.right → IfOk result (λ link. IsFormed link) }
         ensures height { AreJoinable left node.now.right → IfOk result (λ link. IsJoined left node.now.right link) }
-        ensures fronted { (front : K → ℕ) → AreFronted front left → AreFrontedAt front node.now → IfOk result (λ link. AreFronted front link) }
+        ensures parted { (front : K → ℕ) → IsParted front left → IsPartedNode front node.now → IfOk result (λ link. IsParted front link) }
         ensures counted { IfOk result (λ _. self.old.made < self.new.made) }
         ensures at_most_three { self.new.made ≤ self.old.made + 3 }
     {
@@ -58,10 +58,10 @@ impl Maker {
         node: &Node<K, V>,
         right: Link<K, V>,
     ) -> Result<Link<K, V>, NoMemory>
-        ensures pairs { IfOk result (λ link. link_pairs link ≡ link_pairs node.now.left ++ node.now.entry.pair.value ∷ link_pairs right) }
+        ensures pairs { IfOk result (λ link. link_pairs link ≡ link_pairs node.now.left ++ link_pairs right) }
         ensures formed { AreJoinable node.now.left right → IfOk result (λ link. IsFormed link) }
         ensures height { AreJoinable node.now.left right → IfOk result (λ link. IsJoined node.now.left right link) }
-        ensures fronted { (front : K → ℕ) → AreFrontedAt front node.now → AreFronted front right → IfOk result (λ link. AreFronted front link) }
+        ensures parted { (front : K → ℕ) → IsParting front node.now.entry (link_pairs right) → IsParted front node.now.left → IsParted front right → IfOk result (λ link. IsParted front link) }
         ensures counted { IfOk result (λ _. self.old.made < self.new.made) }
         ensures at_most_three { self.new.made ≤ self.old.made + 3 }
     {
@@ -76,10 +76,10 @@ impl Maker {
         entry: &Entry<K, V>,
         right: &Link<K, V>,
     ) -> Result<Link<K, V>, NoMemory>
-        ensures pairs { IfOk result (λ link. link_pairs link ≡ link_pairs left.now ++ entry.now.pair.value ∷ link_pairs right.now) }
+        ensures pairs { IfOk result (λ link. link_pairs link ≡ link_pairs left.now ++ link_pairs right.now) }
         ensures height { IfOk result (λ link. link_height link ≡ max (link_height left.now) (link_height right.now) + 1) }
         ensures formed { IsFormed left.now → IsFormed right.now → IsLevel left.now right.now → IfOk result (λ link. IsFormed link) }
-        ensures fronted { (front : K → ℕ) → IsFronted front entry.now → AreFronted front left.now → AreFronted front right.now → IfOk result (λ link. AreFronted front link) }
+        ensures parted { (front : K → ℕ) → IsParting front entry.now (link_pairs right.now) → IsParted front left.now → IsParted front right.now → IfOk result (λ link. IsParted front link) }
         ensures counted { IfOk result (λ _. self.new.made ≡ self.old.made + 1) }
         ensures at_most_one { self.new.made ≤ self.old.made + 1 }
     {
@@ -93,11 +93,11 @@ impl Maker {
         entry: &Entry<K, V>,
         right: &Link<K, V>,
     ) -> Result<Link<K, V>, NoMemory>
-        ensures pairs { IfOk result (λ link. link_pairs link ≡ node_pairs node.now ++ entry.now.pair.value ∷ link_pairs right.now) }
+        ensures pairs { IfOk result (λ link. link_pairs link ≡ node_pairs node.now ++ link_pairs right.now) }
         ensures formed { IsHighLeft node.now right.now → IfOk result (λ link. IsFormed link) }
         ensures low { IsHighLeft node.now right.now → IfOk result (λ link. link_height right.now + 2 ≤ link_height link) }
         ensures high { IsHighLeft node.now right.now → IfOk result (λ link. link_height link ≤ link_height right.now + 3) }
-        ensures fronted { (front : K → ℕ) → AreFrontedAt front node.now → IsFronted front entry.now → AreFronted front right.now → IfOk result (λ link. AreFronted front link) }
+        ensures parted { (front : K → ℕ) → IsPartedNode front node.now → IsParting front entry.now (link_pairs right.now) → IsParted front right.now → IfOk result (λ link. IsParted front link) }
         ensures counted { IfOk result (λ _. self.old.made < self.new.made) }
         ensures at_most_three { self.new.made ≤ self.old.made + 3 }
     {
@@ -118,10 +118,10 @@ impl Maker {
         entry: &Entry<K, V>,
         right: &Link<K, V>,
     ) -> Result<Link<K, V>, NoMemory>
-        ensures pairs { IfOk result (λ link. link_pairs link ≡ link_pairs node.now.left ++ node.now.entry.pair.value ∷ node_pairs inner.now ++ entry.now.pair.value ∷ link_pairs right.now) }
+        ensures pairs { IfOk result (λ link. link_pairs link ≡ link_pairs node.now.left ++ (node_pairs inner.now ++ link_pairs right.now)) }
         ensures formed { IsBentLeft node.now inner.now right.now → IfOk result (λ link. IsFormed link) }
         ensures height { IsBentLeft node.now inner.now right.now → IfOk result (λ link. link_height link ≡ link_height right.now + 2) }
-        ensures fronted { (front : K → ℕ) → AreFrontedAt front node.now → AreFrontedAt front inner.now → IsFronted front entry.now → AreFronted front right.now → IfOk result (λ link. AreFronted front link) }
+        ensures parted { (front : K → ℕ) → IsParting front node.now.entry (node_pairs inner.now) → IsParted front node.now.left → IsPartedNode front inner.now → IsParting front entry.now (link_pairs right.now) → IsParted front right.now → IfOk result (λ link. IsParted front link) }
         ensures counted { IfOk result (λ _. self.old.made < self.new.made) }
         ensures at_most_three { self.new.made ≤ self.old.made + 3 }
     {
@@ -137,11 +137,11 @@ impl Maker {
         entry: &Entry<K, V>,
         node: &Node<K, V>,
     ) -> Result<Link<K, V>, NoMemory>
-        ensures pairs { IfOk result (λ link. link_pairs link ≡ link_pairs left.now ++ entry.now.pair.value ∷ node_pairs node.now) }
+        ensures pairs { IfOk result (λ link. link_pairs link ≡ link_pairs left.now ++ node_pairs node.now) }
         ensures formed { IsHighRight left.now node.now → IfOk result (λ link. IsFormed link) }
         ensures low { IsHighRight left.now node.now → IfOk result (λ link. link_height left.now + 2 ≤ link_height link) }
         ensures high { IsHighRight left.now node.now → IfOk result (λ link. link_height link ≤ link_height left.now + 3) }
-        ensures fronted { (front : K → ℕ) → AreFronted front left.now → IsFronted front entry.now → AreFrontedAt front node.now → IfOk result (λ link. AreFronted front link) }
+        ensures parted { (front : K → ℕ) → IsParted front left.now → IsParting front entry.now (node_pairs node.now) → IsPartedNode front node.now → IfOk result (λ link. IsParted front link) }
         ensures counted { IfOk result (λ _. self.old.made < self.new.made) }
         ensures at_most_three { self.new.made ≤ self.old.made + 3 }
     {
@@ -162,10 +162,10 @@ impl Maker {
         inner: &Node<K, V>,
         node: &Node<K, V>,
     ) -> Result<Link<K, V>, NoMemory>
-        ensures pairs { IfOk result (λ link. link_pairs link ≡ link_pairs left.now ++ entry.now.pair.value ∷ (node_pairs inner.now ++ node.now.entry.pair.value ∷ link_pairs node.now.right)) }
+        ensures pairs { IfOk result (λ link. link_pairs link ≡ link_pairs left.now ++ (node_pairs inner.now ++ link_pairs node.now.right)) }
         ensures formed { IsBentRight left.now inner.now node.now → IfOk result (λ link. IsFormed link) }
         ensures height { IsBentRight left.now inner.now node.now → IfOk result (λ link. link_height link ≡ link_height left.now + 2) }
-        ensures fronted { (front : K → ℕ) → AreFronted front left.now → IsFronted front entry.now → AreFrontedAt front inner.now → AreFrontedAt front node.now → IfOk result (λ link. AreFronted front link) }
+        ensures parted { (front : K → ℕ) → IsParted front left.now → IsParting front entry.now (node_pairs inner.now) → IsPartedNode front inner.now → IsParting front node.now.entry (link_pairs node.now.right) → IsParted front node.now.right → IfOk result (λ link. IsParted front link) }
         ensures counted { IfOk result (λ _. self.old.made < self.new.made) }
         ensures at_most_three { self.new.made ≤ self.old.made + 3 }
     {

@@ -15,6 +15,7 @@ mod laws;
 mod look;
 mod node;
 mod path;
+mod run;
 mod seek;
 mod tree;
 mod walk;

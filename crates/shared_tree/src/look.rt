@@ -1,9 +1,10 @@
 //! What a key finds, on one way down.
-ghost use Rattle.std.specs.Prelude.{◌≡◌, IsNone};
-ghost use Rattle.std.specs.Option.{option_copied};
+ghost use Rattle.std.specs.Prelude.{◌≡◌, ◌<◌, ◌≤◌, IsNone, None, Some, MatchResult, length, take};
+ghost use Rattle.std.specs.Option.{option_copied, option_map, option_or};
+ghost use Rattle.std.specs.List.{slice_get};
 ghost use Rattle.shared_tree.specs.Fronts.{front_at};
-ghost use Rattle.shared_tree.specs.Links.{link_pairs, IsFronted, AreFronted};
-ghost use Rattle.shared_tree.specs.Pairs.{IsAscending, pair_at, pair_after, pair_before, first_pair};
+ghost use Rattle.shared_tree.specs.Links.{run_pairs, link_pairs, IsFronted, AreFronted, IsParted, IsFormed, pair_of};
+ghost use Rattle.shared_tree.specs.Pairs.{IsAscending, pair_at, pair_after, pair_before, first_pair, last_pair, IsAt, IsBetween};
 
 use crate::front::{Base, Front};
 use crate::node::{Entry, Link};
@@ -21,8 +22,34 @@ pub struct Around<'a, K, V> {
     pub behind: Option<&'a (K, V)>,
 }
 
+impl<'a, K, V> Around<'a, K, V> {
+    /// Neither the pair of the key nor one next to it.
+    pub(crate) fn none() -> Around<'a, K, V>
+        ensures at { result.at ≡ None }
+        ensures before { result.before ≡ None }
+        ensures behind { result.behind ≡ None }
+    {
+        Around {
+            at: None,
+            before: None,
+            behind: None,
+        }
+    }
+
+    /// The pair of the key, and no other.
+    fn at(pair: &'a (K, V)) -> Around<'a, K, V>
+        ensures { option_copied result.at ≡ Some pair.now }
+    {
+        Around {
+            at: Some(pair),
+            before: None,
+            behind: None,
+        }
+    }
+}
+
 /// How a sought key, in front of which a number stands, stands to an entry's: where the numbers differ, as they do.
-fn order_at<K: Front, V, Q: Seek<K>>(
+pub(crate) fn order_at<K: Front, V, Q: Seek<K>>(
     own: u64,
     _base: &Base<K>,
     sought: &Q,
@@ -41,6 +68,41 @@ fn order_at<K: Front, V, Q: Seek<K>>(
     sought.cmp_key(&entry.pair.0)
 }
 
+/// The place of a sought key in a run: that of its pair, or else of the first pair of a greater key.
+pub(crate) fn place_in<K: Front, V, Q: Seek<K>>(
+    own: u64,
+    base: &Base<K>,
+    sought: &Q,
+    run: &[Entry<K, V>],
+) -> Result<usize, usize>
+    requires own { own ≡ front_at K.front base.now (Q.key sought.now) }
+    requires fronted { AreFronted (front_at K.front base.now) run.now }
+    requires ascends { IsAscending K.cmp (run_pairs run.now) }
+    ensures { MatchResult result (λ place. IsAt K.cmp (Q.key sought.now) (run_pairs run.now) place) (λ place. IsBetween K.cmp (Q.key sought.now) (run_pairs run.now) place) }
+{
+    let mut low = 0;
+    let mut high = run.len();
+    while low < high {
+        let middle = low + (high - low) / 2;
+        match order_at(own, base, sought, &run[middle]) {
+            Ordering::Less => high = middle,
+            Ordering::Equal => return Ok(middle),
+            Ordering::Greater => low = middle + 1,
+        }
+    }
+    Err(low)
+}
+
+/// The pair at a place of a run, where it has so many.
+fn pair_at_place<K, V>(run: &[Entry<K, V>], place: usize) -> Option<&(K, V)>
+    ensures { option_copied result ≡ slice_get (run_pairs run.now) place }
+{
+    match run.get(place) {
+        None => None,
+        Some(entry) => Some(&*entry.pair),
+    }
+}
+
 /// The pair of a key.
 pub(crate) fn find_in<'a, K: Front, V, Q: Seek<K>>(
     link: &'a Link<K, V>,
@@ -48,19 +110,39 @@ pub(crate) fn find_in<'a, K: Front, V, Q: Seek<K>>(
     sought: &Q,
 ) -> Option<&'a (K, V)>
     requires ascends { IsAscending K.cmp (link_pairs link.now) }
-    requires fronted { AreFronted (front_at K.front base.now) link.now }
+    requires parted { IsParted (front_at K.front base.now) link.now }
     ensures { option_copied result ≡ pair_at K.cmp (Q.key sought.now) (link_pairs link.now) }
 {
     let own = base.front_of(sought);
     let mut below = link;
-    while let Link::Fork(node) = below {
-        match order_at(own, base, sought, &node.entry) {
-            Ordering::Less => below = &node.left,
-            Ordering::Equal => return Some(&*node.entry.pair),
-            Ordering::Greater => below = &node.right,
+    loop {
+        match below {
+            Link::Run(run) => return find_in_run(own, base, sought, run),
+            Link::Fork(node) => match order_at(own, base, sought, &node.entry) {
+                Ordering::Less => below = &node.left,
+                Ordering::Equal => return Some(&*node.entry.pair),
+                Ordering::Greater => below = &node.right,
+            },
         }
     }
-    None
+}
+
+/// The pair of a key in a run.
+fn find_in_run<'a, K: Front, V, Q: Seek<K>>(
+    own: u64,
+    base: &Base<K>,
+    sought: &Q,
+    run: &'a [Entry<K, V>],
+) -> Option<&'a (K, V)>
+    requires own { own ≡ front_at K.front base.now (Q.key sought.now) }
+    requires fronted { AreFronted (front_at K.front base.now) run.now }
+    requires ascends { IsAscending K.cmp (run_pairs run.now) }
+    ensures { option_copied result ≡ pair_at K.cmp (Q.key sought.now) (run_pairs run.now) }
+{
+    match place_in(own, base, sought, run) {
+        Ok(place) => pair_at_place(run, place),
+        Err(_) => None,
+    }
 }
 
 /// The pair of a key, or else the pairs next to it, by one way down.
@@ -70,69 +152,98 @@ pub(crate) fn around_in<'a, K: Front, V, Q: Seek<K>>(
     sought: &Q,
 ) -> Around<'a, K, V>
     requires ascends { IsAscending K.cmp (link_pairs link.now) }
-    requires fronted { AreFronted (front_at K.front base.now) link.now }
+    requires parted { IsParted (front_at K.front base.now) link.now }
     ensures at { option_copied result.at ≡ pair_at K.cmp (Q.key sought.now) (link_pairs link.now) }
     ensures before { IsNone result.at → option_copied result.before ≡ pair_before K.cmp (Q.key sought.now) (link_pairs link.now) }
     ensures behind { IsNone result.at → option_copied result.behind ≡ pair_after K.cmp (Q.key sought.now) (link_pairs link.now) }
 {
     let own = base.front_of(sought);
     let mut below = link;
-    let mut before = None;
     let mut behind = None;
-    while let Link::Fork(node) = below {
-        match order_at(own, base, sought, &node.entry) {
-            Ordering::Less => {
-                behind = Some(&*node.entry.pair);
-                below = &node.left;
-            }
-            Ordering::Equal => {
-                return Around {
-                    at: Some(&*node.entry.pair),
-                    before,
-                    behind,
-                };
-            }
-            Ordering::Greater => {
-                before = Some(&*node.entry.pair);
-                below = &node.right;
-            }
+    loop {
+        match below {
+            Link::Run(run) => return around_in_run(own, base, sought, run, behind),
+            Link::Fork(node) => match order_at(own, base, sought, &node.entry) {
+                Ordering::Less => {
+                    behind = Some(&*node.entry.pair);
+                    below = &node.left;
+                }
+                Ordering::Equal => return Around::at(&node.entry.pair),
+                Ordering::Greater => below = &node.right,
+            },
         }
-    }
-    Around {
-        at: None,
-        before,
-        behind,
     }
 }
 
-/// The pair of the least key that is greater than a key.
-pub(crate) fn after_in<'a, K: Front, V, Q: Seek<K>>(
-    link: &'a Link<K, V>,
+/// The pair of a key in a run, or else the pairs next to it, where one stands behind the run.
+fn around_in_run<'a, K: Front, V, Q: Seek<K>>(
+    own: u64,
+    base: &Base<K>,
     sought: &Q,
-) -> Option<&'a (K, V)>
-    ensures { IsAscending K.cmp (link_pairs link.now) → option_copied result ≡ pair_after K.cmp (Q.key sought.now) (link_pairs link.now) }
+    run: &'a [Entry<K, V>],
+    behind: Option<&'a (K, V)>,
+) -> Around<'a, K, V>
+    requires own { own ≡ front_at K.front base.now (Q.key sought.now) }
+    requires fronted { AreFronted (front_at K.front base.now) run.now }
+    requires ascends { IsAscending K.cmp (run_pairs run.now) }
+    ensures at { option_copied result.at ≡ pair_at K.cmp (Q.key sought.now) (run_pairs run.now) }
+    ensures before { IsNone result.at → option_copied result.before ≡ pair_before K.cmp (Q.key sought.now) (run_pairs run.now) }
+    ensures behind { IsNone result.at → option_copied result.behind ≡ option_or (pair_after K.cmp (Q.key sought.now) (run_pairs run.now)) (option_copied behind) }
 {
-    match link {
-        Link::Leaf => None,
-        Link::Fork(node) => match sought.cmp_key(&node.entry.pair.0) {
-            Ordering::Less => match after_in(&node.left, sought) {
-                Some(pair) => Some(pair),
-                None => Some(&*node.entry.pair),
-            },
-            Ordering::Equal | Ordering::Greater => after_in(&node.right, sought),
+    match place_in(own, base, sought, run) {
+        Ok(place) => Around {
+            at: pair_at_place(run, place),
+            before: None,
+            behind: None,
         },
+        Err(place) => Around {
+            at: None,
+            before: pair_in_front(run, place),
+            behind: pair_or(run, place, behind),
+        },
+    }
+}
+
+/// The pair in front of a place of a run, where there is one.
+fn pair_in_front<K, V>(run: &[Entry<K, V>], place: usize) -> Option<&(K, V)>
+    ensures { place ≤ length run.now → option_copied result ≡ last_pair (take place (run_pairs run.now)) }
+{
+    let front = place.checked_sub(1)?;
+    pair_at_place(run, front)
+}
+
+/// The pair at a place of a run, or else the one that stands behind the run.
+fn pair_or<'a, K, V>(
+    run: &'a [Entry<K, V>],
+    place: usize,
+    behind: Option<&'a (K, V)>,
+) -> Option<&'a (K, V)>
+    ensures { option_copied result ≡ option_or (slice_get (run_pairs run.now) place) (option_copied behind) }
+{
+    match pair_at_place(run, place) {
+        None => behind,
+        found => found,
+    }
+}
+
+/// The first pair, as its run has it.
+pub(crate) fn first_entry<K, V>(link: &Link<K, V>) -> Option<&Entry<K, V>>
+    ensures { IsFormed link.now → option_map pair_of (option_copied result) ≡ first_pair (link_pairs link.now) }
+{
+    let mut below = link;
+    loop {
+        match below {
+            Link::Run(run) => return run.first(),
+            Link::Fork(node) => below = &node.left,
+        }
     }
 }
 
 /// The pair of the least key.
 pub(crate) fn first_in<K, V>(link: &Link<K, V>) -> Option<&(K, V)>
+    requires { IsFormed link.now }
     ensures { option_copied result ≡ first_pair (link_pairs link.now) }
 {
-    match link {
-        Link::Leaf => None,
-        Link::Fork(node) => match first_in(&node.left) {
-            Some(pair) => Some(pair),
-            None => Some(&*node.entry.pair),
-        },
-    }
+    let first = first_entry(link)?;
+    Some(&*first.pair)
 }

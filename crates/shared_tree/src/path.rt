@@ -1,36 +1,77 @@
 //! The way down to a key, made anew; what stands beside it is shared.
-ghost use Rattle.std.specs.Prelude.{◌≡◌, ℕ, ◌+◌, ◌*◌, ◌<◌, ◌≤◌, ◌++◌, ◌∷◌, IfOk};
-ghost use Rattle.shared_tree.specs.Links.{link_pairs, link_height, IsFormed, IsGrown, IsShrunk, node_pairs, node_height, IsFormedNode, IsFronted, AreFronted, AreFrontedAt};
-ghost use Rattle.shared_tree.specs.Pairs.{IsAscending, pairs_with, pairs_without};
+ghost use Rattle.std.specs.Prelude.{◌≡◌, ℕ, ◌+◌, ◌*◌, ◌<◌, ◌≤◌, ◌++◌, IfOk, Some};
+ghost use Rattle.shared_tree.specs.Links.{link_pairs, link_height, IsFormed, IsGrown, IsShrunk, IsFronted, IsTree, root_pairs, IsFormedRoot, IsPartedRoot, root_height, IsParted};
+ghost use Rattle.shared_tree.specs.Pairs.{pairs_with, pairs_without};
 
 use crate::fault::NoMemory;
 use crate::front::Front;
+use crate::look::first_entry;
 use crate::node::{Entry, Link, Maker, Node, share_entry};
 use crate::seek::Seek;
 use std::cmp::Ordering;
 
 impl Maker {
-    /// The pairs of a link with one in place, whatever pair its key had.
+    /// The pairs of a tree with one in place, whatever pair its key had.
+    pub(crate) fn with_root<K: Front + Drop, V: Drop>(
+        &mut self,
+        root: &Option<Link<K, V>>,
+        entry: Entry<K, V>,
+    ) -> Result<Link<K, V>, NoMemory>
+        ensures pairs { (front : K → ℕ) → IsTree K.cmp front root.now → IfOk result (λ new. link_pairs new ≡ pairs_with K.cmp entry.pair.value.0 entry.pair.value.1 (root_pairs root.now)) }
+        ensures formed { IsFormedRoot root.now → IfOk result (λ new. IsFormed new) }
+        ensures parted { (front : K → ℕ) → IsFronted front entry → IsTree K.cmp front root.now → IfOk result (λ new. IsParted front new) }
+        ensures counted { IfOk result (λ _. self.old.made < self.new.made) }
+        ensures bounded { IsFormedRoot root.now → self.new.made ≤ self.old.made + 3 * root_height root.now + 1 }
+    {
+        match root {
+            None => self.with_in_run(&[], entry),
+            Some(link) => self.with(link, entry),
+        }
+    }
+
+    /// The pairs of a tree without that of a key.
+    pub(crate) fn without_root<K: Front + Drop, V: Drop, Q: Seek<K>>(
+        &mut self,
+        root: &Option<Link<K, V>>,
+        sought: &Q,
+    ) -> Result<Option<Link<K, V>>, NoMemory>
+        ensures pairs { (front : K → ℕ) → IsTree K.cmp front root.now → IfOk result (λ new. root_pairs new ≡ pairs_without K.cmp (Q.key sought.now) (root_pairs root.now)) }
+        ensures formed { IsFormedRoot root.now → IfOk result (λ new. IsFormedRoot new) }
+        ensures parted { (front : K → ℕ) → IsTree K.cmp front root.now → IfOk result (λ new. IsPartedRoot front new) }
+        ensures bounded { IsFormedRoot root.now → self.new.made ≤ self.old.made + 3 * root_height root.now }
+    {
+        match root {
+            None => Ok(None),
+            Some(link) => self.without(link, sought),
+        }
+    }
+
+    /// The pairs of a link with one in place, whatever pair its key had. Where its key was the first on a node's right, it parts
+    /// the sides from then on.
     pub(crate) fn with<K: Front + Drop, V: Drop>(
         &mut self,
         link: &Link<K, V>,
         entry: Entry<K, V>,
     ) -> Result<Link<K, V>, NoMemory>
-        ensures pairs { IsAscending K.cmp (link_pairs link.now) → IfOk result (λ new. link_pairs new ≡ pairs_with K.cmp entry.pair.value.0 entry.pair.value.1 (link_pairs link.now)) }
+        ensures pairs { (front : K → ℕ) → IsTree K.cmp front (Some link.now) → IfOk result (λ new. link_pairs new ≡ pairs_with K.cmp entry.pair.value.0 entry.pair.value.1 (link_pairs link.now)) }
         ensures formed { IsFormed link.now → IfOk result (λ new. IsFormed new) }
-        ensures fronted { (front : K → ℕ) → IsFronted front entry → AreFronted front link.now → IfOk result (λ new. AreFronted front new) }
+        ensures parted { (front : K → ℕ) → IsFronted front entry → IsTree K.cmp front (Some link.now) → IfOk result (λ new. IsParted front new) }
         ensures height { IsFormed link.now → IfOk result (λ new. IsGrown link.now new) }
         ensures counted { IfOk result (λ _. self.old.made < self.new.made) }
-        ensures bounded { IsFormed link.now → self.new.made ≤ self.old.made + 3 * link_height link.now + 1 }
+        ensures bounded { IsFormed link.now → self.new.made ≤ self.old.made + 3 * link_height link.now }
     {
         match link {
-            Link::Leaf => self.fork(Link::Leaf, entry, Link::Leaf),
+            Link::Run(run) => self.with_in_run(run, entry),
             Link::Fork(node) => match entry.pair.0.cmp(&node.entry.pair.0) {
                 Ordering::Less => {
                     let left = self.with(&node.left, entry)?;
                     self.with_left(left, node)
                 }
-                Ordering::Equal => self.fork(node.left.share()?, entry, node.right.share()?),
+                Ordering::Equal => {
+                    let parting = share_entry(&entry)?;
+                    let right = self.with(&node.right, entry)?;
+                    self.join(node.left.share()?, parting, right)
+                }
                 Ordering::Greater => {
                     let right = self.with(&node.right, entry)?;
                     self.with_right(node, right)
@@ -39,72 +80,76 @@ impl Maker {
         }
     }
 
-    /// The pairs of a link without that of a key.
+    /// The pairs of a link without that of a key; None where no other is left.
     pub(crate) fn without<K: Front + Drop, V: Drop, Q: Seek<K>>(
         &mut self,
         link: &Link<K, V>,
         sought: &Q,
-    ) -> Result<Link<K, V>, NoMemory>
-        ensures pairs { IsAscending K.cmp (link_pairs link.now) → IfOk result (λ new. link_pairs new ≡ pairs_without K.cmp (Q.key sought.now) (link_pairs link.now)) }
-        ensures formed { IsFormed link.now → IfOk result (λ new. IsFormed new) }
-        ensures fronted { (front : K → ℕ) → AreFronted front link.now → IfOk result (λ new. AreFronted front new) }
+    ) -> Result<Option<Link<K, V>>, NoMemory>
+        ensures pairs { (front : K → ℕ) → IsTree K.cmp front (Some link.now) → IfOk result (λ new. root_pairs new ≡ pairs_without K.cmp (Q.key sought.now) (link_pairs link.now)) }
+        ensures formed { IsFormed link.now → IfOk result (λ new. IsFormedRoot new) }
+        ensures parted { (front : K → ℕ) → IsTree K.cmp front (Some link.now) → IfOk result (λ new. IsPartedRoot front new) }
         ensures height { IsFormed link.now → IfOk result (λ new. IsShrunk link.now new) }
         ensures bounded { IsFormed link.now → self.new.made ≤ self.old.made + 3 * link_height link.now }
     {
         match link {
-            Link::Leaf => Ok(Link::Leaf),
+            Link::Run(run) => self.without_in_run(run, sought),
             Link::Fork(node) => match sought.cmp_key(&node.entry.pair.0) {
                 Ordering::Less => {
                     let left = self.without(&node.left, sought)?;
-                    self.with_left(left, node)
+                    self.with_rest_left(left, node)
                 }
-                Ordering::Equal => self.without_top(node),
+                Ordering::Equal => {
+                    let right = self.without(&node.right, sought)?;
+                    self.parted_anew(node, right)
+                }
                 Ordering::Greater => {
                     let right = self.without(&node.right, sought)?;
-                    self.with_right(node, right)
+                    self.with_rest_right(node, right)
                 }
             },
         }
     }
 
-    /// A node's pairs without its own: the first pair of its right side takes its place.
-    fn without_top<K: Drop, V: Drop>(&mut self, node: &Node<K, V>) -> Result<Link<K, V>, NoMemory>
-        ensures pairs { IfOk result (λ new. link_pairs new ≡ link_pairs node.now.left ++ link_pairs node.now.right) }
-        ensures formed { IsFormedNode node.now → IfOk result (λ new. IsFormed new) }
-        ensures fronted { (front : K → ℕ) → AreFrontedAt front node.now → IfOk result (λ new. AreFronted front new) }
-        ensures low { IsFormedNode node.now → IfOk result (λ new. node_height node.now ≤ link_height new + 1) }
-        ensures high { IsFormedNode node.now → IfOk result (λ new. link_height new ≤ node_height node.now) }
-        ensures bounded { IsFormedNode node.now → self.new.made ≤ self.old.made + 3 * node_height node.now }
-    {
-        match &node.right {
-            Link::Leaf => node.left.share(),
-            Link::Fork(right) => {
-                let (first, rest) = self.parted(right)?;
-                self.join(node.left.share()?, first, rest)
-            }
-        }
+    /// What is left on the left of a node, joined with its right side.
+    fn with_rest_left<K: Drop, V: Drop>(
+        &mut self,
+        left: Option<Link<K, V>>,
+        node: &Node<K, V>,
+    ) -> Result<Option<Link<K, V>>, NoMemory> {
+        let link = match left {
+            None => node.right.share()?,
+            Some(left) => self.with_left(left, node)?,
+        };
+        Ok(Some(link))
     }
 
-    /// The first pair of a node, and the other pairs.
-    fn parted<K: Drop, V: Drop>(
+    /// A node's left side, joined with what is left on its right, where its first pair is left.
+    fn with_rest_right<K: Drop, V: Drop>(
         &mut self,
         node: &Node<K, V>,
-    ) -> Result<(Entry<K, V>, Link<K, V>), NoMemory>
-        ensures pairs { IfOk result (λ parts. node_pairs node.now ≡ parts.0.pair.value ∷ link_pairs parts.1) }
-        ensures formed { IsFormedNode node.now → IfOk result (λ parts. IsFormed parts.1) }
-        ensures first { (front : K → ℕ) → AreFrontedAt front node.now → IfOk result (λ parts. IsFronted front parts.0) }
-        ensures fronted { (front : K → ℕ) → AreFrontedAt front node.now → IfOk result (λ parts. AreFronted front parts.1) }
-        ensures low { IsFormedNode node.now → IfOk result (λ parts. node_height node.now ≤ link_height parts.1 + 1) }
-        ensures high { IsFormedNode node.now → IfOk result (λ parts. link_height parts.1 ≤ node_height node.now) }
-        ensures bounded { IsFormedNode node.now → self.new.made ≤ self.old.made + 3 * node_height node.now }
-    {
-        match &node.left {
-            Link::Leaf => Ok((share_entry(&node.entry)?, node.right.share()?)),
-            Link::Fork(left) => {
-                let (first, rest) = self.parted(left)?;
-                let link = self.with_left(rest, node)?;
-                Ok((first, link))
-            }
-        }
+        right: Option<Link<K, V>>,
+    ) -> Result<Option<Link<K, V>>, NoMemory> {
+        let link = match right {
+            None => node.left.share()?,
+            Some(right) => self.with_right(node, right)?,
+        };
+        Ok(Some(link))
+    }
+
+    /// A node's left side, joined with what is left on its right, whose first pair parts them from then on.
+    fn parted_anew<K: Drop, V: Drop>(
+        &mut self,
+        node: &Node<K, V>,
+        right: Option<Link<K, V>>,
+    ) -> Result<Option<Link<K, V>>, NoMemory> {
+        let Some(right) = right else {
+            let left = node.left.share()?;
+            return Ok(Some(left));
+        };
+        let first = first_entry(&right).ok_or(NoMemory)?;
+        let parting = share_entry(first)?;
+        let link = self.join(node.left.share()?, parting, right)?;
+        Ok(Some(link))
     }
 }

@@ -5,8 +5,8 @@ ghost use Rattle.shared_tree.specs.Pairs.{IsAscending, pair_at, value_at, pair_b
 
 use crate::fault::NoMemory;
 use crate::front::{Base, Front};
-use crate::look::{Around, after_in, around_in, find_in, first_in};
-use crate::node::{Link, Maker};
+use crate::look::{Around, around_in, find_in, first_in};
+use crate::node::{Link, Maker, share_root};
 use crate::seek::Seek;
 use crate::walk::Walk;
 use std::alloc::Global;
@@ -17,7 +17,7 @@ use std::marker::Model;
 /// its height.
 #[derive(Drop)]
 pub struct Tree<K: Front, V> {
-    root: Link<K, V>,
+    root: Option<Link<K, V>>,
     base: Base<K>,
 }
 
@@ -40,7 +40,7 @@ impl<K: Front, V> Tree<K, V> {
         ensures height { result.height ≡ 0 }
     {
         Tree {
-            root: Link::Leaf,
+            root: None,
             base: Base::unsaid(),
         }
     }
@@ -50,22 +50,28 @@ impl<K: Front, V> Tree<K, V> {
     pub fn is_empty(&self) -> bool
         ensures { IsTrue result ↔ (self.now.pairs ≡ []) }
     {
-        matches!(&self.root, Link::Leaf)
+        self.root.is_none()
     }
 
-    /// How many nodes stand on the longest way down from the root: at most twice the binary digits of the number of pairs.
+    /// How many nodes and runs stand on the longest way down from the root: at most twice the binary digits of the number of pairs.
     pub fn height(&self) -> u8
         ensures height { result ≡ self.now.height }
         ensures low { IsLow result (length self.now.pairs) }
     {
-        self.root.height()
+        match &self.root {
+            None => 0,
+            Some(root) => root.height(),
+        }
     }
 
     /// The pair of a key, for its key as the tree has it.
     pub fn pair<Q: Seek<K>>(&self, sought: &Q) -> Option<&(K, V)>
         ensures { option_copied result ≡ pair_at K.cmp (Q.key sought.now) self.now.pairs }
     {
-        find_in(&self.root, &self.base, sought)
+        match &self.root {
+            None => None,
+            Some(root) => find_in(root, &self.base, sought),
+        }
     }
 
     /// The value of a key.
@@ -84,28 +90,38 @@ impl<K: Front, V> Tree<K, V> {
         ensures before { IsNone result.at → option_copied result.before ≡ pair_before K.cmp (Q.key sought.now) self.now.pairs }
         ensures behind { IsNone result.at → option_copied result.behind ≡ pair_after K.cmp (Q.key sought.now) self.now.pairs }
     {
-        around_in(&self.root, &self.base, sought)
+        match &self.root {
+            None => Around::none(),
+            Some(root) => around_in(root, &self.base, sought),
+        }
     }
 
     /// The pair of the least key that is greater than a key, which the tree needn't have.
     pub fn after<Q: Seek<K>>(&self, sought: &Q) -> Option<&(K, V)>
         ensures { option_copied result ≡ pair_after K.cmp (Q.key sought.now) self.now.pairs }
     {
-        after_in(&self.root, sought)
+        let mut above = self.walk_above(sought);
+        above.next()
     }
 
     /// The pair of the least key.
     pub fn first(&self) -> Option<&(K, V)>
         ensures { option_copied result ≡ first_pair self.now.pairs }
     {
-        first_in(&self.root)
+        match &self.root {
+            None => None,
+            Some(root) => first_in(root),
+        }
     }
 
     /// The pairs in the order of their keys. It takes no memory.
     pub fn walk(&self) -> Walk<'_, K, V>
         ensures { result ≡ self.now.pairs }
     {
-        Walk::new(&self.root)
+        match &self.root {
+            None => Walk::empty(),
+            Some(root) => Walk::new(root),
+        }
     }
 
     /// The pairs whose keys are greater than a key, which the tree needn't have, in the order of their keys. It takes no
@@ -113,13 +129,16 @@ impl<K: Front, V> Tree<K, V> {
     pub fn walk_above<Q: Seek<K>>(&self, sought: &Q) -> Walk<'_, K, V>
         ensures { result ≡ pairs_above K.cmp (Q.key sought.now) self.now.pairs }
     {
-        Walk::above(&self.root, sought)
+        match &self.root {
+            None => Walk::empty(),
+            Some(root) => Walk::above(root, &self.base, sought),
+        }
     }
 }
 
 impl<K: Front + Drop, V: Drop> Tree<K, V> {
-    /// The tree of pairs whose keys ascend, each less than the next; most of them begin as `base` does. It makes a node a pair.
-    /// `NoMemory` where memory is refused; the pairs are then gone.
+    /// The tree of pairs whose keys ascend, each less than the next; most of them begin as `base` does. It makes
+    /// runs of eight to sixteen pairs, where there are more than eight, and a node a run. `NoMemory` where memory is refused; the pairs are then gone.
     pub fn from_sorted(alloc: Global, base: K, pairs: Vec<(K, V)>) -> Result<Tree<K, V>, NoMemory>
         requires { IsAscending K.cmp pairs.items }
         ensures pairs { IfOk result (λ tree. tree.pairs ≡ pairs.items) }
@@ -128,12 +147,12 @@ impl<K: Front + Drop, V: Drop> Tree<K, V> {
         let count = pairs.len();
         let base = Base::new(alloc, base)?;
         let mut maker = Maker::new(alloc);
-        let root = maker.build(&base, &mut pairs, count)?;
+        let root = maker.build_root(&base, &mut pairs, count)?;
         Ok(Tree { root, base })
     }
 
-    /// The tree with a pair in place, whatever pair its key had, and how many nodes were made: one at the least, and at
-    /// most four for each level of this tree and four more. `NoMemory` where memory is refused; this tree stays as it is,
+    /// The tree with a pair in place, whatever pair its key had, and how many nodes and runs were made: one at the
+    /// least, and at most four for each level of this tree and four more. `NoMemory` where memory is refused; this tree stays as it is,
     /// as it does at any call.
     pub fn with(&self, alloc: Global, key: K, value: V) -> Result<(Tree<K, V>, u64), NoMemory>
         ensures pairs { IfOk result (λ new. new.0.pairs ≡ pairs_with K.cmp key value self.now.pairs) }
@@ -142,12 +161,18 @@ impl<K: Front + Drop, V: Drop> Tree<K, V> {
         let base = self.base.share()?;
         let mut maker = Maker::new(alloc);
         let entry = maker.entry(&base, (key, value))?;
-        let root = maker.with(&self.root, entry)?;
-        Ok((Tree { root, base }, maker.made()))
+        let root = maker.with_root(&self.root, entry)?;
+        Ok((
+            Tree {
+                root: Some(root),
+                base,
+            },
+            maker.made(),
+        ))
     }
 
-    /// The tree without the pair of a key, and how many nodes were made: at most four for each level of this tree and
-    /// four more, and none where the tree has no pair of that key, which gives an equal tree. `NoMemory` where memory is
+    /// The tree without the pair of a key, and how many nodes and runs were made: at most four for each level of this
+    /// tree and four more, and none where the tree has no pair of that key, which gives an equal tree. `NoMemory` where memory is
     /// refused; this tree stays as it is, as it does at any call.
     pub fn without<Q: Seek<K>>(
         &self,
@@ -158,23 +183,23 @@ impl<K: Front + Drop, V: Drop> Tree<K, V> {
         ensures absent { pair_at K.cmp (Q.key sought.now) self.now.pairs ≡ None → IfOk result (λ new. (new.0 ≡ self.now) × (new.1 ≡ 0)) }
         ensures made { IfOk result (λ new. new.1 ≤ 4 * (self.now.height + 1)) }
     {
-        match find_in(&self.root, &self.base, sought) {
+        match self.pair(sought) {
             None => Ok((self.share()?, 0)),
             Some(_) => {
                 let base = self.base.share()?;
                 let mut maker = Maker::new(alloc);
-                let root = maker.without(&self.root, sought)?;
+                let root = maker.without_root(&self.root, sought)?;
                 Ok((Tree { root, base }, maker.made()))
             }
         }
     }
 
-    /// Another owner of the same nodes. `NoMemory` where the count of the root's owners is full; no memory is taken.
+    /// Another owner of the same nodes and runs. `NoMemory` where the count of the root's owners is full; no memory is taken.
     pub fn share(&self) -> Result<Tree<K, V>, NoMemory>
         ensures { IfOk result (λ new. new ≡ self.now) }
     {
         let base = self.base.share()?;
-        let root = self.root.share()?;
+        let root = share_root(&self.root)?;
         Ok(Tree { root, base })
     }
 }

@@ -268,11 +268,11 @@ fn finds_what_stands_around(rt: HostRuntime) -> Result<(), &'static str> {
     Ok(())
 }
 
-// A million has twenty binary digits; a tree that is halved at each node is no higher than as many.
+// A million pairs are halved sixteen times before each run has no more than sixteen.
 #[test]
 fn a_million_pairs_are_dropped(rt: HostRuntime) -> Result<(), &'static str> {
     let tree = built(rt.alloc(), 1_000_000).ok_or("no tree")?;
-    if tree.height() != 20 || tree.get(&999_999u32).copied() != Some(999_999) {
+    if tree.height() != 17 || tree.get(&999_999u32).copied() != Some(999_999) {
         return Err("another tree");
     }
     Ok(())
