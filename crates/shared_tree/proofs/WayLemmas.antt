@@ -1,7 +1,7 @@
 -- What is left of a way down, as nodes are put on it and taken off it.
 use Rattle.std.proofs.Common.{subst, MatchOption, ◌≡◌, sym, ap, ◌∙◌, ℕ, suc, ◌+◌, ◌<◌, ◌≤◌, List, [], ◌∷◌, ◌++◌, length, append_assoc, append-nil, Option, None, Some, arith}
 use Rattle.std.specs.Borrow.{Bor}
-use Rattle.shared_tree.specs.declared.node.Link.{Link, Leaf, Fork'}
+use Rattle.shared_tree.specs.declared.node.Link.{Link, Run, Fork'}
 use Rattle.shared_tree.specs.declared.node.Node.{Node}
 use Rattle.shared_tree.specs.Links.{link_pairs, link_height, IsFormed, AreOnWay, pairs_on_way, IsTaken}
 
@@ -12,12 +12,12 @@ module _ {K V : Type 0} where
   way_put above (None ∷ way) node h formed room = absurd h
   way_put above (Some other ∷ way) node h formed room = (h.0, h.1, way_put (suc above) way node h.2 formed (omega arith))
 
-  pub pairs_put : (way : List (Option (Bor (Node K V)))) (node : Bor (Node K V)) → pairs_on_way (way ++ Some node ∷ []) ≡ (node.now.entry.pair.value ∷ link_pairs node.now.right) ++ pairs_on_way way
-  pairs_put [] node = sym (append-nil (node.now.entry.pair.value ∷ link_pairs node.now.right))
+  pub pairs_put : (way : List (Option (Bor (Node K V)))) (node : Bor (Node K V)) → pairs_on_way (way ++ Some node ∷ []) ≡ link_pairs node.now.right ++ pairs_on_way way
+  pairs_put [] node = sym (append-nil (link_pairs node.now.right))
   pairs_put (None ∷ way) node = pairs_put way node
   pairs_put (Some other ∷ way) node =
-      ap (λ (xs : List (K × V)). xs ++ other.now.entry.pair.value ∷ link_pairs other.now.right) (pairs_put way node)
-      ∙ append_assoc (node.now.entry.pair.value ∷ link_pairs node.now.right) (pairs_on_way way) (other.now.entry.pair.value ∷ link_pairs other.now.right)
+      ap (λ (xs : List (K × V)). xs ++ link_pairs other.now.right) (pairs_put way node)
+      ∙ append_assoc (link_pairs node.now.right) (pairs_on_way way) (link_pairs other.now.right)
 
   -- what is taken off a way is a node, and what stood above it is a way
   record IsLowest (above : ℕ) (way : List (Option (Bor (Node K V)))) (node : Bor (Node K V)) : Type 0 where
@@ -43,10 +43,10 @@ module _ {K V : Type 0} where
       let below = lowest 0 new node (subst (AreOnWay 0) e h) in
       record { is = e; rest = below.rest; formed = below.formed; room = omega (arith, below.room) }
 
-  pub taken_pairs : (old new : List (Option (Bor (Node K V)))) (node : Bor (Node K V)) → IsTaken old new node → pairs_on_way old ≡ node.now.entry.pair.value ∷ link_pairs node.now.right ++ pairs_on_way new
+  pub taken_pairs : (old new : List (Option (Bor (Node K V)))) (node : Bor (Node K V)) → IsTaken old new node → pairs_on_way old ≡ link_pairs node.now.right ++ pairs_on_way new
   taken_pairs old new node h = ap pairs_on_way h.is ∙ pairs_put new node
 
 -- a formed link is no higher than a way has room for
 pub low_enough : {K V : Type 0} (link : Link K V) → IsFormed link → link_height link ≤ 64
-low_enough Leaf h = omega arith
+low_enough (Run run) h = omega arith
 low_enough (Fork' p entry left right n) h = omega (arith, h.0, h.4)

@@ -123,6 +123,16 @@ IsGrown old new = (link_height old ≤ link_height new) × (link_height new ≤ 
 abbrev pub IsShrunk : {K V : Type 0} → Link K V → Option (Link K V) → Type 0
 IsShrunk old new = (link_height old ≤ root_height new + 1) × (root_height new ≤ link_height old)
 
+abbrev pub IsShrunkNode : {K V : Type 0} → Node K V → Option (Link K V) → Type 0
+IsShrunkNode old new = (node_height old ≤ root_height new + 1) × (root_height new ≤ node_height old)
+
+-- a formed node, and its left side, or its right one, with a pair less (own)
+abbrev pub IsCutLeft : {K V : Type 0} → Node K V → Option (Link K V) → Type 0
+IsCutLeft node left = IsFormedNode node × IsFormedRoot left × IsShrunk node.left left
+
+abbrev pub IsCutRight : {K V : Type 0} → Node K V → Option (Link K V) → Type 0
+IsCutRight node right = IsFormedNode node × IsFormedRoot right × IsShrunk node.right right
+
 -- what keeps a tree: its keys ascend, it is formed, and each node's entry parts it (own)
 pub record IsTree {K V : Type 0} (cmp : K → K → Ordering) (front : K → ℕ) (root : Option (Link K V)) : Type 0 where
   pub ascends : IsAscending cmp (root_pairs root)

@@ -8,6 +8,7 @@ use crate::node::{Entry, Link, Maker, Node, share_entry};
 impl Maker {
     /// The pairs of two sides with a pair between them, level where neither side is higher by more than two. It makes at
     /// most three nodes. `NoMemory` where a node can't be made or shared.
+    #[tactic(auto, using(crate::proofs::LinkLemmas::some_height))]
     pub(crate) fn join<K: Drop, V: Drop>(
         &mut self,
         left: Link<K, V>,
@@ -87,6 +88,7 @@ impl Maker {
     }
 
     /// `join` where the left side, a node, is higher by two: it gives its right side to the pair.
+    #[tactic(auto, using(crate::proofs::LinkLemmas::some_height))]
     fn turn_right<K: Drop, V: Drop>(
         &mut self,
         node: &Node<K, V>,
@@ -131,6 +133,7 @@ impl Maker {
     }
 
     /// `join` where the right side, a node, is higher by two: it gives its left side to the pair.
+    #[tactic(auto, using(crate::proofs::LinkLemmas::some_height))]
     fn turn_left<K: Drop, V: Drop>(
         &mut self,
         left: &Link<K, V>,

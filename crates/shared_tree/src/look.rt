@@ -1,9 +1,9 @@
 //! What a key finds, on one way down.
-ghost use Rattle.std.specs.Prelude.{◌≡◌, ◌<◌, ◌≤◌, IsNone, None, Some, MatchResult, length, take};
+ghost use Rattle.std.specs.Prelude.{◌≡◌, ◌<◌, ◌≤◌, IsNone, Some, MatchResult, IfSome, ℕ, length, take};
 ghost use Rattle.std.specs.Option.{option_copied, option_map, option_or};
 ghost use Rattle.std.specs.List.{slice_get};
 ghost use Rattle.shared_tree.specs.Fronts.{front_at};
-ghost use Rattle.shared_tree.specs.Links.{run_pairs, link_pairs, IsFronted, AreFronted, IsParted, IsFormed, pair_of};
+ghost use Rattle.shared_tree.specs.Links.{run_pairs, link_pairs, IsFronted, AreFronted, IsParted, IsFormed, IsParting, pair_of};
 ghost use Rattle.shared_tree.specs.Pairs.{IsAscending, pair_at, pair_after, pair_before, first_pair, last_pair, IsAt, IsBetween};
 
 use crate::front::{Base, Front};
@@ -23,19 +23,6 @@ pub struct Around<'a, K, V> {
 }
 
 impl<'a, K, V> Around<'a, K, V> {
-    /// Neither the pair of the key nor one next to it.
-    pub(crate) fn none() -> Around<'a, K, V>
-        ensures at { result.at ≡ None }
-        ensures before { result.before ≡ None }
-        ensures behind { result.behind ≡ None }
-    {
-        Around {
-            at: None,
-            before: None,
-            behind: None,
-        }
-    }
-
     /// The pair of the key, and no other.
     fn at(pair: &'a (K, V)) -> Around<'a, K, V>
         ensures { option_copied result.at ≡ Some pair.now }
@@ -188,7 +175,7 @@ fn around_in_run<'a, K: Front, V, Q: Seek<K>>(
     requires ascends { IsAscending K.cmp (run_pairs run.now) }
     ensures at { option_copied result.at ≡ pair_at K.cmp (Q.key sought.now) (run_pairs run.now) }
     ensures before { IsNone result.at → option_copied result.before ≡ pair_before K.cmp (Q.key sought.now) (run_pairs run.now) }
-    ensures behind { IsNone result.at → option_copied result.behind ≡ option_or (pair_after K.cmp (Q.key sought.now) (run_pairs run.now)) (option_copied behind) }
+    ensures behind { IsNone result.at → option_copied result.behind ≡ option_or (pair_after K.cmp (Q.key sought.now) (run_pairs run.now)) (option_copied behind.entry) }
 {
     match place_in(own, base, sought, run) {
         Ok(place) => Around {
@@ -218,7 +205,7 @@ fn pair_or<'a, K, V>(
     place: usize,
     behind: Option<&'a (K, V)>,
 ) -> Option<&'a (K, V)>
-    ensures { option_copied result ≡ option_or (slice_get (run_pairs run.now) place) (option_copied behind) }
+    ensures { option_copied result ≡ option_or (slice_get (run_pairs run.now) place) (option_copied behind.entry) }
 {
     match pair_at_place(run, place) {
         None => behind,
@@ -228,7 +215,8 @@ fn pair_or<'a, K, V>(
 
 /// The first pair, as its run has it.
 pub(crate) fn first_entry<K, V>(link: &Link<K, V>) -> Option<&Entry<K, V>>
-    ensures { IsFormed link.now → option_map pair_of (option_copied result) ≡ first_pair (link_pairs link.now) }
+    ensures first { IsFormed link.now → option_map pair_of (option_copied result) ≡ first_pair (link_pairs link.now) }
+    ensures parting { (front : K → ℕ) → IsParted front link.now → IfSome result (λ entry. IsParting front entry.now (link_pairs link.now)) }
 {
     let mut below = link;
     loop {

@@ -96,6 +96,7 @@ pub(crate) fn share_entry<K, V>(entry: &Entry<K, V>) -> Result<Entry<K, V>, NoMe
 }
 
 /// Puts an entry behind others. `NoMemory` where memory is refused.
+#[tactic(auto, using(crate::proofs::LinkLemmas::run_append))]
 pub(crate) fn push_entry<K: Drop, V: Drop>(
     entries: &mut Vec<Entry<K, V>>,
     entry: Entry<K, V>,

@@ -1,6 +1,6 @@
 //! The way down to a key, made anew; what stands beside it is shared.
 ghost use Rattle.std.specs.Prelude.{◌≡◌, ℕ, ◌+◌, ◌*◌, ◌<◌, ◌≤◌, ◌++◌, IfOk, Some};
-ghost use Rattle.shared_tree.specs.Links.{link_pairs, link_height, IsFormed, IsGrown, IsShrunk, IsFronted, IsTree, root_pairs, IsFormedRoot, IsPartedRoot, root_height, IsParted};
+ghost use Rattle.shared_tree.specs.Links.{link_pairs, link_height, IsFormed, IsGrown, IsShrunk, IsFronted, IsTree, root_pairs, IsFormedRoot, IsPartedRoot, root_height, IsParted, IsParting, IsPartedNode, IsCutLeft, IsCutRight, IsShrunkNode};
 ghost use Rattle.shared_tree.specs.Pairs.{pairs_with, pairs_without};
 
 use crate::fault::NoMemory;
@@ -24,7 +24,7 @@ impl Maker {
         ensures bounded { IsFormedRoot root.now → self.new.made ≤ self.old.made + 3 * root_height root.now + 1 }
     {
         match root {
-            None => self.with_in_run(&[], entry),
+            None => self.run_of_one(entry),
             Some(link) => self.with(link, entry),
         }
     }
@@ -112,11 +112,18 @@ impl Maker {
     }
 
     /// What is left on the left of a node, joined with its right side.
+    #[tactic(auto, using(crate::proofs::LinkLemmas::some_height))]
     fn with_rest_left<K: Drop, V: Drop>(
         &mut self,
         left: Option<Link<K, V>>,
         node: &Node<K, V>,
-    ) -> Result<Option<Link<K, V>>, NoMemory> {
+    ) -> Result<Option<Link<K, V>>, NoMemory>
+        ensures pairs { IfOk result (λ new. root_pairs new ≡ root_pairs left ++ link_pairs node.now.right) }
+        ensures formed { IsCutLeft node.now left → IfOk result (λ new. IsFormedRoot new) }
+        ensures parted { (front : K → ℕ) → IsPartedNode front node.now → IsPartedRoot front left → IfOk result (λ new. IsPartedRoot front new) }
+        ensures height { IsCutLeft node.now left → IfOk result (λ new. IsShrunkNode node.now new) }
+        ensures at_most_three { self.new.made ≤ self.old.made + 3 }
+    {
         let link = match left {
             None => node.right.share()?,
             Some(left) => self.with_left(left, node)?,
@@ -125,11 +132,18 @@ impl Maker {
     }
 
     /// A node's left side, joined with what is left on its right, where its first pair is left.
+    #[tactic(auto, using(crate::proofs::LinkLemmas::some_height))]
     fn with_rest_right<K: Drop, V: Drop>(
         &mut self,
         node: &Node<K, V>,
         right: Option<Link<K, V>>,
-    ) -> Result<Option<Link<K, V>>, NoMemory> {
+    ) -> Result<Option<Link<K, V>>, NoMemory>
+        ensures pairs { IfOk result (λ new. root_pairs new ≡ link_pairs node.now.left ++ root_pairs right) }
+        ensures formed { IsCutRight node.now right → IfOk result (λ new. IsFormedRoot new) }
+        ensures parted { (front : K → ℕ) → IsParting front node.now.entry (root_pairs right) → IsParted front node.now.left → IsPartedRoot front right → IfOk result (λ new. IsPartedRoot front new) }
+        ensures height { IsCutRight node.now right → IfOk result (λ new. IsShrunkNode node.now new) }
+        ensures at_most_three { self.new.made ≤ self.old.made + 3 }
+    {
         let link = match right {
             None => node.left.share()?,
             Some(right) => self.with_right(node, right)?,
@@ -138,11 +152,18 @@ impl Maker {
     }
 
     /// A node's left side, joined with what is left on its right, whose first pair parts them from then on.
+    #[tactic(auto, using(crate::proofs::LinkLemmas::some_height))]
     fn parted_anew<K: Drop, V: Drop>(
         &mut self,
         node: &Node<K, V>,
         right: Option<Link<K, V>>,
-    ) -> Result<Option<Link<K, V>>, NoMemory> {
+    ) -> Result<Option<Link<K, V>>, NoMemory>
+        ensures pairs { IfOk result (λ new. root_pairs new ≡ link_pairs node.now.left ++ root_pairs right) }
+        ensures formed { IsCutRight node.now right → IfOk result (λ new. IsFormedRoot new) }
+        ensures parted { (front : K → ℕ) → IsParted front node.now.left → IsPartedRoot front right → IfOk result (λ new. IsPartedRoot front new) }
+        ensures height { IsCutRight node.now right → IfOk result (λ new. IsShrunkNode node.now new) }
+        ensures at_most_three { self.new.made ≤ self.old.made + 3 }
+    {
         let Some(right) = right else {
             let left = node.left.share()?;
             return Ok(Some(left));

@@ -1,7 +1,6 @@
 //! A run made anew: with a pair in place, without one, and parted where it has become too long.
-ghost use Rattle.std.specs.Prelude.{◌≡◌, ℕ, ◌+◌, ◌<◌, ◌≤◌, ◌++◌, IfOk, length, vec_len};
-ghost use Rattle.shared_tree.specs.Links.{run_pairs, link_pairs, IsRun, IsFronted, AreFronted, IsFormed, IsParted, IsGrownRun, AreShrunk, root_pairs, IsFormedRoot, IsPartedRoot, IsShrunkRun};
-ghost use Rattle.shared_tree.specs.Fronts.{front_at};
+ghost use Rattle.std.specs.Prelude.{◌≡◌, ℕ, ◌+◌, ◌<◌, ◌≤◌, ◌++◌, ◌∷◌, [], IfOk, length, vec_len};
+ghost use Rattle.shared_tree.specs.Links.{run_pairs, link_pairs, IsRun, IsFronted, AreFronted, IsFormed, IsParted, link_height, root_pairs, root_height, IsFormedRoot, IsPartedRoot};
 ghost use Rattle.shared_tree.specs.Pairs.{pairs_below, pairs_above, pairs_with, pairs_without};
 
 use crate::fault::NoMemory;
@@ -18,7 +17,6 @@ fn entries_below<K: Front + Drop, V: Drop>(
 ) -> Result<Vec<Entry<K, V>>, NoMemory>
     ensures pairs { IfOk result (λ below. run_pairs below.items ≡ pairs_below K.cmp key.now (run_pairs run.now)) }
     ensures fronted { (front : K → ℕ) → AreFronted front run.now → IfOk result (λ below. AreFronted front below.items) }
-    ensures length { IfOk result (λ below. vec_len below ≤ length run.now) }
 {
     let mut below = Vec::with_capacity(alloc, run.len().saturating_add(1))?;
     for entry in run {
@@ -65,20 +63,60 @@ fn entries_without<K: Front + Drop, V: Drop, Q: Seek<K>>(
     Ok(rest)
 }
 
+/// The pairs of a run with one in place, whatever pair its key had. `NoMemory` where memory is refused.
+fn entries_with<K: Front + Drop, V: Drop>(
+    alloc: Global,
+    run: &[Entry<K, V>],
+    entry: Entry<K, V>,
+) -> Result<Vec<Entry<K, V>>, NoMemory>
+    ensures pairs { IfOk result (λ entries. run_pairs entries.items ≡ pairs_with K.cmp entry.pair.value.0 entry.pair.value.1 (run_pairs run.now)) }
+    ensures fronted { (front : K → ℕ) → IsFronted front entry → AreFronted front run.now → IfOk result (λ entries. AreFronted front entries.items) }
+    ensures some { IfOk result (λ entries. 0 < vec_len entries) }
+    ensures length { IfOk result (λ entries. vec_len entries ≤ length run.now + 1) }
+{
+    let own = share_entry(&entry)?;
+    let mut entries = entries_below(alloc, run, &own.pair.0)?;
+    push_entry(&mut entries, entry)?;
+    push_above(&mut entries, run, &own.pair.0)?;
+    Ok(entries)
+}
+
 impl Maker {
     /// A run's pairs with one in place, whatever pair its key had: a run, or two below a node. `NoMemory` where memory is refused.
     pub(crate) fn with_in_run<K: Front + Drop, V: Drop>(
         &mut self,
         run: &[Entry<K, V>],
         entry: Entry<K, V>,
-    ) -> Result<Link<K, V>, NoMemory> {
-        let key = share_entry(&entry)?;
-        let mut entries = entries_below(self.alloc(), run, &key.pair.0)?;
-        push_entry(&mut entries, entry)?;
-        push_above(&mut entries, run, &key.pair.0)?;
+    ) -> Result<Link<K, V>, NoMemory>
+        ensures pairs { IfOk result (λ link. link_pairs link ≡ pairs_with K.cmp entry.pair.value.0 entry.pair.value.1 (run_pairs run.now)) }
+        ensures formed { length run.now ≤ 16 → IfOk result (λ link. IsFormed link) }
+        ensures parted { (front : K → ℕ) → IsFronted front entry → AreFronted front run.now → IfOk result (λ link. IsParted front link) }
+        ensures low { IfOk result (λ link. 1 ≤ link_height link) }
+        ensures high { IfOk result (λ link. link_height link ≤ 2) }
+        ensures counted { IfOk result (λ _. self.old.made < self.new.made) }
+        ensures at_most_three { self.new.made ≤ self.old.made + 3 }
+    {
+        let entries = entries_with(self.alloc(), run, entry)?;
         if entries.len() > MAX_RUN {
             return self.halved(entries);
         }
+        self.run(entries)
+    }
+
+    /// A run of one pair. `NoMemory` where memory is refused.
+    pub(crate) fn run_of_one<K: Drop, V: Drop>(
+        &mut self,
+        entry: Entry<K, V>,
+    ) -> Result<Link<K, V>, NoMemory>
+        ensures pairs { IfOk result (λ link. link_pairs link ≡ entry.pair.value ∷ []) }
+        ensures formed { IfOk result (λ link. IsFormed link) }
+        ensures parted { (front : K → ℕ) → IsFronted front entry → IfOk result (λ link. IsParted front link) }
+        ensures height { IfOk result (λ link. link_height link ≡ 1) }
+        ensures counted { IfOk result (λ _. self.new.made ≡ self.old.made + 1) }
+        ensures at_most_one { self.new.made ≤ self.old.made + 1 }
+    {
+        let mut entries = Vec::with_capacity(self.alloc(), 1)?;
+        push_entry(&mut entries, entry)?;
         self.run(entries)
     }
 
@@ -88,6 +126,12 @@ impl Maker {
         entries: Vec<Entry<K, V>>,
     ) -> Result<Link<K, V>, NoMemory>
         requires { 1 < vec_len entries }
+        ensures pairs { IfOk result (λ link. link_pairs link ≡ run_pairs entries.items) }
+        ensures formed { vec_len entries ≤ 32 → IfOk result (λ link. IsFormed link) }
+        ensures parted { (front : K → ℕ) → AreFronted front entries.items → IfOk result (λ link. IsParted front link) }
+        ensures height { IfOk result (λ link. link_height link ≡ 2) }
+        ensures counted { IfOk result (λ _. self.old.made < self.new.made) }
+        ensures at_most_three { self.new.made ≤ self.old.made + 3 }
     {
         let mut entries = entries;
         let middle = entries.len() / 2;
@@ -103,7 +147,13 @@ impl Maker {
         &mut self,
         run: &[Entry<K, V>],
         sought: &Q,
-    ) -> Result<Option<Link<K, V>>, NoMemory> {
+    ) -> Result<Option<Link<K, V>>, NoMemory>
+        ensures pairs { IfOk result (λ root. root_pairs root ≡ pairs_without K.cmp (Q.key sought.now) (run_pairs run.now)) }
+        ensures formed { length run.now ≤ 16 → IfOk result (λ root. IsFormedRoot root) }
+        ensures parted { (front : K → ℕ) → AreFronted front run.now → IfOk result (λ root. IsPartedRoot front root) }
+        ensures low { IfOk result (λ root. root_height root ≤ 1) }
+        ensures at_most_one { self.new.made ≤ self.old.made + 1 }
+    {
         let rest = entries_without(self.alloc(), run, sought)?;
         if rest.is_empty() {
             return Ok(None);

@@ -91,7 +91,11 @@ impl<K: Front, V> Tree<K, V> {
         ensures behind { IsNone result.at → option_copied result.behind ≡ pair_after K.cmp (Q.key sought.now) self.now.pairs }
     {
         match &self.root {
-            None => Around::none(),
+            None => Around {
+                at: None,
+                before: None,
+                behind: None,
+            },
             Some(root) => around_in(root, &self.base, sought),
         }
     }
@@ -118,10 +122,7 @@ impl<K: Front, V> Tree<K, V> {
     pub fn walk(&self) -> Walk<'_, K, V>
         ensures { result ≡ self.now.pairs }
     {
-        match &self.root {
-            None => Walk::empty(),
-            Some(root) => Walk::new(root),
-        }
+        Walk::new(&self.root)
     }
 
     /// The pairs whose keys are greater than a key, which the tree needn't have, in the order of their keys. It takes no
@@ -129,10 +130,7 @@ impl<K: Front, V> Tree<K, V> {
     pub fn walk_above<Q: Seek<K>>(&self, sought: &Q) -> Walk<'_, K, V>
         ensures { result ≡ pairs_above K.cmp (Q.key sought.now) self.now.pairs }
     {
-        match &self.root {
-            None => Walk::empty(),
-            Some(root) => Walk::above(root, &self.base, sought),
-        }
+        Walk::above(&self.root, &self.base, sought)
     }
 }
 

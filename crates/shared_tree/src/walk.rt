@@ -1,7 +1,7 @@
 //! The pairs of a tree in order.
 ghost use Rattle.std.specs.Iterator.{YieldsFirstRef, item_count};
 ghost use Rattle.std.specs.Prelude.{◌≡◌, ◌+◌, ◌<◌, ◌≤◌, [], ◌++◌, length, MatchOption};
-ghost use Rattle.shared_tree.specs.Links.{run_pairs, link_pairs, link_height, IsFormed, IsParted, AreFronted, AreOnWay, pairs_on_way, IsTaken};
+ghost use Rattle.shared_tree.specs.Links.{run_pairs, link_pairs, link_height, IsFormed, IsParted, AreFronted, AreOnWay, pairs_on_way, IsTaken, IsTree, root_pairs, IsFormedRoot};
 ghost use Rattle.shared_tree.specs.Fronts.{front_at};
 ghost use Rattle.shared_tree.specs.Pairs.{IsAscending, pairs_above};
 
@@ -35,43 +35,65 @@ impl<'a, K: Ord, V> Model for Walk<'a, K, V> {
 }
 
 impl<'a, K: Ord, V> Walk<'a, K, V> {
-    /// No pairs.
-    pub(crate) fn empty() -> Walk<'a, K, V>
-        ensures { result ≡ [] }
+    /// All pairs below a root.
+    pub(crate) fn new(root: &'a Option<Link<K, V>>) -> Walk<'a, K, V>
+        requires { IsFormedRoot root.now }
+        ensures { result ≡ root_pairs root.now }
     {
-        Walk {
-            way: ArrayVec::new(),
-            rest: &[],
+        match root {
+            None => Walk {
+                way: ArrayVec::new(),
+                rest: &[],
+            },
+            Some(link) => Walk::below(link),
         }
     }
 
     /// All pairs below a link.
     #[tactic(auto, using(crate::proofs::WayLemmas::low_enough))]
-    pub(crate) fn new(root: &'a Link<K, V>) -> Walk<'a, K, V>
-        requires { IsFormed root.now }
-        ensures { result ≡ link_pairs root.now }
+    fn below(link: &'a Link<K, V>) -> Walk<'a, K, V>
+        requires { IsFormed link.now }
+        ensures { result ≡ link_pairs link.now }
     {
         let mut way = ArrayVec::new();
-        let rest = go_down(&mut way, root);
+        let rest = go_down(&mut way, link);
         Walk { way, rest }
     }
 }
 
 impl<'a, K: Front, V> Walk<'a, K, V> {
-    /// The pairs below a link whose keys are greater than a key.
-    #[tactic(auto, using(crate::proofs::WayLemmas::low_enough))]
+    /// The pairs below a root whose keys are greater than a key.
     pub(crate) fn above<Q: Seek<K>>(
-        root: &'a Link<K, V>,
+        root: &'a Option<Link<K, V>>,
         base: &Base<K>,
         sought: &Q,
     ) -> Walk<'a, K, V>
-        requires formed { IsFormed root.now }
-        requires parted { IsParted (front_at K.front base.now) root.now }
-        requires ascends { IsAscending K.cmp (link_pairs root.now) }
-        ensures { result ≡ pairs_above K.cmp (Q.key sought.now) (link_pairs root.now) }
+        requires { IsTree K.cmp (front_at K.front base.now) root.now }
+        ensures { result ≡ pairs_above K.cmp (Q.key sought.now) (root_pairs root.now) }
+    {
+        match root {
+            None => Walk {
+                way: ArrayVec::new(),
+                rest: &[],
+            },
+            Some(link) => Walk::above_in(link, base, sought),
+        }
+    }
+
+    /// The pairs below a link whose keys are greater than a key.
+    #[tactic(auto, using(crate::proofs::WayLemmas::low_enough))]
+    fn above_in<Q: Seek<K>>(
+        link: &'a Link<K, V>,
+        base: &Base<K>,
+        sought: &Q,
+    ) -> Walk<'a, K, V>
+        requires formed { IsFormed link.now }
+        requires parted { IsParted (front_at K.front base.now) link.now }
+        requires ascends { IsAscending K.cmp (link_pairs link.now) }
+        ensures { result ≡ pairs_above K.cmp (Q.key sought.now) (link_pairs link.now) }
     {
         let mut way = ArrayVec::new();
-        let rest = go_above(&mut way, root, base, sought);
+        let rest = go_above(&mut way, link, base, sought);
         Walk { way, rest }
     }
 }

@@ -1,7 +1,9 @@
+use Rattle.std.proofs.Common.{Some}
 use Rattle.shared_tree.proofs.LinkLemmas.{is_low}
 use Rattle.shared_tree.proofs.tree.Tree.height.Goals as goal
 
 -- the tree is formed
-pub returns-clause-low : goal.returns-clause-low
-returns-clause-low g c =
-    rw (← c.self.view_is, c.height.ensures c.self.invariant.formed) (is_low c.self.inside.root c.self.invariant.formed)
+pub returns-in-Some-clause-low : goal.returns-in-Some-clause-low
+returns-in-Some-clause-low g c =
+    let formed = rw c.in-Some.is at c.self.invariant.formed in
+    rw (← c.self.view_is, c.in-Some.is, c.height.ensures formed) (is_low (Some c.in-Some.root) formed)
