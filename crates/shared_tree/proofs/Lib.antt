@@ -1,4 +1,5 @@
 pub mod LawLemmas
 pub mod LinkLemmas
 pub mod PairLemmas
+pub mod RunLemmas
 pub mod WayLemmas

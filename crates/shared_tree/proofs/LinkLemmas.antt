@@ -1,5 +1,7 @@
 -- How low a link is that is formed, and what parts it.
-use Rattle.std.proofs.Common.{inl, inr, ◌≡◌, ◌∙◌, sym, subst, refl, ℕ, zero, suc, ◌+◌, ◌*◌, ◌^◌, ◌<◌, ◌≤◌, max, List, [], ◌∷◌, ◌++◌, length, length-append, arith, ap, Option, Some, None, append_assoc}
+use Rattle.std.proofs.Common.{inl, inr, ◌≡◌, ◌∙◌, sym, subst, refl, ℕ, zero, suc, ◌+◌, ◌*◌, ◌^◌, ◌<◌, ◌≤◌, max, List, [], ◌∷◌, ◌++◌, length, length-append, arith, ap, Option, Some, None, append_assoc, Bool, not, true, false}
+use Rattle.std.specs.Prelude.{IsTrue}
+use Rattle.std.specs.Option.{is_some}
 use Rattle.std.specs.List.{AllByRecursion}
 use Rattle.shared_tree.specs.declared.node.Entry.{Entry}
 use Rattle.shared_tree.specs.declared.node.Link.{Link, Run, Fork'}
@@ -53,6 +55,10 @@ none_short xs h e = let n : length xs ≡ 0 = ap length e in omega arith
 
 pub not_none : {K V : Type 0} (link : Link K V) → IsFormed link → link_pairs link ≡ [] → ⊥
 not_none link f e = none_short (link_pairs link) (some_pairs link f) e
+
+pub empty_root : {K V : Type 0} (root : Option (Link K V)) (none : Bool) → IsFormedRoot root → is_some root ≡ not none → (IsTrue none → root_pairs root ≡ []) × (root_pairs root ≡ [] → IsTrue none)
+empty_root None none f e = (λ _. refl, λ _. grind (arith, e))
+empty_root (Some link) none f e = (λ t. absurd (grind (arith, e, t)), λ n. absurd (not_none link f n))
 
 -- two halves: of a and b pairs, where b is a or a + 1
 module _ (a b l r : ℕ) (left : IsHalved l a) (right : IsHalved r b) (le : a ≤ b) (ge : b ≤ a + 1) (many : 16 < a + b) where
