@@ -98,13 +98,13 @@ module _ {K V : Type 0} (cmp : K → K → Ordering) (key : K) where
   none_below : (xs : List (K × V)) → IsBelow cmp key xs → pairs_below cmp key xs ≡ []
   none_below xs h = filter_none (λ pair. is_gt (cmp key pair.0)) xs (each_weaker _ _ (λ pair e. ap is_gt e) xs h)
 
-  all_above : (xs : List (K × V)) → IsBelow cmp key xs → pairs_above cmp key xs ≡ xs
+  pub all_above : (xs : List (K × V)) → IsBelow cmp key xs → pairs_above cmp key xs ≡ xs
   all_above xs h = filter_all (λ pair. is_lt (cmp key pair.0)) xs (each_weaker _ _ (λ pair e. ap is_lt e) xs h)
 
   all_below : (xs : List (K × V)) → IsAbove cmp key xs → pairs_below cmp key xs ≡ xs
   all_below xs h = filter_all (λ pair. is_gt (cmp key pair.0)) xs (each_weaker _ _ (λ pair e. ap is_gt e) xs h)
 
-  none_above : (xs : List (K × V)) → IsAbove cmp key xs → pairs_above cmp key xs ≡ []
+  pub none_above : (xs : List (K × V)) → IsAbove cmp key xs → pairs_above cmp key xs ≡ []
   none_above xs h = filter_none (λ pair. is_lt (cmp key pair.0)) xs (each_weaker _ _ (λ pair e. ap is_lt e) xs h)
 
   pub none_at_below : (xs : List (K × V)) → IsBelow cmp key xs → pair_at cmp key xs ≡ None

@@ -1,6 +1,6 @@
 -- A map as the list of its pairs in the order of their keys, and what is asked of it and made of it (own). cmp is the
 -- order of the keys.
-use Rattle.std.specs.Prelude.{◌≡◌, ℕ, ◌*◌, ◌^◌, ◌<◌, ◌≤◌, List, [], ◌∷◌, ◌++◌, reverse, length, take, drop, Option, None, Some}
+use Rattle.std.specs.Prelude.{◌≡◌, ℕ, ◌*◌, ◌^◌, ◌<◌, ◌≤◌, List, [], ◌∷◌, ◌++◌, reverse, take, drop, Option, None, Some}
 use Rattle.std.specs.Option.{option_map}
 use Rattle.std.specs.List.{filter, find, AllByRecursion, HoldsAt}
 use Rattle.std.specs.declared.cmp.Ordering.{Ordering}
@@ -60,7 +60,7 @@ module _ {K V : Type 0} (cmp : K → K → Ordering) where
   -- a key has no pair, and as many pairs of lesser keys as a place says (own)
   abbrev pub IsBetween : K → List (K × V) → ℕ → Type 0
   IsBetween key pairs place =
-      (place ≤ length pairs) × AllByRecursion (λ pair. cmp key pair.0 ≡ Greater) (take place pairs) × AllByRecursion (λ pair. cmp key pair.0 ≡ Less) (drop place pairs)
+      AllByRecursion (λ pair. cmp key pair.0 ≡ Greater) (take place pairs) × AllByRecursion (λ pair. cmp key pair.0 ≡ Less) (drop place pairs)
 
 -- the pair of the least key (own)
 abbrev pub first_pair : {K V : Type 0} → List (K × V) → Option (K × V)

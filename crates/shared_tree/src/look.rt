@@ -1,7 +1,8 @@
 //! What a key finds, on one way down.
-ghost use Rattle.std.specs.Prelude.{◌≡◌, ◌<◌, ◌≤◌, IsNone, Some, MatchResult, IfSome, ℕ, length, take};
+ghost use Rattle.std.specs.Prelude.{◌≡◌, ◌<◌, ◌≤◌, IsNone, MatchResult, IfSome, ℕ, length, take};
 ghost use Rattle.std.specs.Option.{option_copied, option_map, option_or};
 ghost use Rattle.std.specs.List.{slice_get};
+ghost use Rattle.std.specs.List.Sorted.{IsSearchInRange};
 ghost use Rattle.shared_tree.specs.Fronts.{front_at};
 ghost use Rattle.shared_tree.specs.Links.{run_pairs, link_pairs, IsFronted, AreFronted, IsParted, IsFormed, IsParting, pair_of};
 ghost use Rattle.shared_tree.specs.Pairs.{IsAscending, pair_at, pair_after, pair_before, first_pair, last_pair, IsAt, IsBetween};
@@ -20,19 +21,6 @@ pub struct Around<'a, K, V> {
     pub before: Option<&'a (K, V)>,
     /// Where the tree has no pair of the key, that of the least key that is greater.
     pub behind: Option<&'a (K, V)>,
-}
-
-impl<'a, K, V> Around<'a, K, V> {
-    /// The pair of the key, and no other.
-    fn at(pair: &'a (K, V)) -> Around<'a, K, V>
-        ensures { option_copied result.at ≡ Some pair.now }
-    {
-        Around {
-            at: Some(pair),
-            before: None,
-            behind: None,
-        }
-    }
 }
 
 /// How a sought key, in front of which a number stands, stands to an entry's: where the numbers differ, as they do.
@@ -65,7 +53,8 @@ pub(crate) fn place_in<K: Front, V, Q: Seek<K>>(
     requires own { own ≡ front_at K.front base.now (Q.key sought.now) }
     requires fronted { AreFronted (front_at K.front base.now) run.now }
     requires ascends { IsAscending K.cmp (run_pairs run.now) }
-    ensures { MatchResult result (λ place. IsAt K.cmp (Q.key sought.now) (run_pairs run.now) place) (λ place. IsBetween K.cmp (Q.key sought.now) (run_pairs run.now) place) }
+    ensures bound { IsSearchInRange result (length run.now) }
+    ensures position { MatchResult result (λ place. IsAt K.cmp (Q.key sought.now) (run_pairs run.now) place) (λ place. IsBetween K.cmp (Q.key sought.now) (run_pairs run.now) place) }
 {
     let mut low = 0;
     let mut high = run.len();
@@ -84,10 +73,10 @@ pub(crate) fn place_in<K: Front, V, Q: Seek<K>>(
 fn pair_at_place<K, V>(run: &[Entry<K, V>], place: usize) -> Option<&(K, V)>
     ensures { option_copied result ≡ slice_get (run_pairs run.now) place }
 {
-    match run.get(place) {
-        None => None,
-        Some(entry) => Some(&*entry.pair),
+    if place >= run.len() {
+        return None;
     }
+    Some(&*run[place].pair)
 }
 
 /// The pair of a key.
@@ -155,7 +144,13 @@ pub(crate) fn around_in<'a, K: Front, V, Q: Seek<K>>(
                     behind = Some(&*node.entry.pair);
                     below = &node.left;
                 }
-                Ordering::Equal => return Around::at(&node.entry.pair),
+                Ordering::Equal => {
+                    return Around {
+                        at: Some(&*node.entry.pair),
+                        before: None,
+                        behind: None,
+                    };
+                }
                 Ordering::Greater => below = &node.right,
             },
         }
@@ -179,7 +174,7 @@ fn around_in_run<'a, K: Front, V, Q: Seek<K>>(
 {
     match place_in(own, base, sought, run) {
         Ok(place) => Around {
-            at: pair_at_place(run, place),
+            at: Some(&*run[place].pair),
             before: None,
             behind: None,
         },

@@ -192,7 +192,7 @@ fn run_above<'a, K: Front, V, Q: Seek<K>>(
     ensures { run_pairs result.now ≡ pairs_above K.cmp (Q.key sought.now) (run_pairs run.now) }
 {
     match place_in(own, base, sought, run) {
-        Ok(place) => &run[place + 1..],
-        Err(place) => &run[place..],
+        Ok(place) => run.split_at(place + 1).1,
+        Err(place) => run.split_at(place).1,
     }
 }
