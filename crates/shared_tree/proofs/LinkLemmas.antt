@@ -106,6 +106,13 @@ pub first_append : {K V : Type 0} (xs ys : List (K × V)) (pair : K × V) → fi
 first_append [] ys pair e = cc
 first_append (x ∷ xs) ys pair e = e
 
+first_longer : {K V : Type 0} (xs ys : List (K × V)) → 0 < length xs → first_pair (xs ++ ys) ≡ first_pair xs
+first_longer [] ys h = absurd (omega arith)
+first_longer (x ∷ xs) ys h = refl
+
+pub first_formed : {K V : Type 0} (link : Link K V) → IsFormed link → (ys : List (K × V)) → first_pair (link_pairs link ++ ys) ≡ first_pair (link_pairs link)
+first_formed link f ys = first_longer (link_pairs link) ys (some_pairs link f)
+
 module _ {K V : Type 0} (front : K → ℕ) where
   -- a parted link has a first pair
   first_some : (entries : List (Entry K V)) (ys : List (K × V)) → 0 < length entries → first_pair (run_pairs entries ++ ys) ≡ first_pair (run_pairs entries)

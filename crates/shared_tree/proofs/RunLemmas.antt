@@ -12,7 +12,7 @@ use Rattle.std.proofs.lemmas.List.Elements.{filter-append}
 use Rattle.std.proofs.lemmas.List.Folds.{find-append}
 use Rattle.std.proofs.lemmas.Option.{slice_get-get_or}
 use Rattle.shared_tree.specs.declared.node.Entry.{Entry}
-use Rattle.shared_tree.specs.Links.{run_pairs, IsFronted, AreFronted}
+use Rattle.shared_tree.specs.Links.{run_pairs, IsFronted, AreFronted, IsParting}
 use Rattle.shared_tree.specs.Pairs.{IsAscending, IsAt, IsBetween, pairs_below, pairs_above, pairs_with, pair_at, pair_before, pair_after, first_pair, last_pair}
 use Rattle.shared_tree.proofs.LinkLemmas.{run_append, run_length}
 use Rattle.shared_tree.proofs.PairLemmas.{IsBelow, IsAbove, around, each_weaker, each_append, each_reverse, equal_here, above_other, all_above, none_above, none_at_above, none_at_below, none_after, none_before}
@@ -191,3 +191,8 @@ module _ {K V : Type 0} {cmp : K → K → Ordering} (o : IsTotalOrder cmp) (key
 
   pub place_above : pairs_above cmp key (run_pairs run) ≡ drop (i + 1) (run_pairs run)
   place_above = let f : i < length (run_pairs run) = rw (run_length run) h in let d = some_pair (run_pairs run) f in found_above o key (run_pairs run) i d f asc (at d)
+
+-- a run's first entry parts its pairs from those in front
+pub first_parting : {K V : Type 0} (front : K → ℕ) (entry : Entry K V) (run : List (Entry K V)) → 0 < length run → entry ≡ get_or run 0 entry → AreFronted front run → IsParting front entry (run_pairs run)
+first_parting {K} {V} front entry [] h is own = absurd (omega arith)
+first_parting {K} {V} front entry (e ∷ rest) h is own = (ap (λ (x : Entry K V). Some x.pair.value) (sym is), subst (IsFronted front) (sym is) own.0)

@@ -5,8 +5,8 @@ ghost use Rattle.shared_tree.specs.Fronts.{front_at};
 
 use crate::fault::NoMemory;
 use crate::front::{Base, Front};
-use crate::look::first_entry;
-use crate::node::{Entry, Link, MAX_RUN, Maker, push_entry, share_entry};
+use crate::look::share_first;
+use crate::node::{Entry, Link, MAX_RUN, Maker, push_entry};
 use std::alloc::AllocError;
 use std::sync::Arc;
 
@@ -65,7 +65,7 @@ impl Maker {
         }
         let left_count = count / 2;
         let right = self.build(base, pairs, count - left_count)?;
-        let parting = share_entry(first_entry(&right).ok_or(NoMemory)?)?;
+        let parting = share_first(&right)?;
         let left = self.build(base, pairs, left_count)?;
         self.fork(left, parting, right)
     }

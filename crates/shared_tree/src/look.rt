@@ -1,5 +1,5 @@
 //! What a key finds, on one way down.
-ghost use Rattle.std.specs.Prelude.{◌≡◌, ◌<◌, ◌≤◌, IsNone, MatchResult, IfSome, ℕ, length, take};
+ghost use Rattle.std.specs.Prelude.{◌≡◌, ◌<◌, ◌≤◌, IsNone, MatchResult, IfOk, IfSome, ℕ, length, take};
 ghost use Rattle.std.specs.Option.{option_copied, option_map, option_or};
 ghost use Rattle.std.specs.List.{slice_get};
 ghost use Rattle.std.specs.List.Sorted.{IsSearchInRange};
@@ -7,8 +7,9 @@ ghost use Rattle.shared_tree.specs.Fronts.{front_at};
 ghost use Rattle.shared_tree.specs.Links.{run_pairs, link_pairs, IsFronted, AreFronted, IsParted, IsFormed, IsParting, pair_of};
 ghost use Rattle.shared_tree.specs.Pairs.{IsAscending, pair_at, pair_after, pair_before, first_pair, last_pair, IsAt, IsBetween};
 
+use crate::fault::NoMemory;
 use crate::front::{Base, Front};
-use crate::node::{Entry, Link};
+use crate::node::{Entry, Link, share_entry};
 use crate::seek::Seek;
 use std::cmp::Ordering;
 
@@ -219,6 +220,17 @@ pub(crate) fn first_entry<K, V>(link: &Link<K, V>) -> Option<&Entry<K, V>>
             Link::Run(run) => return run.first(),
             Link::Fork(node) => below = &node.left,
         }
+    }
+}
+
+/// The first pair, which parts a link from what stands in front of it, with one owner more. `NoMemory` where the count of its
+/// owners is full.
+pub(crate) fn share_first<K, V>(link: &Link<K, V>) -> Result<Entry<K, V>, NoMemory>
+    ensures { (front : K → ℕ) → IsParted front link.now → IfOk result (λ entry. IsParting front entry (link_pairs link.now)) }
+{
+    match first_entry(link) {
+        None => Err(NoMemory),
+        Some(first) => share_entry(first),
     }
 }
 

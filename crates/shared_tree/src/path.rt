@@ -5,7 +5,7 @@ ghost use Rattle.shared_tree.specs.Pairs.{pairs_with, pairs_without};
 
 use crate::fault::NoMemory;
 use crate::front::Front;
-use crate::look::first_entry;
+use crate::look::share_first;
 use crate::node::{Entry, Link, Maker, Node, share_entry};
 use crate::seek::Seek;
 use std::cmp::Ordering;
@@ -124,11 +124,16 @@ impl Maker {
         ensures height { IsCutLeft node.now left → IfOk result (λ new. IsShrunkNode node.now new) }
         ensures at_most_three { self.new.made ≤ self.old.made + 3 }
     {
-        let link = match left {
-            None => node.right.share()?,
-            Some(left) => self.with_left(left, node)?,
-        };
-        Ok(Some(link))
+        match left {
+            None => {
+                let right = node.right.share()?;
+                Ok(Some(right))
+            }
+            Some(left) => {
+                let link = self.with_left(left, node)?;
+                Ok(Some(link))
+            }
+        }
     }
 
     /// A node's left side, joined with what is left on its right, where its first pair is left.
@@ -144,11 +149,16 @@ impl Maker {
         ensures height { IsCutRight node.now right → IfOk result (λ new. IsShrunkNode node.now new) }
         ensures at_most_three { self.new.made ≤ self.old.made + 3 }
     {
-        let link = match right {
-            None => node.left.share()?,
-            Some(right) => self.with_right(node, right)?,
-        };
-        Ok(Some(link))
+        match right {
+            None => {
+                let left = node.left.share()?;
+                Ok(Some(left))
+            }
+            Some(right) => {
+                let link = self.with_right(node, right)?;
+                Ok(Some(link))
+            }
+        }
     }
 
     /// A node's left side, joined with what is left on its right, whose first pair parts them from then on.
@@ -164,13 +174,16 @@ impl Maker {
         ensures height { IsCutRight node.now right → IfOk result (λ new. IsShrunkNode node.now new) }
         ensures at_most_three { self.new.made ≤ self.old.made + 3 }
     {
-        let Some(right) = right else {
-            let left = node.left.share()?;
-            return Ok(Some(left));
-        };
-        let first = first_entry(&right).ok_or(NoMemory)?;
-        let parting = share_entry(first)?;
-        let link = self.join(node.left.share()?, parting, right)?;
-        Ok(Some(link))
+        match right {
+            None => {
+                let left = node.left.share()?;
+                Ok(Some(left))
+            }
+            Some(right) => {
+                let parting = share_first(&right)?;
+                let link = self.join(node.left.share()?, parting, right)?;
+                Ok(Some(link))
+            }
+        }
     }
 }

@@ -106,10 +106,7 @@ impl<'a, K: Ord, V> Iterator for Walk<'a, K, V> {
     ghost remaining = { item_count (λ walk. walk) };
 
     fn next(&mut self) -> Option<&'a (K, V)> {
-        if self.rest.is_empty() {
-            let node = take_lowest(&mut self.way)?;
-            self.rest = go_down(&mut self.way, &node.right);
-        }
+        self.rest = rest_or_next(&mut self.way, self.rest);
         let (first, rest) = self.rest.split_first()?;
         self.rest = rest;
         Some(&*first.pair)
@@ -123,6 +120,25 @@ fn take_lowest<'a, K, V>(way: &mut Way<'a, K, V>) -> Option<&'a Node<K, V>>
 {
     let lowest = way.pop()?;
     lowest
+}
+
+/// The rest of a run, or the run behind it where nothing is left, with the way to it in place of the way to the one.
+fn rest_or_next<'a, K, V>(
+    way: &mut Way<'a, K, V>,
+    rest: &'a [Entry<K, V>],
+) -> &'a [Entry<K, V>]
+    requires { AreOnWay 0 way.old.items }
+    ensures way { AreOnWay 0 way.new.items }
+    ensures pairs { run_pairs result.now ++ pairs_on_way way.new.items ≡ run_pairs rest.now ++ pairs_on_way way.old.items }
+    ensures none { length result.now ≡ 0 → pairs_on_way way.new.items ≡ [] }
+{
+    if !rest.is_empty() {
+        return rest;
+    }
+    match take_lowest(way) {
+        None => rest,
+        Some(node) => go_down(way, &node.right),
+    }
 }
 
 /// Puts the way down from a link to its first run behind a way, and gives that run.
