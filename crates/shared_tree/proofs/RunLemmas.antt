@@ -1,6 +1,8 @@
 -- What a loop over a run has made, and what a place in pairs says of a key.
 use Rattle.std.proofs.Common.{◌≡◌, refl, sym, ap, ◌∙◌, subst, ℕ, zero, suc, ◌+◌, ◌<◌, ◌≤◌, Bool, true, false, List, [], ◌∷◌, ◌++◌, length, get_or, take, drop, reverse, cond, Option, None, Some, add-one, append-nil, append_assoc, arith, length-append}
-use Rattle.std.specs.Option.{option_or, option_map}
+use Rattle.std.specs.Option.{option_or, option_map, option_copied}
+use Rattle.std.specs.Prelude.{IfSome}
+use Rattle.std.specs.Borrow.{Bor}
 use Rattle.std.specs.List.{filter, find, slice_get, AllByRecursion}
 use Rattle.std.specs.declared.cmp.Ordering.{Ordering}
 use Rattle.std.specs.declared.cmp.Ordering.TheVariants.{Less, Equal, Greater}
@@ -12,7 +14,7 @@ use Rattle.std.proofs.lemmas.List.Elements.{filter-append}
 use Rattle.std.proofs.lemmas.List.Folds.{find-append}
 use Rattle.std.proofs.lemmas.Option.{slice_get-get_or}
 use Rattle.shared_tree.specs.declared.node.Entry.{Entry}
-use Rattle.shared_tree.specs.Links.{run_pairs, IsFronted, AreFronted, IsParting}
+use Rattle.shared_tree.specs.Links.{run_pairs, IsFronted, AreFronted, IsRunFronted, IsParting}
 use Rattle.shared_tree.specs.Pairs.{IsAscending, IsAt, IsBetween, pairs_below, pairs_above, pairs_with, pair_at, pair_before, pair_after, first_pair, last_pair}
 use Rattle.shared_tree.proofs.LinkLemmas.{run_append, run_length}
 use Rattle.shared_tree.proofs.PairLemmas.{IsBelow, IsAbove, around, each_weaker, each_append, each_reverse, equal_here, above_other, all_above, none_above, none_at_above, none_at_below, none_after, none_before}
@@ -196,3 +198,10 @@ module _ {K V : Type 0} {cmp : K → K → Ordering} (o : IsTotalOrder cmp) (key
 pub first_parting : {K V : Type 0} (front : K → ℕ) (entry : Entry K V) (run : List (Entry K V)) → 0 < length run → entry ≡ get_or run 0 entry → AreFronted front run → IsParting front entry (run_pairs run)
 first_parting {K} {V} front entry [] h is own = absurd (omega arith)
 first_parting {K} {V} front entry (e ∷ rest) h is own = (ap (λ (x : Entry K V). Some x.pair.value) (sym is), subst (IsFronted front) (sym is) own.0)
+
+pub first_parts : {K V : Type 0} (front : K → ℕ) (run : List (Entry K V)) (pairs : List (K × V)) (r : Option (Bor (Entry K V))) → option_copied r ≡ slice_get run 0 → IsRunFronted front run → first_pair (run_pairs run) ≡ first_pair pairs → IfSome r (λ entry. IsParting front entry.now pairs)
+first_parts front run pairs None is own same = tt
+first_parts front [] pairs (Some entry) is own same = absurd (omega (arith, own.0))
+first_parts {K} {V} front (e ∷ rest) pairs (Some entry) is own same =
+    let first : entry.now ≡ e = cc in
+    (sym same ∙ ap (λ (x : Entry K V). Some x.pair.value) (sym first), subst (IsFronted front) (sym first) own.1.0)

@@ -230,7 +230,10 @@ pub(crate) fn share_first<K, V>(link: &Link<K, V>) -> Result<Entry<K, V>, NoMemo
 {
     match first_entry(link) {
         None => Err(NoMemory),
-        Some(first) => share_entry(first),
+        Some(first) => {
+            let shared = share_entry(first)?;
+            Ok(shared)
+        }
     }
 }
 

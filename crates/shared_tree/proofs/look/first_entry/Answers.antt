@@ -9,7 +9,7 @@ use Rattle.shared_tree.proofs.look.first_entry.Goals as goal
 pub loop-below-preserved : goal.loop-below-preserved
 loop-below-preserved g c =
     let n = c.in-Fork.node.value in
-    let sides = c.deref.ensures in
+    let sides = c.deref-in-Fork.ensures in
     record {
       first = λ f.
           let h = rw c.in-Fork.is at (c.loop-below.invariant.first f) in
@@ -18,3 +18,10 @@ loop-below-preserved g c =
           let h = rw c.in-Fork.is at (c.loop-below.invariant.parting front p) in
           (subst (λ (node : Node g.row.K.Denot g.row.V.Denot). IsParted front node.left) (sym sides) h.0.1, rw sides (sym (first_of front n.left h.0.1 (link_pairs n.right)) ∙ h.1));
     }
+
+-- the run's first entry
+pub returns-in-Run-clause-parting : goal.returns-in-Run-clause-parting
+returns-in-Run-clause-parting g c front p =
+    let h = rw c.in-Run.is at (c.loop-below.invariant.parting front p) in
+    let v = c.first.ensures.value in
+    ?

@@ -1,5 +1,5 @@
-use Rattle.std.proofs.Common.{◌≡◌, ◌∙◌, ◌+◌, ◌<◌, ◌≤◌, ap, length, arith, append_assoc}
-use Rattle.shared_tree.specs.Pairs.{pairs_with}
+use Rattle.std.proofs.Common.{◌≡◌, ◌∙◌, ◌+◌, ◌<◌, ◌≤◌, ◌∷◌, [], ap, length, arith, append_assoc}
+use Rattle.shared_tree.specs.Pairs.{pairs_below, pairs_above, pairs_with}
 use Rattle.shared_tree.specs.Links.{run_pairs}
 use Rattle.shared_tree.proofs.LinkLemmas.{run_length}
 use Rattle.shared_tree.proofs.RunLemmas.{with_length, with_some}
@@ -7,7 +7,10 @@ use Rattle.shared_tree.proofs.run.entries_with.Goals as goal
 
 -- the pairs of lesser keys, the pair, and those of greater keys
 pub returns-clause-pairs : goal.returns-clause-pairs
-returns-clause-pairs g c = c.in_ok-push_above.ensures.pairs ∙ rw (c.in_ok-push_entry.ensures.pairs, c.in_ok-entries.ensures.pairs, c.deref.ensures, c.deref-2.ensures, c.in_ok-own.ensures.pair) (append_assoc _ _ _)
+returns-clause-pairs g c =
+    let pair = c.args.entry.pair.value in
+    let run = run_pairs c.args.run.now in
+    c.in_ok-push_above.ensures.pairs ∙ rw (c.in_ok-push_entry.ensures.pairs, c.in_ok-entries.ensures.pairs, c.deref.ensures, c.deref-2.ensures, c.in_ok-own.ensures.pair) (append_assoc (pairs_below g.K.Ord.cmp pair.0 run) (pair ∷ []) (pairs_above g.K.Ord.cmp pair.0 run))
 
 -- each number comes with its key
 pub returns-clause-fronted : goal.returns-clause-fronted

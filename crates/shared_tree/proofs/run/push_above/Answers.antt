@@ -21,7 +21,7 @@ loop-entry-preserved g c =
           let is : is_lt (g.K.Ord.cmp key entry.pair.value.0) ≡ true = cc in
           let kept = filter_kept (λ (x : g.row.K.Denot × g.row.V.Denot). is_lt (g.K.Ord.cmp key x.0)) (run_pairs (take i run)) entry.pair.value is in
           record {
-            pairs = rw (w.entries-is, more, kept) (w.in_ok-push_entry.ensures.pairs ∙ rw (c.loop-entry.invariant.pairs, w.in_ok-share_entry.ensures.pair) (append_assoc _ _ _));
+            pairs = rw (w.entries-is, more, kept) (w.in_ok-push_entry.ensures.pairs ∙ rw (c.loop-entry.invariant.pairs, w.in_ok-share_entry.ensures.pair) (append_assoc (run_pairs c.args.entries.now.items) (pairs_above g.K.Ord.cmp key (run_pairs (take i run))) (entry.pair.value ∷ [])));
             fronted = λ front own old. rw w.entries-is (w.in_ok-push_entry.ensures.fronted front (c.loop-entry.invariant.fronted front own old) (entry_fronted front w.in_ok-share_entry.field-0 entry w.in_ok-share_entry.ensures.front w.in_ok-share_entry.ensures.pair (fronted_at front run i entry within c.entry-item.is own)));
           }
       | else-is_lt w ↦
