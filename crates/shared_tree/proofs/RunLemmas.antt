@@ -123,9 +123,13 @@ first_dropped [] (suc i) = refl
 first_dropped (x ∷ xs) zero = refl
 first_dropped (x ∷ xs) (suc i) = first_dropped xs i
 
-pub last_taken : {K V : Type 0} (xs : List (K × V)) (i : ℕ) (d : K × V) → i < length xs → last_pair (take (suc i) xs) ≡ slice_get xs i
+last_taken : {K V : Type 0} (xs : List (K × V)) (i : ℕ) (d : K × V) → i < length xs → last_pair (take (suc i) xs) ≡ slice_get xs i
 last_taken xs i d h =
     ap last_pair (take-suc xs i d h) ∙ ap first_pair (reverse-append (take i xs) (get_or xs i d ∷ [])) ∙ sym (slice_get-get_or xs i d h)
+
+pub last_at : {K V : Type 0} (xs : List (K × V)) (i : ℕ) → i < length xs → last_pair (take (suc i) xs) ≡ slice_get xs i
+last_at [] i h = absurd (omega arith)
+last_at (x ∷ xs) i h = last_taken (x ∷ xs) i x h
 
 -- a key that has no pair, at its place
 module _ {K V : Type 0} (cmp : K → K → Ordering) (key : K) (xs : List (K × V)) (i : ℕ) (between : IsBetween cmp key xs i) where

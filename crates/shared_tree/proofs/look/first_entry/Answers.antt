@@ -3,6 +3,7 @@ use Rattle.shared_tree.specs.Links.{link_pairs, IsFormed, IsParted}
 use Rattle.shared_tree.specs.Pairs.{first_pair}
 use Rattle.shared_tree.specs.declared.node.Node.{Node}
 use Rattle.shared_tree.proofs.LinkLemmas.{first_formed, first_of}
+use Rattle.shared_tree.proofs.RunLemmas.{first_parts}
 use Rattle.shared_tree.proofs.look.first_entry.Goals as goal
 
 -- the left side has the first pair
@@ -23,5 +24,5 @@ loop-below-preserved g c =
 pub returns-in-Run-clause-parting : goal.returns-in-Run-clause-parting
 returns-in-Run-clause-parting g c front p =
     let h = rw c.in-Run.is at (c.loop-below.invariant.parting front p) in
-    let v = c.first.ensures.value in
-    ?
+    let value = rw (c.deref-in-Run.ensures.value, c.deref.ensures) at c.first.ensures.value in
+    first_parts front c.in-Run.run'.value.items (link_pairs c.args.link.now) c.first.result value h.0 h.1

@@ -25,8 +25,8 @@ returns-clause-parted g c front own =
     let both = subst (AreFronted front) (sym (take-append-drop middle items)) own in
     let first : AreFronted front c.split_off.new.self.items = rw c.in_ok-behind.ensures.items (each_front (IsFronted front) (take middle items) (drop middle items) both) in
     let last : AreFronted front behind = rw c.in_ok-behind.ensures.tail (each_behind (IsFronted front) (take middle items) (drop middle items) both) in
-    let some : 0 < length c.split_off.new.self.items = omega arith in
-    let more : 0 < length behind = omega arith in
+    let some : 0 < length c.split_off.new.self.items = omega (arith, c.split_off.new.self.ok.0, c.in_ok-behind.ensures.len, c.len-middle.ensures) in
+    let more : 0 < length behind = omega (arith, c.in_ok-behind.behind.ok.0, c.in_ok-behind.ensures.tail_len, c.len-middle.ensures) in
     c.fork.ensures.parted front
     (entry_parting front c.in_ok-parting.parting c.index.result.now (run_pairs behind) (link_pairs c.in_ok-right.right) c.in_ok-parting.ensures.front c.in_ok-parting.ensures.pair c.in_ok-right.ensures.pairs (first_parting front c.index.result.now behind more c.index.ensures last))
     (c.in_ok-left.ensures.parted front (some, first))
