@@ -22,6 +22,10 @@ pub run_length : {K V : Type 0} (entries : List (Entry K V)) → length (run_pai
 run_length [] = refl
 run_length (entry ∷ rest) = ap suc (run_length rest)
 
+pub no_entries : {K V : Type 0} (entries : List (Entry K V)) → length entries ≡ 0 → run_pairs entries ≡ []
+no_entries [] e = refl
+no_entries (entry ∷ rest) e = absurd (omega arith)
+
 pub run_append : {K V : Type 0} (entries behind : List (Entry K V)) → run_pairs (entries ++ behind) ≡ run_pairs entries ++ run_pairs behind
 run_append [] behind = refl
 run_append (entry ∷ rest) behind = ap (λ l. entry.pair.value ∷ l) (run_append rest behind)

@@ -80,6 +80,7 @@ impl Maker {
     ) -> Result<Vec<Entry<K, V>>, NoMemory>
         ensures pairs { IfOk result (λ entries. pairs.old.items ≡ pairs.new.items ++ run_pairs entries.items) }
         ensures length { count ≤ vec_len pairs.old → IfOk result (λ entries. vec_len entries ≡ count) }
+        ensures rest { count ≤ vec_len pairs.old → IfOk result (λ _. vec_len pairs.new + count ≡ vec_len pairs.old) }
         ensures fronted { IfOk result (λ entries. AreFronted (front_at K.front base.now) entries.items) }
     {
         let front = pairs.len().saturating_sub(count);

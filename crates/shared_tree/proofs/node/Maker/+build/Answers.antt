@@ -1,4 +1,4 @@
-use Rattle.std.proofs.Common.{◌≡◌, ◌+◌, ◌-◌, ◌/◌, ◌<◌, ◌≤◌, vec_len, arith, subst, max}
+use Rattle.std.proofs.Common.{◌≡◌, ◌+◌, ◌-◌, ◌/◌, ◌<◌, ◌≤◌, vec_len, length, arith, subst, max}
 use Rattle.std.proofs.lemmas.Result.{IfOk-weaker}
 use Rattle.shared_tree.specs.Fronts.{front_at}
 use Rattle.shared_tree.specs.Links.{link_height, IsHalved}
@@ -44,3 +44,9 @@ returns-clause-parted g t c some fits =
     let left_fits : n / 2 ≤ vec_len c.build.new.pairs = omega (arith, right_len) in
     let right = c.in_ok-right.ensures.parted right_some right_fits in
     c.fork.ensures.parted front (c.in_ok-parting.ensures front right) (c.in_ok-left.ensures.parted left_some left_fits) right
+
+-- a run has its keys' numbers
+pub returns-then-count-le-MAX_RUN-clause-parted : goal.returns-then-count-le-MAX_RUN-clause-parted
+returns-then-count-le-MAX_RUN-clause-parted g t c some fits =
+    let more : 0 < length c.in_ok-entries.entries.items = omega (arith, c.in_ok-entries.ensures.length fits) in
+    c.run.ensures.parted (front_at g.K.Front.front c.args.base.now) (more, c.in_ok-entries.ensures.fronted)

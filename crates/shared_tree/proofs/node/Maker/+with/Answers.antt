@@ -117,3 +117,9 @@ returns-in_ok-right-in-Greater-clause-parted g t c front own tree =
     (subst (λ (node : Node g.row.K.Denot g.row.V.Denot). IsParting front node.entry (link_pairs c.in_ok-right-in-Greater.right)) (sym c.deref-in-Greater-2.ensures) parting)
     (subst (λ (node : Node g.row.K.Denot g.row.V.Denot). IsParted front node.left) (sym c.deref-in-Greater-2.ensures) parted.1)
     (c.in_ok-right-in-Greater.ensures.parted front own side)
+
+-- the run is
+pub returns-in-Run-clause-parted : goal.returns-in-Run-clause-parted
+returns-in-Run-clause-parted g t c front own tree =
+    let run = rw c.in-Run.is at tree.parted in
+    c.with_in_run.ensures.parted front own (rw (c.deref-in-Run.ensures.value, c.deref.ensures) run.1)
