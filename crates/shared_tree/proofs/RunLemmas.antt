@@ -65,7 +65,7 @@ module _ {K V : Type 0} where
 -- pairs with one in place are at most one more
 module _ {K V : Type 0} (cmp : K → K → Ordering) (key : K) where
   parted_length : (x : K × V) (xs : List (K × V)) (r : Ordering) → length (pairs_below cmp key xs) + length (pairs_above cmp key xs) ≤ length xs →
-    length (cond (is_gt r) (x ∷ pairs_below cmp key xs) (pairs_below cmp key xs)) + length (cond (is_lt r) (x ∷ pairs_above cmp key xs) (pairs_above cmp key xs)) ≤ suc (length xs)
+      length (cond (is_gt r) (x ∷ pairs_below cmp key xs) (pairs_below cmp key xs)) + length (cond (is_lt r) (x ∷ pairs_above cmp key xs) (pairs_above cmp key xs)) ≤ suc (length xs)
   parted_length x xs Less h = omega arith
   parted_length x xs Equal h = omega arith
   parted_length x xs Greater h = omega arith

@@ -1,5 +1,10 @@
 -- What is left of a way down, as nodes are put on it and taken off it.
-use Rattle.std.proofs.Common.{subst, MatchOption, ◌≡◌, sym, ap, ◌∙◌, ℕ, suc, ◌+◌, ◌<◌, ◌≤◌, List, [], ◌∷◌, ◌++◌, length, append_assoc, append-nil, Option, None, Some, arith}
+use Rattle.std.proofs.Common.{subst, MatchOption, ◌≡◌, sym, ap, ◌∙◌, ℕ, suc, ◌+◌, ◌<◌, ◌≤◌, List, [], ◌∷◌, ◌++◌, length, append_assoc, append-nil, Option, None, Some, arith, refl, Bool, true, false, cond}
+use Rattle.std.specs.Option.{option_copied}
+use Rattle.std.specs.List.{filter, find}
+use Rattle.std.specs.Ordering.{is_lt}
+use Rattle.std.specs.declared.cmp.Ordering.{Ordering}
+use Rattle.shared_tree.specs.Pairs.{first_pair, pairs_above, pair_after}
 use Rattle.std.specs.Borrow.{Bor}
 use Rattle.shared_tree.specs.declared.node.Link.{Link, Run, Fork'}
 use Rattle.shared_tree.specs.declared.node.Node.{Node}
@@ -50,3 +55,14 @@ module _ {K V : Type 0} where
 pub low_enough : {K V : Type 0} (link : Link K V) → IsFormed link → link_height link ≤ 64
 low_enough (Run run) h = omega arith
 low_enough (Fork' p entry left right n) h = omega (arith, h.0, h.4)
+
+-- what a test finds is the first that passes
+found_first : {K V : Type 0} (p : K × V → Bool) (xs : List (K × V)) → find p xs ≡ first_pair (filter p xs)
+found_first p [] = refl
+found_first {K} {V} p (x ∷ xs) =
+    elim (p x) as (λ b. cond b (Some x) (find p xs) ≡ first_pair (cond b (x ∷ filter p xs) (filter p xs))) [ true ↦ refl | false ↦ found_first p xs ]
+
+-- the first pair that a walk over those above a key yields
+pub first_walked : {K V : Type 0} (cmp : K → K → Ordering) (key : K) (xs old new : List (K × V)) (r : Option (Bor (K × V))) → old ≡ pairs_above cmp key xs → MatchOption r ((old ≡ []) × (new ≡ [])) (λ x. old ≡ x.now ∷ new) → option_copied r ≡ pair_after cmp key xs
+first_walked cmp key xs old new None is h = ap first_pair (sym h.0 ∙ is) ∙ sym (found_first (λ x. is_lt (cmp key x.0)) xs)
+first_walked cmp key xs old new (Some x) is h = ap first_pair (sym h ∙ is) ∙ sym (found_first (λ x. is_lt (cmp key x.0)) xs)

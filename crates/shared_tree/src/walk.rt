@@ -82,11 +82,7 @@ impl<'a, K: Front, V> Walk<'a, K, V> {
 
     /// The pairs below a link whose keys are greater than a key.
     #[tactic(auto, using(crate::proofs::WayLemmas::low_enough))]
-    fn above_in<Q: Seek<K>>(
-        link: &'a Link<K, V>,
-        base: &Base<K>,
-        sought: &Q,
-    ) -> Walk<'a, K, V>
+    fn above_in<Q: Seek<K>>(link: &'a Link<K, V>, base: &Base<K>, sought: &Q) -> Walk<'a, K, V>
         requires formed { IsFormed link.now }
         requires parted { IsParted (front_at K.front base.now) link.now }
         requires ascends { IsAscending K.cmp (link_pairs link.now) }
@@ -123,10 +119,7 @@ fn take_lowest<'a, K, V>(way: &mut Way<'a, K, V>) -> Option<&'a Node<K, V>>
 }
 
 /// The rest of a run, or the run behind it where nothing is left, with the way to it in place of the way to the one.
-fn rest_or_next<'a, K, V>(
-    way: &mut Way<'a, K, V>,
-    rest: &'a [Entry<K, V>],
-) -> &'a [Entry<K, V>]
+fn rest_or_next<'a, K, V>(way: &mut Way<'a, K, V>, rest: &'a [Entry<K, V>]) -> &'a [Entry<K, V>]
     requires { AreOnWay 0 way.old.items }
     ensures way { AreOnWay 0 way.new.items }
     ensures pairs { run_pairs result.now ++ pairs_on_way way.new.items ≡ run_pairs rest.now ++ pairs_on_way way.old.items }
