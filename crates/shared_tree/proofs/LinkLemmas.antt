@@ -1,8 +1,7 @@
 -- How low a link is that is formed, and what parts it.
-use Rattle.std.proofs.Common.{inl, inr, ◌≡◌, ◌∙◌, sym, subst, refl, ℕ, zero, suc, ◌+◌, ◌*◌, ◌^◌, ◌<◌, ◌≤◌, max, List, [], ◌∷◌, ◌++◌, length, length-append, arith, ap, Option, Some, None, append_assoc, Bool, not, true, false}
+use Rattle.std.proofs.Common.{inl, inr, ◌≡◌, ◌∙◌, sym, subst, refl, ℕ, zero, suc, ◌+◌, ◌*◌, ◌^◌, ◌<◌, ◌≤◌, max, List, [], ◌∷◌, ◌++◌, length, length-append, arith, ap, Option, Some, None, append_assoc, Bool, not}
 use Rattle.std.specs.Prelude.{IsTrue}
 use Rattle.std.specs.Option.{is_some}
-use Rattle.std.specs.List.{AllByRecursion}
 use Rattle.shared_tree.specs.declared.node.Entry.{Entry}
 use Rattle.shared_tree.specs.declared.node.Link.{Link, Run, Fork'}
 use Rattle.shared_tree.specs.declared.node.Node.{Node}

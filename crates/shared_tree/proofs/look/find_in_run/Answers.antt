@@ -1,6 +1,5 @@
 use Rattle.std.proofs.Common.{◌∙◌, sym}
 use Rattle.shared_tree.specs.Links.{run_pairs}
-use Rattle.shared_tree.proofs.LinkLemmas.{run_length}
 use Rattle.shared_tree.proofs.RunLemmas.{place_found, none_between}
 use Rattle.shared_tree.proofs.look.find_in_run.Goals as goal
 

@@ -1,6 +1,5 @@
-use Rattle.std.proofs.Common.{◌≡◌, ◌∙◌, sym, subst}
+use Rattle.std.proofs.Common.{◌∙◌, sym, subst}
 use Rattle.shared_tree.specs.Links.{link_pairs, IsFormed, IsParted}
-use Rattle.shared_tree.specs.Pairs.{first_pair}
 use Rattle.shared_tree.specs.declared.node.Node.{Node}
 use Rattle.shared_tree.proofs.LinkLemmas.{first_formed, first_of}
 use Rattle.shared_tree.proofs.RunLemmas.{first_parts}

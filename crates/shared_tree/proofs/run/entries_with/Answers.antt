@@ -1,4 +1,4 @@
-use Rattle.std.proofs.Common.{◌≡◌, ◌∙◌, ◌+◌, ◌<◌, ◌≤◌, ◌∷◌, [], ap, length, arith, append_assoc}
+use Rattle.std.proofs.Common.{◌≡◌, ◌∙◌, ◌∷◌, [], ap, length, arith, append_assoc}
 use Rattle.shared_tree.specs.Pairs.{pairs_below, pairs_above, pairs_with}
 use Rattle.shared_tree.specs.Links.{run_pairs}
 use Rattle.shared_tree.proofs.LinkLemmas.{run_length}

@@ -1,7 +1,6 @@
-use Rattle.std.proofs.Common.{◌≡◌, ◌∙◌, ◌+◌, ◌++◌, ◌∷◌, [], ◌<◌, ap, sym, length, take, true, false, arith, refl}
+use Rattle.std.proofs.Common.{◌≡◌, ◌∙◌, ◌<◌, length, take, true, false, arith, refl}
 use Rattle.std.specs.Ordering.{is_ne}
-use Rattle.shared_tree.specs.Links.{run_pairs, IsFronted}
-use Rattle.shared_tree.specs.Pairs.{pairs_without}
+use Rattle.shared_tree.specs.Links.{run_pairs}
 use Rattle.shared_tree.proofs.LinkLemmas.{entry_fronted}
 use Rattle.shared_tree.proofs.RunLemmas.{filter_kept, filter_passed, pairs_taken, fronted_at}
 use Rattle.shared_tree.proofs.run.entries_without.Goals as goal

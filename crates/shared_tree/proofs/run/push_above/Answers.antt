@@ -1,6 +1,6 @@
-use Rattle.std.proofs.Common.{◌≡◌, ◌∙◌, ◌+◌, ◌++◌, ◌∷◌, [], ◌<◌, ap, sym, length, take, true, false, arith, append_assoc}
+use Rattle.std.proofs.Common.{◌≡◌, ◌∙◌, ◌∷◌, [], ◌<◌, length, take, true, false, arith, append_assoc}
 use Rattle.std.specs.Ordering.{is_lt}
-use Rattle.shared_tree.specs.Links.{run_pairs, IsFronted}
+use Rattle.shared_tree.specs.Links.{run_pairs}
 use Rattle.shared_tree.specs.Pairs.{pairs_above}
 use Rattle.shared_tree.proofs.LinkLemmas.{entry_fronted}
 use Rattle.shared_tree.proofs.RunLemmas.{filter_kept, filter_passed, pairs_taken, fronted_at}

@@ -1,7 +1,7 @@
-use Rattle.std.proofs.Common.{◌≡◌, ◌∙◌, ◌++◌, sym, ap, subst, refl, Some}
+use Rattle.std.proofs.Common.{◌≡◌, ◌∙◌, ◌++◌, sym, ap, subst, Some}
 use Rattle.std.specs.declared.cmp.Ordering.TheVariants.{Less, Equal, Greater}
 use Rattle.shared_tree.specs.declared.node.Node.{Node}
-use Rattle.shared_tree.specs.Links.{link_pairs, root_pairs, IsTree, IsParting, IsParted}
+use Rattle.shared_tree.specs.Links.{link_pairs, IsTree, IsParting, IsParted}
 use Rattle.shared_tree.specs.Pairs.{pairs_with, first_pair}
 use Rattle.shared_tree.proofs.LinkLemmas.{entry_fronted, node_parted}
 use Rattle.shared_tree.proofs.PartLemmas.{less_parted, equal_parted, greater_parted}

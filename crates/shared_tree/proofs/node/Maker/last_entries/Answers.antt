@@ -1,4 +1,4 @@
-use Rattle.std.proofs.Common.{◌≡◌, ◌∙◌, ◌++◌, ◌∷◌, [], refl, ap, arith, length-append}
+use Rattle.std.proofs.Common.{◌∙◌, ◌∷◌, [], refl, arith, length-append}
 use Rattle.shared_tree.proofs.node.Maker.last_entries.Goals as goal
 
 -- one more has come

@@ -1,4 +1,4 @@
-use Rattle.std.proofs.Common.{◌≡◌, ◌∙◌, ◌++◌, ◌∷◌, [], ◌<◌, ap, length, arith}
+use Rattle.std.proofs.Common.{◌≡◌, ◌∷◌, [], ◌<◌, ap, length, arith}
 use Rattle.shared_tree.specs.Links.{run_pairs, AreFronted}
 use Rattle.shared_tree.proofs.LinkLemmas.{run_length}
 use Rattle.shared_tree.proofs.node.Maker.run_of_one.Goals as goal

@@ -1,4 +1,3 @@
-use Rattle.std.proofs.Common.{Some}
 use Rattle.shared_tree.proofs.node.Maker.with_root.Goals as goal
 
 -- the pair is put below the root

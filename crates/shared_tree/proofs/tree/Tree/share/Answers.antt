@@ -1,7 +1,4 @@
-use Rattle.std.proofs.Common.{◌≡◌, ap}
 use Rattle.shared_tree.specs.Fronts.{front_at}
-use Rattle.shared_tree.specs.Links.{IsPartedRoot}
-use Rattle.shared_tree.specs.Pairs.{IsAscending}
 use Rattle.shared_tree.proofs.tree.Tree.share.Goals as goal
 
 -- the pairs are the same, and stay parted
