@@ -405,6 +405,27 @@ def filled():
         yield Case(f"{count} {what}", padded(dear), padded(plain(count)), count, zone=(zone, plain_zone), undo=None)
 
 
+    yield from turned()
+
+
+def turned():
+    """Updates that add and delete by turns, at owners where large sets stand, which are the same behind them."""
+    def by_turns(count, owner):
+        message = Message(UPDATE)
+        for number in range(count):
+            adds = number % 2 == 0
+            message.put(owner(number // 2), TXT, IN if adds else NONE, 60 if adds else 0, b"\1y", section=1)
+        return message.octets()
+
+    texts = "".join('%s TXT "%03d%s" %s\n' % (owner, n, "x" * 252, ('"%s" ' % ("x" * 255)) * 15) for owner in ("aaa", "baa") for n in range(255))
+    plain_texts = "".join(f"{numbered(n).decode()} TXT x\n" for n in range(4500))
+    plain = lambda n: by_turns(n, lambda turn: name(numbered(turn)))
+    count = fitted(plain)
+    for what, owners in (("at a set of 255 of 4,096 octets", 1), ("at two such sets by turns", 2)):
+        dear = by_turns(count, lambda turn: name(numbered(turn % owners)))
+        yield Case(f"{count} adds and deletions of a text by turns, {what}", padded(dear), padded(plain(count)), count, zone=(texts, plain_texts), undo=None)
+
+
 def aliases():
     """A query that leads through 16 aliases, beside 17 plain ones."""
     zone = "".join(f"c{n} CNAME c{n + 1}\n" for n in range(16)) + "c16 A 10.0.0.1\nh A 10.0.0.1\n"
@@ -562,10 +583,12 @@ def measure_transfers(program, rounds):
     except (AssertionError, OSError) as fault:
         print("# IXFR of 4 versions of 4,000 types at one owner:", repr(fault), flush=True)
     deep = ".".join("a" * 110)
+    escaped = ".".join(["\\001"] * 110)
     letters = LETTERS.decode()
     for what, zone in (
         ("names of 112 labels, which differ in the last but one", "".join(f"{deep}.{numbered(n, 3).decode()} MX 1 {deep}.{numbered(n + 7, 3).decode()}\n" for n in range(100))),
         ("names of 112 labels, which differ in the first", "".join(f"{numbered(n, 3).decode()}.{deep} A 10.0.0.1\n" for n in range(2000))),
+        ("names of 112 labels of octet 1, which differ in the first", "".join(f"{numbered(n, 3).decode()}.{escaped} A 10.0.0.1\n" for n in range(2000))),
         ("mail exchanges of 112 labels, which differ in the last but one, at one owner", "".join(f"m MX 1 {deep}.{numbered(n, 3).decode()}\n" for n in range(100))),
         ("names whose last labels end alike", "".join(f"{letters[n % 36]}{numbered(n, 3).decode()}{'x' * 40} A 10.0.0.1\n" for n in range(2000))),
     ):
