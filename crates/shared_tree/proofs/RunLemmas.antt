@@ -1,6 +1,6 @@
 -- What a loop over a run has made, and what a place in pairs says of a key.
 use Rattle.std.proofs.Common.{◌≡◌, refl, sym, ap, ◌∙◌, subst, ℕ, zero, suc, ◌+◌, ◌<◌, ◌≤◌, Bool, true, false, List, [], ◌∷◌, ◌++◌, length, get_or, take, drop, reverse, cond, Option, None, Some, add-one, append-nil, arith, length-append}
-use Rattle.std.specs.Option.{option_or, option_map, option_copied}
+use Rattle.std.specs.Option.{option_or, option_copied}
 use Rattle.std.specs.Prelude.{IfSome}
 use Rattle.std.specs.Borrow.{Bor}
 use Rattle.std.specs.List.{filter, find, slice_get, AllByRecursion}
@@ -47,11 +47,6 @@ module _ {K V : Type 0} where
   run_at [] i entry d h = absurd (omega arith)
   run_at (e ∷ rest) zero entry d h = refl
   run_at (e ∷ rest) (suc i) entry d h = run_at rest i entry d (omega arith)
-
-  pub run_get : (run : List (Entry K V)) (i : ℕ) → option_map (λ (entry : Entry K V). entry.pair.value) (slice_get run i) ≡ slice_get (run_pairs run) i
-  run_get [] i = refl
-  run_get (e ∷ rest) zero = refl
-  run_get (e ∷ rest) (suc i) = run_get rest i
 
   pub run_drop : (run : List (Entry K V)) (i : ℕ) → run_pairs (drop i run) ≡ drop i (run_pairs run)
   run_drop [] zero = refl
