@@ -38,7 +38,7 @@ names_send : IsSend names.the_row
 names_send = search (array_vec.the_send, crossing.crosses, sendable) depth 60 fits 20000
 
 transfer_send : IsSend transfer.the_row
-transfer_send = search (engine.crosses, array_vec.the_send, cells.the_field_send, option.the_field_send, option.the_send, crossing.crosses, sendable) depth 60 fits 20000
+transfer_send = search (engine.shared_send, engine.shared_sync, array_vec.the_send, cells.the_field_send, option.the_field_send, option.the_send, crossing.crosses, sendable) depth 60 fits 20000
 
 watch_send : (a : NamedLft) (C : RattleType) → IsSync C → IsSend (watch.the_row a C)
 watch_send a C ticks = search (crossing.crosses, sendable) depth 60 fits 20000

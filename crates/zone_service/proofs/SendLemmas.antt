@@ -11,4 +11,4 @@ use Rattle.dns_engine.specs.declared.versions.FirstZone.{Ghosts}
 use Rattle.zone_service.specs.contracts.server.Server as server
 
 pub server_sync : (a : NamedLft) (T N : RattleType) (g : Ghosts T.Denot) (n : naming.Ghosts N.Denot) → IsSync (server.the_row a T N n g)
-server_sync a T N g n = search (engine.crosses, cell.crosses, mutex.the_sync, crossing.crosses, sendable) depth 60 fits 20000
+server_sync a T N g n = search (engine.shared_send, engine.shared_sync, engine.engine_send, cell.crosses, mutex.the_sync, crossing.crosses, sendable) depth 60 fits 20000
