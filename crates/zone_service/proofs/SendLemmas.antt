@@ -1,7 +1,8 @@
 -- A server may be shared by threads.
 use denote.RattleType.{RattleType}
 use denote.Ref.{NamedLft}
-use denote.Param.Send.{IsSync, sendable}
+use denote.Param.Send.{IsSync, recorded_sync, struct_sync, sendable}
+use denote.Struct.Declared.{shape}
 use Rattle.std.proofs.Crossing as crossing
 use Rattle.std.proofs.sync.Mutex.TheSendSync as mutex
 use Rattle.snapshot_cell.proofs.SendLemmas as cell
@@ -11,4 +12,7 @@ use Rattle.dns_engine.specs.declared.versions.FirstZone.{Ghosts}
 use Rattle.zone_service.specs.contracts.server.Server as server
 
 pub server_sync : (a : NamedLft) (T N : RattleType) (g : Ghosts T.Denot) (n : naming.Ghosts N.Denot) → IsSync (server.the_row a T N n g)
-server_sync a T N g n = search (engine.shared_send, engine.shared_sync, engine.engine_send, cell.crosses, mutex.the_sync, crossing.crosses, sendable) depth 60 fits 20000
+server_sync a T N g n =
+    recorded_sync (server.the_field a T N n g).row _ _ (server.the_type a T N n g).to_one
+    (struct_sync (shape (server.the_type a T N n g))
+    (search (engine.shared_send, engine.shared_sync, cell.crosses, crossing.crosses, sendable) depth 60 fits 20000, (mutex.the_sync _ (engine.engine_send a T g N n), tt)))
