@@ -8,7 +8,7 @@ use Rattle.world_run.specs.Numbered.{first_version}
 use Rattle.world_run.specs.World.{World, started_words, started_within, first_entries}
 use Rattle.world_run.proofs.play.Play.new.Goals as goal
 
-world : State Numbered → List Named → List Named → List UnderWay → ℕ → ℕ → List ℕ → List Entry → World
+abbrev world : State Numbered → List Named → List Named → List UnderWay → ℕ → ℕ → List ℕ → List Entry → World
 world words names weak_names calls keep window kept entries = record {
   words = words;
   names = names;
@@ -21,7 +21,7 @@ world words names weak_names calls keep window kept entries = record {
 }
 
 -- the entry of a first version of a serial, where there is a window
-entry_at : ℕ → ℕ → List Entry
+abbrev entry_at : ℕ → ℕ → List Entry
 entry_at window serial = if nat_lt 0 window then record { number = 0; serial = record { 0 = serial }; owner = 1 } ∷ [] else []
 
 world_is : (w v : State Numbered) (ns ms : List Named) (us : List UnderWay) (keep window : ℕ) (ks : List ℕ) (es fs : List Entry)
