@@ -13,7 +13,7 @@ use journal_store::{Disk, Log, LogFault};
 use snapshot_cell::Naming;
 use std::alloc::{AllocError, Global};
 use std::marker::Model;
-use update_group::{Engine as Group, Judgement, update_all};
+use update_group::{Engine as Group, Judgement, Judging, update_all};
 
 /// The engine of a zone, with its cell. Contracts see the engine.
 #[derive(Drop)]
@@ -37,14 +37,10 @@ fn learn_latest<Z: FirstZone, N: Naming>(engine: &Engine<'_, Z, N>)
     let _ = engine.number();
 }
 
-impl<'a, Z: FirstZone, N: Naming> Group for LastingEngine<'a, Z, N> {
+impl<'a, Z: FirstZone, N: Naming> Judging for LastingEngine<'a, Z, N> {
     type Version = SharedVersion;
 
     type Asked = Asked;
-
-    ghost published = { λ engine. engine.held.published };
-
-    ghost free = { λ engine. engine.free };
 
     ghost octets = { octets_of };
 
@@ -53,15 +49,6 @@ impl<'a, Z: FirstZone, N: Naming> Group for LastingEngine<'a, Z, N> {
     ghost tells = { tells };
 
     ghost makes = { makes };
-
-    fn last(&self) -> &SharedVersion {
-        learn_latest(&self.engine);
-        self.engine.last_shared()
-    }
-
-    fn count(&mut self) -> usize {
-        self.engine.count(self.cell) as usize
-    }
 
     fn judge(
         &self,
@@ -78,6 +65,21 @@ impl<'a, Z: FirstZone, N: Naming> Group for LastingEngine<'a, Z, N> {
 
     fn octets_of<'b>(&self, asked: &'b Asked) -> &'b [u8] {
         &asked.octets
+    }
+}
+
+impl<'a, Z: FirstZone, N: Naming> Group for LastingEngine<'a, Z, N> {
+    ghost published = { λ engine. engine.held.published };
+
+    ghost free = { λ engine. engine.free };
+
+    fn last(&self) -> &SharedVersion {
+        learn_latest(&self.engine);
+        self.engine.last_shared()
+    }
+
+    fn count(&mut self) -> usize {
+        self.engine.count(self.cell) as usize
     }
 
     fn publish(&mut self, version: SharedVersion) {
