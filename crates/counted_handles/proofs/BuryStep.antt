@@ -32,7 +32,7 @@ use Rattle.counted_handles.specs.Ruled.{RoomSpot, HomeIs, MarkIs, Holds}
 use Rattle.counted_handles.specs.Tells.{Tried}
 use Rattle.counted_handles.proofs.Lists.{got_map, one_there, when_equal, when_apart}
 use Rattle.counted_handles.proofs.Slots.{first_kept}
-use Rattle.counted_handles.proofs.FreeSlots.{frees_kept, frees_again}
+use Rattle.counted_handles.proofs.FreeSlots.{free_kept, free_again, frees_kept, frees_again}
 use Rattle.counted_handles.proofs.Frames.{hold_mark, held_mark, mark_in, Undisturbed, undisturbed, unmoved, home_stays, not_first, publisher_is, seat_step}
 use Rattle.counted_handles.proofs.Live.{slotted, live_room, live_mark}
 use Rattle.counted_handles.proofs.WordSteps.{found_shares, shown_shares, shown_place, slots_kept}
@@ -144,6 +144,7 @@ module _ {T : Type 0} (begins : T → Type 0) (follows : T → T → Type 0) (sp
           read = refl;
           fixed = λ p here counts w e. first_kept s.words (slot + slot) dead_word ∙ (counts.fixed w e).1;
           free = λ last swept is are. frees_kept s.words s.homes slot dead_word none last swept (λ free. omega (arith, free.shares, none_left)) are;
+          spare = λ place is. free_kept s.words s.homes slot dead_word none place (λ free. omega (arith, free.shares, none_left)) is;
           homes_are = λ place home e. ⊎_elim
               (λ (t : (place ≡ slot) × (none ≡ home)).
               let fading : slice_get after.owners id ≡ Some (Fading slot) = ap (λ (x : State T). slice_get x.owners id) same ∙ get_set_same st.owners id (Fading slot) (slice_get_within st.owners id (Burying slot) seat) in
@@ -196,6 +197,7 @@ module _ {T : Type 0} (begins : T → Type 0) (follows : T → T → Type 0) (sp
           read = refl;
           fixed = λ p here counts w e. first_kept s.words (slot + slot) found ∙ (counts.fixed w e).1;
           free = λ last swept is are. frees_again s.words s.homes (suc (slot + slot)) last swept are;
+          spare = λ place is. free_again s.words s.homes (suc (slot + slot)) place is;
           homes_are = λ place home e. home_stays spots h.name st after place home
               (λ p. ap (λ (x : State T). x.publisher) same ∙ p)
               (λ i q. ap (λ (x : State T). slice_get x.owners i) same ∙ seat_stays st.owners id (Burying slot) Spent (Fading place) seat (λ e. cc) i q)

@@ -14,6 +14,7 @@ use Rattle.counted_handles.specs.declared.view.Publishing.{Publishing}
 use Rattle.counted_handles.specs.declared.view.Hold.TheVariants.{Once}
 use Rattle.counted_handles.specs.declared.view.View.{View}
 use Rattle.counted_handles.specs.declared.view.View.TheVariants.{Publishes, Reads, Has, Buries, Fades, Resets, Frees}
+use Rattle.counted_handles.specs.Found.{IsAbsent}
 use Rattle.counted_handles.specs.Shown.{Room}
 use Rattle.counted_handles.specs.Ruled.{RoomSpot, Holds, Ruled}
 use Rattle.counted_handles.specs.Cuts.{owner_view, once_view, kept_share, given_share}
@@ -161,6 +162,13 @@ begun_probing p slot how e = λ i. Publishes (record p { how = (how ∙ ap Probi
 -- the place that a publisher takes behind some probes
 pub taken_from : {T : Type 0} (p : Publishing T) (due seen : ℕ) (me : Sat T) (slot : ℕ) → seen ≡ slot → IsTaken (record p { how = Probing due }) seen me → IsTaken p slot me
 taken_from p due seen me slot same t = subst (λ k. IsTaken p k me) same (record { spot = t.spot; room = t.room; me_is = t.me_is; lies = t.lies; empty = t.empty; whole = t.whole })
+
+-- one slot more is none of those
+pub absent_next : (found : List ℕ) (slot seen : ℕ) → seen ≡ slot → ((k : ℕ) → k < slot → IsAbsent k found) → IsAbsent seen found → (k : ℕ) → k < slot + 1 → IsAbsent k found
+absent_next found slot seen same before here k l = elim (eqb_tells k slot) [
+  | inl is ↦ subst (λ j. IsAbsent j found) (same ∙ sym is.1) here
+  | inr other ↦ before k (omega (arith, l, other.1))
+]
 
 -- what is behind the last place isn't at an earlier one
 get_before : {A : Type 0} (xs : List A) (x : A) (k : ℕ) → k < length xs → slice_get (xs ++ x ∷ []) k ≡ slice_get xs k

@@ -110,7 +110,7 @@ module _ {T : Type 0} (begins : T → Type 0) (follows : T → T → Type 0) (sp
   )
 
   -- a slot whose S is FREE is free while the publisher probes
-  seen_free : (s : Board T) (h : Holds begins follows spots s) (p : Publishing T) (k slot : ℕ) → get_elem? s.views 0 ≡ some (Publishes p) → p.how ≡ Probing k → slot < slots → get_or s.words (suc (slot + slot)) 0 ≡ free_word → IsFree s.words s.homes slot
+  pub seen_free : (s : Board T) (h : Holds begins follows spots s) (p : Publishing T) (k slot : ℕ) → get_elem? s.views 0 ≡ some (Publishes p) → p.how ≡ Probing k → slot < slots → get_or s.words (suc (slot + slot)) 0 ≡ free_word → IsFree s.words s.homes slot
   seen_free s h p k slot at how l free =
       let st : State T = shown s in
       let probing : st.publisher ≡ Probing k = how_is s p at ∙ how in
@@ -153,6 +153,7 @@ module _ {T : Type 0} (begins : T → Type 0) (follows : T → T → Type 0) (sp
         gone = λ j u. u;
         fixed = counts.fixed;
         free = λ w j e q. more_free s h p slot (slot_of w) (counts.free w j e q) (free w e) (untied w e) same;
+        spare = counts.spare;
         homes_are = λ place home e. home_stays spots h.name st after place home
             (λ q. ap (λ (x : State T). x.publisher) is ∙ q)
             (λ j q. ap (λ (x : State T). slice_get x.owners j) is ∙ q)

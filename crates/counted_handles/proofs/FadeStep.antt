@@ -25,7 +25,7 @@ use Rattle.counted_handles.specs.Ruled.{RoomSpot, HomeIs, IsShared, Knows, Holds
 use Rattle.counted_handles.specs.Tells.{Faded, Restored}
 use Rattle.counted_handles.proofs.Lists.{got_map}
 use Rattle.counted_handles.proofs.Slots.{first_kept}
-use Rattle.counted_handles.proofs.FreeSlots.{frees_tied, frees_beside}
+use Rattle.counted_handles.proofs.FreeSlots.{free_tied, free_beside, frees_tied, frees_beside}
 use Rattle.counted_handles.proofs.Frames.{unmoved, no_share, home_stays, not_first, seat_step}
 use Rattle.counted_handles.proofs.Live.{slotted}
 use Rattle.counted_handles.proofs.WordSteps.{found_shares, found_weak, home_version, shown_weak_place, shown_weak}
@@ -73,6 +73,7 @@ module _ {T : Type 0} (begins : T → Type 0) (follows : T → T → Type 0) (sp
         read = no_read;
         fixed = λ p here counts w e. first_kept s.words (suc (slot + slot)) word ∙ (counts.fixed w e).1;
         free = λ last swept is are. frees_tied s.words s.homes slot word (some room) last swept (λ unused. omega (arith, unused.shares, found_shares s slot there, was.shares)) (rest_not_last s h slot last (fading id) charge is) are;
+        spare = λ place is. free_tied s.words s.homes slot word (some room) place (λ unused. omega (arith, unused.shares, found_shares s slot there, was.shares)) is;
         homes_are = λ place home e. ⊎_elim
             (λ (t : (place ≡ slot) × (some room ≡ home)).
             subst (λ x. HomeIs spots h.name after place x) t.1 (subst (λ k. HomeIs spots h.name after k (some room)) (sym t.0) ((spot, known, lies), subst (λ v. IsShared h.name slot v room.stake) (sym empty) whole)))
@@ -143,6 +144,7 @@ module _ {T : Type 0} (begins : T → Type 0) (follows : T → T → Type 0) (sp
           read = refl;
           fixed = λ p here counts w e. first_kept s.words (suc (slot + slot)) 1 ∙ (counts.fixed w e).1;
           free = λ last swept is are. frees_beside s.words s.homes slot 1 last swept (λ one. rest_not_last s h slot last (closing id) charge is) are;
+          spare = λ place is. free_beside s.words s.homes slot 1 place is;
           homes_are = λ place home e. home_stays spots h.name st after place home
               (λ p. ap (λ (x : State T). x.publisher) same ∙ p)
               (λ i q. ap (λ (x : State T). slice_get x.owners i) same ∙ seat_stays st.owners id (Resetting slot) (Freeing slot) (Fading place) seat (λ e. cc) i q)

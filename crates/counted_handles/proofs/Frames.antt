@@ -22,8 +22,9 @@ use Rattle.counted_handles.specs.declared.view.View.{View}
 use Rattle.counted_handles.specs.declared.view.View.TheVariants.{Begin, Began, Publishes, Reads, Hosts, Has, HasWeakly, Buries, Fades, Resets, Frees, Ends, Gone}
 use Rattle.counted_handles.specs.History.{IsHistory}
 use Rattle.counted_handles.specs.Shown.{Room, Board, version_at, how_of, publisher_in, noted_of, noted_in, read_of, left_of, shown}
-use Rattle.counted_handles.specs.Ruled.{RoomSpot, HomeIs, MarkIs, ShareIs, TieIs, HoldIs, HeldIs, AreGone, NextIs, Comes, Begins, Knows, Counts, AreGuests, AreSunk, AreFree, Holds}
+use Rattle.counted_handles.specs.Ruled.{RoomSpot, HomeIs, MarkIs, ShareIs, TieIs, HoldIs, HeldIs, AreGone, NextIs, Comes, Begins, Knows, Counts, AreGuests, AreSunk, IsFree, AreFree, AllFree, Holds}
 use Rattle.counted_handles.proofs.Lists.{sum_set, one_there, got_within}
+use Rattle.counted_handles.proofs.FreeSlots.{all_free}
 
 -- the share that a seat has
 abbrev pub hold_mark : {T : Type 0} → Hold T → Option (Mark T)
@@ -199,6 +200,7 @@ module _ {T : Type 0} (begins : T → Type 0) (follows : T → T → Type 0) (sp
     pub read : read_of new ≡ read_of old
     pub fixed : (p : Publishing T) → get_elem? s.views 0 ≡ some (Publishes p) → Counts h.cell.buried s p → (word : ℕ) → p.fixed ≡ Some word → get_or words 0 0 ≡ word
     pub free : (last swept : ℕ) → slot_of (get_or s.words 0 0) ≡ last → AreFree s.words s.homes last swept → AreFree words homes last swept
+    pub spare : (slot : ℕ) → IsFree s.words s.homes slot → IsFree words homes slot
     pub homes_are : (slot : ℕ) (home : maybe.Option (Room T)) → get_elem? homes slot ≡ some home → HomeIs spots h.name (shown (record { words = words; homes = homes; views = set s.views id new })) slot home
     pub mine : Knows spots h.name cell homes new
     pub others : (j : ℕ) (view : View T) → j ≢ id → get_elem? s.views j ≡ some view → Undisturbed s.homes homes h.name view
@@ -229,6 +231,7 @@ module _ {T : Type 0} (begins : T → Type 0) (follows : T → T → Type 0) (sp
             sunk = still_sunk h.cell.buried o.cell.buried h.first.0.guests o.gone counts.sunk;
             fixed = λ word e. ((counts.fixed word e).0, o.fixed h.first.0 h.first.1 counts word e);
             free = λ word slot e how. o.free (slot_of word) h.first.0.swept (ap slot_of (counts.fixed word e).1) (counts.free word slot e how);
+            spare = all_free s.words words s.homes homes o.spare h.first.0.found counts.spare;
           },
         );
         only = λ j p e. ⊎_elim
@@ -251,6 +254,7 @@ module _ {T : Type 0} (begins : T → Type 0) (follows : T → T → Type 0) (sp
     pub gone : (j : ℕ) → h.cell.buried j ≡ true → cell.buried j ≡ true
     pub fixed : (word : ℕ) → new.fixed ≡ Some word → (new.readers ≡ 0) × (get_or words 0 0 ≡ word)
     pub free : (word slot : ℕ) → new.fixed ≡ Some word → new.how ≡ Probing slot → AreFree words homes (slot_of word) new.swept
+    pub spare : AllFree words homes new.found
     pub homes_are : (slot : ℕ) (home : maybe.Option (Room T)) → get_elem? homes slot ≡ some home → HomeIs spots h.name (shown (record { words = words; homes = homes; views = set s.views 0 (Publishes new) })) slot home
     pub mine : Knows spots h.name cell homes (Publishes new)
     pub others : (j : ℕ) (view : View T) → j ≢ 0 → get_elem? s.views j ≡ some view → Undisturbed s.homes homes h.name view
@@ -278,7 +282,7 @@ module _ {T : Type 0} (begins : T → Type 0) (follows : T → T → Type 0) (sp
         first = (
           new,
           set_here s.views 0 (Publishes new) (got_within s.views 0 (Publishes old) o.at),
-          record { readers = omega (arith, counts.readers, counted, o.readers); guests = o.guests; sunk = o.sunk; fixed = o.fixed; free = o.free },
+          record { readers = omega (arith, counts.readers, counted, o.readers); guests = o.guests; sunk = o.sunk; fixed = o.fixed; free = o.free; spare = o.spare },
         );
         only = λ j p e. ⊎_elim
             (λ (t : (j ≡ 0) × (Publishes new ≡ Publishes p)). t.0)

@@ -14,7 +14,7 @@ use Rattle.counted_handles.specs.Ruled.{RoomSpot, Holds}
 use Rattle.counted_handles.specs.Tells.{Freed}
 use Rattle.counted_handles.proofs.Lists.{got_map}
 use Rattle.counted_handles.proofs.Slots.{first_kept}
-use Rattle.counted_handles.proofs.FreeSlots.{frees_stay}
+use Rattle.counted_handles.proofs.FreeSlots.{free_stay, frees_stay}
 use Rattle.counted_handles.proofs.Frames.{unmoved, home_stays, not_first, seat_step}
 use Rattle.counted_handles.proofs.Live.{slotted}
 use Rattle.counted_handles.proofs.WordSteps.{found_shares, shown_shares}
@@ -47,6 +47,7 @@ module _ {T : Type 0} (begins : T → Type 0) (follows : T → T → Type 0) (sp
           read = refl;
           fixed = λ p here counts w e. first_kept s.words (slot + slot) free_word ∙ (counts.fixed w e).1;
           free = λ last swept is are. frees_stay s.words s.homes slot free_word last swept (λ unused. omega (arith, unused.shares, found_shares s slot there, was.shares)) are;
+          spare = λ place is. free_stay s.words s.homes slot free_word place (λ unused. omega (arith, unused.shares, found_shares s slot there, was.shares)) is;
           homes_are = λ place home e. home_stays spots h.name st after place home
               (λ p. ap (λ (x : State T). x.publisher) same ∙ p)
               (λ i q. ap (λ (x : State T). slice_get x.owners i) same ∙ seat_stays st.owners id (Freeing slot) Spent (Fading place) seat (λ e. cc) i q)

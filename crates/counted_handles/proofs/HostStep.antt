@@ -29,7 +29,7 @@ use Rattle.counted_handles.specs.Tells.{Cloned, Lifted, SeenBy, SeenAlive, with_
 use Rattle.counted_handles.proofs.Lists.{got_map, got_within, map_set, sum_set, sum_has}
 use Rattle.counted_handles.proofs.Slots.{first_kept}
 use Rattle.counted_handles.proofs.Owners.{Plain, joint_twice, joint_both, taken_up}
-use Rattle.counted_handles.proofs.FreeSlots.{frees_stay, not_free}
+use Rattle.counted_handles.proofs.FreeSlots.{free_stay, frees_stay, not_free}
 use Rattle.counted_handles.proofs.Frames.{unmoved, home_stays, publisher_else, noted_else, not_first, state_is, seat_step}
 use Rattle.counted_handles.proofs.Live.{Slotted, slotted, live_room, live_mark, live_mark_is}
 use Rattle.counted_handles.proofs.WordSteps.{found_shares, shares_set}
@@ -103,6 +103,7 @@ module _ {T : Type 0} (begins : T → Type 0) (follows : T → T → Type 0) (sp
           read = refl;
           fixed = λ p here counts w e. first_kept s.words (place + place) word ∙ (counts.fixed w e).1;
           free = λ last swept at_last are. frees_stay s.words s.homes place word last swept (λ free. not_free s.words s.homes h.name mark is free) are;
+          spare = λ k free. free_stay s.words s.homes place word k (λ busy. not_free s.words s.homes h.name mark is busy) free;
           homes_are = λ slot home e. home_stays spots h.name st after slot home
               (λ p. ap (λ (x : State T). x.publisher) same ∙ p)
               (λ i q. ap (λ (x : State T). slice_get x.owners i) same ∙ seat_stays st.owners id (Holding number place) (Twice number place) (Fading slot) seat (λ e. cc) i q)
@@ -158,6 +159,7 @@ module _ {T : Type 0} (begins : T → Type 0) (follows : T → T → Type 0) (sp
                 read = refl;
                 fixed = λ p here counts w e. first_kept s.words (place + place) word ∙ (counts.fixed w e).1;
                 free = λ last swept at_last are. frees_stay s.words s.homes place word last swept (λ free. not_free_weak s h id tie there seat free) are;
+                spare = λ k free. free_stay s.words s.homes place word k (λ busy. not_free_weak s h id tie there seat busy) free;
                 homes_are = λ slot home e. home_stays spots h.name st after slot home
                     (λ p. ap (λ (x : State T). x.publisher) same ∙ p)
                     (λ i q. ap (λ (x : State T). slice_get x.owners i) same ∙ seat_stays st.owners id (Weakly number place) (Both number place) (Fading slot) seat (λ e. cc) i q)
@@ -191,6 +193,7 @@ module _ {T : Type 0} (begins : T → Type 0) (follows : T → T → Type 0) (sp
                 read = refl;
                 fixed = λ p here counts w e. first_kept s.words (place + place) word ∙ (counts.fixed w e).1;
                 free = λ last swept at_last are. frees_stay s.words s.homes place word last swept (λ free. not_free_weak s h id tie there seat free) are;
+                spare = λ k free. free_stay s.words s.homes place word k (λ busy. not_free_weak s h id tie there seat busy) free;
                 homes_are = λ slot home e. home_stays spots h.name st after slot home
                     (λ p. ap (λ (x : State T). x.publisher) same ∙ p)
                     (λ i q. ap (λ (x : State T). slice_get x.owners i) same ∙ q)
@@ -230,6 +233,7 @@ module _ {T : Type 0} (begins : T → Type 0) (follows : T → T → Type 0) (sp
         read = refl;
         fixed = λ p here counts w e. (counts.fixed w e).1;
         free = λ last swept at_last are. are;
+        spare = λ k free. free;
         homes_are = λ slot home e. home_stays spots h.name st after slot home
             (λ p. ap (λ (x : State T). x.publisher) same ∙ p)
             (λ i q. ap (λ (x : State T). slice_get x.owners i) same ∙ q)

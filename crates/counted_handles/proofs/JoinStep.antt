@@ -70,6 +70,7 @@ module _ {T : Type 0} (begins : T → Type 0) (follows : T → T → Type 0) (sp
             sunk = sunk;
             fixed = λ w e. absurd (omega (arith, (counts.fixed w e).0, counts.readers, some_reader.1));
             free = λ w k e q. absurd (omega (arith, (counts.fixed w e).0, counts.readers, some_reader.1));
+            spare = counts.spare;
           },
         );
         only = λ j q e. ⊎_elim

@@ -26,10 +26,12 @@ pub mod OpenStep
 pub mod Later
 pub mod LastLemmas
 pub mod EndStep
+pub mod ScanStep
 pub mod Rights
 pub mod Opening
 pub mod CallLemmas
 pub mod HostLemmas
+pub mod FoundLemmas
 pub mod GuestLemmas
 pub mod EndLemmas
 pub mod OpenLemmas

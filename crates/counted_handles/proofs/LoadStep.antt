@@ -20,7 +20,7 @@ use Rattle.counted_handles.specs.Tells.{Loaded}
 use Rattle.counted_handles.proofs.Lists.{got_map, map_set, sum_set, sum_has}
 use Rattle.counted_handles.proofs.Slots.{behind_first, first_set}
 use Rattle.counted_handles.proofs.Owners.{seated}
-use Rattle.counted_handles.proofs.FreeSlots.{frees_behind}
+use Rattle.counted_handles.proofs.FreeSlots.{free_behind, frees_behind}
 use Rattle.counted_handles.proofs.Frames.{unmoved, home_stays, publisher_else, noted_else, not_first, state_is, seat_step}
 use Rattle.counted_handles.proofs.Live.{slotted, last_room, live_mark, live_mark_is}
 
@@ -67,6 +67,7 @@ module _ {T : Type 0} (begins : T → Type 0) (follows : T → T → Type 0) (sp
           left = omega arith;
           read = refl;
           free = λ last swept is are. frees_behind s.words s.homes word last swept are;
+          spare = λ place is. free_behind s.words s.homes word place is;
           fixed = λ p here counts w e. let some_reader = sum_has read_of s.views id (Reads r) at in absurd (omega (arith, counts.readers, (counts.fixed w e).0, some_reader.1));
           homes_are = λ place home e. home_stays spots h.name st after place home
               (λ p. ap (λ (x : State T). x.publisher) same ∙ p)

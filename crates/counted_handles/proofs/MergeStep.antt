@@ -20,7 +20,7 @@ use Rattle.counted_handles.specs.declared.view.Publishing.{Publishing}
 use Rattle.counted_handles.specs.declared.view.View.{View}
 use Rattle.counted_handles.specs.declared.view.View.TheVariants.{Publishes, Reads, Hosts, Has, HasWeakly, Gone}
 use Rattle.counted_handles.specs.Shown.{Board, holder, held_by, hold_owner, owner_of, how_of, publisher_in, noted_of, noted_in, left_of, read_of, lefts, reads, shown}
-use Rattle.counted_handles.specs.Ruled.{RoomSpot, HoldIs, Knows, AreFree, Counts, Holds}
+use Rattle.counted_handles.specs.Ruled.{RoomSpot, HoldIs, Knows, AreFree, AllFree, Counts, Holds}
 use Rattle.counted_handles.proofs.Lists.{got_map, got_within, map_set, sum_set}
 use Rattle.counted_handles.proofs.Owners.{Plain, moved}
 use Rattle.counted_handles.proofs.Frames.{home_stays, not_first, publisher_else, noted_else, knows_publisher, state_is}
@@ -119,6 +119,7 @@ module _ {T : Type 0} (begins : T → Type 0) (follows : T → T → Type 0) (sp
         sunk = counts.sunk;
         fixed = λ word e. ((counts.fixed word e).0, ap (λ w. get_or w 0 0) words ∙ (counts.fixed word e).1);
         free = λ word slot e how. subst (λ w. AreFree w board.homes (slot_of word) p.swept) (sym words) (subst (λ l. AreFree s.words l (slot_of word) p.swept) (sym homes) (counts.free word slot e how));
+        spare = subst (λ w. AllFree w board.homes p.found) (sym words) (subst (λ l. AllFree s.words l p.found) (sym homes) counts.spare);
       }
 
   -- a reader takes an owner in, weak or strong
@@ -183,7 +184,7 @@ module _ {T : Type 0} (begins : T → Type 0) (follows : T → T → Type 0) (sp
           ap (get_elem? (set s.views id both)) (sym first) ∙ set_here s.views id both (got_within s.views id (Publishes p) at),
           λ board words homes same.
               let c = counts_as s h.cell.buried p counts board words homes same in
-              record { readers = c.readers; guests = c.guests; sunk = c.sunk; fixed = c.fixed; free = c.free },
+              record { readers = c.readers; guests = c.guests; sunk = c.sunk; fixed = c.fixed; free = c.free; spare = c.spare },
         );
         only = λ q e. first;
       })

@@ -22,6 +22,7 @@ use Rattle.counted_handles.proofs.Lists.{map_set, sum_set, sum_has}
 use Rattle.counted_handles.proofs.Slots.{behind_first, first_set}
 use Rattle.counted_handles.proofs.Owners.{seated}
 use Rattle.counted_handles.proofs.Frames.{unmoved, home_stays, publisher_step, knows_publisher, publisher_here, noted_here, noted_is, state_is}
+use Rattle.counted_handles.proofs.FreeSlots.{free_behind, all_free}
 use Rattle.counted_handles.proofs.Live.{slotted, last_room, live_mark, live_mark_is}
 use Rattle.counted_handles.proofs.PublisherWords.{how_is, first_owner, shown_publisher}
 
@@ -69,6 +70,7 @@ module _ {T : Type 0} (begins : T → Type 0) (follows : T → T → Type 0) (sp
           gone = λ j u. u;
           fixed = λ w e. absurd (let wrong = e in cc);
           free = λ w k e q. absurd (let wrong = e in cc);
+          spare = all_free s.words (set s.words 0 word) s.homes s.homes (λ k free. free_behind s.words s.homes word k free) p.found (knows_publisher begins follows spots s h p at).spare;
           homes_are = λ place home e. home_stays spots h.name st after place home
               (λ q. ap (λ (x : State T). x.publisher) same ∙ q)
               (λ i q. ap (λ (x : State T). slice_get x.owners i) same ∙ seat_stays st.owners 0 Spent (Holding last slot) (Fading place) spent (λ e. cc) i q)
@@ -120,6 +122,7 @@ module _ {T : Type 0} (begins : T → Type 0) (follows : T → T → Type 0) (sp
           gone = λ j u. u;
           fixed = λ w e. (alone, first ∙ (let f : found ≡ w = cc in f));
           free = λ w k e q. (λ slot l apart. absurd (omega (arith, l)), λ l. absurd (omega (arith, l)));
+          spare = all_free s.words words s.homes s.homes (λ k free. free_behind s.words s.homes found k free) p.found (knows_publisher begins follows spots s h p at).spare;
           homes_are = λ place home e. home_stays spots h.name st after place home
               (λ q. ap (λ (x : State T). x.publisher) same ∙ q)
               (λ i q. ap (λ (x : State T). slice_get x.owners i) same ∙ q)
@@ -160,6 +163,7 @@ module _ {T : Type 0} (begins : T → Type 0) (follows : T → T → Type 0) (sp
           gone = λ j u. u;
           fixed = λ w e. absurd (let wrong = e in cc);
           free = λ w k e q. absurd (let wrong = e in cc);
+          spare = all_free s.words words s.homes s.homes (λ k free. free_behind s.words s.homes found k free) p.found counts.spare;
           homes_are = λ place home e. home_stays spots h.name st after place home
               (λ q. ap (λ (x : State T). x.publisher) same ∙ q)
               (λ i q. ap (λ (x : State T). slice_get x.owners i) same ∙ q)

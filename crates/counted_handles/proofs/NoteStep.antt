@@ -29,7 +29,7 @@ use Rattle.counted_handles.specs.Tells.{tie_of, Noted, Faded}
 use Rattle.counted_handles.proofs.Lists.{got_map, got_within, map_set, sum_set, one_there}
 use Rattle.counted_handles.proofs.Slots.{first_kept}
 use Rattle.counted_handles.proofs.Owners.{joint_noted, taken_up}
-use Rattle.counted_handles.proofs.FreeSlots.{frees_beside}
+use Rattle.counted_handles.proofs.FreeSlots.{free_beside, frees_beside, all_free}
 use Rattle.counted_handles.proofs.Frames.{unmoved, home_stays, publisher_here, noted_here, noted_is, not_first, state_is, seat_step, publisher_step, knows_publisher}
 use Rattle.counted_handles.proofs.Live.{slotted, live_room}
 use Rattle.counted_handles.proofs.WordSteps.{found_weak, weak_shares_set, shown_weak}
@@ -94,6 +94,7 @@ module _ {T : Type 0} (begins : T → Type 0) (follows : T → T → Type 0) (sp
           gone = λ j u. u;
           fixed = λ w e. absurd (let wrong = e in cc);
           free = λ w k e q. absurd (let wrong = e in cc);
+          spare = all_free s.words words s.homes s.homes (λ k free. free_beside s.words s.homes place word k free) p.found counts.spare;
           homes_are = λ slot home e. home_stays spots h.name st after slot home
               (λ q. ap (λ (x : State T). x.publisher) same ∙ q)
               (λ i q. ap (λ (x : State T). slice_get x.owners i) same ∙ seat_stays st.owners 0 (Holding number place) (Both number place) (Fading slot) seat (λ e. cc) i q)
@@ -134,6 +135,7 @@ module _ {T : Type 0} (begins : T → Type 0) (follows : T → T → Type 0) (sp
         read = no_read;
         fixed = λ p here counts w e. first_kept s.words (suc (place + place)) word ∙ (counts.fixed w e).1;
         free = λ last swept is are. frees_beside s.words s.homes place word last swept (λ one here. last_untied begins follows spots s h last id number place is one seat here) are;
+        spare = λ k free. free_beside s.words s.homes place word k free;
         homes_are = λ slot home e. home_stays spots h.name st after slot home
             (λ p. ap (λ (x : State T). x.publisher) same ∙ p)
             (λ i q. ap (λ (x : State T). slice_get x.owners i) same ∙ seat_stays st.owners id (Weakly number place) (owner_of new) (Fading slot) seat (λ e. cc) i q)

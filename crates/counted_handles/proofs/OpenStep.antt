@@ -118,7 +118,7 @@ module _ {T : Type 0} (begins : T → Type 0) (follows : T → T → Type 0) (sp
             subst (λ x. HomeIs spots name after place x) (sym free.1) (free.2, subst (λ v. IsShared name place v free.0.stake) (sym free.3) free.4))
             (at_set homes 0 place (some room) home e);
         knows = λ j view e. only_knows spots value name spot (set homes 0 (some room)) j view e;
-        first = (opener value name spot, refl, record { readers = refl; guests = tt; sunk = tt; fixed = λ w e. absurd (let wrong = e in cc); free = λ w k e. absurd (let wrong = e in cc) });
+        first = (opener value name spot, refl, record { readers = refl; guests = tt; sunk = tt; fixed = λ w e. absurd (let wrong = e in cc); free = λ w k e. absurd (let wrong = e in cc); spare = tt });
         only = λ j p e. only_first spots value name spot j p e;
       }
 

@@ -19,6 +19,7 @@ use Rattle.counted_handles.specs.Tells.{Prepared}
 use Rattle.counted_handles.proofs.Lists.{got_within}
 use Rattle.counted_handles.proofs.Slots.{first_kept}
 use Rattle.counted_handles.proofs.Frames.{no_share, held_kept, home_stays, publisher_step, knows_publisher}
+use Rattle.counted_handles.proofs.FreeSlots.{free_else, all_apart}
 use Rattle.counted_handles.proofs.Live.{slotted}
 use Rattle.counted_handles.proofs.WordSteps.{home_version, place_set}
 use Rattle.counted_handles.proofs.PublisherWords.{how_is, shown_publisher}
@@ -41,7 +42,8 @@ module _ {T : Type 0} (begins : T → Type 0) (follows : T → T → Type 0) (sp
       let known = h.knows 0 (Publishes p) at in
       let counts = knows_publisher begins follows spots s h p at in
       let is_next : number ≡ last + 1 = sym next ∙ ap length known.1 ∙ h.shows.numbers.last in
-      let spot : slice_get spots slot ≡ Some p.spot = subst (λ x. Comes spots s.homes p x) how known.3 in
+      let comes : Comes spots s.homes p (Preparing slot) = subst (λ x. Comes spots s.homes p x) how known.3 in
+      let spot : slice_get spots slot ≡ Some p.spot = comes.0 in
       let shows = prepare_keeps st h.cell slot there.there value h.shows preparing there.at in
       let after : State T = shown (record { words = words; homes = homes; views = set s.views 0 (Publishes new) }) in
       let version : room.value ≡ Some (record { number = last + 1; value = value }) = full ∙ ap (λ n. Some (record { number = n; value = value })) is_next in
@@ -65,6 +67,7 @@ module _ {T : Type 0} (begins : T → Type 0) (follows : T → T → Type 0) (sp
           gone = λ j u. u;
           fixed = λ w e. ((counts.fixed w e).0, first_kept s.words (slot + slot) bulk ∙ (counts.fixed w e).1);
           free = λ w k e q. absurd (let wrong : Swapping slot ≡ Probing k = q in cc);
+          spare = all_apart s.words words s.homes homes slot (λ k apart free. free_else s.words s.homes slot bulk (some room) k apart free) p.found comes.1 counts.spare;
           homes_are = λ place home e. ⊎_elim
               (λ (t : (place ≡ slot) × (some room ≡ home)).
               subst (λ x. HomeIs spots h.name after place x) t.1 (subst (λ k. HomeIs spots h.name after k (some room)) (sym t.0) (

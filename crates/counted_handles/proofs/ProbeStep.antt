@@ -15,12 +15,13 @@ use Rattle.cell_core.specs.declared.words.Publisher.TheVariants.{Probing, Prepar
 use Rattle.cell_core.specs.declared.words.Owner.TheVariants.{Fading}
 use Rattle.counted_handles.specs.declared.view.Publishing.{Publishing}
 use Rattle.counted_handles.specs.declared.view.View.TheVariants.{Publishes}
+use Rattle.counted_handles.specs.Found.{without}
 use Rattle.counted_handles.specs.Shown.{Room, version_at, shown}
 use Rattle.counted_handles.specs.Ruled.{RoomSpot, HomeIs, LiesAt, IsShared, Holds}
 use Rattle.counted_handles.specs.Tells.{Probed, beyond}
 use Rattle.counted_handles.proofs.Lists.{when_equal, when_apart}
 use Rattle.counted_handles.proofs.Slots.{first_kept}
-use Rattle.counted_handles.proofs.FreeSlots.{frees_again}
+use Rattle.counted_handles.proofs.FreeSlots.{free_again, free_away, frees_again, all_free, all_taken, absent_without, absent_busy}
 use Rattle.counted_handles.proofs.Frames.{no_share, held_kept, unmoved, home_stays, publisher_step, knows_publisher}
 use Rattle.counted_handles.proofs.Live.{slotted}
 use Rattle.counted_handles.proofs.WordSteps.{found_shares, home_version, place_set, shares_set, slots_kept}
@@ -58,7 +59,7 @@ module _ {T : Type 0} (begins : T → Type 0) (follows : T → T → Type 0) (sp
             omega (arith, was_dead.shares, shares, free.1) in
             let room = free_room spots h.name st slot slot there.home probing unfreed empty (h.homes slot there.home there.home_at) in
             let spot : RoomSpot T = room.2.0 in
-            let new : Publishing T = record p { how = Preparing slot; spot = spot } in
+            let new : Publishing T = record p { how = Preparing slot; spot = spot; found = without slot p.found } in
             let homes : List (maybe.Option (Room T)) = set s.homes slot none in
             let after : State T = shown (record { words = words; homes = homes; views = set s.views 0 (Publishes new) }) in
             let same : after ≡ with_publisher (Preparing slot) st =
@@ -80,6 +81,7 @@ module _ {T : Type 0} (begins : T → Type 0) (follows : T → T → Type 0) (sp
                 gone = λ j u. u;
                 fixed = λ w e. ((counts.fixed w e).0, first_kept s.words (slot + slot) found ∙ (counts.fixed w e).1);
                 free = λ w k e q. absurd (let wrong : Preparing slot ≡ Probing k = q in cc);
+                spare = all_taken s.words words s.homes homes slot (λ k apart free. free_away s.words s.homes (suc (slot + slot)) slot k apart free) p.found counts.spare;
                 homes_are = λ place home e. ⊎_elim
                     (λ (t : (place ≡ slot) × (none ≡ home)). subst (λ x. HomeIs spots h.name after place x) t.1 (inl (ap (λ (x : State T). x.publisher) same ∙ ap Preparing (sym t.0))))
                     (λ (t : (place ≢ slot) × (get_elem? s.homes place ≡ some home)). home_stays spots h.name st after place home
@@ -87,7 +89,7 @@ module _ {T : Type 0} (begins : T → Type 0) (follows : T → T → Type 0) (sp
                     (λ i q. ap (λ (x : State T). slice_get x.owners i) same ∙ q)
                     (h.homes place home t.1))
                     (at_set s.homes slot place none home e);
-                mine = (known.0, known.1, held_kept s.homes homes h.name h.cell.published h.cell.published p.share (no_share s.homes h.name slot there.home none (Publishes p) there.home_at empty).mark ([], append-nil h.cell.published) known.2, room.2.1);
+                mine = (known.0, known.1, held_kept s.homes homes h.name h.cell.published h.cell.published p.share (no_share s.homes h.name slot there.home none (Publishes p) there.home_at empty).mark ([], append-nil h.cell.published) known.2, (room.2.1, absent_without slot p.found));
                 others = λ j view other e. no_share s.homes h.name slot there.home none view there.home_at empty;
               }),
               when_equal found free_word _ _ free.1 (record { spot = spot; room = room.0; me_is = refl; lies = room.2.2; empty = room.3; whole = room.4 }),
@@ -114,6 +116,7 @@ module _ {T : Type 0} (begins : T → Type 0) (follows : T → T → Type 0) (sp
                 gone = λ j u. u;
                 fixed = λ w e. ((counts.fixed w e).0, first_kept s.words (slot + slot) found ∙ (counts.fixed w e).1);
                 free = λ w k e q. frees_again s.words s.homes (suc (slot + slot)) (slot_of w) p.swept (counts.free w slot e how);
+                spare = all_free s.words words s.homes s.homes (λ k free. free_again s.words s.homes (suc (slot + slot)) k free) p.found counts.spare;
                 homes_are = λ place home e. home_stays spots h.name st after place home
                     (λ q. absurd (let wrong : Probing slot ≡ Preparing place = sym probing ∙ q in cc))
                     (λ i q. ap (λ (x : State T). slice_get x.owners i) same ∙ q)
@@ -121,7 +124,7 @@ module _ {T : Type 0} (begins : T → Type 0) (follows : T → T → Type 0) (sp
                 mine = (known.0, known.1, known.2, tt);
                 others = λ j view ne e. unmoved s.homes h.name view;
               }),
-              when_apart found free_word _ _ other.1 refl,
+              when_apart found free_word _ _ other.1 (refl, absent_busy s.words s.homes slot (λ free. other.1 free.shares) p.found counts.spare),
             )
             )
       ]

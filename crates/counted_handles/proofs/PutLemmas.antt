@@ -8,6 +8,7 @@ use Rattle.cell_core.specs.declared.words.Publisher.TheVariants.{Preparing, Swap
 use Rattle.counted_handles.specs.declared.view.Publishing.{Publishing}
 use Rattle.counted_handles.specs.declared.view.View.{View}
 use Rattle.counted_handles.specs.declared.view.View.TheVariants.{Publishes, Has}
+use Rattle.counted_handles.specs.Found.{without}
 use Rattle.counted_handles.specs.Shown.{Room}
 use Rattle.counted_handles.specs.Ruled.{RoomSpot, stake_of, mark_of}
 use Rattle.counted_handles.specs.Tells.{Sat, IsTaken}
@@ -17,7 +18,7 @@ use Rattle.counted_handles.proofs.CallLemmas.{only_one}
 
 -- the publisher that has taken a slot
 abbrev pub taken_as : {T : Type 0} → Publishing T → ℕ → RoomSpot T → Publishing T
-taken_as p slot spot = record p { how = Preparing slot; spot = spot }
+taken_as p slot spot = record p { how = Preparing slot; spot = spot; found = without slot p.found }
 
 -- a stake that is told by its key
 pub keyed_as : {T : Type 0} (s : Stake (View T)) (name slot : ℕ) (version same : Version T) → s.views ≡ name → s.key ≡ Has (mark_of s.views slot version s.life s.tally) → version ≡ same → s ≡ stake_of (mark_of name slot same s.life s.tally)
@@ -46,7 +47,7 @@ module _ {T : Type 0} where
 
 -- the publisher whose version lies in its slot
 abbrev pub put_as : {T : Type 0} → Publishing T → ℕ → T → RoomSpot T → Publishing T
-put_as p slot value spot = record p { how = Swapping slot; next = Some value; spot = spot }
+put_as p slot value spot = record p { how = Swapping slot; next = Some value; spot = spot; found = without slot p.found }
 
 pub swapping_of : {T : Type 0} (begins : T → Type 0) (follows : T → T → Type 0) (slot : ℕ) (p : Publishing T) (value : T) (spot : RoomSpot T) (me : Sat T) → slot < slots → me ≡ (Publishes (put_as p slot value spot), []) → IsHistory begins follows (p.published ++ value ∷ []) → IsSwapping begins follows slot (put_as p slot value spot) value me
 swapping_of begins follows slot p value spot me l is history = record { me_is = is; within = l; how = refl; next = refl; history = history }

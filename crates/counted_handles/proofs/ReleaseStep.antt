@@ -21,7 +21,7 @@ use Rattle.counted_handles.specs.Ruled.{RoomSpot, Knows, Holds}
 use Rattle.counted_handles.specs.Tells.{Released}
 use Rattle.counted_handles.proofs.Lists.{got_map, got_within}
 use Rattle.counted_handles.proofs.Slots.{first_kept}
-use Rattle.counted_handles.proofs.FreeSlots.{frees_stay, not_free}
+use Rattle.counted_handles.proofs.FreeSlots.{free_stay, frees_stay, not_free}
 use Rattle.counted_handles.proofs.Frames.{unmoved, home_stays, not_first, seat_step}
 use Rattle.counted_handles.proofs.Live.{slotted}
 use Rattle.counted_handles.proofs.WordSteps.{found_shares, shown_shares}
@@ -59,6 +59,7 @@ module _ {T : Type 0} (begins : T → Type 0) (follows : T → T → Type 0) (sp
         read = no_read;
         fixed = λ p here counts w e. first_kept s.words (place + place) word ∙ (counts.fixed w e).1;
         free = λ last swept is are. frees_stay s.words s.homes place word last swept (λ free. not_free s.words s.homes h.name mark (h.knows id (Has mark) at) free) are;
+        spare = λ k free. free_stay s.words s.homes place word k (λ busy. not_free s.words s.homes h.name mark (h.knows id (Has mark) at) busy) free;
         homes_are = λ slot home e. home_stays spots h.name st after slot home
             (λ p. ap (λ (x : State T). x.publisher) same ∙ p)
             (λ i q. ap (λ (x : State T). slice_get x.owners i) same ∙ seat_stays st.owners id (Holding mark.number place) (owner_of new) (Fading slot) seat (λ e. cc) i q)

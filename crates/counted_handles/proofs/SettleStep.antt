@@ -20,6 +20,7 @@ use Rattle.counted_handles.proofs.Lists.{map_set, sum_set}
 use Rattle.counted_handles.proofs.Slots.{first_kept}
 use Rattle.counted_handles.proofs.Owners.{seated}
 use Rattle.counted_handles.proofs.Frames.{unmoved, home_stays, publisher_step, publisher_here, noted_here, noted_is, knows_publisher, state_is}
+use Rattle.counted_handles.proofs.FreeSlots.{free_stay, all_free, not_free}
 use Rattle.counted_handles.proofs.Live.{slotted, live_room, live_mark, live_mark_is}
 use Rattle.counted_handles.proofs.WordSteps.{found_shares, shares_set}
 use Rattle.counted_handles.proofs.PublisherWords.{how_is, first_owner}
@@ -72,6 +73,7 @@ module _ {T : Type 0} (begins : T → Type 0) (follows : T → T → Type 0) (sp
           gone = λ j u. u;
           fixed = λ w e. absurd (let wrong = sym unfixed ∙ e in cc);
           free = λ w k e q. absurd (let wrong = sym unfixed ∙ e in cc);
+          spare = all_free s.words words s.homes s.homes (λ k free. free_stay s.words s.homes slot word k (λ busy. not_free s.words s.homes h.name mark (live_mark_is room) busy) free) p.found counts.spare;
           homes_are = λ place home e. home_stays spots h.name st after place home
               (λ q. absurd (let wrong : Settling number slot given ≡ Preparing place = sym settling ∙ q in cc))
               (λ i q. ap (λ (x : State T). slice_get x.owners i) same ∙ seat_stays st.owners 0 Spent (Holding number slot) (Fading place) spent (λ e. cc) i q)

@@ -122,7 +122,7 @@ module _ {T : Type 0} (begins : T → Type 0) (follows : T → T → Type 0) (sp
         first = (
           h.first.0,
           at_longer (set s.views id (Reads (record r { share = None }))) (Has mark ∷ []) 0 (Publishes h.first.0) (set_else s.views id 0 (Reads (record r { share = None })) (λ e. first (sym e)) ∙ h.first.1),
-          record { readers = omega (arith, readers, counts.readers); guests = counts.guests; sunk = counts.sunk; fixed = counts.fixed; free = counts.free },
+          record { readers = omega (arith, readers, counts.readers); guests = counts.guests; sunk = counts.sunk; fixed = counts.fixed; free = counts.free; spare = counts.spare },
         );
         only_left = λ p e. absurd (let wrong = e in cc);
         only_right = λ p e. cc;
@@ -149,7 +149,7 @@ module _ {T : Type 0} (begins : T → Type 0) (follows : T → T → Type 0) (sp
         first = (
           record p { share = None },
           at_longer (set s.views id left) (Has mark ∷ []) 0 left (ap (get_elem? (set s.views id left)) (sym first) ∙ set_here s.views id left (got_within s.views id (Publishes p) at)),
-          record { readers = omega (arith, readers, counts.readers); guests = counts.guests; sunk = counts.sunk; fixed = counts.fixed; free = counts.free },
+          record { readers = omega (arith, readers, counts.readers); guests = counts.guests; sunk = counts.sunk; fixed = counts.fixed; free = counts.free; spare = counts.spare },
         );
         only_left = λ q e. first;
         only_right = λ q e. cc;
@@ -180,7 +180,7 @@ module _ {T : Type 0} (begins : T → Type 0) (follows : T → T → Type 0) (sp
         first = (
           without_guest p r guests,
           at_longer (set s.views id left) (Reads r ∷ []) 0 left (ap (get_elem? (set s.views id left)) (sym first) ∙ set_here s.views id left (got_within s.views id (Publishes p) at)),
-          record { readers = omega (arith, readers, counts.readers); guests = its.2; sunk = gone.1; fixed = λ w e. absurd (let wrong = e in cc); free = λ w k e. absurd (let wrong = e in cc) },
+          record { readers = omega (arith, readers, counts.readers); guests = its.2; sunk = gone.1; fixed = λ w e. absurd (let wrong = e in cc); free = λ w k e. absurd (let wrong = e in cc); spare = counts.spare },
         );
         only_left = λ q e. first;
         only_right = λ q e. cc;
@@ -231,7 +231,7 @@ module _ {T : Type 0} (begins : T → Type 0) (follows : T → T → Type 0) (sp
         first = (
           record p { share = Some (Once mark) },
           at_longer (set s.views id left) (HasWeakly tie ∷ []) 0 left (ap (get_elem? (set s.views id left)) (sym first) ∙ set_here s.views id left (got_within s.views id (Publishes p) at)),
-          record { readers = omega (arith, readers, counts.readers); guests = counts.guests; sunk = counts.sunk; fixed = counts.fixed; free = counts.free },
+          record { readers = omega (arith, readers, counts.readers); guests = counts.guests; sunk = counts.sunk; fixed = counts.fixed; free = counts.free; spare = counts.spare },
         );
         only_left = λ q e. first;
         only_right = λ q e. cc;
@@ -245,7 +245,7 @@ module _ {T : Type 0} (begins : T → Type 0) (follows : T → T → Type 0) (sp
       let readers = readers_cut s id old left right at in (
         h.first.0,
         at_longer (set s.views id left) (right ∷ []) 0 (Publishes h.first.0) (set_else s.views id 0 left (λ e. first (sym e)) ∙ h.first.1),
-        record { readers = omega (arith, readers, counts.readers, same); guests = counts.guests; sunk = counts.sunk; fixed = counts.fixed; free = counts.free },
+        record { readers = omega (arith, readers, counts.readers, same); guests = counts.guests; sunk = counts.sunk; fixed = counts.fixed; free = counts.free; spare = counts.spare },
       )
 
   -- what a reader has gained of an owner that it has taken in goes off it

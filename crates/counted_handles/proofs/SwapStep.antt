@@ -20,6 +20,7 @@ use Rattle.counted_handles.specs.Tells.{Swapped}
 use Rattle.counted_handles.proofs.Lists.{one_there}
 use Rattle.counted_handles.proofs.Slots.{behind_first, first_set}
 use Rattle.counted_handles.proofs.Frames.{unmoved, home_stays, publisher_step, knows_publisher, guests_longer, held_kept}
+use Rattle.counted_handles.proofs.FreeSlots.{free_behind, all_free}
 use Rattle.counted_handles.proofs.Live.{slotted}
 use Rattle.counted_handles.proofs.WordSteps.{home_version}
 use Rattle.counted_handles.proofs.PublisherWords.{how_is, shown_publisher}
@@ -70,6 +71,7 @@ module _ {T : Type 0} (begins : T → Type 0) (follows : T → T → Type 0) (sp
           gone = λ j u. u;
           fixed = λ w e. absurd (let wrong = e in cc);
           free = λ w k e q. absurd (let wrong = e in cc);
+          spare = all_free s.words words s.homes s.homes (λ k free. free_behind s.words s.homes (word_of slot 0) k free) p.found (knows_publisher begins follows spots s h p at).spare;
           homes_are = λ place home e. home_stays spots h.name st after place home
               (λ q. absurd (let wrong : Swapping slot ≡ Preparing place = sym swapping ∙ q in cc))
               (λ i q. ap (λ (x : State T). slice_get x.owners i) same ∙ q)

@@ -14,6 +14,7 @@ use Rattle.counted_handles.specs.declared.view.View.TheVariants.{Began, Publishe
 use Rattle.raw_slots.specs.Places.{Stake}
 use Rattle.cell_core.specs.declared.words.Version.{Version}
 use Rattle.counted_handles.specs.History.{IsHistory}
+use Rattle.counted_handles.specs.Found.{IsAbsent, without, Falls}
 use Rattle.counted_handles.specs.Shown.{Room}
 use Rattle.counted_handles.specs.Ruled.{RoomSpot, Begins, stake_of, mark_of, version_of, first_version}
 use Rattle.counted_handles.specs.Cuts.{met_by}
@@ -173,7 +174,7 @@ pub record IsOwned {T : Type 0} (begins : T → Type 0) (follows : T → T → T
 
 -- the version lies in the publisher's slot, and is to be swapped in (own)
 abbrev pub IsPut : {T : Type 0} → Publishing T → ℕ → T → Sat T → Type 0
-IsPut {T} p slot value me = (spot : RoomSpot T) × (me ≡ (Publishes (record p { how = Swapping slot; next = Some value; spot = spot }), []))
+IsPut {T} p slot value me = (spot : RoomSpot T) × (me ≡ (Publishes (record p { how = Swapping slot; next = Some value; spot = spot; found = without slot p.found }), []))
 
 -- the publisher between two publications, with no share that isn't split off (own)
 abbrev pub CanPublish : {T : Type 0} → Publishing T → List (View T) → Type 0
@@ -183,9 +184,10 @@ CanPublish p views = (views ≡ Publishes p ∷ []) × (p.how ≡ Probing 0) × 
 abbrev pub IsOld : {T : Type 0} → Publishing T → Version T → Type 0
 IsOld p version = (length p.published ≡ version.number + 1) × (slice_get p.published version.number ≡ Some version.value)
 
--- the value is published, and nothing else (own)
+-- the value is published, and nothing else: it lies in a slot that is none that may still be taken (own)
 abbrev pub IsNewer : {T : Type 0} → Publishing T → T → List (View T) → Type 0
-IsNewer {T} p value views = (spot : RoomSpot T) × (views ≡ Publishes (record p { published = p.published ++ value ∷ []; next = None; fixed = None; spot = spot }) ∷ [])
+IsNewer {T} p value views =
+    (spot : RoomSpot T) × (slot : ℕ) × (views ≡ Publishes (record p { published = p.published ++ value ∷ []; next = None; fixed = None; spot = spot; found = without slot p.found }) ∷ [])
 
 -- the publisher with no share that isn't split off and no grant of its own (own)
 abbrev pub IsAtRest : {T : Type 0} → Publishing T → List (View T) → Type 0
@@ -241,6 +243,24 @@ HasLooked p me = (fixed : Option ℕ) × (swept : ℕ) × (me ≡ (Publishes (re
 
 abbrev pub IsLike : {T : Type 0} → Publishing T → List (View T) → Type 0
 IsLike p views = (fixed : Option ℕ) × (swept : ℕ) × (views ≡ Publishes (record p { fixed = fixed; swept = swept }) ∷ [])
+
+-- no slot is one of those that the publisher has seen free, and may still take (own)
+abbrev pub HasNone : {T : Type 0} → Publishing T → Type 0
+HasNone p = (slot : ℕ) → slot < slots → IsAbsent slot p.found
+
+-- the publisher as it was, but for the slots that it has seen free: so many, no two the same (own)
+pub record HasScanned {T : Type 0} (p : Publishing T) (count : ℕ) (me : Sat T) : Type 0 where
+  pub found : List ℕ
+  pub me_is : me ≡ (Publishes (record p { found = found }), [])
+  pub falls : Falls slots found
+  pub many : length found ≡ count
+
+-- the same of its token (own)
+pub record HasFound {T : Type 0} (p : Publishing T) (count : ℕ) (views : List (View T)) : Type 0 where
+  pub found : List ℕ
+  pub views_are : views ≡ Publishes (record p { found = found }) ∷ []
+  pub falls : Falls slots found
+  pub many : length found ≡ count
 
 -- the value is the last of those published (own)
 abbrev pub IsLastValue : {T : Type 0} → List T → T → Type 0

@@ -1,5 +1,6 @@
 pub mod History
 pub mod Shown
+pub mod Found
 pub mod Ruled
 pub mod Tells
 pub mod Cuts

@@ -9,7 +9,7 @@ use Rattle.counted_handles.specs.declared.view.Hold.TheVariants.{Once, Double, L
 use Rattle.counted_handles.specs.declared.view.View.{View}
 use Rattle.counted_handles.specs.declared.view.View.TheVariants.{Begin, Began, Publishes, Reads, Hosts, Has, HasWeakly, Buries, Fades, Resets, Frees, Ends}
 use Rattle.counted_handles.specs.Ruled.{stake_of, mark_of, first_version}
-use Rattle.counted_handles.specs.Tells.{Sat, Loaded, Newest, Greeted, Released, Tried, Faded, Restored, Freed, Noted, Cloned, Lifted, SeenBy, SeenAlive, Probed, Prepared, Swapped, IsSettled, Looked, Swept, Skipped, EndsAt, Shut, IsOpened, Offered}
+use Rattle.counted_handles.specs.Tells.{Sat, Loaded, Newest, Greeted, Released, Tried, Faded, Restored, Freed, Noted, Cloned, Lifted, SeenBy, SeenAlive, Probed, Scanned, Prepared, Swapped, IsSettled, Looked, Swept, Skipped, EndsAt, Shut, IsOpened, Offered}
 
 -- load (own)
 abbrev pub LoadTells : {T : Type 0} → (T → Type 0) → (T → T → Type 0) → View T → ℕ → Sat T → Type 0
@@ -62,6 +62,17 @@ ProbeAt p (Settling number slot given) found me = ⊥
 abbrev pub ProbeTells : {T : Type 0} → View T → ℕ → Sat T → Type 0
 ProbeTells (Publishes p) found me = ProbeAt p p.how found me
 ProbeTells view found me = ⊥
+
+-- scan, of the slot that is due (own)
+abbrev pub ScanAt : {T : Type 0} → Publishing T → Publisher → ℕ → Sat T → Type 0
+ScanAt p (Probing slot) found me = Scanned p slot found me
+ScanAt p (Preparing slot) found me = ⊥
+ScanAt p (Swapping slot) found me = ⊥
+ScanAt p (Settling number slot given) found me = ⊥
+
+abbrev pub ScanTells : {T : Type 0} → View T → ℕ → Sat T → Type 0
+ScanTells (Publishes p) found me = ScanAt p p.how found me
+ScanTells view found me = ⊥
 
 -- prepare, of the slot whose place the publisher gives back (own)
 abbrev pub PrepareTells : {T : Type 0} → Sat T → Sat T → Type 0

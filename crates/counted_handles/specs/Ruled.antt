@@ -22,6 +22,7 @@ use Rattle.counted_handles.specs.declared.view.Reading.{Reading}
 use Rattle.counted_handles.specs.declared.view.View.{View}
 use Rattle.counted_handles.specs.declared.view.View.TheVariants.{Begin, Began, Publishes, Reads, Hosts, Has, HasWeakly, Buries, Fades, Resets, Frees, Ends, Gone}
 use Rattle.counted_handles.specs.History.{IsHistory}
+use Rattle.counted_handles.specs.Found.{IsAbsent}
 use Rattle.counted_handles.specs.Shown.{Room, Board, reads, lefts, shown}
 
 -- where a place for a version lies (own)
@@ -101,10 +102,10 @@ pub record NextIs {T : Type 0} (homes : List (maybe.Option (Room T))) (next : Op
   pub next_is : next ≡ Some value
   pub version : room.value ≡ Some (record { number = number; value = value })
 
--- what the publisher knows of its slot, by how far it has come (own)
+-- what the publisher knows of its slot, by how far it has come: one that it has taken is none that it may still take (own)
 abbrev pub Comes : {T : Type 0} → List (RoomSpot T) → List (maybe.Option (Room T)) → Publishing T → Publisher → Type 0
 Comes spots homes p (Probing slot) = Unit {0}
-Comes spots homes p (Preparing slot) = slice_get spots slot ≡ Some p.spot
+Comes spots homes p (Preparing slot) = (slice_get spots slot ≡ Some p.spot) × IsAbsent slot p.found
 Comes spots homes p (Swapping slot) = NextIs homes p.next slot
 Comes spots homes p (Settling number slot given) = Unit {0}
 
@@ -142,20 +143,26 @@ pub record IsFree {T : Type 0} (words : List ℕ) (homes : List (maybe.Option (R
   pub home : get_elem? homes slot ≡ some (some room)
   pub empty : room.value ≡ None
 
+-- each of these slots is free (own)
+abbrev pub AllFree : {T : Type 0} → List ℕ → List (maybe.Option (Room T)) → List ℕ → Type 0
+AllFree words homes [] = Unit {0}
+AllFree words homes (slot ∷ found) = IsFree words homes slot × AllFree words homes found
+
 -- so many slots, from the first one on, are free, but for the one in W, whose K is 1 if it is one of them: it has no weak owner (own)
 abbrev pub AreFree : {T : Type 0} → List ℕ → List (maybe.Option (Room T)) → ℕ → ℕ → Type 0
 AreFree words homes last swept =
     ((slot : ℕ) → slot < swept → slot ≢ last → IsFree words homes slot)
     × (last < swept → slice_index words (suc (suc (last + last))) ≡ 1)
 
--- the publisher counts the readers, and where none is about W stays as it saw it, and no slot that it saw free since is taken but by
--- itself, nor has the slot in W a weak owner more (own)
+-- the publisher counts the readers, and no slot that it has seen free is taken but by itself; and where no reader is about W stays as it saw
+-- it, nor has the slot in W a weak owner more (own)
 pub record Counts {T : Type 0} (buried : ℕ → Bool) (board : Board T) (p : Publishing T) : Type 0 where
   pub readers : p.readers ≡ reads board.views
   pub guests : AreGuests p.name p.published p.guests
   pub sunk : AreSunk buried p.guests
   pub fixed : (word : ℕ) → p.fixed ≡ Some word → (p.readers ≡ 0) × (slice_index board.words 0 ≡ word)
   pub free : (word slot : ℕ) → p.fixed ≡ Some word → p.how ≡ Probing slot → AreFree board.words board.homes (slot_of word) p.swept
+  pub spare : AllFree board.words board.homes p.found
 
 -- the rule from the first publication on: what the words show is a cell, its values are a history, and each place and each
 -- view is as the cell says (own)

@@ -15,6 +15,7 @@ use Rattle.counted_handles.specs.declared.view.View.TheVariants.{Begin, Began, P
 use Rattle.raw_slots.specs.Places.{Stake}
 use Rattle.counted_handles.specs.History.{IsHistory}
 use Rattle.counted_handles.specs.Shown.{Room}
+use Rattle.counted_handles.specs.Found.{IsAbsent, without, found_before}
 use Rattle.counted_handles.specs.Ruled.{RoomSpot, Begins, AreGuests, version_of, stake_of, first_version}
 
 -- a seat at the table: its view, and the places that it has taken (own)
@@ -77,11 +78,11 @@ Restored slot me = me ≡ (Frees slot, [])
 abbrev pub Freed : {T : Type 0} → Sat T → Type 0
 Freed me = me ≡ (Gone, [])
 
--- a probe that saw FREE: the publisher has the slot's place, whole and empty (own)
+-- a probe that saw FREE: the publisher has the slot's place, whole and empty, and the slot is none that it may still take (own)
 pub record IsTaken {T : Type 0} (p : Publishing T) (slot : ℕ) (me : Sat T) : Type 0 where
   pub spot : RoomSpot T
   pub room : Room T
-  pub me_is : me ≡ (Publishes (record p { how = Preparing slot; spot = spot }), (slot, room) ∷ [])
+  pub me_is : me ≡ (Publishes (record p { how = Preparing slot; spot = spot; found = without slot p.found }), (slot, room) ∷ [])
   pub lies : room.at ≡ spot.at
   pub empty : room.value ≡ None
   pub whole : room.stake ≡ []
@@ -90,9 +91,17 @@ pub record IsTaken {T : Type 0} (p : Publishing T) (slot : ℕ) (me : Sat T) : T
 abbrev pub beyond : ℕ → ℕ
 beyond slot = if slot + 1 == slots then 0 else slot + 1
 
--- probe: the slot is the publisher's where S was FREE, else the next one is due (own)
+-- probe: the slot is the publisher's where S was FREE, else it is none that was seen free, and the next one is due (own)
 abbrev pub Probed : {T : Type 0} → Publishing T → ℕ → ℕ → Sat T → Type 0
-Probed p slot found me = MatchBool (found == free_word) (IsTaken p slot me) (me ≡ (Publishes (record p { how = Probing (beyond slot) }), []))
+Probed p slot found me =
+    MatchBool (found == free_word) (IsTaken p slot me) ((me ≡ (Publishes (record p { how = Probing (beyond slot) }), [])) × IsAbsent slot p.found)
+
+-- scan: the slot is one of those seen free where S was FREE, and the next one is due (own)
+abbrev pub Scanned : {T : Type 0} → Publishing T → ℕ → ℕ → Sat T → Type 0
+Scanned p slot found me =
+    MatchBool (found == free_word)
+    (me ≡ (Publishes (record p { how = Probing (beyond slot); found = slot ∷ found_before slot p.found }), []))
+    (me ≡ (Publishes (record p { how = Probing (beyond slot); found = found_before slot p.found }), []))
 
 -- prepare: the version lies in the publisher's slot (own)
 abbrev pub Prepared : {T : Type 0} → Publishing T → ℕ → T → Sat T → Type 0
@@ -213,7 +222,7 @@ pub record IsOpened {T : Type 0} (value : T) (me : Sat T) : Type 0 where
 -- the publisher of a new cell, with all grants (own)
 abbrev pub opener : {T : Type 0} → T → ℕ → RoomSpot T → Publishing T
 opener value name spot =
-    record { published = value ∷ []; how = Probing 0; next = None; share = None; left = grants; noted = 0; readers = 0; fixed = None; swept = 0; guests = []; name = name; spot = spot }
+    record { published = value ∷ []; how = Probing 0; next = None; share = None; left = grants; noted = 0; readers = 0; fixed = None; swept = 0; found = []; guests = []; name = name; spot = spot }
 
 -- the second look at W: the first value is published (own)
 abbrev pub Offered : {T : Type 0} → T → ℕ → RoomSpot T → Sat T → Type 0

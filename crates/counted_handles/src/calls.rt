@@ -9,7 +9,7 @@ ghost use Rattle.counted_handles.specs.Ruled.{RoomSpot, stake_of, mark_of, versi
 ghost use Rattle.counted_handles.specs.Shown.{Room};
 ghost use Rattle.counted_handles.specs.Tells.{IsTaken, Released, Tried, Faded, IsSettled, Swapped, Prepared, Looked, IsOpened, Offered};
 ghost use Rattle.counted_handles.specs.declared.view.Reading.{Reading};
-ghost use Rattle.counted_handles.specs.Calls.{CanRead, Fits, AreSpots, Drawn, IsProbing, IsReady, IsSwapping, IsSettling, IsSwappedIn, IsIdle, IsGuest, IsWhole, IsNewest, IsGreeted, IsOffering, IsLoaded};
+ghost use Rattle.counted_handles.specs.Calls.{CanRead, Fits, AreSpots, Drawn, IsProbing, IsReady, IsSwapping, IsSettling, IsSwappedIn, IsIdle, IsGuest, IsWhole, IsNewest, IsGreeted, IsOffering, IsLoaded, HasNone};
 
 use crate::names::Names;
 use crate::plays;
@@ -170,7 +170,7 @@ pub(crate) fn take<T, C: Names<T>>(
     requires fits { Fits words.now.table_id × (seat.old.table_id ≡ words.now.table_id) × (seat.old.id ≡ 0) }
     requires due { (probed.old ≡ 0) × ((p : Publishing T) × IsProbing p 0 seat.old.me) }
     ensures seat { (seat.new.table_id ≡ seat.old.table_id) × (seat.new.id ≡ seat.old.id) }
-    ensures taken { (p : Publishing T) → IsProbing p 0 seat.old.me → MatchOption result ((probed.new ≡ slots) × (seat.new.me ≡ (Publishes p, []))) (λ slot. (slot < slots) × IsTaken p slot seat.new.me) }
+    ensures taken { (p : Publishing T) → IsProbing p 0 seat.old.me → MatchOption result ((probed.new ≡ slots) × (seat.new.me ≡ (Publishes p, [])) × HasNone p) (λ slot. (slot < slots) × IsTaken p slot seat.new.me) }
 {
     let mut slot = 0;
     while slot < SLOTS {

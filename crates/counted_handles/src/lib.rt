@@ -9,6 +9,7 @@
 
 mod calls;
 mod ending;
+mod found;
 mod further;
 mod grants;
 mod guests;
@@ -27,6 +28,7 @@ mod weak;
 
 pub use calls::Words;
 pub use ending::end;
+pub use found::find_free;
 pub use grants::{deal, deal_rest, give_back, take_in};
 pub use lapsed::{Lapse, Lapsed};
 pub use made::{Made, make};

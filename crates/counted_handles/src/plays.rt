@@ -1,5 +1,5 @@
 //! The steps by name: what each tells, and how seats are cut and made one.
-ghost use Rattle.counted_handles.specs.Plays.{LoadTells, NewestTells, GreetTells, ReleaseTells, BuryTells, FadeTells, ResetTells, FreeTells, NoteTells, RaiseTells, SeeTells, ProbeTells, PrepareTells, SwapTells, SettleTells, LookTells, SweepTells, SkipTells, EndTells, ShutTells, OpenTells, OfferTells};
+ghost use Rattle.counted_handles.specs.Plays.{LoadTells, NewestTells, GreetTells, ReleaseTells, BuryTells, FadeTells, ResetTells, FreeTells, NoteTells, RaiseTells, SeeTells, ProbeTells, ScanTells, PrepareTells, SwapTells, SettleTells, LookTells, SweepTells, SkipTells, EndTells, ShutTells, OpenTells, OfferTells};
 ghost use Rattle.counted_handles.specs.Tells.{IsClaimed};
 ghost use Rattle.counted_handles.specs.Cuts.{kept_share, given_share, kept_back, handed_back, kept_dealt, dealt, lodging, kept_met, handed_met, kept_home, sent_home, hosting, kept_gain, given_gain, kept_reader, given_owner, sharing, kept_untied, given_tie};
 ghost use Rattle.counted_handles.specs.declared.view.View.TheVariants.{Has, Gone};
@@ -81,6 +81,13 @@ pub struct Probes;
 
 impl<T> Play<Room<T>, View<T>> for Probes {
     ghost then = { λ _ me found new. ProbeTells me.0 found new };
+}
+
+/// A scan.
+pub struct Scans;
+
+impl<T> Play<Room<T>, View<T>> for Scans {
+    ghost then = { λ _ me found new. ScanTells me.0 found new };
 }
 
 /// A prepare.

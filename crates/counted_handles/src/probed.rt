@@ -5,6 +5,7 @@ ghost use Rattle.cell_core.specs.declared.words.Publisher.TheVariants.{Probing};
 ghost use Rattle.counted_handles.specs.declared.view.Publishing.{Publishing};
 ghost use Rattle.counted_handles.specs.declared.view.View.TheVariants.{Publishes};
 ghost use Rattle.counted_handles.specs.Calls.{Fits, IsProbing};
+ghost use Rattle.counted_handles.specs.Found.{IsAbsent};
 ghost use Rattle.counted_handles.specs.Tells.{IsTaken, beyond};
 
 use crate::calls::{FREE, Words};
@@ -45,7 +46,7 @@ impl Probed {
         requires fits { Fits words.now.table_id × (seat.old.table_id ≡ words.now.table_id) × (seat.old.id ≡ 0) }
         requires due { (self.old < slots) × ((p : Publishing T) × IsProbing p self.old seat.old.me) }
         ensures seat { (seat.new.table_id ≡ seat.old.table_id) × (seat.new.id ≡ seat.old.id) }
-        ensures seen { (p : Publishing T) → IsProbing p self.old seat.old.me → MatchBool result (IsTaken p self.old seat.new.me) (seat.new.me ≡ (Publishes (record p { how = Probing (beyond self.old) }), [])) }
+        ensures seen { (p : Publishing T) → IsProbing p self.old seat.old.me → MatchBool result (IsTaken p self.old seat.new.me) ((seat.new.me ≡ (Publishes (record p { how = Probing (beyond self.old) }), [])) × IsAbsent self.old p.found) }
         ensures counted { MatchBool result (self.new ≡ self.old) (self.new ≡ self.old + 1) }
     {
         let free = words.load::<plays::Probes>(seat, self.tried + self.tried + 1) == FREE;

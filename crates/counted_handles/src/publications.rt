@@ -5,7 +5,7 @@ ghost use Rattle.counted_handles.specs.declared.view.Publishing.{Publishing};
 ghost use Rattle.counted_handles.specs.declared.view.Reading.{Reading};
 ghost use Rattle.counted_handles.specs.History.{IsHistory};
 ghost use Rattle.counted_handles.specs.Tells.{IsTaken};
-ghost use Rattle.counted_handles.specs.Calls.{Fits, AreSpots, CanRead, IsPut, CanPublish, IsOld, IsNewer, IsAtRest, IsOwnLast, CanMeet, HasMet};
+ghost use Rattle.counted_handles.specs.Calls.{Fits, AreSpots, CanRead, IsPut, CanPublish, IsOld, IsNewer, IsAtRest, IsOwnLast, CanMeet, HasMet, HasNone};
 
 use crate::calls::{SPAN, Words, draw_newest, greet, shelve, swap_in, take};
 use crate::names::Names;
@@ -67,6 +67,7 @@ pub fn publish<'a, T: Drop, C: Names<T>>(
     ensures old { IfOk result (λ strong. (strong.table ≡ words.now.table_id) × ((p : Publishing T) → CanPublish p badge.old.views → IsOld p strong.version)) }
     ensures published { IfOk result (λ _. (p : Publishing T) → CanPublish p badge.old.views → IsNewer p value badge.new.views) }
     ensures refused { IfErr result (λ refused. (refused.value ≡ value) × (refused.probed ≡ slots) × (badge.new.views ≡ badge.old.views)) }
+    ensures none_found { IfErr result (λ _. (p : Publishing T) → CanPublish p badge.old.views → HasNone p) }
 {
     let mut seat = mem::replace(badge, Badge::blank()).into_seat();
     let mut probed = Probed::none();

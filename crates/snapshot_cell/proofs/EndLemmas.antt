@@ -65,8 +65,8 @@ pub begun_closing : {T : Type 0} (p : Publishing T) (count : ℕ) (views : List 
 begun_closing p count views is how whole readers = record { views_are = is; how = how; whole = whole; readers = readers }
 
 -- the publisher's token is as it was
-pub publisher_again : {T : Type 0} (begins : T → Type 0) (follows : T → T → Type 0) (cell new_cell : TableId) (id new_id : ℕ) (views new_views : List (View T)) (spare_cell new_spare_cell : TableId) (spare new_spare : List (View T)) (number : ℕ) (value : T) (readers noted swept : ℕ) → (inv : IsPublisher begins follows cell id views spare_cell spare number value readers noted)
-    → new_cell ≡ cell → new_id ≡ id → new_spare_cell ≡ new_cell → new_views ≡ Publishes (looked inv.publishing None swept) ∷ [] → new_spare ≡ Reads inv.rest ∷ [] → IsPublisher begins follows new_cell new_id new_views new_spare_cell new_spare number value readers noted
+pub publisher_again : {T : Type 0} {ready : ℕ} (begins : T → Type 0) (follows : T → T → Type 0) (cell new_cell : TableId) (id new_id : ℕ) (views new_views : List (View T)) (spare_cell new_spare_cell : TableId) (spare new_spare : List (View T)) (number : ℕ) (value : T) (readers noted swept : ℕ) → (inv : IsPublisher begins follows cell id views spare_cell spare number value readers noted ready)
+    → new_cell ≡ cell → new_id ≡ id → new_spare_cell ≡ new_cell → new_views ≡ Publishes (looked inv.publishing None swept) ∷ [] → new_spare ≡ Reads inv.rest ∷ [] → IsPublisher begins follows new_cell new_id new_views new_spare_cell new_spare number value readers noted ready
 publisher_again begins follows cell new_cell id new_id views new_views spare_cell new_spare_cell spare new_spare number value readers noted swept inv same same_id fits is spare_is =
     record {
       publishing = looked inv.publishing None swept;
@@ -86,4 +86,5 @@ publisher_again begins follows cell new_cell id new_id views new_views spare_cel
       spare_whole = inv.spare_whole;
       noted_is = inv.noted_is;
       few = inv.few;
+      found = inv.found;
     }

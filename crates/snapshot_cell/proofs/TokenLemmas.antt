@@ -1,11 +1,12 @@
 -- What a step over a token's views makes of the token.
-use Rattle.std.proofs.Common.{◌≡◌, refl, ap, sym, ◌∙◌, subst, ℕ, ◌+◌, ◌-◌, ◌*◌, ◌<◌, ◌≤◌, List, [], ◌∷◌, ◌++◌, length, Option, Some, None, mul-le-mul_right, arith}
+use Rattle.std.proofs.Common.{◌≡◌, refl, ap, sym, ◌∙◌, subst, ℕ, zero, suc, ◌+◌, ◌-◌, ◌*◌, ◌<◌, ◌≤◌, List, [], ◌∷◌, ◌++◌, length, Option, Some, None, mul-le-mul_right, arith}
+use Rattle.std.specs.Prelude.{Result, Ok, Err, IfErr}
 use Rattle.std.specs.List.{slice_get}
 use Rattle.std.proofs.lemmas.List.{length_push}
 use Rattle.std.proofs.Math.Nat.{suc-mul, zero-mul}
 use Rattle.std.proofs.Math.Numerals.{suc-eq-add-one}
 use Rattle.atomic_table.specs.Seated.{TableId}
-use Rattle.cell_core.specs.Words.{grants, notes}
+use Rattle.cell_core.specs.Words.{slots, grants, notes}
 use Rattle.cell_core.specs.declared.words.Version.{Version}
 use Rattle.counted_handles.specs.declared.view.Publishing.{Publishing}
 use Rattle.counted_handles.specs.declared.view.View.{View}
@@ -17,6 +18,9 @@ use Rattle.counted_handles.specs.Opens.{IsBegun}
 use Rattle.counted_handles.specs.Tells.{opener}
 use Rattle.counted_handles.specs.Calls.{IsOwned, IsNewer}
 use Rattle.snapshot_cell.specs.Tokens.{ReaderState, seen_in, gone_in, IsReader, IsPublisher, IsLoad, IsDealing, limited_reader}
+use Rattle.counted_handles.specs.Found.{without, Falls}
+use Rattle.counted_handles.specs.Calls.{HasNone, HasFound}
+use Rattle.counted_handles.proofs.FoundLemmas.{falls_without, length_without, none_found}
 use Rattle.snapshot_cell.proofs.HistoryLemmas.{history_next}
 
 abbrev got_or : {X : Type 0} → X → Option X → X
@@ -51,9 +55,9 @@ module _ {T : Type 0} (begins : T → Type 0) (follows : T → T → Type 0) whe
       })
 
   -- a token whose view tells the same
-  pub publisher_as : (cell new_cell : TableId) (id new_id : ℕ) (views new_views : List (View T)) (spare_cell : TableId) (spare : List (View T)) (number : ℕ) (value : T) (readers noted new_noted : ℕ) → (inv : IsPublisher begins follows cell id views spare_cell spare number value readers noted) → new_cell ≡ cell → new_id ≡ id
-      → (q : Publishing T) → new_views ≡ Publishes q ∷ [] → q.published ≡ inv.publishing.published → q.how ≡ inv.publishing.how → q.share ≡ inv.publishing.share → q.left ≡ 0 → q.name ≡ inv.publishing.name → q.readers ≡ inv.publishing.readers → q.noted ≡ new_noted → new_noted ≤ notes → IsPublisher begins follows new_cell new_id new_views spare_cell spare number value readers new_noted
-  publisher_as cell new_cell id new_id views new_views spare_cell spare number value readers noted new_noted inv same same_id q is published how share left name still gave few = record {
+  pub publisher_as : {ready : ℕ} (cell new_cell : TableId) (id new_id : ℕ) (views new_views : List (View T)) (spare_cell : TableId) (spare : List (View T)) (number : ℕ) (value : T) (readers noted new_noted : ℕ) → (inv : IsPublisher begins follows cell id views spare_cell spare number value readers noted ready) → new_cell ≡ cell → new_id ≡ id
+      → (q : Publishing T) → new_views ≡ Publishes q ∷ [] → q.published ≡ inv.publishing.published → q.how ≡ inv.publishing.how → q.share ≡ inv.publishing.share → q.left ≡ 0 → q.name ≡ inv.publishing.name → q.readers ≡ inv.publishing.readers → q.noted ≡ new_noted → new_noted ≤ notes → q.found ≡ inv.publishing.found → IsPublisher begins follows new_cell new_id new_views spare_cell spare number value readers new_noted ready
+  publisher_as {ready = ready} cell new_cell id new_id views new_views spare_cell spare number value readers noted new_noted inv same same_id q is published how share left name still gave few same_found = record {
     publishing = q;
     views_are = is;
     first = same_id ∙ inv.first;
@@ -71,17 +75,42 @@ module _ {T : Type 0} (begins : T → Type 0) (follows : T → T → Type 0) whe
     spare_whole = inv.spare_whole;
     noted_is = gave;
     few = few;
+    found = λ some. subst (λ xs. Falls slots xs × (ready ≤ length xs)) (sym same_found) (inv.found some);
+  }
+
+  -- a token that has counted free slots
+  pub publisher_found : {ready : ℕ} (cell new_cell : TableId) (id new_id : ℕ) (views new_views : List (View T)) (spare_cell : TableId) (spare : List (View T)) (number : ℕ) (value : T) (readers noted count : ℕ) → (inv : IsPublisher begins follows cell id views spare_cell spare number value readers noted ready) → new_cell ≡ cell → new_id ≡ id
+      → HasFound inv.publishing count new_views → IsPublisher begins follows new_cell new_id new_views spare_cell spare number value readers noted count
+  publisher_found cell new_cell id new_id views new_views spare_cell spare number value readers noted count inv same same_id has = record {
+    publishing = record (inv.publishing) { found = has.found };
+    views_are = has.views_are;
+    first = same_id ∙ inv.first;
+    how = inv.how;
+    whole = inv.whole;
+    none_left = inv.none_left;
+    name_is = inv.name_is ∙ ap (λ (z : TableId). z.views_name) (sym same);
+    history = inv.history;
+    last = inv.last;
+    value_is = inv.value_is;
+    readers_are = inv.readers_are;
+    spare_fits = inv.spare_fits ∙ sym same;
+    rest = inv.rest;
+    spare_is = inv.spare_is;
+    spare_whole = inv.spare_whole;
+    noted_is = inv.noted_is;
+    few = inv.few;
+    found = λ some. (has.falls, omega (arith, has.many));
   }
 
   -- a token behind a publication
-  pub publisher_next : (cell new_cell : TableId) (id new_id : ℕ) (views new_views : List (View T)) (spare_cell : TableId) (spare : List (View T)) (number : ℕ) (last value : T) (readers noted : ℕ) → (inv : IsPublisher begins follows cell id views spare_cell spare number last readers noted) → new_cell ≡ cell → new_id ≡ id → follows last value
-      → IsNewer inv.publishing value new_views → IsPublisher begins follows new_cell new_id new_views spare_cell spare (number + 1) value readers noted
+  pub publisher_next : {ready : ℕ} (cell new_cell : TableId) (id new_id : ℕ) (views new_views : List (View T)) (spare_cell : TableId) (spare : List (View T)) (number : ℕ) (last value : T) (readers noted : ℕ) → (inv : IsPublisher begins follows cell id views spare_cell spare number last readers noted ready) → new_cell ≡ cell → new_id ≡ id → follows last value
+      → IsNewer inv.publishing value new_views → IsPublisher begins follows new_cell new_id new_views spare_cell spare (number + 1) value readers noted (ready - 1)
   publisher_next cell new_cell id new_id views new_views spare_cell spare number last value readers noted inv same same_id may newer =
       let p : Publishing T = inv.publishing in
       let size : length (p.published ++ value ∷ []) ≡ number + 1 + 1 = length_push p.published value ∙ ap (λ n. n + 1) inv.last in
       record {
-        publishing = record p { published = p.published ++ value ∷ []; next = None; fixed = None; spot = newer.0 };
-        views_are = newer.1;
+        publishing = record p { published = p.published ++ value ∷ []; next = None; fixed = None; spot = newer.0; found = without newer.1 p.found };
+        views_are = newer.2;
         first = same_id ∙ inv.first;
         how = inv.how;
         whole = inv.whole;
@@ -97,7 +126,22 @@ module _ {T : Type 0} (begins : T → Type 0) (follows : T → T → Type 0) whe
         spare_whole = inv.spare_whole;
         noted_is = inv.noted_is;
         few = inv.few;
+        found = λ some.
+            let was = inv.found (omega (arith, some)) in
+            (falls_without newer.1 slots p.found was.0, (let less = length_without newer.1 slots p.found was.0 in omega (arith, less, was.1)));
       }
+
+-- what holds in any case holds of an error
+pub if_err : {A E X : Type 0} (r : Result A E) → X → IfErr r (λ _. X)
+if_err (Ok value) x = tt
+if_err (Err fault) x = x
+
+-- where no free slot is known none was counted
+pub none_ready : {T : Type 0} (p : Publishing T) (ready : ℕ) → (0 < ready → Falls slots p.found × (ready ≤ length p.found)) → HasNone p → ready ≡ 0
+none_ready p zero found none = refl
+none_ready p (suc ready) found none =
+    let was = found (omega arith) in
+    absurd (let e = none_found p was.0 none in omega (arith, was.1, e))
 
 -- the tokens of a new cell
 module _ {T : Type 0} where
@@ -141,7 +185,7 @@ module _ {T : Type 0} where
 
   -- the publisher's token, when the readers have theirs
   pub first_token : (begins : T → Type 0) (follows : T → T → Type 0) (value last : T) (count each : ℕ) (table cell : TableId) (id : ℕ) (views new_views : List (View T)) (spare_cell : TableId) (spare : List (View T)) → (d : IsDealing value table.views_name count each views) → begins value → last ≡ value → cell ≡ table → id ≡ 0
-      → new_views ≡ Publishes (with_reader d.publishing d.publishing.left) ∷ [] → spare_cell ≡ cell → spare ≡ reader_of d.publishing d.publishing.left ∷ [] → IsPublisher begins follows cell id new_views spare_cell spare 0 last count 0
+      → new_views ≡ Publishes (with_reader d.publishing d.publishing.left) ∷ [] → spare_cell ≡ cell → spare ≡ reader_of d.publishing d.publishing.left ∷ [] → IsPublisher begins follows cell id new_views spare_cell spare 0 last count 0 0
   first_token begins follows value last count each table cell id views new_views spare_cell spare d begun seen same seat is spare_same spare_is = record {
     publishing = with_reader d.publishing d.publishing.left;
     views_are = is;
@@ -160,4 +204,5 @@ module _ {T : Type 0} where
     spare_whole = refl;
     noted_is = d.noted;
     few = omega arith;
+    found = λ some. absurd (omega (arith, some));
   }

@@ -1,15 +1,16 @@
 -- What a cell's tokens are to contracts (own).
-use Rattle.std.specs.Prelude.{◌≡◌, ◌⊎◌, ℕ, ◌+◌, ◌-◌, ◌*◌, ◌≤◌, List, [], ◌∷◌, ◌++◌, length, Option, None, Some}
+use Rattle.std.specs.Prelude.{◌≡◌, ◌⊎◌, ℕ, ◌+◌, ◌-◌, ◌*◌, ◌<◌, ◌≤◌, List, [], ◌∷◌, ◌++◌, length, Option, None, Some}
 use Rattle.std.specs.List.{slice_get}
 use base.Stored.{Coded, coded×, coded_ℕ, coded_list, coded_via}
 use Rattle.atomic_table.specs.Seated.{TableId, table_id_coded}
-use Rattle.cell_core.specs.Words.{grants, notes}
+use Rattle.cell_core.specs.Words.{slots, grants, notes}
 use Rattle.cell_core.specs.declared.words.Version.{Version}
 use Rattle.cell_core.specs.declared.words.Publisher.TheVariants.{Probing}
 use Rattle.counted_handles.specs.declared.view.Reading.{Reading}
 use Rattle.counted_handles.specs.declared.view.Publishing.{Publishing}
 use Rattle.counted_handles.specs.declared.view.View.{View}
 use Rattle.counted_handles.specs.declared.view.View.TheVariants.{Begin, Began, Publishes, Reads, Hosts, Has, HasWeakly, Buries, Fades, Resets, Frees, Ends, Gone}
+use Rattle.counted_handles.specs.Found.{Falls}
 use Rattle.counted_handles.specs.Cuts.{dealt_grants}
 use Rattle.counted_handles.specs.History.{IsHistory}
 use Rattle.counted_handles.specs.Ruled.{Begins}
@@ -26,17 +27,19 @@ abbrev pub reader_coded : {T : Type 0} → Coded T → Coded (ReaderState T)
 reader_coded {T} v = coded_via (coded× table_id_coded (coded× (coded_list v) (coded× coded_ℕ (coded_list coded_ℕ)))) (λ (s : ReaderState T). (s.cell, (s.seen, (s.left, s.gone))))
     (λ x y e i. record { cell = (e i).0; seen = (e i).1.0; left = (e i).1.1.0; gone = (e i).1.1.1 })
 
--- the publisher: its cell, the values published, the first one first, the last one with its number, and how many weak owners it has given (own)
+-- the publisher: its cell, the values published, the first one first, the last one with its number, how many weak owners it has given, and
+-- how many free slots it has counted and not used since (own)
 pub record PublisherState (T : Type 0) : Type 0 where
   pub cell : TableId
   pub published : List T
   pub number : ℕ
   pub value : T
   pub noted : ℕ
+  pub ready : ℕ
 
 abbrev pub publisher_coded : {T : Type 0} → Coded T → Coded (PublisherState T)
-publisher_coded {T} v = coded_via (coded× table_id_coded (coded× (coded_list v) (coded× coded_ℕ (coded× v coded_ℕ)))) (λ (s : PublisherState T). (s.cell, (s.published, (s.number, (s.value, s.noted)))))
-    (λ x y e i. record { cell = (e i).0; published = (e i).1.0; number = (e i).1.1.0; value = (e i).1.1.1.0; noted = (e i).1.1.1.1 })
+publisher_coded {T} v = coded_via (coded× table_id_coded (coded× (coded_list v) (coded× coded_ℕ (coded× v (coded× coded_ℕ coded_ℕ))))) (λ (s : PublisherState T). (s.cell, (s.published, (s.number, (s.value, (s.noted, s.ready))))))
+    (λ x y e i. record { cell = (e i).0; published = (e i).1.0; number = (e i).1.1.0; value = (e i).1.1.1.0; noted = (e i).1.1.1.1.0; ready = (e i).1.1.1.1.1 })
 
 -- what a seat has seen published (own)
 abbrev pub values_of : {T : Type 0} → View T → List T
@@ -90,8 +93,9 @@ pub record IsReader {T : Type 0} (cell : TableId) (views : List (View T)) (left 
   pub name_is : reading.name ≡ cell.views_name
 
 -- the publisher's token between two calls: it has no grant, since a reader beside it has those that aren't dealt, and it knows the
--- last value with its number, how many other readers there are, and how many weak owners it has given, of which there may be so many (own)
-pub record IsPublisher {T : Type 0} (begins : T → Type 0) (follows : T → T → Type 0) (cell : TableId) (id : ℕ) (views : List (View T)) (spare_cell : TableId) (spare : List (View T)) (number : ℕ) (value : T) (readers noted : ℕ) : Type 0 where
+-- last value with its number, how many other readers there are, and how many weak owners it has given, of which there may be so many; and where
+-- it has counted free slots it knows as many (own)
+pub record IsPublisher {T : Type 0} (begins : T → Type 0) (follows : T → T → Type 0) (cell : TableId) (id : ℕ) (views : List (View T)) (spare_cell : TableId) (spare : List (View T)) (number : ℕ) (value : T) (readers noted ready : ℕ) : Type 0 where
   pub publishing : Publishing T
   pub views_are : views ≡ Publishes publishing ∷ []
   pub first : id ≡ 0
@@ -109,6 +113,7 @@ pub record IsPublisher {T : Type 0} (begins : T → Type 0) (follows : T → T �
   pub spare_whole : rest.share ≡ None
   pub noted_is : publishing.noted ≡ noted
   pub few : noted ≤ notes
+  pub found : 0 < ready → Falls slots publishing.found × (ready ≤ length publishing.found)
 
 -- the publisher's token of a new cell, off which so many readers have gone, each with so many grants (own)
 pub record IsDealing {T : Type 0} (value : T) (name count each : ℕ) (views : List (View T)) : Type 0 where
@@ -132,7 +137,7 @@ limited_reader grants cell value = record { cell = cell; seen = value ∷ []; le
 
 -- the publisher of a new cell (own)
 abbrev pub first_publisher : {T : Type 0} → TableId → T → PublisherState T
-first_publisher cell value = record { cell = cell; published = value ∷ []; number = 0; value = value; noted = 0 }
+first_publisher cell value = record { cell = cell; published = value ∷ []; number = 0; value = value; noted = 0; ready = 0 }
 
 -- the version is the last of these values (own)
 abbrev pub IsLastOf : {T : Type 0} → List T → Version T → Type 0
@@ -154,13 +159,17 @@ abbrev pub IsUpgraded : {T : Type 0} → ReaderState T → ReaderState T → Ver
 IsUpgraded before after version (Some found) = (found ≡ version) × (after ≡ record before { left = before.left - 1 })
 IsUpgraded before after version None = (after ≡ record before { gone = version.number ∷ before.gone }) ⊎ (after ≡ record before { left = before.left - 1; gone = version.number ∷ before.gone })
 
--- a publication: one value more is published, with the next number (own)
+-- a publication: one value more is published, with the next number, in one of the free slots if some were counted (own)
 abbrev pub published_next : {T : Type 0} → PublisherState T → T → PublisherState T
-published_next state value = record { cell = state.cell; published = state.published ++ value ∷ []; number = state.number + 1; value = value; noted = state.noted }
+published_next state value = record { cell = state.cell; published = state.published ++ value ∷ []; number = state.number + 1; value = value; noted = state.noted; ready = state.ready - 1 }
 
 -- a weak owner more is given (own)
 abbrev pub noted_next : {T : Type 0} → PublisherState T → PublisherState T
-noted_next state = record { cell = state.cell; published = state.published; number = state.number; value = state.value; noted = state.noted + 1 }
+noted_next state = record { cell = state.cell; published = state.published; number = state.number; value = state.value; noted = state.noted + 1; ready = state.ready }
+
+-- so many free slots are counted (own)
+abbrev pub ready_for : {T : Type 0} → PublisherState T → ℕ → PublisherState T
+ready_for state count = record state { ready = count }
 
 -- the publisher's token at the cell's end, with so many readers about (own)
 pub record IsClosing {T : Type 0} (p : Publishing T) (count : ℕ) (views : List (View T)) : Type 0 where

@@ -157,6 +157,7 @@ impl<T: Drop, C: Names<T>> Cell<T, C> {
                 last,
                 readers,
                 noted: 0,
+                ready: 0,
                 names: PhantomData,
             },
             readers: tokens,
@@ -288,7 +289,7 @@ impl<T: Drop, C: Names<T>> Cell<T, C> {
     }
 
     /// Publishes a value that may follow the last one, and gives the old version's owner. [`NoSlot`] with the value where this
-    /// call saw none of the 64 slots free: nothing is then published. It waits for nobody.
+    /// call saw none of the 64 slots free: nothing is then published. Where free slots were counted there is one. It waits for nobody.
     pub fn publish(
         &self,
         publisher: &mut Publisher<T, C>,
@@ -301,6 +302,7 @@ impl<T: Drop, C: Names<T>> Cell<T, C> {
         ensures old { IfOk result (λ strong. strong.version ≡ record { number = publisher.old.number; value = publisher.old.value }) }
         ensures published { IfOk result (λ _. publisher.new ≡ published_next publisher.old value) }
         ensures refused { IfErr result (λ refused. (refused.value ≡ value) × (refused.probed ≡ slots) × (publisher.new ≡ publisher.old)) }
+        ensures none_ready { IfErr result (λ _. publisher.old.ready ≡ 0) }
     {
         let last = Snapshot::of(&value);
         let old = counted_handles::publish(
@@ -312,6 +314,7 @@ impl<T: Drop, C: Names<T>> Cell<T, C> {
         )?;
         publisher.number += 1;
         publisher.last = last;
+        publisher.ready = publisher.ready.saturating_sub(1);
         Ok(old)
     }
 }

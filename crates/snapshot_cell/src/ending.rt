@@ -59,6 +59,7 @@ pub(crate) fn end_all<T, C: Names<T>>(
         last,
         readers: count,
         noted,
+        ready,
         names,
     } = publisher;
     take_in(words, &mut badge, spare);
@@ -73,6 +74,7 @@ pub(crate) fn end_all<T, C: Names<T>>(
                 last,
                 readers: count,
                 noted,
+                ready,
                 names,
             })
         }

@@ -15,6 +15,7 @@ mod further;
 mod named;
 mod named_ending;
 mod named_owner;
+mod ready;
 mod tokens;
 
 pub use cell::{Cell, Parts, StillOut};

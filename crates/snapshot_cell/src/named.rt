@@ -3,7 +3,7 @@ ghost use Rattle.std.specs.Prelude.{◌≡◌, ◌⊎◌, ◌+◌, ◌<◌, ◌-
 ghost use Rattle.cell_core.specs.Words.{slots, notes};
 ghost use Rattle.counted_handles.specs.History.{IsHistory};
 ghost use Rattle.counted_handles.specs.Ruled.{Begins};
-ghost use Rattle.snapshot_cell.specs.Tokens.{IsLoad, IsLastOf, noted_next, published_next};
+ghost use Rattle.snapshot_cell.specs.Tokens.{IsLoad, IsLastOf, noted_next, published_next, ready_for};
 ghost use Rattle.atomic_table.specs.Seated.{TableId};
 
 use crate::cell::Cell;
@@ -130,6 +130,13 @@ impl<T, C: Names<T>, N: Naming> NamedPublisher<T, C, N> {
     {
         self.publisher.left()
     }
+
+    /// How many free slots it has counted and not used since: as often it can publish, whatever else happens.
+    pub fn ready(&self) -> usize
+        ensures { result ≡ self.now.ready }
+    {
+        self.publisher.ready()
+    }
 }
 
 impl<T: Drop, C: Names<T>, N: Naming> NamedCell<T, C, N> {
@@ -222,6 +229,13 @@ impl<T: Drop, C: Names<T>, N: Naming> NamedCell<T, C, N> {
         }
     }
 
+    /// As [`Cell::count`].
+    pub fn count(&self, publisher: &mut NamedPublisher<T, C, N>) -> usize
+        ensures { publisher.new ≡ ready_for publisher.old result }
+    {
+        self.cell.count(&mut publisher.publisher)
+    }
+
     /// As [`Cell::publish`].
     pub fn publish(
         &self,
@@ -233,6 +247,7 @@ impl<T: Drop, C: Names<T>, N: Naming> NamedCell<T, C, N> {
         ensures old { IfOk result (λ strong. strong ≡ record { number = publisher.old.number; value = publisher.old.value }) }
         ensures published { IfOk result (λ _. publisher.new ≡ published_next publisher.old value) }
         ensures refused { IfErr result (λ refused. (refused.value ≡ value) × (refused.probed ≡ slots) × (publisher.new ≡ publisher.old)) }
+        ensures none_ready { IfErr result (λ _. publisher.old.ready ≡ 0) }
     {
         let old = self.cell.publish(&mut publisher.publisher, value)?;
         Ok(NamedStrong::of(old))

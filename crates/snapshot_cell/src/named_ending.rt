@@ -60,6 +60,7 @@ pub(crate) fn end_all_named<T, C: Names<T>, N: Naming>(
         last,
         readers: count,
         noted,
+        ready,
         names,
     } = publisher;
     take_in(words, &mut badge, spare);
@@ -74,6 +75,7 @@ pub(crate) fn end_all_named<T, C: Names<T>, N: Naming>(
                 last,
                 readers: count,
                 noted,
+                ready,
                 names,
             })
         }

@@ -36,8 +36,8 @@ impl<T> Model for Reader<T> {
     ghost invariant = { λ a. IsReader a.badge.table_id a.badge.views a.left };
 }
 
-/// The one who publishes. Contracts see its cell, the values that are published, the last one with its number, and how many weak owners it
-/// has given.
+/// The one who publishes. Contracts see its cell, the values that are published, the last one with its number, how many weak owners it
+/// has given, and how many free slots it has counted and not used since.
 #[derive(Drop)]
 pub struct Publisher<T, C: Names<T>> {
     pub(crate) badge: Badge<View<T>>,
@@ -46,6 +46,7 @@ pub struct Publisher<T, C: Names<T>> {
     pub(crate) last: Snapshot<T>,
     pub(crate) readers: usize,
     pub(crate) noted: u64,
+    pub(crate) ready: usize,
     pub(crate) names: PhantomData<C>,
 }
 
@@ -56,9 +57,9 @@ impl<T, C: Names<T>> Model for Publisher<T, C> {
 
     ghost coded = { publisher_coded T.code };
 
-    ghost view = { λ a. record { cell = a.badge.table_id; published = published_in a.badge.views; number = a.number; value = a.last.value; noted = a.noted } };
+    ghost view = { λ a. record { cell = a.badge.table_id; published = published_in a.badge.views; number = a.number; value = a.last.value; noted = a.noted; ready = a.ready } };
 
-    ghost invariant = { λ a. IsPublisher C.begins C.follows a.badge.table_id a.badge.id a.badge.views a.spare.table_id a.spare.views a.number a.last.value a.readers a.noted };
+    ghost invariant = { λ a. IsPublisher C.begins C.follows a.badge.table_id a.badge.id a.badge.views a.spare.table_id a.spare.views a.number a.last.value a.readers a.noted a.ready };
 }
 
 impl<T> Reader<T> {

@@ -1,7 +1,8 @@
-use Rattle.std.proofs.Common.{◌-◌, ◌≡◌, ◌≤◌, []}
+use Rattle.std.proofs.Common.{◌-◌, ◌≡◌, ◌<◌, ◌≤◌, ℕ, []}
 use Rattle.cell_core.specs.declared.words.Publisher.TheVariants.{Probing}
 use Rattle.counted_handles.specs.declared.view.Publishing.{Publishing}
 use Rattle.counted_handles.specs.declared.view.View.TheVariants.{Publishes}
+use Rattle.counted_handles.specs.Found.{IsAbsent}
 use Rattle.counted_handles.specs.Calls.{IsProbing}
 use Rattle.counted_handles.proofs.CallLemmas.{wrapped}
 use Rattle.counted_handles.proofs.calls.take.Given as goal
@@ -9,7 +10,7 @@ use Rattle.counted_handles.proofs.calls.take.Given as goal
 abbrev pub invariant-loop-slot : goal.invariant-loop-slot
 invariant-loop-slot g l =
     (l.slot ≤ 64) × (l.probed ≡ l.slot) × (l.seat.table_id ≡ l.initial.seat.table_id) × (l.seat.id ≡ l.initial.seat.id)
-    × ((p : Publishing g.row.T.Denot) → IsProbing p 0 l.initial.seat.me → l.seat.me ≡ (Publishes (record p { how = Probing (wrapped l.slot) }), []))
+    × ((p : Publishing g.row.T.Denot) → IsProbing p 0 l.initial.seat.me → (l.seat.me ≡ (Publishes (record p { how = Probing (wrapped l.slot) }), [])) × ((k : ℕ) → k < l.slot → IsAbsent k p.found))
 
 abbrev pub decreases-loop-slot : goal.decreases-loop-slot
 decreases-loop-slot g l = 64 - l.slot

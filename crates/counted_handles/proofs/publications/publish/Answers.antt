@@ -1,7 +1,8 @@
 use Rattle.std.proofs.Common.{refl, sym, ap, ◌∙◌, subst, ◌<◌, [], ◌∷◌, ◌++◌, None}
 use Rattle.cell_core.specs.Words.{slots}
 use Rattle.counted_handles.specs.declared.view.View.TheVariants.{Publishes}
-use Rattle.counted_handles.specs.Calls.{IsOld, IsNewer}
+use Rattle.counted_handles.specs.Found.{without}
+use Rattle.counted_handles.specs.Calls.{IsOld, IsNewer, HasNone}
 use Rattle.counted_handles.proofs.CallLemmas.{only_one}
 use Rattle.counted_handles.proofs.PutLemmas.{put_as, swapping_of, same_publisher}
 use Rattle.counted_handles.proofs.publications.publish.Goals as goal
@@ -21,6 +22,14 @@ returns-in_default-clause-refused g c =
     let view = only_one seat.result.me.0 (Publishes due.0) (sym seat.ensures.2 ∙ ap (λ b. b.views) c.replace.ensures.value ∙ due.1.0) in
     let taken = c.in_default.ensures.taken due.0 ((λ i. (view i, seat.ensures.3 i)), due.1.1) in
     (refl, taken.0, c.into_badge.ensures.2 ∙ ap (λ m. m.0 ∷ []) taken.1 ∙ sym due.1.0)
+
+pub returns-in_default-clause-none_found : goal.returns-in_default-clause-none_found
+returns-in_default-clause-none_found g c p can =
+    let due = c.requires.due in
+    let seat = c.into_seat-seat in
+    let view = only_one seat.result.me.0 (Publishes due.0) (sym seat.ensures.2 ∙ ap (λ b. b.views) c.replace.ensures.value ∙ due.1.0) in
+    let taken = c.in_default.ensures.taken due.0 ((λ i. (view i, seat.ensures.3 i)), due.1.1) in
+    subst (λ q. HasNone q) (same_publisher due.0 p c.args.badge.now.views due.1.0 can.0) taken.2
 
 pub put-requires-clause-fits : goal.put-requires-clause-fits
 put-requires-clause-fits g c =
@@ -76,5 +85,5 @@ returns-clause-published g c p can =
     let lies = c.put.ensures.lies due.0 taken.1 due.3 due.2 in
     let swapping = swapping_of g.C.Names.begins g.C.Follows.follows c.in-Some.slot due.0 c.args.value lies.0 c.put.new.seat.me taken.0 lies.1 due.4 in
     let swapped = c.swap_in-share.ensures.published (put_as due.0 c.in-Some.slot c.args.value lies.0) c.args.value swapping due.1.2 in
-    let views = c.into_badge-2.ensures.2 ∙ ap (λ m. m.0 ∷ []) swapped.me_is ∙ (λ i. Publishes (record (due.0) { published = due.0.published ++ c.args.value ∷ []; how = sym due.1.1 i; next = None; fixed = None; spot = lies.0 }) ∷ []) in
-    subst (λ q. IsNewer q c.args.value c.into_badge-2.result.views) (same_publisher due.0 p c.args.badge.now.views due.1.0 can.0) (lies.0, views)
+    let views = c.into_badge-2.ensures.2 ∙ ap (λ m. m.0 ∷ []) swapped.me_is ∙ (λ i. Publishes (record (due.0) { published = due.0.published ++ c.args.value ∷ []; how = sym due.1.1 i; next = None; fixed = None; spot = lies.0; found = without c.in-Some.slot due.0.found }) ∷ []) in
+    subst (λ q. IsNewer q c.args.value c.into_badge-2.result.views) (same_publisher due.0 p c.args.badge.now.views due.1.0 can.0) (lies.0, c.in-Some.slot, views)

@@ -71,4 +71,4 @@ returns-in-None-clause-out g c =
     let like = like_again p inv.rest (inside.readers + 1) inside.badge.views c.give_back-spare.new.badge.views told.0.0 told.0.1 begun (omega arith) home.0 in
     let cell = c.give_back-spare.ensures.badges.0 ∙ c.end_readers.ensures.badge.0 ∙ c.take_in.ensures.badge.0 in
     let published = ap published_in like ∙ sym (ap published_in inv.views_are) in
-    ((λ i. record { cell = cell i; published = published i; number = inside.number; value = inside.last.value; noted = inside.noted }) ∙ c.publisher.view_is, told.1)
+    ((λ i. record { cell = cell i; published = published i; number = inside.number; value = inside.last.value; noted = inside.noted; ready = inside.ready }) ∙ c.publisher.view_is, told.1)

@@ -11,7 +11,7 @@ invariant_of-publisher g c =
     let inv = c.publisher.invariant in
     let reads = c.reader.invariant in
     let told = c.meet.ensures.met inv.publishing reads.reading (inv.views_are, inv.whole, inv.none_left) (reads.views_are, reads.whole) in
-    publisher_as g.C.Names.begins g.C.Follows.follows before.badge.table_id c.meet.new.badge.table_id before.badge.id c.meet.new.badge.id before.badge.views c.meet.new.badge.views before.spare.table_id before.spare.views before.number before.last.value before.readers before.noted before.noted inv c.meet.ensures.badges.0 c.meet.ensures.badges.1 (gave_back inv.publishing) told.views_are refl refl refl refl refl (omega (arith, inv.readers_are)) inv.noted_is inv.few
+    publisher_as g.C.Names.begins g.C.Follows.follows before.badge.table_id c.meet.new.badge.table_id before.badge.id c.meet.new.badge.id before.badge.views c.meet.new.badge.views before.spare.table_id before.spare.views before.number before.last.value before.readers before.noted before.noted inv c.meet.ensures.badges.0 c.meet.ensures.badges.1 (gave_back inv.publishing) told.views_are refl refl refl refl refl (omega (arith, inv.readers_are)) inv.noted_is inv.few refl
 
 pub returns-clause-met : goal.returns-clause-met
 returns-clause-met g c =
@@ -40,7 +40,7 @@ returns-clause-same g c =
     let reads = c.reader.invariant in
     let told = c.meet.ensures.met inv.publishing reads.reading (inv.views_are, inv.whole, inv.none_left) (reads.views_are, reads.whole) in
     let published = ap published_in told.views_are ∙ sym (ap published_in inv.views_are) in
-    (λ i. record { cell = c.meet.ensures.badges.0 i; published = published i; number = before.number; value = before.last.value; noted = before.noted }) ∙ c.publisher.view_is
+    (λ i. record { cell = c.meet.ensures.badges.0 i; published = published i; number = before.number; value = before.last.value; noted = before.noted; ready = before.ready }) ∙ c.publisher.view_is
 
 pub invariant_of-reader : goal.invariant_of-reader
 invariant_of-reader g c =

@@ -12,7 +12,7 @@ invariant_of-publisher g c =
     let reads = c.reader.invariant in
     let some : 0 < c.reader.inside.left = omega (arith, c.if-reader-eq0.false) in
     let told = c.newest.ensures.newest inv.publishing reads.reading (inv.views_are, inv.whole, inv.none_left) (reads.views_are, reads.whole, omega (arith, some, reads.left_is)) in
-    publisher_as g.C.Names.begins g.C.Follows.follows before.badge.table_id c.newest.new.badge.table_id before.badge.id c.newest.new.badge.id before.badge.views c.newest.new.badge.views before.spare.table_id before.spare.views before.number before.last.value before.readers before.noted before.noted inv c.newest.ensures.badges.0 c.newest.ensures.badges.1 (gave_back inv.publishing) told.views_are refl refl refl refl refl (omega (arith, inv.readers_are)) inv.noted_is inv.few
+    publisher_as g.C.Names.begins g.C.Follows.follows before.badge.table_id c.newest.new.badge.table_id before.badge.id c.newest.new.badge.id before.badge.views c.newest.new.badge.views before.spare.table_id before.spare.views before.number before.last.value before.readers before.noted before.noted inv c.newest.ensures.badges.0 c.newest.ensures.badges.1 (gave_back inv.publishing) told.views_are refl refl refl refl refl (omega (arith, inv.readers_are)) inv.noted_is inv.few refl
 
 pub returns-clause-newest : goal.returns-clause-newest
 returns-clause-newest g c =
@@ -49,4 +49,4 @@ returns-clause-same g c =
     let some : 0 < c.reader.inside.left = omega (arith, c.if-reader-eq0.false) in
     let told = c.newest.ensures.newest inv.publishing reads.reading (inv.views_are, inv.whole, inv.none_left) (reads.views_are, reads.whole, omega (arith, some, reads.left_is)) in
     let published = ap published_in told.views_are ∙ sym (ap published_in inv.views_are) in
-    (λ i. record { cell = c.newest.ensures.badges.0 i; published = published i; number = before.number; value = before.last.value; noted = before.noted }) ∙ c.publisher.view_is
+    (λ i. record { cell = c.newest.ensures.badges.0 i; published = published i; number = before.number; value = before.last.value; noted = before.noted; ready = before.ready }) ∙ c.publisher.view_is

@@ -25,7 +25,7 @@ invariant_of-publisher g c =
     let few : before.noted + 1 ≤ notes = omega (arith, inv.few, c.if-publisher-eq-NOTES.false) in
     let told = call.ensures.newest inv.publishing reads.reading (inv.views_are, inv.whole, inv.none_left) (reads.views_are, reads.whole, omega (arith, some, reads.left_is)) in
     publisher_as g.C.Names.begins g.C.Follows.follows before.badge.table_id call.new.badge.table_id before.badge.id call.new.badge.id before.badge.views call.new.badge.views before.spare.table_id before.spare.views before.number before.last.value before.readers before.noted (before.noted + 1) inv call.ensures.badges.0 call.ensures.badges.1
-    (record (gave_back inv.publishing) { noted = inv.publishing.noted + 1 }) told.views_are refl refl refl refl refl (omega (arith, inv.readers_are)) (ap (λ n. n + 1) inv.noted_is) few
+    (record (gave_back inv.publishing) { noted = inv.publishing.noted + 1 }) told.views_are refl refl refl refl refl (omega (arith, inv.readers_are)) (ap (λ n. n + 1) inv.noted_is) few refl
 
 pub returns-clause-newest : goal.returns-clause-newest
 returns-clause-newest g c =
@@ -67,4 +67,4 @@ returns-clause-noted g c =
     let cell = call.ensures.badges.0 ∙ ap (λ s. s.cell) is in
     let published = ap published_in told.views_are ∙ sym (ap published_in inv.views_are) ∙ ap (λ s. s.published) is in
     let few : before.noted < notes = omega (arith, inv.few, c.if-publisher-eq-NOTES.false) in
-    (λ i. record { cell = cell i; published = published i; number = (is i).number; value = (is i).value; noted = (is i).noted + 1 }, subst (λ n. n < notes) (ap (λ s. s.noted) is) few)
+    (λ i. record { cell = cell i; published = published i; number = (is i).number; value = (is i).value; noted = (is i).noted + 1; ready = (is i).ready }, subst (λ n. n < notes) (ap (λ s. s.noted) is) few)
