@@ -4,3 +4,4 @@ pub mod ToldLemmas
 pub mod SendLemmas
 pub mod ChainLemmas
 pub mod EntryLemmas
+pub mod FreeLemmas

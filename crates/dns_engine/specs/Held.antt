@@ -1,7 +1,8 @@
 -- What an engine holds (own).
-use Rattle.std.specs.Prelude.{◌≡◌, ℕ, ◌-◌, List, [], ◌∷◌, ◌++◌, length, drop, min}
+use Rattle.std.specs.Prelude.{◌≡◌, ℕ, ◌-◌, ◌^◌, List, [], ◌∷◌, ◌++◌, length, drop, min}
 use Rattle.dns_rdata.specs.Record.{Record}
 use Rattle.zone_tree.specs.Version.{Version}
+use Rattle.cell_core.specs.Words.{notes}
 use Rattle.counted_handles.specs.History.{IsHistory}
 use Rattle.dns_engine.specs.Versions.{IsFirst, IsNext}
 pub use Rattle.transfer_core.specs.declared.kept.TheConstants.{KEPT}
@@ -13,10 +14,15 @@ pub record Held : Type 0 where
   pub keep : ℕ
   pub older : List Version
 
--- an engine: what it holds, and the grants that its reader has left
+-- an engine: what it holds, the grants that its reader has left, and how many versions it is sure to publish, whatever else happens
 pub record EngineState : Type 0 where
   pub held : Held
   pub left : ℕ
+  pub free : ℕ
+
+-- how many versions are sure to be published: so many free slots are counted, and grants, weak owners and numbers are left
+abbrev pub free_of : ℕ → ℕ → ℕ → ℕ → ℕ
+free_of ready left noted number = min (min ready (min left (notes - noted))) (2 ^ 64 - 1 - number)
 
 -- the last of a list, at most so many
 abbrev pub newest : {T : Type 0} → ℕ → List T → List T
@@ -44,4 +50,8 @@ held_with held version =
 
 -- an engine once it has published a version, for which its reader has loaded it
 abbrev pub state_with : EngineState → Version → EngineState
-state_with state version = record { held = held_with state.held version; left = state.left - 1 }
+state_with state version = record { held = held_with state.held version; left = state.left - 1; free = state.free - 1 }
+
+-- an engine that has counted how many versions it is sure to publish
+abbrev pub state_for : EngineState → ℕ → EngineState
+state_for state count = record state { free = count }

@@ -1,5 +1,5 @@
 -- What an engine tells of an update (RFC 2136, 3).
-use Rattle.std.specs.Prelude.{◌≡◌, ◌+◌, ◌<◌, ◌≤◌, ◌^◌, Bool, None, Some}
+use Rattle.std.specs.Prelude.{◌≡◌, ◌⊎◌, ◌+◌, ◌<◌, ◌≤◌, ◌^◌, Bool, None, Some}
 use Rattle.dns_rdata.specs.declared.numbers.Rcode.{Rcode}
 use Rattle.dns_rdata.specs.declared.numbers.Rcode.TheVariants.{NoError, ServFail}
 use Rattle.dns_message.specs.declared.update.Update.{Update}
@@ -7,6 +7,8 @@ use Rattle.zone_tree.specs.Version.{Version}
 use Rattle.update_core.specs.Verdict.{verdict}
 use Rattle.update_core.specs.Act.{act}
 use Rattle.update_core.specs.Applied.{code_of}
+use Rattle.dns_engine.specs.declared.judged.Judged.{Judged}
+use Rattle.dns_engine.specs.declared.judged.Judged.TheVariants.{Told, Made, Starved}
 use Rattle.dns_engine.specs.Versions.{Makes}
 use Rattle.dns_engine.specs.Held.{EngineState, state_with}
 
@@ -20,3 +22,17 @@ pub data IsTold (old : EngineState) (update : Update) (may : Bool) (code : Rcode
   unchanged : verdict old.held.last.zone update may ≡ None → act old.held.last.zone update ≡ Some old.held.last.zone → code ≡ NoError → new ≡ old → IsTold old update may code new
   full : 2 ^ 64 ≤ old.held.last.number + 1 → code ≡ ServFail → new ≡ old → IsTold old update may code new
   starved : verdict old.held.last.zone update may ≡ None → code ≡ ServFail → new ≡ old → IsTold old update may code new
+
+-- an update is told this code of a version, of which it makes none: that of the first rule that it breaks, or SERVFAIL where it passes a limit;
+-- NOERROR where it changes nothing; SERVFAIL where there is no number left (RFC 2136, 3; own)
+abbrev pub Tells : Version → Update → Bool → Rcode → Type 0
+Tells version update may code =
+    (code_of version.zone update may ≡ Some code)
+    ⊎ ((verdict version.zone update may ≡ None) × (act version.zone update ≡ Some version.zone) × (code ≡ NoError))
+    ⊎ ((2 ^ 64 ≤ version.number + 1) × (code ≡ ServFail))
+
+-- what is told of an update in a version is so: its code; the version that it makes; or that no rule gives it a code (RFC 2136, 3; own)
+abbrev pub IsJudged : Version → Update → Bool → Judged → Type 0
+IsJudged version update may (Told code) = Tells version update may code
+IsJudged version update may (Made next) = (verdict version.zone update may ≡ None) × Makes update version next
+IsJudged version update may Starved = verdict version.zone update may ≡ None

@@ -1,11 +1,12 @@
 //! The engine: who publishes, and the newest versions.
 ghost use Rattle.std.specs.Prelude.{◌≡◌, ◌⊎◌, ◌↔◌, ◌<◌, ◌≤◌, ◌+◌, ◌-◌, ◌^◌, [], IfOk, IfErr, MatchBool};
+ghost use Rattle.std.specs.Bool.{OnFalse, OnTrue};
 ghost use Rattle.cell_core.specs.Words.{notes};
 ghost use Rattle.counted_handles.specs.Ruled.{Begins};
 ghost use Rattle.weak_history.specs.Owned.{IsChain};
 ghost use Rattle.dns_engine.specs.Entries.{entries_of};
 ghost use Rattle.dns_engine.specs.Versions.{IsNext};
-ghost use Rattle.dns_engine.specs.Held.{IsLatest, state_with};
+ghost use Rattle.dns_engine.specs.Held.{IsLatest, free_of, state_with, state_for};
 ghost use Rattle.dns_engine.specs.Replayed.{IsReplay};
 ghost use Rattle.dns_engine.specs.Told.{IsTold};
 ghost use Rattle.dns_engine.specs.declared.fault.EngineFault.{EngineFault as Fault};
@@ -31,8 +32,8 @@ use zone_tree::Version;
 
 /// The one who publishes in a cell of versions, with the newest of them: the last, and at most so many older ones as it was made
 /// to keep, which it owns; and the history of those whose changes are told, which it doesn't. Contracts see the versions that it owns with
-/// all that were published and with the grants that its reader has left, and know that they are the newest that were published, and that
-/// the history is that of all that were published. No call of it waits.
+/// all that were published, with the grants that its reader has left and with how many versions it is sure to publish, and know that they are
+/// the newest that were published, and that the history is that of all that were published. No call of it waits.
 #[derive(Drop)]
 pub struct Engine<'a, Z: FirstZone, N: Naming> {
     publisher: VersionPublisher<Z, N>,
@@ -46,11 +47,11 @@ pub struct Engine<'a, Z: FirstZone, N: Naming> {
 impl<'a, Z: FirstZone, N: Naming> Model for Engine<'a, Z, N> {
     ghost use Rattle.std.specs.Prelude.{◌≡◌, ◌≤◌};
     ghost use Rattle.dns_engine.specs.Entries.{history_of};
-    ghost use Rattle.dns_engine.specs.Held.{EngineState, IsNewest, KEPT};
+    ghost use Rattle.dns_engine.specs.Held.{EngineState, IsNewest, KEPT, free_of};
 
     ghost Value = { EngineState };
 
-    ghost view = { λ a. record { held = record { published = a.reader.seen; last = a.last.value; keep = a.keep; older = a.older }; left = a.reader.left } };
+    ghost view = { λ a. record { held = record { published = a.reader.seen; last = a.last.value; keep = a.keep; older = a.older }; left = a.reader.left; free = free_of a.publisher.ready a.reader.left a.publisher.noted a.last.value.number } };
 
     ghost invariant = { λ a. (a.keep ≤ KEPT) × (a.publisher.published ≡ a.reader.seen) × (a.publisher.value ≡ a.last.value) × (a.publisher.number ≡ a.last.value.number) × IsNewest Z.zone (record { published = a.reader.seen; last = a.last.value; keep = a.keep; older = a.older }) × (a.history ≡ history_of a.reader.seen) };
 }
@@ -66,7 +67,7 @@ impl<'a, Z: FirstZone, N: Naming> Engine<'a, Z, N> {
         keep: usize,
     ) -> Result<Engine<'a, Z, N>, NoEngine<Z, N>>
         requires { publisher.number ≡ 0 }
-        ensures made { IfOk result (λ engine. engine ≡ record { held = record { published = publisher.published; last = publisher.value; keep = keep; older = [] }; left = reader.left - 1 }) }
+        ensures made { IfOk result (λ engine. engine ≡ record { held = record { published = publisher.published; last = publisher.value; keep = keep; older = [] }; left = reader.left - 1; free = free_of publisher.ready (reader.left - 1) (publisher.noted + 1) publisher.value.number }) }
         ensures kept { IfOk result (λ _. keep ≤ KEPT) }
         ensures grant { IfOk result (λ _. 0 < reader.left) }
         ensures refused { IfErr result (λ refused. (refused.fault ≡ Fault.TooGreat) ↔ (KEPT < keep)) }
@@ -175,12 +176,25 @@ impl<'a, Z: FirstZone, N: Naming> Engine<'a, Z, N> {
         requires follows { IsNext self.old.held.last version }
         ensures { MatchBool result ((0 < self.old.left) × (self.new ≡ state_with self.old version)) (self.new ≡ self.old) }
     {
-        if self.reader.left() == 0 || self.publisher.left() == 0 {
-            return false;
-        }
         let Some(version) = SharedVersion::new(alloc, version) else {
             return false;
         };
+        self.publish_shared(cell, version)
+    }
+
+    /// The same of a version that several can own, for which no memory is wanted.
+    fn publish_shared(&mut self, cell: &'a VersionCell<Z, N>, version: SharedVersion) -> bool
+        requires room { self.old.held.last.number + 1 < 2 ^ 64 }
+        requires follows { IsNext self.old.held.last version }
+        ensures grant { OnTrue result (0 < self.old.left) }
+        ensures published { OnTrue result (self.new ≡ state_with self.old version) }
+        ensures same { OnFalse result (self.new ≡ self.old) }
+        ensures none { OnFalse result (self.old.free ≡ 0) }
+    {
+        let owners = self.reader.left().min(self.publisher.left());
+        if owners == 0 {
+            return false;
+        }
         let Ok(old) = cell.publish(&mut self.publisher, version) else {
             return false;
         };
@@ -191,6 +205,44 @@ impl<'a, Z: FirstZone, N: Naming> Engine<'a, Z, N> {
         mem::replace(&mut self.last, last).release();
         self.older.keep_newest(self.keep, old);
         true
+    }
+
+    /// Counts how many versions it is sure to publish, whatever else happens: a free slot of the cell, a grant, a weak owner and a number is
+    /// there for each, and nobody else takes them. It waits for nobody.
+    pub fn count(&mut self, cell: &VersionCell<Z, N>) -> u64
+        ensures { self.new ≡ state_for self.old result }
+    {
+        let numbers = u64::MAX - self.number();
+        let owners = self.publisher.left().min(self.reader.left());
+        let slots = cell.count(&mut self.publisher);
+        (slots as u64).min(owners).min(numbers)
+    }
+
+    /// The version published last, which several can own.
+    pub fn last_shared(&self) -> &SharedVersion
+        ensures { result.now ≡ self.now.held.last }
+    {
+        self.last.get()
+    }
+
+    /// Looks at the grants for a proof alone, which learns by it that a number is left where the engine is sure to publish.
+    fn learn_room(&self)
+        ensures { 0 < self.now.free → self.now.held.last.number + 1 < 2 ^ 64 }
+    {
+        let _ = self.reader.left();
+    }
+
+    /// Publishes a version that an update makes of the last one, where it is sure to (RFC 2136, 3). It takes no memory, and waits for nobody.
+    pub fn publish_next(&mut self, cell: &'a VersionCell<Z, N>, version: SharedVersion)
+        requires free { 0 < self.old.free }
+        requires follows { IsNext self.old.held.last version }
+        ensures { self.new ≡ state_with self.old version }
+    {
+        self.learn_room();
+        if self.publish_shared(cell, version) {
+            return;
+        }
+        unreachable!()
     }
 
     /// Ends the engine: its history and its owners are given up, and its publisher and its reader come back, with all that was published.

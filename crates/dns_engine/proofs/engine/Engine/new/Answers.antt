@@ -4,7 +4,7 @@ use Rattle.std.specs.List.{slice_get}
 use Rattle.zone_tree.specs.Version.{Version, zone_serial}
 use Rattle.cell_core.specs.declared.words.Version.{Version as Numbered}
 use Rattle.snapshot_cell.specs.Tokens.{PublisherState, ReaderState}
-use Rattle.dns_engine.specs.Held.{IsNewest}
+use Rattle.dns_engine.specs.Held.{IsNewest, free_of}
 use Rattle.dns_engine.specs.Entries.{history_of}
 use Rattle.dns_engine.proofs.ReplayLemmas.{last_number_of}
 use Rattle.dns_engine.proofs.EntryLemmas.{history_begun, only_one, begun_newest}
@@ -34,3 +34,15 @@ invariant_of-result g c =
       rw (seen, last) newest,
       history_begun published value c.new-history.result c.push.new.self c.in-Ok.weak c.serial.result.0 one c.new-history.ensures weak serial c.push.ensures ∙ ap history_of (sym seen),
     )
+
+pub returns-clause-made : goal.returns-clause-made
+returns-clause-made g c =
+    let noted = c.in-Ok.ensures.noted.0 in
+    let reader = c.in-Ok.ensures.newest.1 in
+    let loaded = c.in-Ok.ensures.newest.0 in
+    λ i.
+    record {
+      held = record { published = (reader i).seen; last = (loaded i).value; keep = c.args.keep; older = c.new.ensures i };
+      left = (reader i).left;
+      free = free_of (noted i).ready (reader i).left (noted i).noted (loaded i).value.number;
+    }
