@@ -1,0 +1,59 @@
+-- What is judged is made by the updates that the journal keeps.
+use Rattle.std.proofs.Common.{◌≡◌, ℕ, List, [], ◌∷◌, ◌++◌, Option, None, Some, Result, Ok, Err, sym, subst}
+use Rattle.std.specs.Prelude.{IfOk, MatchOption}
+use Rattle.dns_message.specs.Request.{reads}
+use Rattle.dns_message.specs.declared.query.Parsed.TheVariants.{Update as Says}
+use Rattle.dns_message.specs.declared.update.Update.{Update}
+use Rattle.zone_tree.specs.Version.{Version}
+use Rattle.journal.specs.declared.heads.Head.{Head}
+use Rattle.journal_store.specs.declared.log.Log.{Log}
+use Rattle.journal_store.specs.Log.{Holds}
+use Rattle.dns_engine.specs.Versions.{Makes}
+use Rattle.dns_engine.specs.Held.{EngineState}
+use Rattle.update_group.specs.Engine.{IsLast}
+use Rattle.update_group.specs.Group.{newest_of, logged, Judged, nothing, told, starved, changed}
+use Rattle.lasting_engine.specs.declared.asked.Asked.{Asked}
+use Rattle.lasting_engine.specs.Asked.{passes, tells, makes, octets_of}
+use Rattle.lasting_engine.specs.Journal.{AreMadeBy, IsJournal, goes_on}
+use Rattle.lasting_engine.specs.Lasting.{IsKept, IsRefused}
+
+made_more : (first : Version) (versions : List Version) (updates : List (List ℕ)) (octets : List ℕ) (update : Update) (next : Version) → AreMadeBy first versions updates → reads octets ≡ Says update → Makes update (newest_of first versions) next
+    → AreMadeBy first (versions ++ next ∷ []) (updates ++ octets ∷ [])
+made_more first [] [] octets update next are read is = ((update, read, is), tt)
+made_more first [] (other ∷ updates) octets update next are read is = absurd are
+made_more first (version ∷ versions) [] octets update next are read is = absurd are
+made_more first (version ∷ versions) (other ∷ updates) octets update next are read is = (are.0, made_more version versions updates octets update next are.1 read is)
+
+pub judged_by : {first : Version} {asked : List Asked} {codes : List ℕ} {made : List Version} {updates : List (List ℕ)} → Judged passes tells makes octets_of first asked codes made updates → AreMadeBy first made updates
+judged_by nothing = tt
+judged_by (told one code judged is) = judged_by judged
+judged_by (starved one judged is) = judged_by judged
+judged_by {first} (changed {asked} {codes} {made} {updates} one next judged lets is) = made_more first made updates (octets_of one) one.update next (judged_by judged) one.read is
+
+pub journal_kept : {D F : Type 0} (written synced : D → List ℕ) (old new : EngineState) (asked : List Asked) (codes : List ℕ) (before after : Log D F) (head : Head) (bodies : List (List ℕ))
+    → IsKept written synced old new asked codes before after → Holds written synced head before bodies → IsJournal old.held.published bodies
+    → (more : List (List ℕ)) × Holds written synced head after more × IsJournal new.held.published more
+journal_kept written synced old new asked codes before after head bodies kept holds journal = (
+  logged bodies kept.updates,
+  kept.on_disk head bodies holds,
+  subst (λ (p : List Version). IsJournal p (logged bodies kept.updates)) (sym kept.published) (goes_on kept.first kept.versions kept.updates journal kept.last (judged_by kept.judged)),
+)
+
+-- what the journal keeps once updates were told these codes, and a fault of the disk or none
+journal_by : {D F E : Type 0} (fault : Option E) (codes : List ℕ) (written synced : D → List ℕ) (old new : EngineState) (asked : List Asked) (before after : Log D F) (head : Head) (bodies : List (List ℕ))
+    → MatchOption fault (IsKept written synced old new asked codes before after) (λ _. IsRefused written synced old new asked codes before after)
+    → Holds written synced head before bodies → IsJournal old.held.published bodies
+    → MatchOption fault ((more : List (List ℕ)) × Holds written synced head after more × IsJournal new.held.published more) (λ _. IsJournal new.held.published bodies)
+journal_by None codes written synced old new asked before after head bodies kept holds journal =
+    journal_kept written synced old new asked codes before after head bodies kept holds journal
+journal_by (Some fault) codes written synced old new asked before after head bodies refused holds journal =
+    subst (λ (p : List Version). IsJournal p bodies) (sym refused.published) journal
+
+pub journal_told : {D F R E X : Type 0} (result : Result R X) (codes_of : R → List ℕ) (fault_of : R → Option E) (written synced : D → List ℕ) (old new : EngineState) (asked : List Asked)
+    (before after : Log D F) (head : Head) (bodies : List (List ℕ))
+    → IfOk result (λ r. MatchOption (fault_of r) (IsKept written synced old new asked (codes_of r) before after) (λ _. IsRefused written synced old new asked (codes_of r) before after))
+    → Holds written synced head before bodies → IsJournal old.held.published bodies
+    → IfOk result (λ r. MatchOption (fault_of r) ((more : List (List ℕ)) × Holds written synced head after more × IsJournal new.held.published more) (λ _. IsJournal new.held.published bodies))
+journal_told (Ok r) codes_of fault_of written synced old new asked before after head bodies told holds journal =
+    journal_by (fault_of r) (codes_of r) written synced old new asked before after head bodies told holds journal
+journal_told (Err e) codes_of fault_of written synced old new asked before after head bodies told holds journal = tt

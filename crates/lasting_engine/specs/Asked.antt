@@ -1,0 +1,25 @@
+-- What an update that is asked for does in a version (RFC 2136, 3).
+use Rattle.std.specs.Prelude.{◌≡◌, ℕ, List, None}
+use Rattle.dns_rdata.specs.Numbers.{rcode_number}
+use Rattle.dns_rdata.specs.declared.numbers.Rcode.{Rcode}
+use Rattle.zone_tree.specs.Version.{Version}
+use Rattle.update_core.specs.Verdict.{verdict}
+use Rattle.dns_engine.specs.Versions.{Makes}
+use Rattle.dns_engine.specs.Told.{Tells}
+use Rattle.lasting_engine.specs.declared.asked.Asked.{Asked}
+
+-- no rule gives it a code
+abbrev pub passes : Version → Asked → Type 0
+passes version asked = verdict version.zone asked.update asked.may ≡ None
+
+-- it is told the code of this number, and makes no version
+abbrev pub tells : Version → Asked → ℕ → Type 0
+tells version asked number = (code : Rcode) × (rcode_number code ≡ number) × Tells version asked.update asked.may code
+
+-- it makes this version
+abbrev pub makes : Version → Asked → Version → Type 0
+makes version asked next = Makes asked.update version next
+
+-- its octets, as they were received
+abbrev pub octets_of : Asked → List ℕ
+octets_of asked = asked.octets.items

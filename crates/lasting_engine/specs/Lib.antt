@@ -1,0 +1,3 @@
+pub mod Asked
+pub mod Lasting
+pub mod Journal
