@@ -8,6 +8,6 @@ pub free_next : (ready left noted number : ℕ) → free_of (ready - 1) (left - 
 free_next ready left noted number = omega arith
 
 -- one is published, or nothing has changed
-pub published_or_same : {A P S : Type 0} (published : Bool) → OnTrue published A → OnTrue published P → OnFalse published S → MatchBool published (A × P) S
-published_or_same true grant is same = (grant, is)
-published_or_same false grant is same = same
+pub published_or_same : (A P S : Type 0) (published : Bool) → OnTrue published A → OnTrue published P → OnFalse published S → MatchBool published (A × P) S
+published_or_same A P S true grant is same = (grant, is)
+published_or_same A P S false grant is same = same
