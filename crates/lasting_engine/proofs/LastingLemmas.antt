@@ -54,6 +54,6 @@ pub journal_told : {D F R E X : Type 0} (result : Result R X) (codes_of : R → 
     → IfOk result (λ r. MatchOption (fault_of r) (IsKept written synced old new asked (codes_of r) before after) (λ _. IsRefused written synced old new asked (codes_of r) before after))
     → Holds written synced head before bodies → IsJournal old.held.published bodies
     → IfOk result (λ r. MatchOption (fault_of r) ((more : List (List ℕ)) × Holds written synced head after more × IsJournal new.held.published more) (λ _. IsJournal new.held.published bodies))
-journal_told (Ok r) codes_of fault_of written synced old new asked before after head bodies told holds journal =
-    journal_by (fault_of r) (codes_of r) written synced old new asked before after head bodies told holds journal
-journal_told (Err e) codes_of fault_of written synced old new asked before after head bodies told holds journal = tt
+journal_told (Ok r) codes_of fault_of written synced old new asked before after head bodies is holds journal =
+    journal_by (fault_of r) (codes_of r) written synced old new asked before after head bodies is holds journal
+journal_told (Err e) codes_of fault_of written synced old new asked before after head bodies is holds journal = tt

@@ -89,7 +89,7 @@ impl<'a, Z: FirstZone, N: Naming> Group for LastingEngine<'a, Z, N> {
 impl<'a, Z: FirstZone, N: Naming> LastingEngine<'a, Z, N> {
     /// An engine with its cell.
     pub fn of(cell: &'a VersionCell<Z, N>, engine: Engine<'a, Z, N>) -> LastingEngine<'a, Z, N>
-        ensures { result ≡ engine }
+        ensures { result ≡ engine.entry }
     {
         LastingEngine { cell, engine }
     }
