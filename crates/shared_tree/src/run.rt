@@ -136,6 +136,7 @@ impl Maker {
         let mut entries = entries;
         let middle = entries.len() / 2;
         let behind = entries.split_off(middle)?;
+        entries.shrink_to_fit();
         let parting = share_entry(&behind[0])?;
         let left = self.run(entries)?;
         let right = self.run(behind)?;

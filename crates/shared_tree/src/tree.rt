@@ -135,8 +135,9 @@ impl<K: Front, V> Tree<K, V> {
 }
 
 impl<K: Front + Drop, V: Drop> Tree<K, V> {
-    /// The tree of pairs whose keys ascend, each less than the next; most of them begin as `base` does. It makes
-    /// runs of eight to sixteen pairs, where there are more than eight, and a node a run. `NoMemory` where memory is refused; the pairs are then gone.
+    /// The tree of pairs whose keys ascend, each less than the next; most of them begin as `base` does. Where there are
+    /// more than eight, its runs have eight to sixteen pairs each, and it makes a node for each run but one. `NoMemory` where
+    /// memory is refused; the pairs are then gone.
     pub fn from_sorted(alloc: Global, base: K, pairs: Vec<(K, V)>) -> Result<Tree<K, V>, NoMemory>
         requires { IsAscending K.cmp pairs.items }
         ensures pairs { IfOk result (λ tree. tree.pairs ≡ pairs.items) }
