@@ -100,11 +100,11 @@ fn octet_count(octets: &[u8]) -> usize
     requires { length (octets_stored octets.now) < MAX_NAME }
     ensures { result ≡ length (octets_stored octets.now) }
 {
+    let mut at = 0;
     let mut count = 0;
-    let mut rest = octets;
-    while let Some((_octet, behind)) = first_octet(rest) {
+    while let Some(octet) = octets.get(at) {
+        at += if *octet == ESCAPE { 2 } else { 1 };
         count += 1;
-        rest = behind;
     }
     count
 }
