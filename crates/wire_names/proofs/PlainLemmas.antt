@@ -1,5 +1,5 @@
 -- Names that stand in a message in full.
-use Rattle.std.proofs.Common.{◌≡◌, ℕ, ◌+◌, ◌<◌, ◌≤◌, Bool, true, false, List, ◌++◌, length, take, drop, get_or, eqb, Ok, refl, ap, subst, sym, ◌∙◌, arith}
+use Rattle.std.proofs.Common.{◌≡◌, ℕ, ◌+◌, ◌<◌, ◌≤◌, ◌↔◌, IsTrue, Bool, true, false, List, ◌++◌, length, take, drop, get_or, eqb, Ok, refl, ap, subst, sym, ◌∙◌, arith}
 use Rattle.std.specs.Bool.{OnTrue}
 use Rattle.std.specs.List.{starts_with}
 use Rattle.std.proofs.lemmas.Bool.Decides.{Decides-eqb}
@@ -43,11 +43,17 @@ pub record IsEntryOf (msg octets : List ℕ) (entry : Entry) : Type 0 where
   pub answers : Answers msg entry.position (labels_in octets) true
   pub key : entry.key ≡ name_key (labels_in octets)
 
-pub entry_of : (msg octets : List ℕ) (entries : List Entry) (index from : ℕ) (entry d : Entry) (b : Bool) → IsTable msg entries → index < length entries → entry ≡ get_or entries index d → from ≡ entry.position → IsWhole octets → b ≡ true → OnTrue b (drop from msg ≡ octets ++ drop (length octets) (drop from msg)) → IsEntryOf msg octets entry
-entry_of msg octets entries index from entry d b table within here is whole t stands =
+pub entry_of : (msg octets : List ℕ) (entries : List Entry) (index from : ℕ) (entry d : Entry) (b : Bool) → IsTable msg entries → index < length entries → entry ≡ get_or entries index d → from ≡ entry.position → b ≡ true → OnTrue b ((next : ℕ) × Spells msg from from (labels_in octets) next) → IsEntryOf msg octets entry
+entry_of msg octets entries index from entry d b table within here is t there =
     let own : IsEntry msg entry = subst (IsEntry msg) (sym here) (table index d within) in
-    let answers : Answers msg entry.position (labels_in octets) true = subst (λ (n : ℕ). Answers msg n (labels_in octets) true) is (answers_plain msg octets from whole (on_true b _ t stands)) in
+    let spelt = on_true b _ t there in
+    let answers : Answers msg entry.position (labels_in octets) true = subst (λ (n : ℕ). Answers msg n (labels_in octets) true) is (λ e. spelt, λ s. refl) in
     record { answers = answers; key = key_there msg entry (labels_in octets) own answers }
+
+-- what holds exactly where a test says so
+pub where_true : (b : Bool) (P : Type 0) → (IsTrue b ↔ P) → OnTrue b P
+where_true true P h = h.0 refl
+where_true false P h = tt
 
 -- what a test of what others begin with tells
 pub stands_by : (msg rest octets : List ℕ) (at : ℕ) (test : Bool) → rest ≡ drop at msg → test ≡ starts_with eqb rest octets → OnTrue test (drop at msg ≡ octets ++ drop (length octets) (drop at msg))

@@ -81,9 +81,9 @@ impl Positions {
         None
     }
 
-    /// Whether these very octets stand at the position at an index, and that is the earliest at which their name is spelt: no
-    /// position in front of it has its key.
-    pub(crate) fn stands(&self, msg: &[u8], octets: &[u8], index: usize) -> bool
+    /// Whether these very octets stand at the position at an index, or, where pointers are followed, the name in them is spelt there, and
+    /// that is the earliest at which it is: no position in front of it has its key.
+    pub(crate) fn stands(&self, msg: &[u8], octets: &[u8], index: usize, follows: bool) -> bool
         requires table { IsTable msg.now self.now }
         requires ascending { Ascend self.now }
         requires whole { IsWhole octets.now }
@@ -93,7 +93,7 @@ impl Positions {
             return false;
         }
         let (position, key) = self.entry(index);
-        if !stands_at(msg, usize::from(position), octets) {
+        if !is_there(msg, usize::from(position), octets, follows) {
             return false;
         }
         for i in 0..index {
@@ -196,6 +196,20 @@ fn stands_at(msg: &[u8], at: usize, octets: &[u8]) -> bool
         Some(rest) => rest.first() == octets.first() && rest.starts_with(octets),
         None => false,
     }
+}
+
+/// Whether these very octets stand at a position, or, where pointers are followed, the name in them is spelt there.
+fn is_there(msg: &[u8], at: usize, octets: &[u8], follows: bool) -> bool
+    requires { IsWhole octets.now }
+    ensures { OnTrue result ((next : ℕ) × Spells msg.now at at (labels_in octets.now) next) }
+{
+    if stands_at(msg, at, octets) {
+        return true;
+    }
+    if !follows {
+        return false;
+    }
+    spells(msg, at, octets)
 }
 
 /// Whether the octets at a position spell the name in these octets, label by label.

@@ -181,7 +181,7 @@ impl NameWriter {
             });
         }
         let (_, _) = first_label(behind)?;
-        let index = self.likely_index(msg, behind)?;
+        let index = self.parent_index(msg, behind)?;
         let (parent, own) = self.positions.entry(index);
         let key = key_before(own, octets);
         if let Some(target) = self.positions.position_of(msg, octets, key) {
@@ -209,14 +209,30 @@ impl NameWriter {
         ensures { IfSome result (λ index. IsEarliest msg.now self.now (labels_in octets.now) index) }
     {
         let Likely { last, parent } = self.likely;
-        if self.positions.stands(msg, octets, last) {
+        if self.positions.stands(msg, octets, last, false) {
             return Some(last);
         }
-        if self.positions.stands(msg, octets, parent) {
+        if self.positions.stands(msg, octets, parent, false) {
             return Some(parent);
         }
-        if last != FIRST && self.positions.stands(msg, octets, FIRST) {
+        if last != FIRST && self.positions.stands(msg, octets, FIRST, false) {
             return Some(FIRST);
+        }
+        None
+    }
+
+    /// The likely index of the name in these octets, which are those behind a first label: also of one that ends in a pointer.
+    fn parent_index(&self, msg: &[u8], octets: &[u8]) -> Option<usize>
+        requires table { IsTable msg.now self.now }
+        requires whole { IsWhole octets.now }
+        ensures { IfSome result (λ index. IsEarliest msg.now self.now (labels_in octets.now) index) }
+    {
+        if let Some(index) = self.likely_index(msg, octets) {
+            return Some(index);
+        }
+        let Likely { parent, .. } = self.likely;
+        if self.positions.stands(msg, octets, parent, true) {
+            return Some(parent);
         }
         None
     }

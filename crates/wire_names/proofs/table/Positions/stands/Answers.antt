@@ -20,7 +20,7 @@ loop-i-preserved c =
     let last = with_keys-within _ _ _ c.args.index _ c.self.invariant c.self.view_is c.len.ensures.value c.if-index-len.false in
     let before = c.loop-i-test.true in
     let within : c.loop-i.i < length c.args.self.now = omega arith in
-    let own = entry_of c.args.msg.now c.args.octets.now c.args.self.now c.args.index _ (record { position = c.entry-position.result.0; key = c.entry-position.result.1 }) _ _ c.requires.table last c.entry-position.ensures c.from.ensures c.requires.whole c.if-not-stands_at.false c.stands_at.ensures in
+    let own = entry_of c.args.msg.now c.args.octets.now c.args.self.now c.args.index _ (record { position = c.entry-position.result.0; key = c.entry-position.result.1 }) _ _ c.requires.table last c.entry-position.ensures c.from.ensures c.if-not-is_there.false c.is_there.ensures in
     let entry : Entry = record { position = c.entry-own.result.0; key = c.entry-own.result.1 } in
     let is : IsEntry c.args.msg.now entry = subst (IsEntry c.args.msg.now) (sym c.entry-own.ensures) (c.requires.table c.loop-i.i _ within) in
     let other = other_key c.args.msg.now entry c.entry-position.result.1 _ is own.key c.if-own-key.false in
@@ -37,7 +37,7 @@ returns c =
     let last : c.loop-i.i ≡ c.args.index = omega arith in
     let so_far = rw last at c.loop-i.invariant.so_far in
     let entry : Entry = record { position = c.entry-position.result.0; key = c.entry-position.result.1 } in
-    let own = entry_of c.args.msg.now c.args.octets.now c.args.self.now c.args.index _ entry _ _ c.requires.table within c.entry-position.ensures c.from.ensures c.requires.whole c.if-not-stands_at.false c.stands_at.ensures in
+    let own = entry_of c.args.msg.now c.args.octets.now c.args.self.now c.args.index _ entry _ _ c.requires.table within c.entry-position.ensures c.from.ensures c.if-not-is_there.false c.is_there.ensures in
     let found = position_found c.args.msg.now c.args.self.now c.args.self.now c.args.index _ entry _ _ c.requires.table c.requires.ascending refl within c.entry-position.ensures own.answers refl so_far in
     record {
       within = within;
