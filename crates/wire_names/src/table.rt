@@ -199,17 +199,17 @@ fn stands_at(msg: &[u8], at: usize, octets: &[u8]) -> bool
 }
 
 /// Whether these very octets stand at a position, or, where pointers are followed, the name in them is spelt there.
-fn is_there(msg: &[u8], at: usize, octets: &[u8], follows: bool) -> bool
+fn is_there(msg: &[u8], place: usize, octets: &[u8], follows: bool) -> bool
     requires { IsWhole octets.now }
-    ensures { OnTrue result ((next : ℕ) × Spells msg.now at at (labels_in octets.now) next) }
+    ensures { OnTrue result ((next : ℕ) × Spells msg.now place place (labels_in octets.now) next) }
 {
-    if stands_at(msg, at, octets) {
+    if stands_at(msg, place, octets) {
         return true;
     }
     if !follows {
         return false;
     }
-    spells(msg, at, octets)
+    spells(msg, place, octets)
 }
 
 /// Whether the octets at a position spell the name in these octets, label by label.

@@ -222,16 +222,16 @@ impl NameWriter {
     }
 
     /// The likely index of the name in these octets, which are those behind a first label: also of one that ends in a pointer.
-    fn parent_index(&self, msg: &[u8], octets: &[u8]) -> Option<usize>
+    fn parent_index(&self, msg: &[u8], behind: &[u8]) -> Option<usize>
         requires table { IsTable msg.now self.now }
-        requires whole { IsWhole octets.now }
-        ensures { IfSome result (λ index. IsEarliest msg.now self.now (labels_in octets.now) index) }
+        requires whole { IsWhole behind.now }
+        ensures { IfSome result (λ index. IsEarliest msg.now self.now (labels_in behind.now) index) }
     {
-        if let Some(index) = self.likely_index(msg, octets) {
+        if let Some(index) = self.likely_index(msg, behind) {
             return Some(index);
         }
         let Likely { parent, .. } = self.likely;
-        if self.positions.stands(msg, octets, parent, true) {
+        if self.positions.stands(msg, behind, parent, true) {
             return Some(parent);
         }
         None
