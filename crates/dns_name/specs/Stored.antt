@@ -61,7 +61,9 @@ pub record IsFirstPiece (octets piece rest : List ℕ) : Type 0 where
   pub closed : IsClosed rest
   pub shorter : length rest < length octets
 
--- and that label has so many octets
-pub record IsSized (octets piece rest : List ℕ) (len : ℕ) : Type 0 where
-  pub first : IsFirstPiece octets piece rest
-  pub size : len ≡ length (octets_stored piece)
+-- they end with what stands for a label, and what is in front of it is what stands for labels again
+pub record IsLastPiece (octets front piece : List ℕ) : Type 0 where
+  pub labels : labels_stored octets ≡ labels_stored front ++ octets_stored piece ∷ []
+  pub octets_are : octets ≡ front ++ piece ++ 0 ∷ []
+  pub closed : IsClosed front
+  pub shorter : length front < length octets

@@ -3,7 +3,7 @@ ghost use Rattle.std.specs.Prelude.{◌≡◌, ◌==◌, ◌+◌, ◌*◌, ◌<�
 ghost use Rattle.dns_name.specs.Gather.{front_of};
 ghost use Rattle.dns_name.specs.Labels.{labels_in, IsWhole};
 ghost use Rattle.dns_name.specs.Name.{Name, IsName, fold_name, is_under, canonical_cmp};
-ghost use Rattle.dns_name.specs.Stored.{stored_octet, stored_label, octets_stored, labels_stored, name_stored, IsStored, IsClosed, IsFirstPiece, IsSized, IsPlain};
+ghost use Rattle.dns_name.specs.Stored.{stored_octet, stored_label, octets_stored, labels_stored, name_stored, IsStored, IsClosed, IsFirstPiece, IsLastPiece, IsPlain};
 ghost use Rattle.dns_name.specs.Text.{text_of};
 
 use crate::kept::KeptOctets;
@@ -68,7 +68,14 @@ fn put_labels(to: &mut ArrayVec<u8, MAX_STORED>, octets: &[u8])
 fn first_closing(octets: &[u8]) -> Option<usize>
     ensures { result ≡ position (λ octet. octet == 0) octets.now }
 {
-    octets.iter().position(|octet| *octet == CLOSING)
+    let mut at = 0;
+    while let Some(octet) = octets.get(at) {
+        if *octet == CLOSING {
+            return Some(at);
+        }
+        at += 1;
+    }
+    None
 }
 
 /// What stands for the first label, and the octets behind the one that closes it; None where there is no label.
@@ -147,71 +154,59 @@ fn write_front(out: &mut [u8], octets: &[u8])
     }
 }
 
-/// Writes the octets that a piece stands for over as many.
-fn write_piece(out: &mut [u8], piece: &[u8])
-    requires { length out.old ≡ length (octets_stored piece.now) }
-    ensures { out.new ≡ octets_stored piece.now }
+/// What stands for the last label, and the octets in front of it; None where there is no label.
+fn last_piece(octets: &[u8]) -> Option<(&[u8], &[u8])>
+    requires { IsClosed octets.now }
+    ensures { MatchOption result (labels_stored octets.now ≡ []) (λ parts. IsLastPiece octets.now parts.0.now parts.1.now) }
 {
-    let mut at = 0;
+    let (_, labels) = octets.split_last()?;
+    let mut start = labels.len();
+    while start > 0 && labels[start - 1] != CLOSING {
+        start -= 1;
+    }
+    Some(labels.split_at(start))
+}
+
+/// Puts the octets that a piece stands for behind the others.
+fn put_octets(to: &mut ArrayVec<u8, MAX_NAME>, piece: &[u8])
+    requires { length to.old.items + length (octets_stored piece.now) ≤ MAX_NAME }
+    ensures { to.new.items ≡ to.old.items ++ octets_stored piece.now }
+{
     let mut rest = piece;
     while let Some((octet, behind)) = first_octet(rest) {
-        out[at] = octet;
-        at += 1;
+        to.push(octet);
         rest = behind;
     }
 }
 
-/// Writes the label that a piece stands for behind its length over as many octets.
-fn write_escaped_label(out: &mut [u8], piece: &[u8])
-    requires room { length out.old ≡ length (octets_stored piece.now) + 1 }
+/// Puts the label that a piece stands for behind the others, after its length; one octet that stands for another, as many labels of a
+/// long name can be, without a pass over it.
+fn put_piece(to: &mut ArrayVec<u8, MAX_NAME>, piece: &[u8])
+    requires room { length to.old.items + length (octets_stored piece.now) < MAX_NAME }
     requires short { length (octets_stored piece.now) ≤ MAX_LABEL }
-    ensures { out.new ≡ length (octets_stored piece.now) ∷ octets_stored piece.now }
+    ensures { to.new.items ≡ to.old.items ++ length (octets_stored piece.now) ∷ octets_stored piece.now }
 {
-    out[0] = (out.len() - 1) as u8;
-    write_piece(&mut out[1..], piece);
-}
-
-/// What stands for the first label, the octets behind the one that closes it, and how many octets the label has, in one pass; None where
-/// there is no label.
-fn first_sized(octets: &[u8]) -> Option<(&[u8], &[u8], usize)>
-    requires { IsClosed octets.now }
-    ensures { MatchOption result (labels_stored octets.now ≡ []) (λ parts. IsSized octets.now parts.0.now parts.1.now parts.2) }
-{
-    let mut at = 0;
-    let mut len = 0;
-    while let Some(octet) = octets.get(at) {
-        if *octet == CLOSING {
-            return Some((&octets[..at], &octets[at + 1..], len));
-        }
-        at += if *octet == ESCAPE { 2 } else { 1 };
-        len += 1;
+    if let [ESCAPE, octet] = piece {
+        to.push(1);
+        to.push(octet.saturating_sub(1));
+        return;
     }
-    None
+    to.push(octet_count(piece) as u8);
+    put_octets(to, piece);
 }
 
-/// Writes the labels that octets stand for, some of them by two, over as many as they take on the wire, as [`write_front`] does.
-fn write_escaped_front(out: &mut [u8], octets: &[u8])
-    requires closed { IsClosed octets.now }
-    requires room { length out.old ≡ length (front_of (reverse (labels_stored octets.now))) }
-    requires short { All (λ label. length label < 64) (labels_stored octets.now) }
-    ensures { out.new ≡ front_of (reverse (labels_stored octets.now)) }
-{
-    if let Some((piece, behind, len)) = first_sized(octets) {
-        let (front, own) = out.split_at_mut(out.len() - len - 1);
-        write_escaped_label(own, piece);
-        write_escaped_front(front, behind);
-    }
-}
-
-/// The labels of a stored name, as [`put_name_front`] puts them, where some octet stands for another.
+/// The labels of a stored name, as [`put_name_front`] puts them, where some octet stands for another: the last that is stored is the first
+/// on the wire.
 fn put_escaped_front(to: &mut ArrayVec<u8, MAX_NAME>, octets: &[u8])
     requires stored { IsStored octets.now }
     requires empty { to.old.items ≡ [] }
     ensures { to.new.items ≡ front_of (name_stored octets.now) }
 {
-    let len = octet_count(octets);
-    append(to, &octets[..len]);
-    write_escaped_front(to.as_mut_slice(), octets);
+    let mut rest = octets;
+    while let Some((front, piece)) = last_piece(rest) {
+        put_piece(to, piece);
+        rest = front;
+    }
 }
 
 /// The labels of a stored name, each behind its length, as they stand on the wire, where nothing is yet. Where no octet stands for
