@@ -1,8 +1,10 @@
 pub mod BelowLemmas
+pub mod CountLemmas
 pub mod FirstLemmas
 pub mod FrontLemmas
 pub mod GatherLemmas
 pub mod LabelLemmas
+pub mod LastLemmas
 pub mod LawLemmas
 pub mod OrderLemmas
 pub mod PieceLemmas
@@ -10,7 +12,6 @@ pub mod ReadLemmas
 pub mod RoundLemmas
 pub mod SameLemmas
 pub mod StoredLemmas
-pub mod SizedLemmas
 pub mod TextLemmas
 pub mod NamedLemmas
 pub mod SoughtLemmas

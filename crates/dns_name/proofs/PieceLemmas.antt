@@ -1,5 +1,5 @@
 -- How many octets the labels take on the wire, with their lengths, that octets stand for: without an escape as many as are stored.
-use Rattle.std.proofs.Common.{◌≡◌, ◌<◌, ◌≤◌, refl, sym, ap, subst, ◌∙◌, ℕ, zero, suc, Bool, true, false, ◌||◌, List, [], ◌∷◌, ◌++◌, length, reverse, append_assoc, true≢false, arith}
+use Rattle.std.proofs.Common.{◌≡◌, ◌<◌, refl, sym, ap, subst, ◌∙◌, ℕ, zero, suc, Bool, true, false, ◌||◌, List, [], ◌∷◌, ◌++◌, length, reverse, append_assoc, true≢false, arith}
 use Rattle.std.specs.Prelude.{◌==◌}
 use Rattle.std.specs.List.{flat_map, list_any, refill}
 use Rattle.std.proofs.lemmas.List.{length-append, drop_all, append-nil, take_all, reverse-reverse}
@@ -52,38 +52,6 @@ closed_of octets h =
     h.is
     ∙ ap (λ (name : List (List ℕ)). flat_map stored_label (reverse name)) (sym h.folded)
     ∙ ap (flat_map stored_label) (reverse-reverse (labels_stored octets))
-
--- a label in front of others, with the octet that closes it, is read back
-octets_past : (label rest : List ℕ) → octets_stored (flat_map stored_octet label ++ 0 ∷ rest) ≡ label ++ 0 ∷ octets_stored rest
-octets_past [] rest = refl
-octets_past (zero ∷ label) rest = ap (λ (octets : List ℕ). 0 ∷ octets) (octets_past label rest)
-octets_past (suc zero ∷ label) rest = ap (λ (octets : List ℕ). 1 ∷ octets) (octets_past label rest)
-octets_past (suc (suc c) ∷ label) rest = ap (λ (octets : List ℕ). suc (suc c) ∷ octets) (octets_past label rest)
-
-counted : (labels : List (List ℕ)) → length (octets_stored (flat_map stored_label labels)) ≡ length (front_of (reverse labels))
-counted [] = refl
-counted (label ∷ labels) =
-    let own = flat_map stored_octet label in
-    let rest = flat_map stored_label labels in
-    let whole : flat_map stored_label (label ∷ labels) ≡ own ++ 0 ∷ rest = append_assoc own (0 ∷ []) rest in
-    let all : length (octets_stored (flat_map stored_label (label ∷ labels))) ≡ length (label ++ 0 ∷ octets_stored rest) = ap length (ap octets_stored whole ∙ octets_past label rest) in
-    let split = length-append label (0 ∷ octets_stored rest) in
-    let more = counted labels in
-    let front : length (front_of (reverse (label ∷ labels))) ≡ length (front_of (reverse labels) ++ length label ∷ label) = ap length (front_reverse label labels) in
-    let both = length-append (front_of (reverse labels)) (length label ∷ label) in
-    omega arith
-
--- the labels on the wire are as many octets as those stored stand for
-pub front_count : (octets : List ℕ) → IsClosed octets → length (octets_stored octets) ≡ length (front_of (reverse (labels_stored octets)))
-front_count octets closed = ap (λ (os : List ℕ). length (octets_stored os)) closed ∙ counted (labels_stored octets)
-
--- octets stand for at most as many
-pub count_within : (octets : List ℕ) → length (octets_stored octets) ≤ length octets
-count_within [] = omega arith
-count_within (zero ∷ octets) = let rest = count_within octets in omega arith
-count_within (suc zero ∷ []) = omega arith
-count_within (suc zero ∷ c ∷ octets) = let rest = count_within octets in omega arith
-count_within (suc (suc c) ∷ octets) = let rest = count_within octets in omega arith
 
 -- a name's labels leave room for the closing octet
 pub room_of : (octets : List ℕ) → IsStored octets → length (front_of (name_stored octets)) < 255

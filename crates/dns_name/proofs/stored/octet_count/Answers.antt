@@ -1,5 +1,5 @@
 use Rattle.std.proofs.Common.{◌≡◌, ◌≢◌, arith}
-use Rattle.dns_name.proofs.SizedLemmas.{stored_step}
+use Rattle.dns_name.proofs.CountLemmas.{stored_step}
 use Rattle.dns_name.proofs.stored.octet_count.Goals.{then-octet-eq-ESCAPE, else-octet-eq-ESCAPE}
 use Rattle.dns_name.proofs.stored.octet_count.Goals as goal
 
