@@ -1,10 +1,10 @@
 -- Positions with their keys, each key at its position's index.
-use Rattle.std.proofs.Common.{◌≡◌, ℕ, zero, suc, ◌<◌, ◌≤◌, Bool, true, false, ◌&&◌, if◌then◌else◌, nat_eq, nat_lt, nat_le, List, [], ◌∷◌, ◌++◌, length, All, get_or, not, refl, sym, ap, subst, ◌∙◌, arith}
+use Rattle.std.proofs.Common.{◌≡◌, ℕ, zero, suc, ◌<◌, ◌≤◌, ◌/◌, Bool, true, false, ◌&&◌, if◌then◌else◌, nat_eq, nat_lt, nat_le, List, [], ◌∷◌, ◌++◌, length, All, get_or, not, refl, sym, ap, subst, ◌∙◌, arith}
 use Rattle.std.specs.Bool.{OnTrue}
 use Rattle.std.specs.List.{IsAnyAnswer}
 use Rattle.std.proofs.lemmas.Bool.{lt-ltb, lt-leb, le-leb, le-ltb}
 use Rattle.std.proofs.lemmas.Cmp.{nat_eq_equiv}
-use Rattle.wire_names.specs.Table.{Entry, with_keys, enter}
+use Rattle.wire_names.specs.Table.{Entry, AreMarked, with_keys, enter}
 
 pub with_keys-length : (positions keys : List ℕ) → length positions ≡ length keys → length (with_keys positions keys) ≡ length keys
 with_keys-length [] [] e = refl
@@ -53,6 +53,17 @@ other_keys positions keys key even none k d within e =
 pub absent_key : (positions keys : List ℕ) (own : List Entry) (key : ℕ) (found : Bool) → length positions ≡ length keys → with_keys positions keys ≡ own → IsAnyAnswer (λ y b. nat_eq y key ≡ b) keys found → OnTrue (not found) (All (λ entry. entry.key ≡ key → ⊥) own)
 absent_key positions keys own key true even view h = tt
 absent_key positions keys own key false even view h = subst (All (λ (entry : Entry). entry.key ≡ key → ⊥)) view (other_keys positions keys key even h)
+
+-- a key that has no mark is no entry's
+pub unmarked_key : (positions keys : List ℕ) (marks : List Bool) (own : List Entry) (key : ℕ) → length positions ≡ length keys → AreMarked keys marks → with_keys positions keys ≡ own → get_or marks (key / 2097152) false ≡ false → All (λ entry. entry.key ≡ key → ⊥) own
+unmarked_key positions keys marks own key even marked view blank =
+    subst (All (λ (entry : Entry). entry.key ≡ key → ⊥)) view (λ k d within e.
+    let len = with_keys-length positions keys even in
+    let inside : k < length keys = omega arith in
+    let at = with_keys-at positions keys k d even inside in
+    let same : get_or keys k 0 ≡ key = sym (ap (λ (entry : Entry). entry.key) at) ∙ e in
+    let yes : get_or marks (key / 2097152) false ≡ true = ap (λ (x : ℕ). get_or marks (x / 2097152) false) (sym same) ∙ marked k 0 inside in
+    cc)
 
 -- as many entries as keys
 pub with_keys-many : (positions keys : List ℕ) (own : List Entry) (n : ℕ) → length positions ≡ length keys → with_keys positions keys ≡ own → n ≡ length keys → n ≡ length own

@@ -1,5 +1,5 @@
 -- What a run of labels tells of the name that begins with it.
-use Rattle.std.proofs.Common.{◌≡◌, ◌≢◌, ℕ, ◌+◌, ◌<◌, ◌≤◌, ◌==◌, inl, inr, Bool, true, false, nat_le, nat_lt, if◌then◌else◌, List, [], ◌∷◌, ◌++◌, length, drop, Option, Some, None, Result, Ok, Err, refl, sym, ap, subst, ◌∙◌, arith}
+use Rattle.std.proofs.Common.{◌≡◌, ℕ, ◌+◌, ◌<◌, ◌≤◌, inl, inr, true, false, nat_lt, if◌then◌else◌, List, [], ◌∷◌, ◌++◌, length, drop, Some, None, Result, Ok, Err, refl, sym, ap, subst, ◌∙◌, arith}
 use Rattle.std.proofs.lemmas.Bool.Decides.{nat_tests}
 use Rattle.std.proofs.lemmas.List.{length-append, length-drop, get_or-set_other}
 use Rattle.std.proofs.lemmas.Grind.{get_or-set_at}
@@ -11,8 +11,8 @@ use Rattle.dns_name.proofs.ReadLemmas.{wire_some}
 use Rattle.wire_names.specs.NameAt.{name_at}
 use Rattle.wire_names.specs.Parts.{part_at, part_of, label_at}
 use Rattle.wire_names.specs.declared.part.Part.{Part}
-use Rattle.wire_names.specs.Sizes.{size_of, behind_of, AreSizes, joined, size_by, behind_by, IsRun}
-use Rattle.wire_names.specs.Spells.{Spells, Refuses, no_part, too_long, bad_pointer}
+use Rattle.wire_names.specs.Sizes.{size_of, behind_of, AreSizes, joined, size_by, IsRun}
+use Rattle.wire_names.specs.Spells.{Refuses, no_part, too_long, bad_pointer}
 use Rattle.wire_names.specs.declared.part.NameReadFault.{NameReadFault}
 use Rattle.wire_names.specs.declared.part.NameReadFault.TheVariants.{TooLong, BadPointer}
 use Rattle.wire_names.specs.declared.part.Part.TheVariants.{Closing, Label, Pointer}

@@ -1,5 +1,5 @@
 -- Where the pointers of a message lead (RFC 1035, 4.1.4).
-use Rattle.std.specs.Prelude.{◌≡◌, ℕ, ◌<◌, ◌≤◌, List, length, slice_index, Ok}
+use Rattle.std.specs.Prelude.{◌≡◌, ℕ, ◌<◌, ◌≤◌, List, slice_index, Ok}
 use Rattle.wire_names.specs.Parts.{part_at}
 use Rattle.wire_names.specs.declared.part.Part.TheVariants.{Pointer}
 

@@ -1,5 +1,5 @@
 -- The table of a message's names that pointers can name (RFC 1035, 4.1.4).
-use Rattle.std.specs.Prelude.{◌≡◌, ℕ, ◌+◌, ◌-◌, ◌*◌, ◌/◌, ◌%◌, ◌^◌, ◌<◌, Bool, ◌&&◌, List, [], ◌∷◌, ◌++◌, length, map, min, All, AllPairs, slice_index_or, nat_lt, nat_le, if◌then◌else◌, Option, Some, Ok, Err, bytes_eq}
+use Rattle.std.specs.Prelude.{◌≡◌, true, false, ℕ, ◌+◌, ◌-◌, ◌*◌, ◌/◌, ◌%◌, ◌^◌, ◌<◌, Bool, ◌&&◌, List, [], ◌∷◌, ◌++◌, length, map, min, All, AllPairs, slice_index_or, nat_lt, nat_le, if◌then◌else◌, Option, Some, Ok, Err, bytes_eq}
 use Rattle.std.specs.List.{filter, reduce}
 use Rattle.std.specs.Cmp.Lexicographic.{pointwise}
 use Rattle.std.specs.Result.{IsOk}
@@ -76,6 +76,10 @@ abbrev pub with_keys : List ℕ → List ℕ → List Entry
 with_keys [] keys = []
 with_keys (at ∷ positions) [] = []
 with_keys (at ∷ positions) (key ∷ keys) = record { position = at; key = key } ∷ with_keys positions keys
+
+-- each key has its mark: one of 2048, by its highest 11 bits (own)
+abbrev pub AreMarked : List ℕ → List Bool → Type 0
+AreMarked keys marks = All (λ key. slice_index_or marks (key / 2097152) false ≡ true) keys
 
 -- the positions of a table, each with the key of the name that is spelt there
 abbrev pub keyed : Table → List Entry

@@ -1,5 +1,5 @@
 //! The names of a message that pointers can name.
-ghost use Rattle.std.specs.Prelude.{◌≡◌, ◌≢◌, ℕ, ◌+◌, ◌<◌, ◌^◌, ◌↔◌, ◌++◌, [], length, take, drop, All, IsTrue, IfSome, get_or};
+ghost use Rattle.std.specs.Prelude.{◌≡◌, ◌≢◌, ℕ, ◌+◌, ◌/◌, ◌<◌, ◌^◌, ◌↔◌, ◌++◌, [], length, take, drop, All, IsTrue, IfSome, get_or};
 ghost use Rattle.std.specs.Bool.{OnTrue};
 ghost use Rattle.dns_name.specs.Labels.{labels_in, IsWhole};
 ghost use Rattle.wire_names.specs.Spells.{Spells};
@@ -21,24 +21,31 @@ const MAX_TARGET: usize = 16383;
 /// Up to how many positions are looked at one by one at once; of more, the keys alone are searched first.
 const FEW: usize = 24;
 
+/// How many marks there are for keys (own).
+const MARKS: usize = 2048;
+
+/// How many keys in a row have one mark: the high bits of a key tell names apart best.
+const KEYS_OF_A_MARK: u32 = 2_097_152;
+
 /// The positions of names in a message, and the key of each name, in the order in which they were entered. Contracts see a list
 /// of entries, each a position with its key, a number of all labels of the name (own). A key stands at its position's index, so
-/// that one search of the keys alone tells that a name is nowhere.
+/// that one search of the keys alone tells that a name is nowhere; and each key is marked, so that most often one mark tells it.
 #[derive(Drop)]
 pub(crate) struct Positions {
     positions: ArrayVec<u16, MAX_POSITIONS>,
     keys: ArrayVec<u32, MAX_POSITIONS>,
+    marks: [bool; MARKS],
 }
 
 impl Model for Positions {
     ghost use Rattle.std.specs.Prelude.{◌≡◌, List, length};
-    ghost use Rattle.wire_names.specs.Table.{Entry, with_keys};
+    ghost use Rattle.wire_names.specs.Table.{Entry, AreMarked, with_keys};
 
     ghost Value = { List Entry };
 
     ghost view = { λ a. with_keys a.positions.items a.keys.items };
 
-    ghost invariant = { λ a. length a.positions.items ≡ length a.keys.items };
+    ghost invariant = { λ a. (length a.positions.items ≡ length a.keys.items) × AreMarked a.keys.items a.marks };
 }
 
 impl Positions {
@@ -49,6 +56,7 @@ impl Positions {
         Positions {
             positions: ArrayVec::new(),
             keys: ArrayVec::new(),
+            marks: [false; MARKS],
         }
     }
 
@@ -56,6 +64,7 @@ impl Positions {
     pub(crate) fn clear(&mut self)
         ensures { self.new ≡ [] }
     {
+        unmark(&mut self.marks, self.keys.as_slice());
         self.positions.clear();
         self.keys.clear();
     }
@@ -119,14 +128,19 @@ impl Positions {
         self.keys.len()
     }
 
+    /// Whether there are so many positions that the keys alone are searched first.
+    pub(crate) fn are_many(&self) -> bool {
+        self.keys.len() > FEW
+    }
+
     /// Whether there are many positions, and none has this key.
-    fn has_no_key(&self, key: u32) -> bool
+    pub(crate) fn has_no_key(&self, key: u32) -> bool
         ensures { OnTrue result (All (λ entry. entry.key ≢ key) self.now) }
     {
         if self.keys.len() <= FEW {
             return false;
         }
-        !self.keys.as_slice().contains(&key)
+        !self.marks[mark_of(key)] || !self.keys.as_slice().contains(&key)
     }
 
     /// The position at an index, and its key.
@@ -166,7 +180,23 @@ impl Positions {
         if self.keys.len() < MAX_POSITIONS && position <= MAX_TARGET {
             self.positions.push(position as u16);
             self.keys.push(key);
+            self.marks[mark_of(key)] = true;
         }
+    }
+}
+
+/// The index of a key's mark.
+fn mark_of(key: u32) -> usize
+    ensures is { result ≡ key / 2097152 }
+    ensures within { result < MARKS }
+{
+    (key / KEYS_OF_A_MARK) as usize
+}
+
+/// Takes the marks of keys away.
+fn unmark(marks: &mut [bool; MARKS], keys: &[u32]) {
+    for key in keys {
+        marks[mark_of(*key)] = false;
     }
 }
 

@@ -156,10 +156,43 @@ impl NameWriter {
                 index: FIRST,
             };
         }
+        if let Some(cut) = self.new_cut(msg, octets) {
+            return cut;
+        }
         if let Some(cut) = self.likely_cut(msg, octets) {
             return cut;
         }
         self.sought(msg, octets, key_of(octets))
+    }
+
+    /// How the name in these octets is written behind the message with compression, where there are many positions, none of them has its
+    /// key, and the name behind its first label is where it is likely to be.
+    fn new_cut(&self, msg: &[u8], octets: &[u8]) -> Option<Cut>
+        requires table { IsTable msg.now self.now }
+        requires whole { IsWhole octets.now }
+        ensures { IfSome result (λ cut. IsCut true (table_of msg.now self.now) octets.now cut) }
+    {
+        if !self.positions.are_many() {
+            return None;
+        }
+        let (label, behind) = first_label(octets)?;
+        let (_, _) = first_label(behind)?;
+        let Likely { parent: index, .. } = self.likely;
+        if !self.positions.stands(msg, behind, index, true) {
+            return None;
+        }
+        let (parent, own) = self.positions.entry(index);
+        let key = key_before(own, octets);
+        if !self.positions.has_no_key(key) {
+            return None;
+        }
+        Some(Cut {
+            labels: 1,
+            len: 1 + label.len(),
+            target: Some(parent),
+            key,
+            index,
+        })
     }
 
     /// How the name in these octets is written behind the message with compression, where it or the name behind its first label is

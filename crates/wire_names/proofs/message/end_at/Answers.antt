@@ -1,4 +1,4 @@
-use Rattle.std.proofs.Common.{sym, ap, Ok, Err, ◌∙◌}
+use Rattle.std.proofs.Common.{sym, ap, Ok, ◌∙◌}
 use Rattle.wire_names.proofs.LeadsLemmas.{ends_at_target, ends_at_up, ends_at_label, ends_at_closing, ends_at_fault}
 use Rattle.wire_names.proofs.message.end_at.Goals as goal
 

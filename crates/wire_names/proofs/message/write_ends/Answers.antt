@@ -1,4 +1,4 @@
-use Rattle.std.proofs.Common.{rules, ◌≡◌, arith}
+use Rattle.std.proofs.Common.{arith}
 use Rattle.wire_names.proofs.LeadsLemmas.{more_ends}
 use Rattle.wire_names.proofs.message.write_ends.Goals as goal
 

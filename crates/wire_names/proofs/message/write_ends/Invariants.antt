@@ -1,4 +1,3 @@
-use Rattle.std.proofs.Common.{◌≡◌, length}
 use Rattle.wire_names.specs.Leads.{AreEnds}
 use Rattle.wire_names.proofs.message.write_ends.Given as goal
 

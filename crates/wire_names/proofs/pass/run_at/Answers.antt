@@ -1,5 +1,4 @@
-use Rattle.std.proofs.Common.{◌+◌, Ok, sym, ap, ◌∙◌, arith}
-use Rattle.wire_names.proofs.GrammarLemmas.{IsLabelAt-part}
+use Rattle.std.proofs.Common.{Ok, sym, ap, ◌∙◌, arith}
 use Rattle.wire_names.proofs.PassLemmas.{Passing-start, Passing-label, size_fault, size_long, run_closing, run_pointer}
 use Rattle.wire_names.proofs.pass.run_at.Goals as goal
 

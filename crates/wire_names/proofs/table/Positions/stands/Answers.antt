@@ -6,18 +6,18 @@ use Rattle.wire_names.proofs.TableLemmas.{other_key, position_found, position_pa
 use Rattle.wire_names.proofs.table.Positions.stands.Goals as goal
 
 pub entry-position-requires : goal.entry-position-requires
-entry-position-requires c = with_keys-within _ _ _ c.args.index _ c.self.invariant c.self.view_is c.len.ensures.value c.if-index-len.false
+entry-position-requires c = with_keys-within _ _ _ c.args.index _ c.self.invariant.0 c.self.view_is c.len.ensures.value c.if-index-len.false
 
 pub entry-own-requires : goal.entry-own-requires
 entry-own-requires c =
-    let within = with_keys-within _ _ _ c.args.index _ c.self.invariant c.self.view_is c.len.ensures.value c.if-index-len.false in
+    let within = with_keys-within _ _ _ c.args.index _ c.self.invariant.0 c.self.view_is c.len.ensures.value c.if-index-len.false in
     let before = c.loop-i-test.true in
     omega arith
 
 -- a position of another key doesn't spell the name
 pub loop-i-preserved : goal.loop-i-preserved
 loop-i-preserved c =
-    let last = with_keys-within _ _ _ c.args.index _ c.self.invariant c.self.view_is c.len.ensures.value c.if-index-len.false in
+    let last = with_keys-within _ _ _ c.args.index _ c.self.invariant.0 c.self.view_is c.len.ensures.value c.if-index-len.false in
     let before = c.loop-i-test.true in
     let within : c.loop-i.i < length c.args.self.now = omega arith in
     let own = entry_of c.args.msg.now c.args.octets.now c.args.self.now c.args.index _ (record { position = c.entry-position.result.0; key = c.entry-position.result.1 }) _ _ c.requires.table last c.entry-position.ensures c.from.ensures c.if-not-is_there.false c.is_there.ensures in
@@ -31,7 +31,7 @@ loop-i-preserved c =
 
 pub returns : goal.returns
 returns c =
-    let within = with_keys-within _ _ _ c.args.index _ c.self.invariant c.self.view_is c.len.ensures.value c.if-index-len.false in
+    let within = with_keys-within _ _ _ c.args.index _ c.self.invariant.0 c.self.view_is c.len.ensures.value c.if-index-len.false in
     let end = c.loop-i-test.false in
     let far = c.loop-i.invariant.within in
     let last : c.loop-i.i ≡ c.args.index = omega arith in
