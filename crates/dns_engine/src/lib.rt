@@ -14,6 +14,7 @@ mod judged;
 mod laws;
 mod learn;
 mod owners;
+mod resume;
 mod shared;
 mod versions;
 

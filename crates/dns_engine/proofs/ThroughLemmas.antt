@@ -1,0 +1,69 @@
+-- What is held once versions are published one after another.
+use Rattle.std.proofs.Common.{◌≡◌, refl, ℕ, zero, suc, ◌+◌, ◌-◌, ◌≤◌, List, [], ◌∷◌, ◌++◌, length, drop, length-drop, append_assoc, append-nil, arith, sym, ap, ◌∙◌}
+use Rattle.std.proofs.lemmas.List.{drop-drop, drop_all}
+use Rattle.dns_rdata.specs.Record.{Record}
+use Rattle.zone_tree.specs.Version.{Version}
+use Rattle.dns_engine.specs.Versions.{IsNext, AreNext}
+use Rattle.dns_engine.specs.Held.{Held, newest, IsNewest, held_with, all_held, held_alone, held_through}
+use Rattle.dns_engine.proofs.OwnedLemmas.{newest_push, newest_none, newest_on}
+
+-- a list's elements, once all are taken
+pub all_taken : {A : Type 0} (taken rest all : List A) → taken ++ rest ≡ all → length rest ≡ 0 → taken ≡ all
+all_taken taken [] all whole none = sym (append-nil taken) ∙ whole
+all_taken taken (value ∷ rest) all whole none = absurd (omega (arith, none))
+
+-- one version more is published
+pub through_more : (held : Held) (later : List Version) (version : Version) → held_through held (later ++ version ∷ []) ≡ held_with (held_through held later) version
+through_more held [] version = refl
+through_more held (next ∷ later) version = through_more (held_with held next) later version
+
+-- what is held is the newest again
+pub through_newest : (first : List Record) (held : Held) (later : List Version) → IsNewest first held → AreNext held.last later → IsNewest first (held_through held later)
+through_newest first held [] newest are = newest
+through_newest first held (version ∷ later) newest are = through_newest first (held_with held version) later (newest_on first held version newest are.0) are.1
+
+pub through_keep : (held : Held) (later : List Version) → (held_through held later).keep ≡ held.keep
+through_keep held [] = refl
+through_keep held (version ∷ later) = through_keep (held_with held version) later
+
+-- what is published then
+pub through_published : (held : Held) (later : List Version) → (held_through held later).published ≡ held.published ++ later
+through_published held [] = sym (append-nil held.published)
+through_published held (version ∷ later) = through_published (held_with held version) later ∙ append_assoc held.published (version ∷ []) later
+
+-- fewer of the newest
+pub newest_newest : {T : Type 0} (few many : ℕ) (values : List T) → few ≤ many → newest few (newest many values) ≡ newest few values
+newest_newest few many values within =
+    let gone : ℕ = length values - many in
+    let left : length (drop gone values) ≡ length values - gone = length-drop gone values in
+    drop-drop (length (drop gone values) - few) gone values ∙ ap (λ (n : ℕ). drop n values) (omega (arith, left, within))
+
+-- the newest of the newest and one value more
+pub newest_again : {T : Type 0} (keep : ℕ) (values : List T) (value : T) → newest keep (newest keep values ++ value ∷ []) ≡ newest keep (values ++ value ∷ [])
+newest_again zero values value = newest_none (newest 0 values ++ value ∷ []) ∙ sym (newest_none (values ++ value ∷ []))
+newest_again {T} (suc keep) values value =
+    newest_push (suc keep) (newest (suc keep) values) value (omega arith)
+    ∙ (ap (λ (l : List T). l ++ value ∷ []) (newest_newest (suc keep - 1) (suc keep) values (omega arith))
+    ∙ sym (newest_push (suc keep) values value (omega arith)))
+
+-- the last value and the newest before it
+pub newest_with : {T : Type 0} (keep : ℕ) (values : List T) (value : T) → newest (keep + 1) (values ++ value ∷ []) ≡ newest keep values ++ value ∷ []
+newest_with {T} keep values value =
+    let same : keep + 1 - 1 ≡ keep = omega arith in
+    newest_push (keep + 1) values value (omega arith) ∙ ap (λ (n : ℕ). newest n values ++ value ∷ []) same
+
+-- the versions that are held are the newest of those in front of the last and behind it
+pub through_all : (held : Held) (before later : List Version) → held.older ≡ newest held.keep before
+    → all_held (held_through held later) ≡ newest (held.keep + 1) ((before ++ held.last ∷ []) ++ later)
+through_all held before [] kept =
+    ap (λ (l : List Version). l ++ held.last ∷ []) kept
+    ∙ (sym (newest_with held.keep before held.last) ∙ ap (λ (l : List Version). newest (held.keep + 1) l) (sym (append-nil (before ++ held.last ∷ []))))
+through_all held before (version ∷ later) kept =
+    let again : newest held.keep (held.older ++ held.last ∷ []) ≡ newest held.keep (before ++ held.last ∷ []) =
+    ap (λ (l : List Version). newest held.keep (l ++ held.last ∷ [])) kept ∙ newest_again held.keep before held.last in
+    through_all (held_with held version) (before ++ held.last ∷ []) later again
+    ∙ ap (λ (l : List Version). newest (held.keep + 1) l) (append_assoc (before ++ held.last ∷ []) (version ∷ []) later)
+
+-- the same where one version alone is published at first
+pub alone_all : (version : Version) (keep : ℕ) (later : List Version) → all_held (held_through (held_alone (version ∷ []) version keep) later) ≡ newest (keep + 1) (version ∷ later)
+alone_all version keep later = through_all (held_alone (version ∷ []) version keep) [] later (sym (drop_all (length [] - keep) [] (omega arith)))
