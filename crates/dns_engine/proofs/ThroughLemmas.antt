@@ -1,9 +1,11 @@
 -- What is held once versions are published one after another.
-use Rattle.std.proofs.Common.{◌≡◌, refl, ℕ, zero, suc, ◌+◌, ◌-◌, ◌≤◌, List, [], ◌∷◌, ◌++◌, length, drop, length-drop, append_assoc, append-nil, arith, sym, ap, ◌∙◌}
+use Rattle.std.proofs.Common.{◌≡◌, refl, ℕ, zero, suc, ◌+◌, ◌-◌, ◌≤◌, List, [], ◌∷◌, ◌++◌, length, drop, length-drop, append_assoc, append-nil, arith, sym, ap, ◌∙◌, subst}
 use Rattle.std.proofs.lemmas.List.{drop-drop, drop_all}
 use Rattle.dns_rdata.specs.Record.{Record}
 use Rattle.zone_tree.specs.Version.{Version}
-use Rattle.dns_engine.specs.Versions.{IsNext, AreNext}
+use Rattle.cell_core.specs.Cell.{EachFollows}
+use Rattle.counted_handles.specs.History.{IsHistory}
+use Rattle.dns_engine.specs.Versions.{IsFirst, IsNext, AreNext}
 use Rattle.dns_engine.specs.Held.{Held, newest, IsNewest, held_with, all_held, held_alone, held_through}
 use Rattle.dns_engine.proofs.OwnedLemmas.{newest_push, newest_none, newest_on}
 
@@ -67,3 +69,31 @@ through_all held before (version ∷ later) kept =
 -- the same where one version alone is published at first
 pub alone_all : (version : Version) (keep : ℕ) (later : List Version) → all_held (held_through (held_alone (version ∷ []) version keep) later) ≡ newest (keep + 1) (version ∷ later)
 alone_all version keep later = through_all (held_alone (version ∷ []) version keep) [] later (sym (drop_all (length [] - keep) [] (omega arith)))
+
+-- the first of versions, and those behind it that may be published one after another
+abbrev pub Follow : List Version → Type 0
+Follow [] = Unit {0}
+Follow (version ∷ later) = AreNext version later
+
+each_next : (version : Version) (later : List Version) → EachFollows IsNext (version ∷ later) → AreNext version later
+each_next version [] each = tt
+each_next version (next ∷ later) each = (each.0, each_next next later each.1)
+
+history_follows : (first : List Record) (published : List Version) → IsHistory (IsFirst first) IsNext published → Follow published
+history_follows first [] history = absurd history
+history_follows first (version ∷ later) history = each_next version later history.1
+
+next_behind : (version : Version) (before versions : List Version) → AreNext version (before ++ versions) → Follow versions
+next_behind version [] [] are = tt
+next_behind version [] (next ∷ versions) are = are.1
+next_behind version (next ∷ before) versions are = next_behind next before versions are.1
+
+follow_behind : (before versions : List Version) → Follow (before ++ versions) → Follow versions
+follow_behind [] versions follow = follow
+follow_behind (version ∷ before) versions follow = next_behind version before versions follow
+
+-- the versions that are held may be published one after another
+pub held_follow : (first : List Record) (held : Held) → IsNewest first held → Follow (all_held held)
+held_follow first held newest =
+    let parts : held.published ≡ newest.before ++ all_held held = newest.ends ∙ append_assoc newest.before held.older (held.last ∷ []) in
+    follow_behind newest.before (all_held held) (subst Follow parts (history_follows first held.published newest.history))

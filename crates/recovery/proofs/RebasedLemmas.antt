@@ -7,11 +7,9 @@ use Rattle.zone_tree.specs.Version.{Version, Changes, KnowsChanges}
 use Rattle.update_core.specs.Verdict.{verdict}
 use Rattle.update_core.specs.Act.{act}
 use Rattle.transfer_core.specs.Chain.{zones_of}
-use Rattle.counted_handles.specs.History.{IsHistory}
-use Rattle.cell_core.specs.Cell.{EachFollows}
 use Rattle.dns_engine.specs.Versions.{IsFirst, IsNext, AreNext}
 use Rattle.dns_engine.specs.Held.{Held, KEPT, newest, IsNewest, all_held, held_alone, held_through}
-use Rattle.dns_engine.proofs.ThroughLemmas.{newest_newest, alone_all}
+use Rattle.dns_engine.proofs.ThroughLemmas.{Follow, held_follow, newest_newest, alone_all}
 use Rattle.recovery.specs.declared.newest.Newest.{Newest}
 use Rattle.recovery.specs.Replay.{IsReplayed, first_version, begun, held_from}
 use Rattle.recovery.specs.Rebased.{versions_in, with_number, numbered_from, rebased, changes_of}
@@ -87,28 +85,6 @@ numbered_next version other [] number same at are = tt
 numbered_next version other (next ∷ later) number same at are =
     (next_numbered version other next number same at are.0, numbered_next next (with_number number next) later (number + 1) refl refl are.1)
 
--- the first of versions, and those behind it that may be published one after another
-abbrev Follow : List Version → Type 0
-Follow [] = Unit {0}
-Follow (version ∷ later) = AreNext version later
-
-each_next : (version : Version) (later : List Version) → EachFollows IsNext (version ∷ later) → AreNext version later
-each_next version [] each = tt
-each_next version (next ∷ later) each = (each.0, each_next next later each.1)
-
-history_follows : (first : List Record) (published : List Version) → IsHistory (IsFirst first) IsNext published → Follow published
-history_follows first [] history = absurd history
-history_follows first (version ∷ later) history = each_next version later history.1
-
-next_behind : (version : Version) (before versions : List Version) → AreNext version (before ++ versions) → Follow versions
-next_behind version [] [] are = tt
-next_behind version [] (next ∷ versions) are = are.1
-next_behind version (next ∷ before) versions are = next_behind next before versions are.1
-
-follow_behind : (before versions : List Version) → Follow (before ++ versions) → Follow versions
-follow_behind [] versions follow = follow
-follow_behind (version ∷ before) versions follow = next_behind version before versions follow
-
 none_first : (first : Version) (later : List Version) → first ∷ later ≡ [] → ⊥
 none_first first later e = cc
 
@@ -132,13 +108,9 @@ newest_held zone messages kept is =
 held_is_newest : (zone : List Record) (messages : List (List ℕ)) (kept : Newest) (is : IsReplayed zone messages kept) → IsNewest zone (held_from (begun zone) is.updates)
 held_is_newest zone messages kept is = held_newest zone (begun zone) is.updates (begun_newest zone) is.taken
 
-pub newest_follow : (zone : List Record) (messages : List (List ℕ)) (kept : Newest) → IsReplayed zone messages kept → Follow (versions_in kept)
+newest_follow : (zone : List Record) (messages : List (List ℕ)) (kept : Newest) → IsReplayed zone messages kept → Follow (versions_in kept)
 newest_follow zone messages kept is =
-    let held : Held = held_from (begun zone) is.updates in
-    let n : IsNewest zone held = held_is_newest zone messages kept is in
-    let parts : held.published ≡ n.before ++ all_held held = n.ends ∙ append_assoc n.before held.older (held.last ∷ []) in
-    let follow : Follow (n.before ++ all_held held) = subst Follow parts (history_follows zone held.published n.history) in
-    subst Follow (sym (newest_held zone messages kept is)) (follow_behind n.before (all_held held) follow)
+    subst Follow (sym (newest_held zone messages kept is)) (held_follow zone (held_from (begun zone) is.updates) (held_is_newest zone messages kept is))
 
 -- and they are begun with
 pub newest_begin : (zone : List Record) (messages : List (List ℕ)) (kept : Newest) (first : Version) (later : List Version) → IsReplayed zone messages kept → first ∷ later ≡ rebased (versions_in kept)
