@@ -20,6 +20,8 @@ mod orders;
 #[cfg(test)]
 mod refused_engines;
 #[cfg(test)]
+mod restarts;
+#[cfg(test)]
 mod service_logs;
 #[cfg(test)]
 mod streams;
