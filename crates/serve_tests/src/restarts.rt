@@ -21,7 +21,8 @@ use zone_service::{NoLog, Server};
 use zone_tree::Version;
 
 /// A zone text, of serial 1.
-const ZONE: &[u8] = b"example.test. 3600 IN SOA ns1.example.test. admin.example.test. 1 7200 900 1209600 300
+const ZONE: &[u8] =
+    b"example.test. 3600 IN SOA ns1.example.test. admin.example.test. 1 7200 900 1209600 300
 example.test. 3600 IN NS ns1.example.test.
 ns1.example.test. 3600 IN A 192.0.2.1
 ";
@@ -111,7 +112,15 @@ fn written_by<R: Wait, Z: FirstZone, N: Naming>(
     let mut replies = Replies::new(alloc, server, reader, &NoLog, peer, asker(4711));
     let mut room = [0u8; 4_096];
     let mut out = [0u8; 65_535];
-    let (_, tape) = answer_tape(rt, alloc, &mut replies, tape, &OpenGate, &mut room, &mut out);
+    let (_, tape) = answer_tape(
+        rt,
+        alloc,
+        &mut replies,
+        tape,
+        &OpenGate,
+        &mut room,
+        &mut out,
+    );
     let _ = readers.push(replies.into_reader());
     let mut written = Vec::new(alloc);
     written.extend_from_slice(tape.written()).ok()?;
