@@ -36,9 +36,9 @@ through_published held (version ∷ later) = through_published (held_with held v
 -- fewer of the newest
 pub newest_newest : {T : Type 0} (few many : ℕ) (values : List T) → few ≤ many → newest few (newest many values) ≡ newest few values
 newest_newest few many values within =
-    let gone : ℕ = length values - many in
-    let left : length (drop gone values) ≡ length values - gone = length-drop gone values in
-    drop-drop (length (drop gone values) - few) gone values ∙ ap (λ (n : ℕ). drop n values) (omega (arith, left, within))
+    let left : length (drop (length values - many) values) ≡ length values - (length values - many) = length-drop (length values - many) values in
+    let gone : length values - many + (length (drop (length values - many) values) - few) ≡ length values - few = omega (arith, left, within) in
+    drop-drop (length (drop (length values - many) values) - few) (length values - many) values ∙ ap (λ (n : ℕ). drop n values) gone
 
 -- the newest of the newest and one value more
 pub newest_again : {T : Type 0} (keep : ℕ) (values : List T) (value : T) → newest keep (newest keep values ++ value ∷ []) ≡ newest keep (values ++ value ∷ [])
@@ -68,7 +68,7 @@ through_all held before (version ∷ later) kept =
 
 -- the same where one version alone is published at first
 pub alone_all : (version : Version) (keep : ℕ) (later : List Version) → all_held (held_through (held_alone (version ∷ []) version keep) later) ≡ newest (keep + 1) (version ∷ later)
-alone_all version keep later = through_all (held_alone (version ∷ []) version keep) [] later (sym (drop_all (length [] - keep) [] (omega arith)))
+alone_all version keep later = through_all (held_alone (version ∷ []) version keep) [] later (sym (drop_all (0 - keep) [] (omega arith)))
 
 -- the first of versions, and those behind it that may be published one after another
 abbrev pub Follow : List Version → Type 0

@@ -11,4 +11,4 @@ serve_zone-requires-clause-first g c = record {
 }
 
 pub serve_zone-requires-clause-follow : goal.serve_zone-requires-clause-follow
-serve_zone-requires-clause-follow g c = rw c.new-later.ensures tt
+serve_zone-requires-clause-follow g c = rw c.new-later.ensures.items tt

@@ -1,9 +1,9 @@
 -- One version more is published.
-use Rattle.std.proofs.Common.{rules, arith, ◌≡◌, refl, ◌+◌, ◌-◌, ◌++◌, ◌∷◌, [], List, length, append_assoc, sym, ap, ◌∙◌, subst}
+use Rattle.std.proofs.Common.{arith, refl, ◌+◌, ◌-◌, ◌++◌, ◌∷◌, [], List, length, append_assoc, sym, ap, ◌∙◌, subst}
 use Rattle.std.proofs.lemmas.List.{length_push}
 use Rattle.std.specs.Vec.Iter.{into_iter_items}
 use Rattle.zone_tree.specs.Version.{Version}
-use Rattle.dns_engine.specs.Versions.{IsNext, AreNext}
+use Rattle.dns_engine.specs.Versions.{AreNext}
 use Rattle.dns_engine.specs.Held.{Held, EngineState, held_with, held_through}
 use Rattle.dns_engine.proofs.ThroughLemmas.{all_taken, through_more}
 use Rattle.dns_engine.proofs.resume.Engine.publish_all.Goals as goal

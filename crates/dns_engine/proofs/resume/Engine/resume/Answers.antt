@@ -1,5 +1,5 @@
 -- What is held at first is the first version alone.
-use Rattle.std.proofs.Common.{arith, ◌≡◌, ◌-◌, length, List, sym, ap, ◌∙◌, subst}
+use Rattle.std.proofs.Common.{arith, ◌≡◌, sym, ap, ◌∙◌, subst}
 use Rattle.zone_tree.specs.Version.{Version}
 use Rattle.dns_engine.specs.Versions.{AreNext}
 use Rattle.dns_engine.specs.Held.{Held, EngineState, held_alone, held_through}

@@ -1,5 +1,5 @@
 -- One version more has its first owner.
-use Rattle.std.proofs.Common.{rules, ◌≡◌, ◌∷◌, [], ◌++◌, List, append_assoc, sym, ap, ◌∙◌}
+use Rattle.std.proofs.Common.{rules, ◌∷◌, [], ◌++◌, List, append_assoc, sym, ap, ◌∙◌}
 use Rattle.std.specs.Vec.Iter.{into_iter_items}
 use Rattle.zone_tree.specs.Version.{Version}
 use Rattle.dns_engine.proofs.ThroughLemmas.{all_taken}
