@@ -7,7 +7,7 @@ use Rattle.cell_core.specs.Cell.{EachFollows}
 use Rattle.counted_handles.specs.History.{IsHistory}
 use Rattle.dns_engine.specs.Versions.{IsFirst, IsNext, AreNext}
 use Rattle.dns_engine.specs.Held.{Held, newest, IsNewest, held_with, all_held, held_alone, held_through}
-use Rattle.dns_engine.proofs.OwnedLemmas.{newest_push, newest_none, newest_on}
+use Rattle.dns_engine.proofs.OwnedLemmas.{newest_push, newest_none}
 
 -- a list's elements, once all are taken
 pub all_taken : {A : Type 0} (taken rest all : List A) → taken ++ rest ≡ all → length rest ≡ 0 → taken ≡ all
@@ -19,25 +19,11 @@ pub through_more : (held : Held) (later : List Version) (version : Version) → 
 through_more held [] version = refl
 through_more held (next ∷ later) version = through_more (held_with held next) later version
 
--- what is held is the newest again
-pub through_newest : (first : List Record) (held : Held) (later : List Version) → IsNewest first held → AreNext held.last later → IsNewest first (held_through held later)
-through_newest first held [] newest are = newest
-through_newest first held (version ∷ later) newest are = through_newest first (held_with held version) later (newest_on first held version newest are.0) are.1
-
-pub through_keep : (held : Held) (later : List Version) → (held_through held later).keep ≡ held.keep
-through_keep held [] = refl
-through_keep held (version ∷ later) = through_keep (held_with held version) later
-
--- what is published then
-pub through_published : (held : Held) (later : List Version) → (held_through held later).published ≡ held.published ++ later
-through_published held [] = sym (append-nil held.published)
-through_published held (version ∷ later) = through_published (held_with held version) later ∙ append_assoc held.published (version ∷ []) later
-
 -- fewer of the newest
 pub newest_newest : {T : Type 0} (few many : ℕ) (values : List T) → few ≤ many → newest few (newest many values) ≡ newest few values
 newest_newest few many values within =
     let left : length (drop (length values - many) values) ≡ length values - (length values - many) = length-drop (length values - many) values in
-    let gone : length values - many + (length (drop (length values - many) values) - few) ≡ length values - few = omega (arith, left, within) in
+    let gone : (length values - many) + (length (drop (length values - many) values) - few) ≡ length values - few = omega (arith, left, within) in
     drop-drop (length (drop (length values - many) values) - few) (length values - many) values ∙ ap (λ (n : ℕ). drop n values) gone
 
 -- the newest of the newest and one value more
@@ -51,7 +37,7 @@ newest_again {T} (suc keep) values value =
 -- the last value and the newest before it
 pub newest_with : {T : Type 0} (keep : ℕ) (values : List T) (value : T) → newest (keep + 1) (values ++ value ∷ []) ≡ newest keep values ++ value ∷ []
 newest_with {T} keep values value =
-    let same : keep + 1 - 1 ≡ keep = omega arith in
+    let same : (keep + 1) - 1 ≡ keep = omega arith in
     newest_push (keep + 1) values value (omega arith) ∙ ap (λ (n : ℕ). newest n values ++ value ∷ []) same
 
 -- the versions that are held are the newest of those in front of the last and behind it
