@@ -109,9 +109,10 @@ impl<C: Clock> SocketJob<'_, C> {
     }
 }
 
-/// Serves a zone on sockets, that begins with a first version and those behind it: its threads answer queries in the version that is published last, and updates, each of which publishes the
-/// next one (RFC 1035, 4.2; RFC 2136, 3). It ends once each worker has done what it may, or a thread has failed; then its cell is ended too.
-/// The log is told once all threads have begun, of each change, of connections that are lost, and of each end of a thread.
+/// Serves a zone on sockets, whose cell begins with a first version and with those behind it: its threads answer queries in the version that is
+/// published last, and updates, each of which publishes the next one (RFC 1035, 4.2; RFC 2136, 3). It ends once each worker has done what it may, or
+/// a thread has failed; then its cell is ended too. The log is told once all threads have begun, of each change, of connections that are lost, and of
+/// each end of a thread.
 pub fn serve_zone<
     R: Net + Threads + Wait + Clock + Sync,
     Z: FirstZone + Send + Sync,
