@@ -9,6 +9,7 @@
 mod fault;
 mod laws;
 mod newest;
+mod rebased;
 mod replayed;
 mod start;
 

@@ -1,6 +1,6 @@
 use Rattle.std.proofs.Common.{arith}
 use Rattle.recovery.proofs.RebasedLemmas.{one_more_numbered, all_numbered}
-use Rattle.recovery.proofs.newest.number_all.Goals as goal
+use Rattle.recovery.proofs.rebased.number_all.Goals as goal
 
 pub loop-version-preserved : goal.loop-version-preserved
 loop-version-preserved c = record {

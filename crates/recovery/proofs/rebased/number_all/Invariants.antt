@@ -1,7 +1,7 @@
 -- The versions so far have their numbers.
 use Rattle.std.proofs.Common.{◌≡◌, ◌+◌, ◌++◌, take, drop}
 use Rattle.recovery.specs.Rebased.{numbered_from}
-use Rattle.recovery.proofs.newest.number_all.Given as goal
+use Rattle.recovery.proofs.rebased.number_all.Given as goal
 
 abbrev pub invariant-loop-version : goal.invariant-loop-version
 invariant-loop-version l = record {

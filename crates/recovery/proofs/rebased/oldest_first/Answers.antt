@@ -1,6 +1,6 @@
 use Rattle.std.proofs.Common.{rules}
 use Rattle.recovery.proofs.RebasedLemmas.{one_in_all, oldest_in_all, behind_few}
-use Rattle.recovery.proofs.newest.oldest_first.Goals as goal
+use Rattle.recovery.proofs.rebased.oldest_first.Goals as goal
 
 pub returns-then-is_empty-clause-all : goal.returns-then-is_empty-clause-all
 returns-then-is_empty-clause-all c = one_in_all c.args.newest.older.items c.args.newest.last (search rules)
