@@ -3,7 +3,7 @@ use Rattle.std.proofs.Common.{arith, ◌≡◌, sym, ap, ◌∙◌, subst}
 use Rattle.zone_tree.specs.Version.{Version}
 use Rattle.dns_engine.specs.Versions.{AreNext}
 use Rattle.dns_engine.specs.Held.{Held, EngineState, held_alone, held_through}
-use Rattle.dns_engine.proofs.resume.Engine.resume.Goals as goal
+use Rattle.dns_engine.proofs.engine.Engine.resume.Goals as goal
 
 pub publish_all-requires-clause-free : goal.publish_all-requires-clause-free
 publish_all-requires-clause-free g c = omega (arith, ap (λ (s : EngineState). s.free) c.count-sure.ensures, c.if-sure-lt-len.false, c.len.ensures)

@@ -3,7 +3,7 @@ use Rattle.std.proofs.Common.{◌≡◌, ◌-◌, ◌≤◌, ◌++◌, length}
 use Rattle.std.specs.Vec.Iter.{into_iter_items}
 use Rattle.dns_engine.specs.Versions.{AreNext}
 use Rattle.dns_engine.specs.Held.{held_through}
-use Rattle.dns_engine.proofs.resume.Engine.publish_all.Given as goal
+use Rattle.dns_engine.proofs.engine.Engine.publish_all.Given as goal
 
 abbrev pub invariant-loop-version : goal.invariant-loop-version
 invariant-loop-version g l = record {

@@ -2,7 +2,7 @@ use Rattle.std.proofs.Common.{ap, ◌∙◌}
 use Rattle.recovery.specs.Replay.{first_version}
 use Rattle.recovery.specs.Rebased.{versions_in}
 use Rattle.recovery.proofs.RebasedLemmas.{rebased_as, newest_begin}
-use Rattle.recovery.proofs.rebased.Newest.rebased.Goals as goal
+use Rattle.recovery.proofs.newest.Newest.rebased.Goals as goal
 
 pub returns-clause-same : goal.returns-clause-same
 returns-clause-same c =

@@ -6,7 +6,7 @@ use Rattle.zone_tree.specs.Version.{Version}
 use Rattle.dns_engine.specs.Versions.{AreNext}
 use Rattle.dns_engine.specs.Held.{Held, EngineState, held_with, held_through}
 use Rattle.dns_engine.proofs.ThroughLemmas.{all_taken, through_more}
-use Rattle.dns_engine.proofs.resume.Engine.publish_all.Goals as goal
+use Rattle.dns_engine.proofs.engine.Engine.publish_all.Goals as goal
 
 pub loop-version-init : goal.loop-version-init
 loop-version-init g c =
