@@ -1,5 +1,5 @@
 -- One version more is published.
-use Rattle.std.proofs.Common.{arith, refl, ◌+◌, ◌-◌, ◌++◌, ◌∷◌, [], List, length, append_assoc, sym, ap, ◌∙◌, subst}
+use Rattle.std.proofs.Common.{rules, arith, refl, ◌+◌, ◌-◌, ◌++◌, ◌∷◌, [], List, length, append_assoc, sym, ap, ◌∙◌, subst}
 use Rattle.std.proofs.lemmas.List.{length_push}
 use Rattle.std.specs.Vec.Iter.{into_iter_items}
 use Rattle.zone_tree.specs.Version.{Version}
@@ -19,12 +19,14 @@ loop-version-init g c =
       follow = subst (λ (l : List Version). AreNext c.args.self.now.held.last l) (sym items) c.requires.follow;
     }
 
-pub publish_next-requires-clause-free : goal.publish_next-requires-clause-free
-publish_next-requires-clause-free g c = omega (arith, c.loop-version.invariant.free, ap length c.in-Some.ensures.steps.0)
-
-pub publish_next-requires-clause-follows : goal.publish_next-requires-clause-follows
-publish_next-requires-clause-follows g c =
-    (subst (λ (l : List Version). AreNext c.loop-version.self.held.last l) c.in-Some.ensures.steps.0 c.loop-version.invariant.follow).0
+pub publish_next-requires : goal.publish_next-requires
+publish_next-requires g c = (
+  search rules,
+  (
+    omega (arith, c.loop-version.invariant.free, ap length c.in-Some.ensures.steps.0),
+    (subst (λ (l : List Version). AreNext c.loop-version.self.held.last l) c.in-Some.ensures.steps.0 c.loop-version.invariant.follow).0,
+  ),
+)
 
 pub loop-version-preserved : goal.loop-version-preserved
 loop-version-preserved g c =

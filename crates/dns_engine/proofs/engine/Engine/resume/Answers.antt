@@ -1,18 +1,20 @@
 -- What is held at first is the first version alone.
-use Rattle.std.proofs.Common.{arith, ◌≡◌, sym, ap, ◌∙◌, subst}
+use Rattle.std.proofs.Common.{rules, arith, ◌≡◌, sym, ap, ◌∙◌, subst}
 use Rattle.zone_tree.specs.Version.{Version}
 use Rattle.dns_engine.specs.Versions.{AreNext}
 use Rattle.dns_engine.specs.Held.{Held, EngineState, held_alone, held_through}
 use Rattle.dns_engine.proofs.engine.Engine.resume.Goals as goal
 
-pub publish_all-requires-clause-free : goal.publish_all-requires-clause-free
-publish_all-requires-clause-free g c = omega (arith, ap (λ (s : EngineState). s.free) c.count-sure.ensures, c.if-sure-lt-len.false, c.len.ensures)
-
-pub publish_all-requires-clause-follow : goal.publish_all-requires-clause-follow
-publish_all-requires-clause-follow g c =
+pub publish_all-requires : goal.publish_all-requires
+publish_all-requires g c =
     let last : c.count-sure.new.self.held.last ≡ c.args.publisher.value =
-    ap (λ (s : EngineState). s.held.last) c.count-sure.ensures ∙ ap (λ (s : EngineState). s.held.last) c.in_ok-engine.ensures.made in
-    subst (λ (v : Version). AreNext v c.args.later.items) (sym last) c.requires.follow
+    ap (λ (s : EngineState). s.held.last) c.count-sure.ensures ∙ ap (λ (s : EngineState). s.held.last) c.in_ok-engine.ensures.made in (
+      search rules,
+      (
+        omega (arith, ap (λ (s : EngineState). s.free) c.count-sure.ensures, c.if-sure-len.false, c.len.ensures, c.args.later.ok.0),
+        subst (λ (v : Version). AreNext v c.args.later.items) (sym last) c.requires.follow,
+      ),
+    )
 
 pub returns-clause-held : goal.returns-clause-held
 returns-clause-held g c =
@@ -25,6 +27,6 @@ returns-clause-left g c =
     omega (arith, c.publish_all.ensures.left, ap (λ (s : EngineState). s.left) c.count-sure.ensures, ap (λ (s : EngineState). s.left) c.in_ok-engine.ensures.made)
 
 -- where it isn't sure to publish so many, none is published, and there are some
-pub returns-then-sure-lt-len-clause-given_back : goal.returns-then-sure-lt-len-clause-given_back
-returns-then-sure-lt-len-clause-given_back g c =
-    c.finish.ensures.publisher.0 ∙ ap (λ (s : EngineState). s.held.published) c.count-sure.ensures ∙ ap (λ (s : EngineState). s.held.published) c.in_ok-engine.ensures.made
+pub returns-then-sure-len-clause-given_back : goal.returns-then-sure-len-clause-given_back
+returns-then-sure-len-clause-given_back g c =
+    c.finish-publisher.ensures.publisher.0 ∙ ap (λ (s : EngineState). s.held.published) c.count-sure.ensures ∙ ap (λ (s : EngineState). s.held.published) c.in_ok-engine.ensures.made
