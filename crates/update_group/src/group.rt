@@ -17,10 +17,33 @@ pub struct Group<V: Drop> {
 }
 
 impl<V: Drop> Group<V> {
-    ghost use Rattle.std.specs.Prelude.{◌≡◌, ◌⊎◌, ℕ, List, length, MatchOption};
+    ghost use Rattle.std.specs.Prelude.{◌≡◌, ◌==◌, ◌⊎◌, ℕ, List, [], length, replicate, MatchOption};
     ghost use Rattle.journal.specs.declared.heads.Head.{Head};
     ghost use Rattle.journal_store.specs.Log.{Holds, IsStuck};
-    ghost use Rattle.update_group.specs.Group.{versions_of, IsBatch, IsGivenUp, logged};
+    ghost use Rattle.update_group.specs.Group.{codes_of, versions_of, servfail, IsBatch, IsGivenUp, logged};
+
+    /// How many versions it has to publish.
+    pub fn len(&self) -> usize
+        ensures { result ≡ length (versions_of self.now) }
+    {
+        self.versions.len()
+    }
+
+    /// Whether it has no version to publish.
+    pub fn is_empty(&self) -> bool
+        ensures { result ≡ (length (versions_of self.now) == 0) }
+    {
+        self.versions.is_empty()
+    }
+
+    /// Gives a group up: each of its updates is told SERVFAIL, and it has no version.
+    pub fn give_up(&mut self)
+        ensures codes { codes_of self.new ≡ replicate (length (codes_of self.old)) servfail }
+        ensures versions { versions_of self.new ≡ [] }
+    {
+        self.codes.fill(SERVFAIL);
+        self.versions.clear();
+    }
 
     /// Brings the batch to the disk, if some update makes a version; else the disk isn't called. At a fault each update is told SERVFAIL, and there is no
     /// version to publish: the journal has what it had, or takes nothing more. It takes memory, before anything is written.
@@ -39,8 +62,7 @@ impl<V: Drop> Group<V> {
         match log.append(alloc, &self.body) {
             Ok(()) => None,
             Err(fault) => {
-                self.codes.fill(SERVFAIL);
-                self.versions.clear();
+                self.give_up();
                 Some(fault)
             }
         }
