@@ -217,7 +217,7 @@ fn serve_cell<
     requires room { vec_len pairs < vec_capacity back }
     ensures { vec_len result.2 ≡ vec_len pairs.entry + 1 }
 {
-    let Ok(server) = Server::new(cell, publisher, reader, plan.keep) else {
+    let Ok(server) = Server::new(alloc, cell, publisher, reader, plan.keep) else {
         unreachable!()
     };
     let served = serve_with(rt, alloc, &server, plan.muster, pairs, &mut back, log);

@@ -2,3 +2,4 @@ pub mod Known
 pub mod Notified
 pub mod Updated
 pub mod Replied
+pub mod Done

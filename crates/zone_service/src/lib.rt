@@ -2,12 +2,16 @@
 //!
 //! [`answer_now`] answers a query with the version that it loads, and [`serve_one`] hands an update to the engine, which a [`Server`]
 //! keeps behind a lock: each reply is that of one version, the first zone with updates replayed (`IsReplied`). [`Asked`] answers
-//! datagrams by these. A [`ServiceLog`] is told of each change.
+//! datagrams by these. A [`ServiceLog`] is told of each change. Where updates are to last, they are handed to who judges them on a thread of its own ([`hand_in`]),
+//! and what is told of them lies at a seat of the server, behind its lock, until it is fetched: so it is known to be about versions that are published.
 #![tactic(auto)]
 
 mod answer;
 mod asked;
+mod desk;
+mod handing;
 mod notifying;
+mod seats;
 mod server;
 mod service_log;
 mod telling;
@@ -15,8 +19,10 @@ mod transfer;
 
 pub use answer::{Now, Served, Told, answer_kept, answer_now, serve_one};
 pub use asked::Asked;
+pub use handing::{Hand, Handed, Waiting, Way, hand_in, hand_over, write_done};
 pub use notifying::{NextTurn, Notifying};
-pub use server::Server;
+pub use seats::{Done, Fetched, Seat};
+pub use server::{Begun, Server};
 pub use service_log::{Event, JobEnd, Losses, NoLog, Serials, ServiceLog};
 pub use telling::tell_update;
 pub use transfer::write_transfer;
