@@ -15,7 +15,8 @@ IsDoneBy first published waiting number code =
 
 -- each is told the code of its number
 abbrev pub AreDoneBy : List Record → List Version → List Waiting → ℕ → List ℕ → Type 0
-AreDoneBy first published [] number codes = Unit {0}
+AreDoneBy first published [] number [] = Unit {0}
+AreDoneBy first published [] number (code ∷ codes) = ⊥
 AreDoneBy first published (waiting ∷ batch) number [] = ⊥
 AreDoneBy first published (waiting ∷ batch) number (code ∷ codes) =
     ((is : Rcode) × (rcode_number is ≡ code) × IsDoneBy first published waiting number is) × AreDoneBy first published batch number codes
