@@ -58,6 +58,7 @@ module _ (first : List Record) (published : List Version) (version : Version) (l
   tells_done code (inl coded) serials = record {
     version = version;
     replayed = replayed;
+    may = one.may;
     least = least;
     want = ForNothing;
     about = unmade_about first one.asked.may [] published version one.asked.update (omega arith) latest
@@ -67,6 +68,7 @@ module _ (first : List Record) (published : List Version) (version : Version) (l
   tells_done code (inr (inl stays)) serials = record {
     version = version;
     replayed = replayed;
+    may = one.may;
     least = least;
     want = ForNothing;
     about = unmade_about first one.asked.may [] published version one.asked.update (omega arith) latest
@@ -76,6 +78,7 @@ module _ (first : List Record) (published : List Version) (version : Version) (l
   tells_done code (inr (inr full)) serials = record {
     version = version;
     replayed = replayed;
+    may = one.may;
     least = least;
     want = ForMaking;
     about = (omega arith, latest_known first published version latest);
@@ -87,6 +90,7 @@ module _ (first : List Record) (published : List Version) (version : Version) (l
   starved_done serials = record {
     version = version;
     replayed = replayed;
+    may = one.may;
     least = least;
     want = ForMaking;
     about = (omega arith, latest_known first published version latest);
@@ -99,6 +103,7 @@ module _ (first : List Record) (published : List Version) (version : Version) (l
   made_done next history lets makes serials = record {
     version = version;
     replayed = replayed;
+    may = one.may;
     least = least;
     want = ForNothing;
     about = (
@@ -160,5 +165,5 @@ module _ (first : List Record) (base : List Version) (last : Version) (latest : 
         least = subst (λ (v : Version). last.number ≤ v.number) (sym last_is) (omega (arith, s.least, is.number));
         done = subst (λ (l : List Version). AreDoneBy first l (batch ++ one ∷ []) last.number (codes ++ noerror ∷ [])) (sym same)
             (done_push first ((base ++ made) ++ next ∷ []) batch last.number codes one noerror (all_grow first (base ++ made) (next ∷ []) longer batch last.number codes s.done)
-                (NoError, refl, made_done first (base ++ made) newest s.newest s.replay last.number s.least one next longer lets is));
+            (NoError, refl, made_done first (base ++ made) newest s.newest s.replay last.number s.least one next longer lets is));
       }

@@ -1,5 +1,5 @@
 -- What is told of an update that waited stays so as more is published, and is its reply.
-use Rattle.std.proofs.Common.{◌≡◌, refl, ℕ, ◌+◌, ◌≤◌, Bool, List, [], ◌∷◌, ◌++◌, length, Option, None, Some, sym, ap, ◌∙◌, subst, append_assoc, arith}
+use Rattle.std.proofs.Common.{◌≡◌, refl, ℕ, ◌+◌, ◌≤◌, Bool, true, List, [], ◌∷◌, ◌++◌, length, Option, None, Some, sym, ap, ◌∙◌, subst, append_assoc, arith}
 use Rattle.std.specs.Prelude.{take, unwrap_or}
 use Rattle.dns_rdata.specs.Record.{Record}
 use Rattle.dns_rdata.specs.declared.numbers.Rcode.{Rcode}
@@ -58,6 +58,7 @@ module _ (first : List Record) (published more : List Version) (history : IsHist
   done_grows done is = record {
     version = is.version;
     replayed = is.replayed;
+    may = is.may;
     least = is.least;
     want = is.want;
     about = tells_more done.asked.may [] is.version is.want done.asked.update is.about;
@@ -86,19 +87,20 @@ code_got transport zone update may ForMaking code is = ap (λ c. Some (fit (code
 
 -- what is told of an update that waited is its reply, where what was known when it was taken up isn't newer than the version of this number
 pub done_replied : (first : List Record) (peer : Peer) (known later : Learned Version) (request out : List ℕ) (len : ℕ) (done : Done) → IsDone first later.published done → length known.published ≤ done.least + 1 → reads request ≡ SaysUpdate done.asked.update
-    → done.asked.may ≡ peer.may_update → take len out ≡ fit (coded (heading_of_update done.asked.update) done.code) (limit_of peer.transport None) → IsReplied first peer known later request (take len out ∷ [])
+    → peer.may_update ≡ true → take len out ≡ fit (coded (heading_of_update done.asked.update) done.code) (limit_of peer.transport None) → IsReplied first peer known later request (take len out ∷ [])
 done_replied first peer known later request out len done is fresh reading may written =
     update_replied first peer known later is.version request out done.asked.update len is.want is.replayed reading
-    (subst (λ (m : Bool). TellsOf first m known.published later.published is.version is.want done.asked.update) may
-        (tells_known first done.asked.may known.published later.published is.version is.want done.asked.update (omega (arith, fresh, is.least)) is.about))
-    (subst (λ (m : Bool). (got_of peer.transport m is.want is.version.zone (SaysUpdate done.asked.update)).reply ≡ Some (take len out)) may
-        (code_got peer.transport is.version.zone done.asked.update done.asked.may is.want done.code is.code ∙ ap Some (sym written)))
+    (subst (λ (m : Bool). TellsOf first m known.published later.published is.version is.want done.asked.update) (is.may ∙ sym may)
+    (tells_known first done.asked.may known.published later.published is.version is.want done.asked.update (omega (arith, fresh, is.least)) is.about))
+    (subst (λ (m : Bool). (got_of peer.transport m is.want is.version.zone (SaysUpdate done.asked.update)).reply ≡ Some (take len out)) (is.may ∙ sym may)
+    (code_got peer.transport is.version.zone done.asked.update done.asked.may is.want done.code is.code ∙ ap Some (sym written)))
 
 -- SERVFAIL of an update that nobody judged is a reply, in the last version that the reader has then met
 pub unheard_replied : (first : List Record) (peer : Peer) (before after : ReaderState Version) (engine : EngineState) (request out : List ℕ) (update : Update) (len : ℕ) → HasMet first engine before after → reads request ≡ SaysUpdate update
     → take len out ≡ fit (coded (heading_of_update update) ServFail) (limit_of peer.transport None) → IsReplied first peer (learned_by before) (learned_by after) request (take len out ∷ [])
 unheard_replied first peer before after engine request out update len met reading written =
-    update_replied first peer (learned_by before) (learned_by after) engine.held.last request out update len ForMaking met.replayed reading
-    (no_older first before.seen engine.held.published engine.held.last met.begun met.latest,
-      subst (λ (r : ReaderState Version). IsPublished first r.seen engine.held.last) (sym met.seen) (latest_known first engine.held.published engine.held.last met.latest))
+    update_replied first peer (learned_by before) (learned_by after) engine.held.last request out update len ForMaking met.replayed reading (
+      no_older first before.seen engine.held.published engine.held.last met.begun met.latest,
+      subst (λ (r : ReaderState Version). IsPublished first r.seen engine.held.last) (sym met.seen) (latest_known first engine.held.published engine.held.last met.latest),
+    )
     (ap Some (sym written))

@@ -35,11 +35,12 @@ IsCodeFor ForNothing zone update may code = code ≡ unwrap_or (code_of zone upd
 IsCodeFor ForReading zone update may code = ⊥
 IsCodeFor ForMaking zone update may code = code ≡ ServFail
 
--- an update is told this code in one of the versions that are known to be published, whose number is at least this one; and what it makes of that version
+-- an update of a peer that may update is told this code in one of the versions that are known to be published, whose number is at least this one; and what it makes of that version
 -- is known to be published behind it, but where memory, or the journal, is wanted for it (RFC 2136, 3)
 pub record IsDone (first : List Record) (published : List Version) (done : Done) : Type 0 where
   pub version : Version
   pub replayed : IsReplay first version
+  pub may : done.asked.may ≡ true
   pub least : done.least ≤ version.number
   pub want : Want
   pub about : TellsOf first done.asked.may [] published version want done.asked.update

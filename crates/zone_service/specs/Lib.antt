@@ -3,3 +3,4 @@ pub mod Notified
 pub mod Updated
 pub mod Replied
 pub mod Done
+pub mod Seats

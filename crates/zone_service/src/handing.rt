@@ -43,13 +43,14 @@ pub enum Way {
     },
 }
 
-/// An update that waits to be judged.
+/// An update that waits to be judged, of a peer that may update.
 #[derive(Drop)]
 pub struct Waiting {
     /// The update.
     pub asked: Asked,
     /// Where its reply goes.
     pub way: Way,
+    ghost may: { asked.may ≡ true },
 }
 
 /// To whom a worker hands updates.

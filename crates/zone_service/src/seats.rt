@@ -1,5 +1,6 @@
 //! Where the replies to updates that are made later lie until they are fetched (own).
-ghost use Rattle.std.specs.Prelude.{◌≡◌, ◌⊎◌, ◌<◌, ◌++◌, ℕ, List, [], ◌∷◌, length, slice_set, None, Some, IfSome, OnNone, Option, MatchOption};
+ghost use Rattle.std.specs.Prelude.{◌≡◌, ◌⊎◌, []};
+ghost use Rattle.zone_service.specs.Seats.{IsFreed, IsOpened, Fetches, Leaves, Tells};
 
 use crate::service_log::Serials;
 use dns_rdata::Rcode;
@@ -75,8 +76,7 @@ impl Seats {
 
     /// A seat of one who waits: one that was free, else one more. None where there is no memory for it.
     pub fn open(&mut self) -> Option<usize>
-        ensures opened { IfSome result (λ at. (self.new ≡ slice_set self.old at Seat.Waits) ⊎ (self.new ≡ self.old ++ Seat.Waits ∷ [])) }
-        ensures none { OnNone result (self.new ≡ self.old) }
+        ensures { IsOpened self.old result self.new }
     {
         if let Some(at) = self.take_free() {
             return Some(at);
@@ -90,8 +90,7 @@ impl Seats {
 
     /// The first seat that is free, of one who waits now.
     fn take_free(&mut self) -> Option<usize>
-        ensures opened { IfSome result (λ at. self.new ≡ slice_set self.old at Seat.Waits) }
-        ensures none { OnNone result (self.new ≡ self.old) }
+        ensures { IsOpened self.old result self.new }
     {
         let at = self.free?;
         let seat = self.seats.get_mut(at)?;
@@ -105,8 +104,7 @@ impl Seats {
 
     /// What is told at a seat, which is then free, if it is there yet.
     pub fn fetch(&mut self, at: usize) -> Fetched
-        ensures told { (done : Done) → result ≡ Fetched.Told done → (next : Option ℕ) × (self.new ≡ slice_set self.old at (Seat.Free next)) }
-        ensures same { (self.new ≡ self.old) ⊎ ((done : Done) × (result ≡ Fetched.Told done)) }
+        ensures { Fetches self.old at result self.new }
     {
         let Some(seat) = self.seats.get_mut(at) else {
             return Fetched::Nothing;
@@ -129,7 +127,7 @@ impl Seats {
 
     /// Who waits at a seat waits no more. Where its reply is still to come, it is free once that is told.
     pub fn leave(&mut self, at: usize)
-        ensures { (self.new ≡ self.old) ⊎ (self.new ≡ slice_set self.old at Seat.Left) ⊎ ((next : Option ℕ) × (self.new ≡ slice_set self.old at (Seat.Free next))) }
+        ensures { Leaves self.old at self.new }
     {
         let Some(seat) = self.seats.get_mut(at) else {
             return;
@@ -143,7 +141,7 @@ impl Seats {
 
     /// Frees a seat at which nothing is to be told.
     pub fn close(&mut self, at: usize)
-        ensures { (self.new ≡ self.old) ⊎ ((next : Option ℕ) × (self.new ≡ slice_set self.old at (Seat.Free next))) }
+        ensures { (self.new ≡ self.old) ⊎ IsFreed self.old at self.new }
     {
         let Some(seat) = self.seats.get_mut(at) else {
             return;
@@ -156,7 +154,7 @@ impl Seats {
 
     /// Tells something at a seat; where nobody waits at it any more, it is free.
     pub fn tell(&mut self, at: usize, done: Done)
-        ensures { (self.new ≡ self.old) ⊎ (self.new ≡ slice_set self.old at (Seat.Told done)) ⊎ ((next : Option ℕ) × (self.new ≡ slice_set self.old at (Seat.Free next))) }
+        ensures { Tells self.old at done self.new }
     {
         let Some(seat) = self.seats.get_mut(at) else {
             return;

@@ -173,15 +173,17 @@ impl<'a, Z: FirstZone, N: Naming> Server<'a, Z, N> {
     {
         let mut desk = self.desk.lock(rt);
         desk.meet_last(reader);
+        let room = desk.count();
         Begun {
             last: desk.last_shared().share(rt),
             number: desk.last_number(),
-            room: Publishing::count(&mut *desk),
+            room,
         }
     }
 
-    /// Publishes the versions of a batch, behind the lock, where the reader meets them, and gives the codes of its updates, and the serial of the last version. The group comes back where
-    /// another version than the one of this number was published last, which the reader had then not seen, or there is no room for all of them.
+    /// Publishes the versions of a batch, behind the lock, where the reader meets them, and gives the codes of its updates, and the serial of the last
+    /// version. The group comes back where another version than the one of this number was published last, which the reader had then not seen, or there is
+    /// no room for all of them.
     pub fn publish<R: Wait>(
         &self,
         rt: &R,
@@ -196,7 +198,7 @@ impl<'a, Z: FirstZone, N: Naming> Server<'a, Z, N> {
     {
         let mut desk = self.desk.lock(rt);
         desk.meet_last(reader);
-        let room = Publishing::count(&mut *desk);
+        let room = desk.count();
         if desk.last_number() != number || room < group.len() {
             return Err(group);
         }
