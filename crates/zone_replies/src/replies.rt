@@ -126,13 +126,14 @@ impl<'a, 's, Z: FirstZone, N: Naming, L: ServiceLog> Replies<'a, 's, Z, N, L> {
         ensures asker { self.new.asker ≡ self.old.asker }
         ensures reader { self.new.reader ≡ self.old.reader }
         ensures hand { self.new.hand ≡ self.old.hand }
-        ensures other { (IsLater self.old.peer request.now → ⊥) → place_in self.new.taken self.old.asker ≡ None }
+        ensures other { (self.old.hand ≡ None) ⊎ (IsLater self.old.peer request.now → ⊥) → place_in self.new.taken self.old.asker ≡ None }
         ensures grows { EachGrows {T = Version} (known_at self.new.taken self.new.reader) (known_at self.old.taken self.old.reader) }
     {
         let Some(place) = self.taken.at(self.asker) else {
             return;
         };
-        if place.from == self.from && self.peer.may_update && is_update(request) {
+        let is_later = self.hand.is_some() && self.peer.may_update && is_update(request);
+        if is_later && place.from == self.from {
             return;
         }
         self.server.leave(rt, place.seat);
@@ -253,7 +254,7 @@ impl<'a, 's, Z: FirstZone, N: Naming, L: ServiceLog> Replies<'a, 's, Z, N, L> {
         out: &mut [u8],
     ) -> Result<Reply<Transfer>, Unmade>
         requires later { IsUpdate request.now ⊎ IsTransfer Z.zone self.old.peer request.now }
-        requires other { (IsLater self.old.peer request.now → ⊥) → place_in self.old.taken self.old.asker ≡ None }
+        requires other { (self.old.hand ≡ None) ⊎ (IsLater self.old.peer request.now → ⊥) → place_in self.old.taken self.old.asker ≡ None }
         requires room { message_limit ≤ length out.old }
         ensures peer { self.new.peer ≡ self.old.peer }
         ensures asker { self.new.asker ≡ self.old.asker }
