@@ -42,3 +42,10 @@ pub record HasTurned {D F : Type 0} (written synced : D → List ℕ) (known lat
   pub sent : List Sent
   pub sends : AreSent batch codes sent
   pub behind : new ≡ sent_behind old sent
+
+-- turns, one after the other
+module _ {D F : Type 0} (written synced : D → List ℕ) where
+  pub data HasServed (known : List Version) (before : Store D F) (old : Option (List Sent)) : List Version → Store D F → Option (List Sent) → Type 0 where
+    begins : HasServed known before old known before old
+    goes_on : {seen later : List Version} {store after : Store D F} {sent new : Option (List Sent)} → HasServed known before old seen store sent → HasTurned written synced seen later store after sent new
+        → HasServed known before old later after new

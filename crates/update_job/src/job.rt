@@ -3,10 +3,11 @@ ghost use Rattle.std.specs.Prelude.{◌≡◌, List, length, IfOk, OnErr};
 ghost use Rattle.zone_tree.specs.Version.{Version};
 ghost use Rattle.conversation.specs.Served.{BeginsWith};
 ghost use Rattle.update_job.specs.Batch.{IsTold, told_behind};
-ghost use Rattle.update_job.specs.Sent.{Sent, sent_behind, AreSent, HasTurned};
+ghost use Rattle.update_job.specs.Sent.{Sent, sent_behind, AreSent, HasTurned, HasServed};
 ghost use Rattle.update_job.specs.Told.{AreDoneBy};
 
 use crate::codes::code_of;
+use crate::faults::Faults;
 use crate::judge::Judge;
 use crate::replying::Replying;
 use crate::store::Store;
@@ -164,6 +165,24 @@ impl<'a, 's, Z: FirstZone, N: Naming, D: Disk, L: ServiceLog> UpdateJob<'a, 's, 
         } = self.judge(rt);
         self.tell_all(rt, replying, &codes, batch);
         Ok(fault)
+    }
+
+    /// Judges batches until the queue is ended, and nothing waits. Of each it is noted why it isn't on the disk, or that it is.
+    pub fn serve<R: Wait, P: Replying, F: Faults<D::Fault>>(
+        &mut self,
+        rt: &R,
+        replying: &mut P,
+        faults: &mut F,
+    )
+        ensures { HasServed D.written D.synced self.old.teller.reader.seen self.old.store (P.sent replying.old) self.new.teller.reader.seen self.new.store (P.sent replying.new) }
+    {
+        for _ in rt.forever() {
+            match self.turn(rt, replying) {
+                Ok(fault) => faults.note(rt, fault),
+                Err(Ended) => return,
+            }
+        }
+        unreachable!()
     }
 }
 

@@ -7,12 +7,14 @@
 #![tactic(auto)]
 
 mod codes;
+mod faults;
 mod job;
 mod judge;
 mod replying;
 mod store;
 mod teller;
 
+pub use faults::Faults;
 pub use job::{BATCH, Ended, UpdateJob};
 pub use replying::Replying;
 pub use store::Store;
