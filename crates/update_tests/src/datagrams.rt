@@ -45,6 +45,7 @@ fn is_sent<Z: FirstZone, N: Naming>(
 }
 
 /// An update comes by a datagram, and this is sent once it is judged; another one, which finds no room, gets SERVFAIL at once.
+#[derive(Clone, Copy)]
 struct Datagram(&'static str);
 
 impl Act for Datagram {

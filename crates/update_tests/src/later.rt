@@ -44,6 +44,7 @@ enum Step {
 }
 
 /// Steps, one after the other.
+#[derive(Clone, Copy)]
 struct Steps(&'static [Step]);
 
 /// Whether a request is told this.

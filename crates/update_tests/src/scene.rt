@@ -87,6 +87,7 @@ pub fn updater(transport: Transport) -> Peer {
 }
 
 /// Where a scene's updates are brought: to a journal on a disk whose calls fail by a plan, behind its begin; or nowhere.
+#[derive(Clone, Copy)]
 pub struct Plan {
     /// How many updates wait at most.
     pub most: usize,
