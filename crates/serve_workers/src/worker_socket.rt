@@ -8,7 +8,7 @@ ghost use Rattle.std.specs.IoError.{error_kind};
 ghost use Rattle.std.specs.Io.{WritesAtMost};
 ghost use Rattle.conversation.specs.Datagrams.{count_of};
 
-use crate::held_replies::{HeldReplies, MOST};
+use crate::held_replies::{HeldReplies, MOST, Outlet};
 use crate::interrupted::is_interrupted;
 use crate::progress::Standing;
 use conversation::Datagrams;
@@ -54,11 +54,14 @@ fn send_to(socket: &UdpSocket, octets: &[u8], to: SocketAddr) -> io::Result<usiz
     Err(io::Error::from(ErrorKind::TimedOut))
 }
 
-/// Sends a reply, and gives whether it is sent in whole.
-pub(crate) fn is_sent(socket: &UdpSocket, octets: &[u8], to: SocketAddr) -> bool {
-    match send_to(socket, octets, to) {
-        Ok(sent) => sent == octets.len(),
-        Err(_) => false,
+impl Outlet for UdpSocket {
+    ghost given = { λ _. None };
+
+    fn send_one(&mut self, octets: &[u8], to: SocketAddr) -> bool {
+        match send_to(self, octets, to) {
+            Ok(sent) => sent == octets.len(),
+            Err(_) => false,
+        }
     }
 }
 
@@ -115,7 +118,7 @@ impl<'a> WorkerSocket<'a> {
     fn send_held(&mut self)
         ensures { self.new.faults ≡ self.old.faults }
     {
-        let lost = self.held.send(&self.socket);
+        let lost = self.held.send(&mut self.socket);
         self.lost = self.lost.saturating_add(lost);
     }
 
@@ -213,7 +216,7 @@ impl Datagrams for WorkerSocket<'_> {
         };
         if !is_held {
             self.send_held();
-            if !is_sent(&self.socket, octets, to) {
+            if !self.socket.send_one(octets, to) {
                 self.lost = self.lost.saturating_add(1);
             }
         }
