@@ -1,13 +1,15 @@
 #!/usr/bin/env python3
 """Tries how `dnsd serve` ends: with `--workers 1 --count 2` one datagram and one connection are answered, in either order, or two of one kind, with
 `--count 1` one of them, and its status is 0; where an address can't be
-listened on, because another program listens there by UDP or by TCP, or because it isn't this machine's, its status is 3, and no worker begins.
-Usage: [DNSD=PROGRAM] tests/ending.py, by default crates/dnsd/out/dnsd. It takes a second; status 1 where one failed. It listens on 127.0.0.1 alone."""
+listened on, because another program listens there by UDP or by TCP, or because it isn't this machine's, its status is 3, and no worker begins; so too where
+any one thread of it is refused, by tests/refuse.c in front of the C library.
+Usage: [DNSD=PROGRAM] tests/ending.py, by default crates/dnsd/out/dnsd. It takes a second; status 1 where one failed. It listens on 127.0.0.1 alone, and needs a C compiler, `cc` or $CC."""
 import os
 import socket
 import struct
 import subprocess
 import sys
+import tempfile
 
 top = os.path.dirname(os.path.dirname(os.path.abspath(__file__)))
 program = os.environ.get("DNSD", f"{top}/crates/dnsd/out/dnsd")
@@ -73,6 +75,19 @@ def refused(address, what, *kinds):
             other.close()
 
 
+def without_a_thread(threads):
+    """A server of two workers, of which each of its threads is refused in turn."""
+    with tempfile.TemporaryDirectory() as room:
+        refuse = f"{room}/refuse.so"
+        subprocess.run([os.environ.get("CC", "cc"), "-O2", "-shared", "-fPIC", "-o", refuse, f"{top}/tests/refuse.c"], check=True)
+        for first in range(1, threads + 1):
+            own = dict(os.environ, LD_PRELOAD=refuse, REFUSE_WHAT="threads", REFUSE_FIRST=str(first), REFUSE_COUNT="1")
+            words = [program, "serve", "--listen", "127.0.0.1:0", "--workers", "2", zone]
+            ran = subprocess.run(words, stderr=subprocess.PIPE, text=True, timeout=10, env=own)
+            is_right = ran.returncode == 3 and "a request was refused" in ran.stderr and "listening on" not in ran.stderr
+            told(is_right, f"thread {first} is refused: status {ran.returncode}, {ran.stderr.splitlines()[-1:]}")
+
+
 ends("a datagram", over_udp)
 ends("a connection", over_tcp)
 ends("a datagram, then a connection", over_udp, over_tcp)
@@ -81,4 +96,6 @@ ends("two connections", over_tcp, over_tcp)
 refused(("127.0.0.1", 0), "another listens by TCP", socket.SOCK_STREAM)
 refused(("127.0.0.1", 0), "another has the port for UDP", socket.SOCK_DGRAM)
 refused(("192.0.2.1", 5353), "not an address of this machine")
+# the log's, and two for each worker
+without_a_thread(5)
 sys.exit(1 if failed else 0)

@@ -52,6 +52,13 @@ impl Counted {
         }
     }
 
+    /// Whether it was told nothing: no thread has begun.
+    pub(crate) fn is_silent(&self) -> bool {
+        self.begun.load(Ordering::SeqCst) == 0
+            && self.done.load(Ordering::SeqCst) == 0
+            && self.failed.load(Ordering::SeqCst) == 0
+    }
+
     /// Whether it was told once that all have begun, and of so many of each.
     pub(crate) fn has(&self, done: u64, failed: u64) -> bool {
         self.begun.load(Ordering::SeqCst) == 1
