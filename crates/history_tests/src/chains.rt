@@ -2,7 +2,7 @@
 ghost use Rattle.std.specs.Prelude.{◌≡◌};
 ghost use Rattle.std.specs.List.{All};
 
-use crate::plays::{Any, Teller, begun};
+use crate::plays::{Any, Teller, begun, limited};
 use snapshot_cell::{NamedCell, NamedPublisher, NamedReader, Naming, Parts};
 use std::alloc::Global;
 use std::marker::Brand;
@@ -42,6 +42,13 @@ fn is_unknown<N: Naming>(told: Chain<'_, u64, Any, N>) -> bool {
     }
 }
 
+fn is_spent<N: Naming>(told: Chain<'_, u64, Any, N>) -> bool {
+    match told {
+        Chain::Spent => true,
+        _ => false,
+    }
+}
+
 /// Ends a cell with its two readers: the last value, which is this.
 fn end<R: Abort, N: Naming>(
     rt: &R,
@@ -74,13 +81,7 @@ fn play<R: Abort, N: Naming>(rt: &R, alloc: Global, parts: Parts<u64, Any>)
     let mut asks = NamedReader::of(readers.pop().expect(rt, "a reader"));
     let cell: NamedCell<u64, Any, N> = NamedCell::of(cell);
     let mut teller = Teller::new(&cell, NamedPublisher::of(publisher), loads, 16);
-    let first = teller.tell(rt, 10);
-    teller.publish(rt, 100);
-    let second = teller.tell(rt, 11);
-    teller.publish(rt, 200);
-    let third = teller.tell(rt, 12);
-    teller.publish(rt, 300);
-    let last = teller.tell(rt, 13);
+    let (first, second, third, last) = teller.tell_four(rt);
     assert_eq!(rt; teller.len(), 4);
     assert!(rt; is_whole(teller.chain(&mut asks, 10, 3), &[100, 200, 300]));
     assert!(rt; is_whole(teller.chain(&mut asks, 11, 3), &[200, 300]));
@@ -181,4 +182,42 @@ fn know_nothing<R: Abort, N: Naming>(rt: &R, alloc: Global, parts: Parts<u64, An
 fn history_of_none(rt: HostRuntime) {
     let parts = begun(&rt, rt.alloc());
     know_nothing::<HostRuntime, Brand>(&rt, rt.alloc(), parts);
+}
+
+/// Versions of the serials 10 to 13, by a reader of four grants: three are taken by what is told of three versions, and one by the first of
+/// the two that are asked for then, whose owner is let go.
+fn use_up<R: Abort, N: Naming>(rt: &R, alloc: Global, parts: Parts<u64, Any>)
+    requires cell { (parts.cell ≡ N.cell) × (parts.publisher.cell ≡ N.cell) }
+    requires readers { All (λ r. r.cell ≡ N.cell) parts.readers.items }
+{
+    let Parts {
+        cell,
+        publisher,
+        mut readers,
+    } = parts;
+    let loads = NamedReader::of(readers.pop().expect(rt, "a reader"));
+    let mut asks = NamedReader::of(readers.pop().expect(rt, "a reader"));
+    let cell: NamedCell<u64, Any, N> = NamedCell::of(cell);
+    let mut teller = Teller::new(&cell, NamedPublisher::of(publisher), loads, 16);
+    let (first, second, third, last) = teller.tell_four(rt);
+    assert!(rt; is_whole(teller.chain(&mut asks, 10, 3), &[100, 200, 300]));
+    assert!(rt; asks.left() == 1 && is_spent(teller.chain(&mut asks, 11, 3)));
+    assert!(rt; asks.left() == 0 && is_spent(teller.chain(&mut asks, 12, 3)));
+    // What wants no grant is told as before.
+    assert!(rt; is_whole(teller.chain(&mut asks, 13, 3), &[]));
+    assert!(rt; is_unknown(teller.chain(&mut asks, 9, 3)));
+    // Nobody else owns a version.
+    assert_eq!(rt; third.release().buried(), Some(2));
+    assert_eq!(rt; second.release().buried(), Some(1));
+    assert_eq!(rt; first.release().buried(), Some(0));
+    last.release();
+    let (publisher, loads) = teller.end();
+    end(rt, alloc, cell, publisher, (loads, asks), 300);
+}
+
+// A chain for which a reader has too few grants is told so, and holds no version (own).
+#[test]
+fn no_grant_is_no_chain(rt: HostRuntime) {
+    let parts = limited(&rt, rt.alloc());
+    use_up::<HostRuntime, Brand>(&rt, rt.alloc(), parts);
 }

@@ -35,6 +35,25 @@ pub(crate) fn begun<R: Abort>(rt: &R, alloc: Global) -> Parts<u64, Any>
     }
 }
 
+/// The same, whose readers have four grants each.
+pub(crate) fn limited<R: Abort>(rt: &R, alloc: Global) -> Parts<u64, Any>
+    ensures publisher { result.publisher.cell ≡ result.cell }
+    ensures readers { All (λ r. r.cell ≡ result.cell) result.readers.items }
+{
+    match Cell::<u64, Any>::new_limited(alloc, 2, 0, 4) {
+        Ok(parts) => parts,
+        Err(_) => panic!(rt; "there is no memory"),
+    }
+}
+
+/// Owners of the first version and of the three after it, in this order.
+pub(crate) type FourOwners<'a, N> = (
+    NamedStrong<'a, u64, Any, N>,
+    NamedStrong<'a, u64, Any, N>,
+    NamedStrong<'a, u64, Any, N>,
+    NamedStrong<'a, u64, Any, N>,
+);
+
 /// Who publishes in a cell and tells a history.
 #[derive(Drop)]
 pub(crate) struct Teller<'a, N: Naming> {
@@ -77,6 +96,17 @@ impl<'a, N: Naming> Teller<'a, N> {
         assert!(rt; self.publisher.last() < u64::MAX);
         let old = self.cell.publish(&mut self.publisher, value);
         assert!(rt; old.is_ok());
+    }
+
+    /// Tells the first version, and publishes 100, 200 and 300 and tells these, by the serials 10 to 13.
+    pub(crate) fn tell_four<R: Abort>(&mut self, rt: &R) -> FourOwners<'a, N> {
+        let first = self.tell(rt, 10);
+        self.publish(rt, 100);
+        let second = self.tell(rt, 11);
+        self.publish(rt, 200);
+        let third = self.tell(rt, 12);
+        self.publish(rt, 300);
+        (first, second, third, self.tell(rt, 13))
     }
 
     /// How many entries the history has.

@@ -171,6 +171,29 @@ const TRANSFERS: Row = Row {
     ..TRANSFER
 };
 
+/// An update, and what it changed, twice, of which the second finds too few grants left (RFC 1995, 4; RFC 2136, 3).
+const CHANGES: Row = Row {
+    end: StreamEnd::Spent,
+    input: "\
+0032432128000001000000010000076578616d706c6504746573740000060001036e6577c00c0001000100000e100004c000024d\
+0040123400000001000000010000076578616d706c6504746573740000fb0001c00c0006000100000000001600000000000100000000000000000000000000000000\
+0040123400000001000000010000076578616d706c6504746573740000fb0001c00c0006000100000000001600000000000100000000000000000000000000000000",
+    written: "\
+000c4321a8000000000000000000\
+00cc123484000001000500000000076578616d706c6504746573740000fb0001c00c0006000100000e100022036e7331c00c0561646d696ec00c\
+0000000200001c2000000384001275000000012cc00c0006000100000e100018c02ac0300000000100001c2000000384001275000000012cc00c\
+0006000100000e100018c02ac0300000000200001c2000000384001275000000012c036e6577c00c0001000100000e100004c000024dc00c0006\
+000100000e100018c02ac0300000000200001c2000000384001275000000012c",
+    told: "update from 192.0.2.7:4711: NOERROR, serial 1 to 2;",
+    ..TRANSFER
+};
+
+/// The same, of which the first finds too few.
+const NO_CHANGES: Row = Row {
+    written: "000c4321a8000000000000000000",
+    ..CHANGES
+};
+
 // A reader of one grant answers one query, and ends the stream at the next one (own).
 #[test]
 fn no_grant_ends_a_stream_of_queries(rt: HostRuntime) {
@@ -184,6 +207,23 @@ fn no_grant_ends_a_stream_of_transfers(rt: HostRuntime) {
     for grants in [2, 3u64] {
         let zone = zone(rt.alloc()).expect(&rt, "a zone");
         let told = is_played_by(&rt, rt.alloc(), zone, grants, &TRANSFERS);
+        assert!(rt; told == Some(true), "{grants}");
+    }
+}
+
+// One that tells what an update changed wants three: the third is for the version that the update made. What is written has no part of a reply
+// for which they are too few.
+#[test]
+fn no_grant_ends_a_stream_of_changes(rt: HostRuntime) {
+    let rows = [
+        (2u64, &NO_CHANGES),
+        (3, &CHANGES),
+        (4, &CHANGES),
+        (5, &CHANGES),
+    ];
+    for (grants, row) in rows {
+        let zone = zone(rt.alloc()).expect(&rt, "a zone");
+        let told = is_played_by(&rt, rt.alloc(), zone, grants, row);
         assert!(rt; told == Some(true), "{grants}");
     }
 }

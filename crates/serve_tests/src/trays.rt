@@ -317,3 +317,18 @@ fn no_grant_ends_datagrams(rt: HostRuntime) {
     let zone = zone(rt.alloc()).expect(&rt, "a zone");
     assert!(rt; is_played_by(&rt, rt.alloc(), zone, 2, &SPENT) == Some(true));
 }
+
+/// An update, and an IXFR for what it changed, which finds no grant left for the version that it made.
+const SPENT_CHANGES: Row = Row {
+    may: true,
+    letters: b"uxq",
+    sent: b"0u",
+    ..SPENT
+};
+
+// A reader of two grants can't tell what an update changed, which ends it (own).
+#[test]
+fn no_grant_ends_datagrams_of_changes(rt: HostRuntime) {
+    let zone = zone(rt.alloc()).expect(&rt, "a zone");
+    assert!(rt; is_played_by(&rt, rt.alloc(), zone, 2, &SPENT_CHANGES) == Some(true));
+}
