@@ -1,6 +1,7 @@
 """The clients of bench/hostile.sh: what is hostile to the server, a process each, and the plain query with a bare UDP echo beside it."""
 import multiprocessing
 import os
+import queue
 import random
 import re
 import select
@@ -11,12 +12,17 @@ import sys
 import time
 
 sys.path.insert(0, os.path.dirname(os.path.abspath(__file__)))
+import hostile_dear
 import worst
 
 APEX = b"\7example\4test\0"
 ASK = struct.pack(">6H", 7, 0x0100, 1, 0, 0, 0) + b"\2h1" + APEX + struct.pack(">2H", 1, 1)
 # the bound on what a plain query may take longer than the echo, in milliseconds
 BOUND = 20
+# how long the secondaries have to catch up once the rate has fallen, in seconds
+SETTLED = 10
+# when in the first minute no updates come for a while, and for how long: the versions that are kept are then the largest, as in the last minute
+PAUSE, PAUSED = 44, 5
 
 
 def framed(message):
@@ -75,40 +81,7 @@ def probed(server, beside, end, told):
             minute, lost = [[], []], 0
 
 
-def dear(port, end, told):
-    """The dearest messages, one behind the reply to the one before, with as long a rest as it took. Their names are below `t.`: what is read costs the same."""
-    messages = [worst.chained_query()[0], worst.chained_comb_query()[0], worst.comb_query()[0], worst.deep_query()[0], worst.long_query()[0]]
-    for rtype, rclass, data in ((worst.types, 254, b""), (lambda n: 1, 1, b"\1\2\3\4"), (lambda n: 255, 254, b"")):
-        message = worst.Message(worst.UPDATE, question=APEX)
-        number = 0
-        while message.room() >= 12 + len(data):
-            owner = b"\3one" + APEX if number == 0 else worst.pointer(12 + len(APEX) + 4)
-            if message.room() < len(owner) + 10 + len(data):
-                break
-            message.put(owner, rtype(number), rclass, 0, data, section=0)
-            number += 1
-        messages.append(message.octets())
-    sent, slowest, client = 0, 0.0, None
-    while time.time() < end:
-        try:
-            if client is None:
-                client = socket.create_connection(("127.0.0.1", port), timeout=30)
-            message = messages[sent % len(messages)]
-            began = time.perf_counter()
-            client.sendall(framed(message))
-            head = client.recv(2, socket.MSG_WAITALL)
-            client.recv(struct.unpack(">H", head)[0], socket.MSG_WAITALL)
-            took = time.perf_counter() - began
-            slowest, sent = max(slowest, took), sent + 1
-            time.sleep(took)
-        except (OSError, struct.error):
-            client = None
-            told.put(("count", "dear messages whose connection ended", 1))
-    told.put(("count", "dear messages", sent))
-    told.put(("note", f"the slowest dear message took {1000 * slowest:.0f} ms"))
-
-
-def updater(port, rate, end, slow_from, told):
+def updater(port, rate, begin, end, slow_from, told):
     """Updates by UDP, sixteen under way: by turns an address added, one deleted that was added before, and one that a prerequisite refuses."""
     client = socket.socket(socket.AF_INET, socket.SOCK_DGRAM)
     client.connect(("127.0.0.1", port))
@@ -125,13 +98,18 @@ def updater(port, rate, end, slow_from, told):
         return head(n, 1, 1) + b"\3ns1\xc0\x0c" + struct.pack(">2HIH", 255, 254, 0, 0) + owner(number) + struct.pack(">2HIH4B", 1, 1, 60, 4, 10, 9, 8, 7), 6
 
     sent = taken = refused = servfail = 0
-    began = time.time()
+    began, fast, pause = begin, None, begin + PAUSE
     waiting, n = {}, 0
     while time.time() < end:
         now = time.time()
         if now >= slow_from:
+            fast = fast or (taken, refused)
             time.sleep(max(0.0, 1 - (time.time() - now)))
             batch = 1
+        elif now >= pause:
+            time.sleep(PAUSED)
+            began, pause = began + time.time() - now, end
+            continue
         else:
             batch = min(16, max(0, int(rate * (now - began)) - sent))
             if batch == 0:
@@ -165,6 +143,9 @@ def updater(port, rate, end, slow_from, told):
             began = time.time() - sent / rate if rate else time.time()
     for what, count in (("updates taken", taken), ("updates refused", refused), ("updates told SERVFAIL", servfail)):
         told.put(("count", what, count))
+    taken, refused = fast or (taken, refused)
+    told.put(("floor", "updates that got their reply", taken + refused, rate * (slow_from - begin - PAUSED)))
+    told.put(("floor", "updates that were refused", refused, (taken + refused) / 3))
 
 
 def connections(port, kinds, end, told):
@@ -240,28 +221,83 @@ def times_of(pid):
     return (int(words[11]) + int(words[12])) / os.sysconf("SC_CLK_TCK")
 
 
-def main():
-    pid, port, minutes, rate, seed = int(sys.argv[1]), int(sys.argv[2]), float(sys.argv[3]), int(sys.argv[4]), int(sys.argv[5])
-    work = sys.argv[6]
-    random.seed(seed)
-    begin = time.time()
-    end = begin + 60 * minutes
-    slow_from = end - min(60, 20 * minutes)
-    told = multiprocessing.Queue()
-    jobs = [
-        multiprocessing.Process(target=job, args=words, daemon=True)
-        for job, words in (
-            (echo, (port + 3,)),
-            (probed, (port, port + 3, end, told)),
-            (dear, (port, end, told)),
-            (updater, (port, rate, end, slow_from, told)),
-            (connections, (port, ["idle"] * 500, end, told)),
-            (connections, (port, ["sends slowly"] * 400 + ["never reads"] * 100, end, told)),
-        )
-    ]
-    for job in jobs:
-        job.start()
-    # requests to be mutated: queries, updates and transfers of the zone, and the dear messages' beginnings
+class Tally:
+    """What the clients told, and what is wrong."""
+
+    def __init__(self):
+        self.counts, self.floors, self.notes, self.wrongs = {}, {}, [], []
+        self.minutes, self.worst_gap, self.asked, self.lost = 0, 0.0, 0, 0
+
+    def is_wrong(self, what):
+        self.wrongs.append(what)
+        if len(self.wrongs) < 20:
+            print("WRONG", what, flush=True)
+
+    def take(self, item, state):
+        if item[0] == "minute":
+            self.minute(item[1], item[2], item[3], state)
+        elif item[0] == "count":
+            self.counts[item[1]] = self.counts.get(item[1], 0) + item[2]
+        elif item[0] == "floor":
+            self.floors[item[1]] = item[2:]
+        elif item[0] == "wrong":
+            self.is_wrong(item[1])
+        else:
+            self.notes.append(item[1])
+
+    def minute(self, times, count, lost, state):
+        own, beside = times
+        self.minutes, self.worst_gap = self.minutes + 1, max(self.worst_gap, own[1] - beside[1])
+        self.asked, self.lost = self.asked + count, self.lost + lost
+        print(f"minute {self.minutes}: a plain query {own[0]:.2f} ms in the middle, {own[1]:.2f} at the 99th percentile, {own[2]:.1f} at most; the echo {beside[0]:.2f}, {beside[1]:.2f}, {beside[2]:.1f}; "
+              f"{lost} lost; memory {state[1]} KiB, {state[2]} descriptors; load {os.getloadavg()[0]:.1f}", flush=True)
+        if own[1] - beside[1] > BOUND:
+            self.is_wrong(f"the plain query was slower than it may be in minute {self.minutes}")
+
+    def told(self):
+        print(", ".join(f"{count} {what}" for what, count in self.counts.items()) + "".join(f"; {note}" for note in self.notes))
+        for what, (got, wanted) in self.floors.items():
+            print(f"{what}: {got:.0f}, where {wanted:.0f} are wanted")
+            if got < 0.9 * wanted:
+                self.is_wrong(f"too few {what}")
+
+
+class Secondaries:
+    """What both secondaries took since a while after the rate has fallen: Knot by its log, NSD by its log and by what it kept as it got it."""
+
+    def __init__(self, work, port):
+        self.logs, self.port, self.since = (f"{work}/knotd.log", f"{work}/nsd.log"), port, None
+
+    def read(self):
+        for path in self.logs:
+            with open(path, errors="replace") as file:
+                yield file.read()
+
+    def begin(self):
+        if self.since is None:
+            self.since = time.time(), *map(len, self.read())
+
+    def judge(self, tally):
+        if self.since is None:
+            return tally.is_wrong("the secondaries weren't looked at")
+        seconds = time.time() - self.since[0]
+        knot, nsd = (text[at:] for text, at in zip(self.read(), self.since[1:]))
+        changed, whole = len(re.findall("IXFR, incoming.*finished", knot)), len(re.findall("AXFR, incoming.*finished", knot))
+        taken = len(re.findall("received update to serial", nsd))
+        client = hostile_dear.Client(self.port)
+        reply, _ = client.ask(struct.pack(">6H", 7, 0, 1, 0, 0, 0) + APEX + struct.pack(">2H", 6, 1))
+        client.close()
+        last = next(struct.unpack(">I", data[-20:-16])[0] for rtype, data in hostile_dear.records_of(reply) if rtype == 6)
+        kept = hostile_dear.stored(self.port + 2, last, int(seconds))
+        print(f"the last {seconds:.0f} s: Knot took {changed} transfers of what changed, {whole} in whole; NSD took {taken}, and the last {kept} versions as what changed")
+        if whole or changed < seconds / 3:
+            tally.is_wrong("Knot got the zone in whole, or too little of what changed")
+        if taken < seconds / 3 or kept < seconds / 3:
+            tally.is_wrong("NSD got the zone in whole, or too little of what changed")
+
+
+def requests_of(work):
+    """Writes the requests that are to be mutated: queries, updates and transfers of the zone, and the beginnings of dear messages."""
     requests = [ASK, ASK[:-4] + b"\0\xff\0\1", struct.pack(">6H", 7, 0, 1, 0, 0, 0) + APEX + b"\0\xfc\0\1"]
     requests.append(struct.pack(">6H", 7, 0, 1, 0, 1, 0) + APEX + b"\0\xfb\0\1\xc0\x0c" + struct.pack(">2HIH", 6, 1, 0, 22) + b"\0\0" + struct.pack(">5I", 1, 0, 0, 0, 0))
     requests.append(struct.pack(">6H", 7, 0x0100, 1, 0, 0, 1) + b"\2h1" + APEX + b"\0\1\0\1\0\0\x29\x10\0\0\0\0\0\0\0")
@@ -269,69 +305,92 @@ def main():
     requests += [message[:400] for message in (worst.chained_query()[0], worst.comb_query()[0])]
     with open(f"{work}/requests", "w") as file:
         file.write("".join(f"{one.hex()}\n" for one in requests))
+
+
+def started(port, messages, rates, seed, work, times, told):
+    """Every client, as processes: those of Python, and the two that send mutated requests."""
+    (asked, changing), (rate, dear), (begin, slow_from, end) = messages, rates, times
+    jobs = [
+        multiprocessing.Process(target=job, args=(*words, told) if job is not echo else words, daemon=True)
+        for job, words in (
+            (echo, (port + 3,)),
+            (probed, (port, port + 3, end)),
+            (hostile_dear.ask_dear, (port, dear, asked, end)),
+            (hostile_dear.change_dear, (port, dear, changing, slow_from, begin + PAUSE + 0.5)),
+            (hostile_dear.transfers, (port, 1, end)),
+            (updater, (port, rate, begin, end, slow_from)),
+            (connections, (port, ["idle"] * 500, end)),
+            (connections, (port, ["sends slowly"] * 400 + ["never reads"] * 100, end)),
+        )
+    ]
+    for job in jobs:
+        job.start()
+    requests_of(work)
     senders = [
         subprocess.Popen([f"{work}/mutate", over, str(port), str(seed + at), str(1 << 40), str(end - time.time()), f"{work}/requests", "1000", "127.0.0.2"], stdout=subprocess.PIPE, text=True)
         for at, over in enumerate(("udp", "tcp"))
     ]
-    states, counts, wrongs, notes, number = [], {}, [], [], 0
-    worst_gap, asked, lost = 0.0, 0, 0
-    spent = times_of(pid)
+    return jobs, senders
 
-    def take(item):
-        nonlocal worst_gap, asked, lost, number
-        if item[0] == "minute":
-            number += 1
-            (own, beside), count, gone = item[1], item[2], item[3]
-            worst_gap, asked, lost = max(worst_gap, own[1] - beside[1]), asked + count, lost + gone
-            memory, descriptors = states[-1][1:] if states else (0, 0)
-            load = os.getloadavg()[0]
-            print(f"minute {number}: a plain query {own[0]:.2f} ms in the middle, {own[1]:.2f} at the 99th percentile, {own[2]:.1f} at most; the echo {beside[0]:.2f}, {beside[1]:.2f}, {beside[2]:.1f}; "
-                  f"{gone} lost; memory {memory} KiB, {descriptors} descriptors; load {load:.1f}", flush=True)
-        elif item[0] == "count":
-            counts[item[1]] = counts.get(item[1], 0) + item[2]
-        elif item[0] == "wrong":
-            wrongs.append(item[1])
-            if len(wrongs) < 20:
-                print("WRONG", item[1], flush=True)
-        else:
-            notes.append(item[1])
 
+def watched(pid, begin, slow_from, end, told, tally, secondaries):
+    """Takes what the clients tell until the end, and looks at the server each second: when, its memory and its descriptors."""
+    states = []
     while time.time() < end + 3:
         try:
-            take(told.get(timeout=1))
-        except Exception:
+            tally.take(told.get(timeout=1), states[-1] if states else (0, 0, 0))
+        except queue.Empty:
             pass
+        if time.time() > slow_from + SETTLED:
+            secondaries.begin()
         try:
             if not states or time.time() - begin - states[-1][0] >= 1:
                 states.append((time.time() - begin, *state_of(pid)))
         except OSError:
-            wrongs.append("the server has ended")
-            print("WRONG the server has ended", flush=True)
+            tally.is_wrong("the server has ended")
             break
+    return states
+
+
+def compared(states, length, tally):
+    """Memory and descriptors of the last minute beside those of the first."""
+    first = [max((state[at] for state in states if state[0] <= 60), default=0) for at in (1, 2)]
+    late = [max((state[at] for state in states if state[0] >= length - 60), default=0) for at in (1, 2)]
+    print(f"memory {first[0]} KiB at most in the first minute, {late[0]} in the last, {max(state[1] for state in states)} in all; descriptors {first[1]} and {late[1]}")
+    if late[0] > first[0] * 1.02 + 1024:
+        tally.is_wrong("memory has grown")
+    if late[1] > first[1] + 20:
+        tally.is_wrong("descriptors have grown")
+
+
+def main():
+    pid, port, minutes, rate, dear, seed = int(sys.argv[1]), int(sys.argv[2]), float(sys.argv[3]), int(sys.argv[4]), float(sys.argv[5]), int(sys.argv[6])
+    work = sys.argv[7]
+    random.seed(seed)
+    messages = list(hostile_dear.asked()), list(hostile_dear.changing())
+    begin = time.time()
+    end = begin + 60 * minutes
+    slow_from = end - min(60, 20 * minutes)
+    told, tally, secondaries = multiprocessing.Queue(), Tally(), Secondaries(work, port)
+    spent = times_of(pid)
+    jobs, senders = started(port, messages, (rate, dear), seed, work, (begin, slow_from, end), told)
+    states = watched(pid, begin, slow_from, end, told, tally, secondaries)
     for job in jobs[1:]:
         job.join(40)
     while not told.empty():
-        take(told.get())
+        tally.take(told.get(), states[-1])
     for sender in senders:
         said, _ = sender.communicate(timeout=60)
         print(said, end="")
         if sender.returncode:
-            wrongs.append("a mutated request got what isn't right")
-    first = max((memory for at, memory, _ in states if at <= 60), default=0)
-    late = max((memory for at, memory, _ in states if at >= end - begin - 60), default=0)
-    fds = max((count for at, _, count in states if at <= 60), default=0), max((count for at, _, count in states if at >= end - begin - 60), default=0)
-    print(", ".join(f"{count} {what}" for what, count in counts.items()) + "".join(f"; {note}" for note in notes))
-    print(f"{asked} plain queries, {lost} lost; the 99th percentile was {worst_gap:.2f} ms above the echo's at most; processor time of the server {times_of(pid) - spent:.0f} s")
-    print(f"memory {first} KiB at most in the first minute, {late} in the last; descriptors {fds[0]} and {fds[1]}")
-    if worst_gap > BOUND:
-        wrongs.append("the plain query was slower than it may be")
-    if late > first * 1.02 + 1024:
-        wrongs.append("memory has grown")
-    if fds[1] > fds[0] + 20:
-        wrongs.append("descriptors have grown")
-    print(f"{len(wrongs)} wrong" + "".join(f"; {one}" for one in sorted(set(wrongs))[:5]))
+            tally.is_wrong("a mutated request got what isn't right")
+    tally.told()
+    secondaries.judge(tally)
+    print(f"{tally.asked} plain queries, {tally.lost} lost; the 99th percentile was {tally.worst_gap:.2f} ms above the echo's at most; processor time of the server {times_of(pid) - spent:.0f} s")
+    compared(states, end - begin, tally)
+    print(f"{len(tally.wrongs)} wrong" + "".join(f"; {one}" for one in sorted(set(tally.wrongs))[:5]))
     jobs[0].terminate()
-    return 1 if wrongs else 0
+    return 1 if tally.wrongs else 0
 
 
 if __name__ == "__main__":

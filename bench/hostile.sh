@@ -1,12 +1,17 @@
 #!/usr/bin/env bash
-# Lets `dnsd serve` of four workers run for a while under all at once that is hostile to it: the dearest messages of bench/worst.py, mutated requests over
-# UDP and TCP (tests/mutate.c), 500 connections that send an octet a second or never read and 500 that are idle, and 5,000 updates a second, of which a third
-# are refused; beside them Knot and NSD follow as secondaries, and a plain query is asked 100 times a second, with a bare UDP echo beside it. In the last
-# minute there is one update a second. At the end both secondaries must hold the server's zone record by record, memory and descriptors must be those of
-# the first minute, no reply may be one that its request doesn't allow, and in each minute the 99th percentile of the plain query's time must be at most
-# 20 ms above the echo's. Status 1 where one isn't so. It listens on 127.0.0.1 alone, and ends what it starts.
-# Usage: [DNSD=PROGRAM] bench/hostile.sh [--minutes N] [--updates N] [--port N] [--seed N]
-#   by default 60 minutes, 5000 updates a second, ports 15653 to 15656, and seed 1
+# Lets `dnsd serve` of four workers run for a while under all at once that is hostile to it:
+# - the dearest messages, updates and transfers of bench/worst.py (bench/hostile_dear.py), over sets that the zone has for them: each kind once a second, and each of
+#   the seven that hold updates up for more than 20 ms once in ten seconds; what they change is undone, and they change nothing in the last minute; the zone in whole
+#   once a second, of which 2,000 names have 112 labels, of half of them with the octet 1, and what changed in five to eight versions four times a second;
+# - mutated requests over UDP and TCP (tests/mutate.c), 500 connections that send an octet a second or never read and 500 that are idle;
+# - 5,000 updates a second, of which a third are refused; in the last minute one a second;
+# - Knot and NSD as secondaries that follow, and a plain query 100 times a second, with a bare UDP echo beside it.
+# Status 1 unless nine tenths of these updates, of a third that are refused, and of the dear ones are reached; both secondaries take what changed, and
+# nothing in whole, from ten seconds into the last minute on, and hold at the end the server's zone record by record; memory and descriptors in the last minute are those of the first
+# (2 in 100 and 1 MiB, and 20); no reply is one that its request doesn't allow; and in each minute the 99th percentile of the plain query's time is at most 20 ms
+# above the echo's. It listens on 127.0.0.1 alone, and ends what it starts.
+# Usage: [DNSD=PROGRAM] bench/hostile.sh [--minutes N] [--updates N] [--dear N] [--port N] [--seed N]
+#   by default 60 minutes, 5000 updates a second, each dear kind once a second, ports 15653 to 15656, and seed 1
 # It needs python3, a C compiler (`cc` or $CC), and Debian's knot, nsd and bind9-dnsutils; `ulimit -n` of 4,096. `make dnsd` builds the program.
 set -euo pipefail
 cd "$(dirname "$0")/.."
@@ -14,12 +19,14 @@ cd "$(dirname "$0")/.."
 . tests/secondary.sh
 minutes=60
 updates=5000
+dear=1
 port=15653
 seed=1
 while [ $# -gt 0 ]; do
     case $1 in
         --minutes) minutes=$2; shift 2 ;;
         --updates) updates=$2; shift 2 ;;
+        --dear) dear=$2; shift 2 ;;
         --port) port=$2; shift 2 ;;
         --seed) seed=$2; shift 2 ;;
         *) echo "bench: no option $1" >&2; exit 2 ;;
@@ -40,6 +47,7 @@ trap 'kill ${started[@]+"${started[@]}"} 2>/dev/null || true; wait 2>/dev/null |
     echo 'example.test. 60 IN NS ns1.example.test.'
     echo 'ns1.example.test. 60 IN A 192.0.2.1'
     for i in $(seq 0 1999); do echo "h$i.example.test. 60 IN A 192.0.2.$((i % 256))"; done
+    python3 bench/hostile_dear.py
 } >"$work/zone"
 # the program's own lines of the log but for those of updates, of which there are too many
 "$program" serve --listen "127.0.0.1:$port" --workers 4 --allow 127.0.0.1 --notify "127.0.0.1:$((port + 1))" --notify "127.0.0.1:$((port + 2))" "$work/zone" \
@@ -53,12 +61,12 @@ knotd_secondary "$work/knotd" $((port + 1)) "$port"
 sed -i 's/action: transfer/action: [notify, transfer]/' "$work/knotd/knotd.conf"
 knotd -c "$work/knotd/knotd.conf" >"$work/knotd.log" 2>&1 &
 started+=($!)
-nsd_secondary "$work/nsd" "$((port + 2))" "$port" "allow-notify: 127.0.0.1 NOKEY" "${nsd_often[@]}"
+nsd_secondary "$work/nsd" "$((port + 2))" "$port" "allow-notify: 127.0.0.1 NOKEY" "store-ixfr: yes" "ixfr-number: 60" "${nsd_often[@]}"
 nsd -d -c "$work/nsd.conf" >"$work/nsd.log" 2>&1 &
 started+=($!)
 
 status=0
-python3 bench/hostile.py "$server" "$port" "$minutes" "$updates" "$seed" "$work" || status=1
+python3 bench/hostile.py "$server" "$port" "$minutes" "$updates" "$dear" "$seed" "$work" || status=1
 
 # the zone that a server holds, in order
 held() { dig @127.0.0.1 -p "$1" +noall +answer +onesoa example.test. axfr | awk 'NF { $1 = $1; print }' | LC_ALL=C sort; }

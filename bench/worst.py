@@ -55,9 +55,9 @@ def soa(serial):
 class Message:
     """A message that is put together: records by section, and where what is put next will stand (RFC 1035, 4.1)."""
 
-    def __init__(self, flags=QUERY, question=APEX, rtype=A):
+    def __init__(self, flags=QUERY, question=None, rtype=A):
         self.flags = flags
-        self.body = question + struct.pack(">2H", SOA if flags == UPDATE else rtype, IN)
+        self.body = bytearray(question or APEX) + struct.pack(">2H", SOA if flags == UPDATE else rtype, IN)
         self.counts = [0, 0, 0]
 
     def at(self):
@@ -206,27 +206,32 @@ def plain_of_chained(count, size):
     return message.octets(size)
 
 
+def depth():
+    """How many labels of an octet fit in front of the apex, but for one: below `t.` 125."""
+    return (254 - len(APEX)) // 2
+
+
 def comb_query(rtype=NULL):
     """Owners of a label and a pointer to the owner before, up to 126 labels; then the pointer leads to that of 125."""
     message = Message()
     count, places = 0, [12]
     while message.room() >= 14:
         at = message.at()
-        target = places[-1] if len(places) < 126 else places[-2]
+        target = places[-1] if len(places) <= depth() else places[-2]
         if target > 0x3FFF or at > LIMIT - 14:
             break
         message.put(label(b"a") + pointer(target), rtype, section=1)
-        if len(places) < 126:
+        if len(places) <= depth():
             places.append(at)
         count += 1
     return message.octets(), count
 
 
-def deep_query(owner_labels=125):
-    """Owners that all point to a name of 127 labels, with an octet of their own in front."""
+def deep_query():
+    """Owners that all point to a name of 126 labels, with an octet of their own in front."""
     message = Message()
     at = message.at() + 11
-    message.put(b"\0", NULL, data=b"\1a" * owner_labels + b"\1t\0", section=1)
+    message.put(b"\0", NULL, data=b"\1a" * depth() + APEX, section=1)
     count = 1
     while message.room() >= 12:
         message.put(pointer(at), NULL, section=1)
@@ -238,7 +243,7 @@ def long_query():
     """Owners that all point to a name of 255 octets in four labels."""
     message = Message()
     at = message.at() + 11
-    message.put(b"\0", NULL, data=label(b"a" * 63) * 3 + label(b"a" * 59) + b"\1t\0", section=1)
+    message.put(b"\0", NULL, data=label(b"a" * 63) * 3 + label(b"a" * (62 - len(APEX))) + APEX, section=1)
     count = 1
     while message.room() >= 12:
         message.put(pointer(at), NULL, section=1)
@@ -253,7 +258,7 @@ def chained_comb_query():
     data = bytearray()
     target = 12
     step = (0x3FFF - start) // 126
-    for _ in range(125):
+    for _ in range(depth()):
         begin = start + len(data)
         data += b"\1a" + pointer(target)
         target = begin
@@ -295,9 +300,26 @@ def differing(number, message):
     return name(numbered(number))
 
 
+def owner_of(*labels):
+    """One owner: the first in full, the others point to it."""
+    return lambda number, message: name(*labels) if number == 0 else pointer(12 + len(APEX) + 4)
+
+
 def one_owner(number, message):
-    """The first in full, the others point to it."""
-    return name(b"one") if number == 0 else pointer(12 + len(APEX) + 4)
+    return owner_of(b"one")(number, message)
+
+
+def comb_owner():
+    """Owners of a label and a pointer to the owner before, up to 126 labels, and then pointers to the last."""
+    places = [12]
+
+    def owner(_, message):
+        if len(places) > depth():
+            return pointer(places[-1])
+        places.append(message.at())
+        return label(b"a") + pointer(places[-2])
+
+    return owner
 
 
 def address(number):
@@ -312,8 +334,10 @@ def types(number):
 class Case:
     """A dear message and a plain one, with what stands in the zone before and what undoes it."""
 
-    def __init__(self, what, dear, plain, count, before=(), zone="", undo=(), replies=(1, 1), options=()):
+    def __init__(self, what, dear, plain, count, before=(), zone="", undo=(), replies=(1, 1), options=(), plain_count=None):
         self.what, self.dear, self.plain, self.count = what, dear, plain, count
+        # a plain message of fewer records is compared by the record
+        self.scale = count / (plain_count or count)
         self.before, self.zone, self.undo, self.replies, self.options = before, zone, undo, replies, options
 
 
@@ -408,15 +432,17 @@ def filled():
     yield from turned()
 
 
+def by_turns(count, owner):
+    """An update that adds a text and deletes it by turns."""
+    message = Message(UPDATE)
+    for number in range(count):
+        adds = number % 2 == 0
+        message.put(owner(number // 2), TXT, IN if adds else NONE, 60 if adds else 0, b"\1y", section=1)
+    return message.octets()
+
+
 def turned():
     """Updates that add and delete by turns, at owners where large sets stand, which are the same behind them."""
-    def by_turns(count, owner):
-        message = Message(UPDATE)
-        for number in range(count):
-            adds = number % 2 == 0
-            message.put(owner(number // 2), TXT, IN if adds else NONE, 60 if adds else 0, b"\1y", section=1)
-        return message.octets()
-
     texts = "".join('%s TXT "%03d%s" %s\n' % (owner, n, "x" * 252, ('"%s" ' % ("x" * 255)) * 15) for owner in ("aaa", "baa") for n in range(255))
     plain_texts = "".join(f"{numbered(n).decode()} TXT x\n" for n in range(4500))
     plain = lambda n: by_turns(n, lambda turn: name(numbered(turn)))
@@ -424,6 +450,38 @@ def turned():
     for what, owners in (("at a set of 255 of 4,096 octets", 1), ("at two such sets by turns", 2)):
         dear = by_turns(count, lambda turn: name(numbered(turn % owners)))
         yield Case(f"{count} adds and deletions of a text by turns, {what}", padded(dear), padded(plain(count)), count, zone=(texts, plain_texts), undo=None)
+
+
+def fitting():
+    """Updates of as many records as fit, of which fewer fit where each owner is in full: beside such a one by the record. A zone is made anew for each."""
+    zero = lambda number: b""
+    deep = ".".join("a" * depth())
+    sets = lambda owner, count: "".join(f"{owner} TYPE{types(n)} \\# 4 {address(n).hex()}\n" for n in range(count))
+    plain_sets = "".join(f"{numbered(n).decode()} TYPE{types(n)} \\# 4 {address(n).hex()}\n" for n in range(4500))
+    anything = lambda n: ANY
+    combs, one, below = ("at owners of up to 126 labels, a label and a pointer each, and then pointers to the last", comb_owner), ("at one owner", lambda: one_owner), (
+        "at one owner of 126 labels", lambda: owner_of(*[b"a"] * depth()))
+    for (where, owner), what, rtype, rclass, ttl, data, section, zone in (
+        (one, "adds of differing types", types, IN, 60, address, 1, ("", "")),
+        (below, "adds of differing types", types, IN, 60, address, 1, ("", "")),
+        (combs, "adds of differing types", types, IN, 60, address, 1, ("", "")),
+        (one, "deletions of sets that aren't there", types, ALL, 0, zero, 1, ("", "")),
+        (combs, "deletions of sets that aren't there", types, ALL, 0, zero, 1, ("", "")),
+        (combs, "deletions of all", anything, ALL, 0, zero, 1, ("", "")),
+        (one, "deletions of sets that are there", types, ALL, 0, zero, 1, (sets("one", 5458), plain_sets)),
+        (below, "deletions of sets that are there", types, ALL, 0, zero, 1, (sets(deep, 5458), plain_sets)),
+        (combs, "deletions of sets of which most are there", types, ALL, 0, zero, 1, (sets(deep, 5458), plain_sets)),
+        (below, "prerequisites that a set isn't there", types, NONE, 0, zero, 0, ("", "")),
+        (combs, "prerequisites that a set isn't there", types, NONE, 0, zero, 0, ("", "")),
+        (below, "prerequisites that a name isn't in use", anything, NONE, 0, zero, 0, ("", "")),
+        (combs, "prerequisites that a name isn't in use", anything, NONE, 0, zero, 0, ("", "")),
+        (below, "prerequisites that sets are there", types, ALL, 0, zero, 0, (sets(deep, 5458), plain_sets)),
+        (below, "prerequisites of class IN that hold", types, IN, 0, address, 0, (sets(deep, 5458), plain_sets)),
+    ):
+        plain = lambda n: update_of(n, differing, rtype, rclass, ttl, data, section)
+        dear = lambda n: update_of(n, owner(), rtype, rclass, ttl, data, section)
+        count, plain_count = fitted(dear), fitted(plain)
+        yield Case(f"{count} {what}, {where}; beside {plain_count} by the record", padded(dear(count)), padded(plain(plain_count)), count, zone=zone, undo=None, plain_count=plain_count)
 
 
 def aliases():
@@ -520,7 +578,7 @@ def measure_cases(program, cases, rounds):
                     server.end()
                 costs.append((min(own), got[-1][3] & 15))
             (dear, code), (plain, plain_code) = costs
-            told(case.what, dear, plain, None, f" (codes {code}, {plain_code})")
+            told(case.what, dear, plain * case.scale, None, f" (codes {code}, {plain_code})")
             continue
         server = Server(program, small_zone(zones[0]))
         (dear, plain, base), codes = least(server, [case.dear, case.plain, silent(len(case.dear))], rounds, case.undo, case.replies)
@@ -598,7 +656,7 @@ def measure_transfers(program, rounds):
 def main():
     program = sys.argv[1]
     rounds = int(sys.argv[2])
-    kinds = sys.argv[3:] or ["queries", "updates", "filled", "aliases", "transfers"]
+    kinds = sys.argv[3:] or ["queries", "updates", "filled", "fitting", "aliases", "transfers"]
     print("   dear, us     plain, us   ratio     net  (microseconds of the server's processor time; net: both without the receipt of as many octets)")
     for kind in kinds:
         if kind == "queries":
@@ -607,6 +665,8 @@ def main():
             measure_cases(program, updates(), rounds)
         elif kind == "filled":
             measure_cases(program, filled(), rounds)
+        elif kind == "fitting":
+            measure_cases(program, fitting(), rounds)
         elif kind == "aliases":
             measure_aliases(program, rounds)
         elif kind == "transfers":
