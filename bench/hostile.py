@@ -22,7 +22,7 @@ BOUND = 20
 # how long the secondaries have to catch up once the rate has fallen, in seconds
 SETTLED = 10
 # when in the first minute no updates come for a while, and for how long: the versions that are kept are then the largest, as in the last minute
-PAUSE, PAUSED = 44, 5
+PAUSES, PAUSED = (12, 22, 32, 42), 4
 
 
 def framed(message):
@@ -98,7 +98,7 @@ def updater(port, rate, begin, end, slow_from, told):
         return head(n, 1, 1) + b"\3ns1\xc0\x0c" + struct.pack(">2HIH", 255, 254, 0, 0) + owner(number) + struct.pack(">2HIH4B", 1, 1, 60, 4, 10, 9, 8, 7), 6
 
     sent = taken = refused = servfail = 0
-    began, fast, pause = begin, None, begin + PAUSE
+    began, fast, pauses = begin, None, [begin + at for at in PAUSES]
     waiting, n = {}, 0
     while time.time() < end:
         now = time.time()
@@ -106,9 +106,10 @@ def updater(port, rate, begin, end, slow_from, told):
             fast = fast or (taken, refused)
             time.sleep(max(0.0, 1 - (time.time() - now)))
             batch = 1
-        elif now >= pause:
+        elif pauses and now >= pauses[0]:
             time.sleep(PAUSED)
-            began, pause = began + time.time() - now, end
+            began += time.time() - now
+            pauses.pop(0)
             continue
         else:
             batch = min(16, max(0, int(rate * (now - began)) - sent))
@@ -144,7 +145,7 @@ def updater(port, rate, begin, end, slow_from, told):
     for what, count in (("updates taken", taken), ("updates refused", refused), ("updates told SERVFAIL", servfail)):
         told.put(("count", what, count))
     taken, refused = fast or (taken, refused)
-    told.put(("floor", "updates that got their reply", taken + refused, rate * (slow_from - begin - PAUSED)))
+    told.put(("floor", "updates that got their reply", taken + refused, rate * (slow_from - begin - PAUSED * len(PAUSES))))
     told.put(("floor", "updates that were refused", refused, (taken + refused) / 3))
 
 
@@ -316,7 +317,7 @@ def started(port, messages, rates, seed, work, times, told):
             (echo, (port + 3,)),
             (probed, (port, port + 3, end)),
             (hostile_dear.ask_dear, (port, dear, asked, end)),
-            (hostile_dear.change_dear, (port, dear, changing, slow_from, begin + PAUSE + 0.5)),
+            (hostile_dear.change_dear, (port, dear, changing, slow_from, [begin + at + 0.3 for at in PAUSES])),
             (hostile_dear.transfers, (port, 1, end)),
             (updater, (port, rate, begin, end, slow_from)),
             (connections, (port, ["idle"] * 500, end)),

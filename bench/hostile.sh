@@ -4,7 +4,8 @@
 #   the seven that hold updates up for more than 20 ms once in ten seconds; what they change is undone, and they change nothing in the last minute; the zone in whole
 #   once a second, of which 2,000 names have 112 labels, of half of them with the octet 1, and what changed in five to eight versions four times a second;
 # - mutated requests over UDP and TCP (tests/mutate.c), 500 connections that send an octet a second or never read and 500 that are idle;
-# - 5,000 updates a second, of which a third are refused; in the last minute one a second;
+# - 5,000 updates a second, of which a third are refused, but for four pauses of 4 seconds in the first minute, in which what the kept versions changed is as large as
+#   at the end; in the last minute one a second;
 # - Knot and NSD as secondaries that follow, and a plain query 100 times a second, with a bare UDP echo beside it.
 # Status 1 unless nine tenths of these updates, of a third that are refused, and of the dear ones are reached; both secondaries take what changed, and
 # nothing in whole, from ten seconds into the last minute on, and hold at the end the server's zone record by record; memory and descriptors in the last minute are those of the first

@@ -188,13 +188,13 @@ class Changer:
             self.send(message, WIDEST)
 
 
-def change_dear(port, rate, updates, end, pause, told):
-    """Dear updates, each kind so many times a second, and behind each what undoes it; at the end, and once before, what makes what changed the widest."""
+def change_dear(port, rate, updates, end, pauses, told):
+    """Dear updates, each kind so many times a second, and behind each what undoes it; in some pauses and at the end what makes what changed the widest."""
     changer, sent, began = Changer(port, told), 0, time.time()
     for number, (message, undo, _) in rounds(end, rate, updates):
-        if time.time() >= pause:
+        if pauses and time.time() >= pauses[0]:
             changer.widen(updates)
-            pause = end
+            pauses.pop(0)
         changer.send(message, number)
         if undo:
             changer.send(undo, number)

@@ -1,15 +1,30 @@
 #!/usr/bin/env python3
-"""Searches for messages that cost more than those of bench/worst.py: it draws messages from a grammar of chains, combs, deep and long names, labels, classes, types
-and data, of queries and of updates, changes the dearest ones found so far a little, and prints each that is dearer, by turns for queries, for updates that are
-refused by their prerequisites, and for updates that are made. Dearness is the processor time of the server's threads to that of a plain message of as many
-octets and records of the same kinds, whose names are in full and differ.
-Usage: bench/worst_search.py PROGRAM SECONDS SEED. A draw is told by its seed and its place, and prints its whole description."""
+"""Searches for what costs more than the rows of bench/worst.py: it draws from a grammar, changes the dearest ones found so far a little, and prints each that
+is dearer, by turns of six kinds: queries; updates that are refused by their prerequisites; updates that are made; queries that lead through 16 aliases; transfers
+of a zone in whole, and of what changed. Messages have chains, combs, deep and long names, labels, classes, types and data; zones have names that are deep,
+long, combs, or of octets that stand for others. Dearness is the processor time of the server's threads to that
+
+- of a plain message of as many octets and records of the same kinds, whose names are in full and differ; where fewer of these fit, by the record;
+- of 17 plain queries of such names, whose replies have together as many octets as the one of 16 aliases;
+- of a transfer of plain names with as many octets of reply.
+
+Usage: bench/worst_search.py PROGRAM SECONDS SEED. A draw is told by its seed and its place, and prints its whole description. At the end stands the dearest
+of each kind; status 1 where one is dearer than ten times."""
 import random
 import struct
 import sys
 import time
 
-from worst import ALL, APEX, CNAME, IN, LIMIT, MX, NONE, NS, NULL, QUERY, SOA, SRV, TXT, UPDATE, A, ANY, Message, Server, label, name, numbered, pointer, silent
+from worst import (
+    ALL, APEX, CNAME, IN, LIMIT, MX, NONE, NS, NULL, QUERY, SOA, SRV, TXT, UPDATE, A, ANY, Message, Server, Transfer,
+    axfr_request, comb_owner, ixfr_request, label, name, numbered, pointer, small_zone,
+)
+
+# how many times as dear as a plain one anything may be
+BOUND = 10
+KINDS = ("query", "check", "act", "aliases", "axfr", "ixfr")
+# below so many microseconds what a message costs isn't told from its receipt
+LEAST = {"query": 200, "check": 500, "act": 500, "aliases": 5, "axfr": 50, "ixfr": 50}
 
 # what stands in the zone: an owner of 256 addresses, one of 300 sets, one with texts of 4,096 octets, deep names, and plain ones
 DEEP = ".".join("a" * 100)
@@ -23,6 +38,27 @@ OWNERS = [b"one", b"two", b"tre", b"new"]
 
 
 def drawn(rng, kind):
+    """What a message is like, or the zone that is sent."""
+    return drawn_names(rng, kind) if kind in ("aliases", "axfr", "ixfr") else drawn_message(rng, kind)
+
+
+def drawn_names(rng, kind):
+    """What the names of a zone are like, and the data of its records."""
+    return {
+        "kind": kind,
+        "labels": rng.choice([0, 1, 3, 20, 60, 110, 117, rng.randrange(118)]),
+        "length": rng.choice([1, 1, 1, 2, 3, 8, 30, 60]),
+        "octet": rng.choice(["a", "a", "\\001", "\\000", "\\255", "\\.", "A", "aA", "\\001a", "any"]),
+        "differs": rng.choice(["first", "last", "middle", "each", "comb", "tail"]),
+        "own": rng.choice([1, 2, 3, 8, 40]),
+        "type": rng.choice(["A", "MX", "NS", "SRV", "TXT", "CNAME", "TYPE999"]),
+        "target": rng.choice(["same", "other", "apex"]),
+        "at": rng.choice([1, 1, 2, 16, 128]),
+        "records": rng.choice([100, 500, 2000, 4000]),
+    }
+
+
+def drawn_message(rng, kind):
     """What a message is like."""
     return {
         "kind": kind,
@@ -30,14 +66,14 @@ def drawn(rng, kind):
         "front_size": rng.choice([100, 1000, 4000, 16000, rng.randrange(20, 16300)]),
         "tooth": rng.choice([1, 1, 1, 2, 5, 30, 63]),
         "hops": rng.choice([0, 1, 4, 60]),
-        "owner": rng.choice(["end", "end", "label end", "comb", "any place", "one", "one", "full", "deep below"]),
+        "owner": rng.choice(["end", "end", "label end", "comb", "any place", "one", "one", "full", "deep below", "deepest", "whole comb"]),
         "one": rng.randrange(4),
         "section": rng.choice([0, 1, 2]) if kind == "query" else 0 if kind == "check" else 1,
         "types": rng.choice([[A], [NULL], [1000], [MX], [NS], [CNAME], [SRV], [SOA], [TXT], [A, MX], [ANY], "differ"]),
         "class": rng.choice([IN, IN, ALL, NONE]),
         "ttl": rng.choice([0, 60]),
         "data": rng.choice(["none", "differ", "same", "end", "long text"]),
-        "records": rng.choice([500, 2000, 4096, 5458]),
+        "records": rng.choice([500, 2000, 4094, 5400, 5458]),
         "turns": rng.choice([False, False, True]),
     }
 
@@ -107,7 +143,7 @@ def made(own, count, is_plain):
     places = put_front(message, own) if not is_plain else None
     last = places[-1] if places else 12
     owner_at = None
-    comb = list(places or [12])
+    comb, whole_comb = list(places or [12]), comb_owner()
     for number in range(count):
         types = own["types"]
         rtype = 1000 + number if types == "differ" else types[number % len(types)]
@@ -115,7 +151,8 @@ def made(own, count, is_plain):
         if own["turns"] and own["kind"] == "act" and number % 2:
             rclass = ALL
         if is_plain:
-            owner = name(numbered(number))
+            # names of four octets aren't in the zone, so that a prerequisite that something isn't there holds
+            owner = name(numbered(number, 4 if own["kind"] == "check" and rclass == NONE else 3))
         elif own["owner"] == "end":
             owner = pointer(last)
         elif own["owner"] == "label end":
@@ -129,8 +166,10 @@ def made(own, count, is_plain):
         elif own["owner"] == "one":
             owner = pointer(owner_at) if owner_at else name(OWNERS[own["one"]])
             owner_at = owner_at or (message.at() if message.at() < 0x3FFF else None)
-        elif own["owner"] == "deep below":
-            owner = pointer(owner_at) if owner_at else b"\1a" * 100 + name(numbered(1))
+        elif own["owner"] == "whole comb":
+            owner = whole_comb(number, message)
+        elif own["owner"] in ("deep below", "deepest"):
+            owner = pointer(owner_at) if owner_at else b"\1a" * 100 + name(numbered(1)) if own["owner"] == "deep below" else b"\1a" * 125 + APEX
             owner_at = owner_at or (message.at() if message.at() < 0x3FFF else None)
         else:
             owner = name(numbered(number))
@@ -145,17 +184,11 @@ def made(own, count, is_plain):
 
 
 def pair(own):
-    """A dear message and a plain one, of as many records and octets."""
-    plain, count = made(own, own["records"], True)
-    dear, got = made(own, count, False)
-    if got != count:
-        plain, count = made(own, got, True)
-        dear, _ = made(own, count, False)
-    if own["front"] != "none" and own["kind"] == "query" and len(plain) + 11 <= LIMIT:
-        # the plain one has a record of as much data in front too, as far as there is room
-        pass
+    """A dear message and a plain one of as many octets, and the number of records of each."""
+    dear, count = made(own, own["records"], False)
+    plain, fitting = made(own, count, True)
     size = max(len(dear), len(plain))
-    return dear + bytes(size - len(dear)), plain + bytes(size - len(plain)), count
+    return dear + bytes(size - len(dear)), plain + bytes(size - len(plain)), (count, fitting)
 
 
 def cost_of(program, server, own, messages):
@@ -177,42 +210,228 @@ def cost_of(program, server, own, messages):
     return costs
 
 
+def label_of(own, rng):
+    """A label of the grammar, as text: so many octets, or one more."""
+    octets = own["octet"] if own["octet"] != "any" else rng.choice(["a", "\\001", "\\255", "B"])
+    each = 2 if octets in ("aA", "\\001a") else 1
+    return octets * -(-own["length"] // each)
+
+
+def names_of(own, count):
+    """So many names of the grammar below the apex, as text: they differ in a label of their own."""
+    rng = random.Random(0)
+    mark = max(own["own"], 3)
+    labels = [label_of(own, rng) for _ in range(own["labels"])]
+    while labels and len(wire_of(".".join(labels))) + mark + 1 > 255:
+        labels.pop()
+    most = len(labels)
+    place = {"first": 0, "last": most, "middle": most // 2}.get(own["differs"], 0)
+    for number in range(count):
+        own_label = numbered(number, 3).decode() + "x" * (mark - 3)
+        if own["differs"] == "tail":
+            own_label = "x" * (mark - 3) + numbered(number, 3).decode()
+        if own["differs"] == "each":
+            step = number % (most + 1)
+            yield ".".join([*labels[:step], own_label, *labels[step:]])
+        elif own["differs"] == "comb":
+            yield ".".join([*labels[: number % (most + 1)], own_label if number > most else "c"])
+        else:
+            yield ".".join([*labels[:place], own_label, *labels[place:]])
+
+
+def records_of(own):
+    """The records of a drawn zone, as lines of its text."""
+    names = list(names_of(own, own["records"] + 7))
+    for number in range(own["records"]):
+        owner = names[number // own["at"] * own["at"]]
+        target = {"same": owner, "other": names[number + 7], "apex": "@"}[own["target"]]
+        data = {
+            "A": f"10.{number >> 16}.{number >> 8 & 255}.{number & 255}", "MX": f"{number & 255} {target}", "NS": target, "CNAME": target, "SRV": f"1 2 {number & 255} {target}",
+            "TXT": f'"{number}"', "TYPE999": f"\\# 4 {number:08x}",
+        }[own["type"]]
+        yield owner, f"{owner} {own['type']} {data}"
+
+
+def transfer_cost(server, request, closing):
+    """The least of three costs of a transfer, and its octets."""
+    transfer = Transfer(server, request)
+    transfer.closing = closing
+    got = [transfer.cost() for _ in range(3)]
+    if got[0][3] < 3:
+        raise ValueError("no transfer")
+    return min(one[0] for one in got), got[0][1]
+
+
+CLOSING = lambda serial: struct.pack(">5I", serial, 7200, 900, 1209600, 300)
+plain_costs = {}
+
+
+def plain_transfer(program, octets):
+    """What a transfer of plain names with as many octets of reply costs: of 20 octets a record."""
+    step = 250 if octets > 5000 else 25
+    count = max(3, round(octets / 20 / step) * step)
+    if count not in plain_costs:
+        server = Server(program, small_zone("".join(f"{numbered(n).decode()} A 10.0.{n >> 8 & 255}.{n & 255}\n" for n in range(count))))
+        plain_costs[count] = transfer_cost(server, axfr_request(), CLOSING(1))
+        server.end()
+    cost, got = plain_costs[count]
+    return cost * octets / got
+
+
+def added(server, lines):
+    """Has a zone's records added by updates, and tells how many versions that made; their octets are asked of a server that has them."""
+    versions = 0
+    for message in lines:
+        reply = server.ask(message)[0]
+        if reply[3] & 15:
+            raise ValueError("an update is refused")
+        versions += 1
+    return versions
+
+
+def wire_of(text):
+    """A name's octets, of its text below the apex."""
+    octets, current, at = b"", b"", 0
+    while at <= len(text):
+        if at == len(text) or text[at] == ".":
+            octets += label(current)
+            current, at = b"", at + 1
+        elif text[at] == "\\":
+            is_number = text[at + 1].isdigit()
+            current += bytes([int(text[at + 1 : at + 4])]) if is_number else text[at + 1].encode()
+            at += 4 if is_number else 2
+        else:
+            current, at = current + text[at].encode(), at + 1
+    return octets + APEX
+
+
+def updates_of(own):
+    """Updates that add the zone's addresses, 8 of them, each with its part of the names."""
+    names = list(dict.fromkeys(names_of(own, own["records"])))
+    part = -(-len(names) // 8)
+    for first in range(0, len(names), part):
+        message = Message(UPDATE)
+        for number, text in enumerate(names[first : first + part]):
+            owner = wire_of(text)
+            if message.room() < len(owner) + 14:
+                break
+            message.put(owner, A, IN, 60, struct.pack(">I", 0x0A000000 + first + number), section=1)
+        yield message.octets()
+
+
+def cost_of_transfer(program, own):
+    """The cost of a drawn transfer, and of a plain one of as many octets."""
+    if own["kind"] == "axfr":
+        server = Server(program, small_zone("".join(f"{line}\n" for line in dict.fromkeys(line for _, line in records_of(own)))))
+        request, closing = axfr_request(), CLOSING(1)
+    else:
+        server = Server(program, small_zone())
+        versions = added(server, updates_of(own))
+        request, closing = ixfr_request(1), CLOSING(1 + versions)
+    try:
+        cost, octets = transfer_cost(server, request, closing)
+    finally:
+        server.end()
+    return cost, plain_transfer(program, octets), octets
+
+
+def cost_of_aliases(program, own):
+    """The cost of a query that leads through 16 aliases, and of 17 plain ones whose replies have as many octets together."""
+    names = list(names_of({**own, "differs": own["differs"] if own["differs"] != "comb" else "each"}, 18))
+    zone = "".join(f"{one} CNAME {other}\n" for one, other in zip(names, names[1:17])) + f"{names[16]} A 10.0.0.1\n"
+    query = lambda text: Message(question=wire_of(text)).octets()
+
+    def measured(zone, message):
+        server = Server(program, small_zone(zone))
+        server.connected()
+        framed = (struct.pack(">H", len(message)) + message) * 50
+        own_costs = []
+        for _ in range(3):
+            before = server.spent()
+            server.stream.sendall(framed)
+            for _ in range(50):
+                reply = server.taken(struct.unpack(">H", server.taken(2))[0])
+            own_costs.append((server.spent() - before) / 50_000)
+        server.end()
+        return min(own_costs), len(reply), struct.unpack(">H", reply[6:8])[0]
+
+    cost, octets, records = measured(zone, query(names[0]))
+    if records != 17:
+        raise ValueError("not 16 aliases")
+    question = len(query(names[17]))
+    addresses = max(1, min(200, -(-(octets // 17 - question) // 16)))
+    plain, own_octets, _ = measured("".join(f"{names[17]} A 10.0.0.{n}\n" for n in range(addresses)), query(names[17]))
+    return cost, 17 * plain, (octets, 17 * own_octets)
+
+
+class Search:
+    """The dearest of each kind so far, and a server that stays for what changes nothing."""
+
+    def __init__(self, program, seed):
+        self.program, self.rng = program, random.Random(seed)
+        self.server = Server(program, ZONE)
+        self.best = {kind: [] for kind in KINDS}
+        self.tried = {kind: 0 for kind in KINDS}
+
+    def cost(self, own):
+        """What a draw costs, the plain one, and what is told of it; nothing of one that can't be compared."""
+        if own["kind"] == "aliases":
+            cost, plain, octets = cost_of_aliases(self.program, own)
+            return cost, plain, f"reply of {octets[0]} octets, 17 of {octets[1]}"
+        if own["kind"] in ("axfr", "ixfr"):
+            cost, plain, octets = cost_of_transfer(self.program, own)
+            return cost, plain, f"{octets} octets"
+        dear, plain, (count, fitting) = pair(own)
+        if count == 0 or fitting == 0:
+            raise ValueError("no records")
+        (cost, code), (plain_cost, plain_code) = cost_of(self.program, self.server, own, (dear, plain))
+        if code != plain_code:
+            raise ValueError("another code: not as far as the plain one")
+        return cost, plain_cost * count / fitting, f"code {code}; {count} records, plain {fitting}; {len(dear)} octets"
+
+    def step(self, turn):
+        kind = KINDS[turn % len(KINDS)]
+        known = self.best[kind]
+        own = changed(self.rng, self.rng.choice(known)[1]) if known and self.rng.random() < 0.6 else drawn(self.rng, kind)
+        try:
+            cost, plain, more = self.cost(own)
+            if cost < LEAST[kind] or len(known) == 8 and cost / max(plain, 1) <= known[-1][0]:
+                self.tried[kind] += 1
+                return
+            # once more, since what else the machine does can only add to it
+            again = self.cost(own)
+        except (AssertionError, OSError, struct.error, ValueError, SystemExit) as fault:
+            if kind in ("query", "check", "act") and not isinstance(fault, ValueError):
+                self.server.end()
+                self.server = Server(self.program, ZONE)
+            return
+        self.tried[kind] += 1
+        self.keep(kind, own, min(cost, again[0]), min(plain, again[1]), f"{more}; draw {turn} {own}")
+
+    def keep(self, kind, own, cost, plain, more):
+        """Keeps a draw among the dearest eight, and prints it if none is dearer."""
+        known, ratio = self.best[kind], cost / max(plain, 1)
+        told = f"{cost:10.0f} {plain:10.0f} {ratio:8.1f}  {more}"
+        if not known or ratio > known[0][0]:
+            print(f"{kind:8}{told}", flush=True)
+        known.append((ratio, own, told))
+        known.sort(key=lambda one: -one[0])
+        del known[8:]
+
+
 def main():
     program, seconds, seed = sys.argv[1], float(sys.argv[2]), int(sys.argv[3])
-    rng = random.Random(seed)
-    server = Server(program, ZONE)
-    kinds = ("query", "check", "act")
-    best = {kind: [] for kind in kinds}
-    tried = {kind: 0 for kind in kinds}
-    end = time.time() + seconds
-    print(f"seed {seed}, {seconds:.0f} s; microseconds of the server's processor time: dear, plain, ratio, codes, records, octets, what", flush=True)
-    turn = 0
+    print(f"seed {seed}, {seconds:.0f} s; microseconds of the server's processor time: dear, plain, ratio, what", flush=True)
+    search, end, turn = Search(program, seed), time.time() + seconds, 0
     while time.time() < end:
-        kind = kinds[turn % 3]
+        search.step(turn)
         turn += 1
-        known = best[kind]
-        own = changed(rng, rng.choice(known)[1]) if known and rng.random() < 0.6 else drawn(rng, kind)
-        try:
-            dear, plain, count = pair(own)
-            if count == 0:
-                continue
-            (cost, code), (plain_cost, plain_code) = cost_of(program, server, own, (dear, plain))
-        except (AssertionError, OSError, struct.error, ValueError, ConnectionError):
-            server.end()
-            server = Server(program, ZONE)
-            continue
-        tried[kind] += 1
-        ratio = cost / max(plain_cost, 1)
-        # what one octet of the message costs beside the plain one's counts, for messages that cost a millisecond and more
-        if cost > 1000 and (not known or ratio > known[-1][0] or len(known) < 8):
-            if not known or ratio > known[0][0]:
-                print(f"{cost:10.0f} {plain_cost:10.0f} {ratio:8.1f} {code},{plain_code} {count} {len(dear)} {turn} {own}", flush=True)
-            known.append((ratio, own))
-            known.sort(key=lambda it: -it[0])
-            del known[8:]
-    print(f"tried: {tried}; the dearest: {({kind: round(own[0][0], 1) for kind, own in best.items() if own})}")
-    server.end()
+    search.server.end()
+    dearest = {kind: own[0] for kind, own in search.best.items() if own}
+    for kind in KINDS:
+        print(f"{kind}: {search.tried[kind]} tried; the dearest: {dearest[kind][2] if kind in dearest else 'none that costs enough to be told'}")
+    return 1 if any(ratio > BOUND for ratio, _, _ in dearest.values()) else 0
 
 
 if __name__ == "__main__":
-    main()
+    sys.exit(main())
