@@ -648,6 +648,7 @@ def measure_transfers(program, rounds):
         ("names of 112 labels, which differ in the first", "".join(f"{numbered(n, 3).decode()}.{deep} A 10.0.0.1\n" for n in range(2000))),
         ("names of 112 labels of octet 1, which differ in the first", "".join(f"{numbered(n, 3).decode()}.{escaped} A 10.0.0.1\n" for n in range(2000))),
         ("mail exchanges of 112 labels, which differ in the last but one, at one owner", "".join(f"m MX 1 {deep}.{numbered(n, 3).decode()}\n" for n in range(100))),
+        ("names of 92 labels, of which the last but one differs in its first octets alone", "".join(f"{'a.' * 90}{numbered(n, 3).decode()}{'x' * 17} A 10.0.0.1\n" for n in range(2000))),
         ("names whose last labels end alike", "".join(f"{letters[n % 36]}{numbered(n, 3).decode()}{'x' * 40} A 10.0.0.1\n" for n in range(2000))),
     ):
         show(f"AXFR of {what}", run(zone, (), axfr_request(), end(1)))
