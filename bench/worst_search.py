@@ -356,7 +356,7 @@ def cost_of_aliases(program, own):
         return min(own_costs), len(reply), struct.unpack(">H", reply[6:8])[0]
 
     cost, octets, records = measured(zone, query(names[0]))
-    if records != 17:
+    if records < 16:
         raise ValueError("not 16 aliases")
     question = len(query(names[17]))
     addresses = max(1, min(200, -(-(octets // 17 - question) // 16)))
@@ -385,8 +385,8 @@ class Search:
         if count == 0 or fitting == 0:
             raise ValueError("no records")
         (cost, code), (plain_cost, plain_code) = cost_of(self.program, self.server, own, (dear, plain))
-        if code != plain_code:
-            raise ValueError("another code: not as far as the plain one")
+        if code != plain_code or code == 1:
+            raise ValueError("not as far as the plain one, or not read")
         return cost, plain_cost * count / fitting, f"code {code}; {count} records, plain {fitting}; {len(dear)} octets"
 
     def step(self, turn):
