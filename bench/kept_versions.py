@@ -37,16 +37,16 @@ def counted(work, zone, keep, updates):
     os.environ.update(LD_PRELOAD=f"{work}/counted.so", COUNTED=path)
     server = Server(program, zone, "--keep", str(keep))
     del os.environ["LD_PRELOAD"]
-    for message in updates:
-        if server.ask(message)[0][3] & 15:
+    try:
+        if any(server.ask(message)[0][3] & 15 for message in updates):
             sys.exit("bench: an update is refused")
-    if server.stream:
-        server.stream.close()
-    server.spent()
-    with open(path, "rb") as file:
-        now, most = struct.unpack("2q", file.read())
-    server.end()
-    return now, most
+        if server.stream:
+            server.stream.close()
+        server.spent()
+        with open(path, "rb") as file:
+            return struct.unpack("2q", file.read())
+    finally:
+        server.end()
 
 
 def zone_of(records):

@@ -199,8 +199,10 @@ def cost_of(program, server, own, messages):
         for _ in range(2):
             if own["kind"] == "act":
                 fresh = Server(program, ZONE)
-                cost, got = fresh.cost(message)
-                fresh.end()
+                try:
+                    cost, got = fresh.cost(message)
+                finally:
+                    fresh.end()
             else:
                 cost, got = server.cost(message)
             best = cost if best is None else min(best, cost)
@@ -272,8 +274,10 @@ def plain_transfer(program, octets):
     count = max(3, round(octets / 20 / step) * step)
     if count not in plain_costs:
         server = Server(program, small_zone("".join(f"{numbered(n).decode()} A 10.0.{n >> 8 & 255}.{n & 255}\n" for n in range(count))))
-        plain_costs[count] = transfer_cost(server, axfr_request(), CLOSING(1))
-        server.end()
+        try:
+            plain_costs[count] = transfer_cost(server, axfr_request(), CLOSING(1))
+        finally:
+            server.end()
     cost, got = plain_costs[count]
     return cost * octets / got
 
@@ -323,16 +327,26 @@ def cost_of_transfer(program, own):
     """The cost of a drawn transfer, and of a plain one of as many octets."""
     if own["kind"] == "axfr":
         server = Server(program, small_zone("".join(f"{line}\n" for line in dict.fromkeys(line for _, line in records_of(own)))))
-        request, closing = axfr_request(), CLOSING(1)
+        request = axfr_request()
     else:
         server = Server(program, small_zone())
-        versions = added(server, updates_of(own))
-        request, closing = ixfr_request(1), CLOSING(1 + versions)
+        request = ixfr_request(1)
     try:
+        closing = CLOSING(1) if own["kind"] == "axfr" else CLOSING(1 + added(server, updates_of(own)))
         cost, octets = transfer_cost(server, request, closing)
     finally:
         server.end()
     return cost, plain_transfer(program, octets), octets
+
+
+def fifty(server, message):
+    """What one of fifty messages costs that are sent at once, since one is too short, and the reply."""
+    server.connected()
+    before = server.spent()
+    server.stream.sendall((struct.pack(">H", len(message)) + message) * 50)
+    for _ in range(50):
+        reply = server.taken(struct.unpack(">H", server.taken(2))[0])
+    return (server.spent() - before) / 50_000, reply
 
 
 def cost_of_aliases(program, own):
@@ -343,17 +357,11 @@ def cost_of_aliases(program, own):
 
     def measured(zone, message):
         server = Server(program, small_zone(zone))
-        server.connected()
-        framed = (struct.pack(">H", len(message)) + message) * 50
-        own_costs = []
-        for _ in range(3):
-            before = server.spent()
-            server.stream.sendall(framed)
-            for _ in range(50):
-                reply = server.taken(struct.unpack(">H", server.taken(2))[0])
-            own_costs.append((server.spent() - before) / 50_000)
-        server.end()
-        return min(own_costs), len(reply), struct.unpack(">H", reply[6:8])[0]
+        try:
+            costs, reply = zip(*(fifty(server, message) for _ in range(3)))
+        finally:
+            server.end()
+        return min(costs), len(reply[0]), struct.unpack(">H", reply[0][6:8])[0]
 
     cost, octets, records = measured(zone, query(names[0]))
     if records < 16:
