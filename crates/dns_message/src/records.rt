@@ -15,7 +15,7 @@ ghost use Rattle.dns_message.specs.Encoded.{WritesParts, WritesEncoding};
 ghost use Rattle.dns_message.specs.Octets.{questions, question_octets, record_octets};
 
 use crate::data::{put_measured, put_name, put_name_octets};
-use crate::octets::{put_u16, put_u32};
+use crate::octets::{put, put_u16};
 use crate::query::Question;
 use dns_name::Name;
 use dns_rdata::{Class, RRset, RType, Shown, Ttl};
@@ -192,7 +192,9 @@ fn put_record_under(
 fn put_fixed(out: &mut [u8], at: usize, rtype: RType, ttl: Ttl) -> Option<usize>
     ensures { WritesParts out.old out.new at (to_be_bytes w16 rtype.0 ++ to_be_bytes w16 class_IN ++ to_be_bytes w32 ttl.0) result }
 {
-    let at = put_u16(out, at, rtype.0)?;
-    let at = put_u16(out, at, Class::IN.0)?;
-    put_u32(out, at, ttl.0)
+    let [type_high, type_low] = rtype.0.to_be_bytes();
+    let [class_high, class_low] = Class::IN.0.to_be_bytes();
+    let [first, second, third, fourth] = ttl.0.to_be_bytes();
+    let octets = [type_high, type_low, class_high, class_low, first, second, third, fourth];
+    put(out, at, &octets)
 }

@@ -124,7 +124,7 @@ fn is_searched(aliases: &[Shown<'_>], name: &Name) -> bool
     ensures { result ≡ list_any (λ before. is_same before name.now) (searched_before aliases.now) }
 {
     for alias in aliases {
-        if alias.owner.to_name() == *name {
+        if alias.owner.is_same(name) {
             return true;
         }
     }

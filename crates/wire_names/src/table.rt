@@ -60,11 +60,13 @@ impl Positions {
         }
     }
 
-    /// Forgets all positions.
+    /// Forgets all positions. The marks of few keys stay: they are looked at among many keys alone, where a mark too many costs a search.
     pub(crate) fn clear(&mut self)
         ensures { self.new ≡ [] }
     {
-        unmark(&mut self.marks, self.keys.as_slice());
+        if self.keys.len() > FEW {
+            unmark(&mut self.marks);
+        }
         self.positions.clear();
         self.keys.clear();
     }
@@ -193,10 +195,11 @@ fn mark_of(key: u32) -> usize
     (key / KEYS_OF_A_MARK) as usize
 }
 
-/// Takes the marks of keys away.
-fn unmark(marks: &mut [bool; MARKS], keys: &[u32]) {
-    for key in keys {
-        marks[mark_of(*key)] = false;
+/// Takes all marks away. It is a function of its own, since it is seldom called.
+#[inline(never)]
+fn unmark(marks: &mut [bool; MARKS]) {
+    for i in 0..MARKS {
+        marks[i] = false;
     }
 }
 

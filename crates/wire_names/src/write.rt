@@ -176,13 +176,13 @@ impl NameWriter {
             return None;
         }
         let (label, behind) = first_label(octets)?;
-        let (_, _) = first_label(behind)?;
+        let (_first, _rest) = first_label(behind)?;
         let Likely { parent: index, .. } = self.likely;
         if !self.positions.stands(msg, behind, index, true) {
             return None;
         }
-        let (parent, own) = self.positions.entry(index);
-        let key = key_before(own, octets);
+        let (parent, parents_key) = self.positions.entry(index);
+        let key = key_before(parents_key, octets);
         if !self.positions.has_no_key(key) {
             return None;
         }
