@@ -3,6 +3,7 @@ ghost use Rattle.std.specs.Prelude.{All, IsTrue, ◌≡◌, ◌+◌, ◌<◌, �
 ghost use Rattle.dns_name.specs.Labels.{labels_in, IsWhole};
 ghost use Rattle.dns_name.specs.Name.{wire_of, IsName, fold_name, parent_of, name_in, asterisk, is_under, canonical_cmp};
 
+use crate::beside::plain_front;
 use crate::compare::names_order;
 use crate::labels::Labels;
 use crate::octets::{append, ends_in, first_label, first_name, name_len};
@@ -158,6 +159,35 @@ impl Name {
         self.octets.clear();
         put_name_front(&mut self.octets, name.octets());
         self.octets.push(0);
+    }
+
+    /// Becomes a name that a zone keeps, in lower case, where this is the one of another that it keeps. Where both differ in their first label
+    /// alone, and those are as long as each other, that label alone is written.
+    pub fn set_stored_behind(&mut self, before: &StoredName, name: &StoredName)
+        requires { self.old ≡ before.now }
+        ensures name { self.new ≡ name.now }
+        ensures folded { self.new ≡ fold_name self.new }
+        ensures lawful { IsName self.new }
+    {
+        if !self.set_first_label(before.octets(), name.octets()) {
+            self.set_stored(name);
+        }
+    }
+
+    /// Becomes the name that octets stand for, where this is the one that others stand for, and both differ in their first label alone, of as
+    /// many octets, each of which stands for itself; else it stays.
+    fn set_first_label(&mut self, before: &[u8], octets: &[u8]) -> bool
+    {
+        let Some(front) = plain_front(octets) else {
+            return false;
+        };
+        let at = front.len();
+        let len = octets.len() - at - 1;
+        if before.len() != octets.len() || usize::from(self.octets[0]) != len || before[..at] != *front {
+            return false;
+        }
+        self.octets.as_mut_slice()[1..len + 1].copy_from_slice(&octets[at..at + len]);
+        true
     }
 
     /// The label `*` in front of the name; None where that has more than 255 octets (RFC 4592, 2.1.1).
