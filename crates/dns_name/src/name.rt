@@ -183,7 +183,7 @@ impl Name {
         };
         let at = front.len();
         let len = octets.len() - at - 1;
-        if before.len() != octets.len() || usize::from(self.octets[0]) != len || before[..at] != *front {
+        if before.len() != octets.len() || usize::from(self.octets[0]) != len || &before[..at] != front {
             return false;
         }
         self.octets.as_mut_slice()[1..len + 1].copy_from_slice(&octets[at..at + len]);
