@@ -1,7 +1,9 @@
 //! The name itself.
 ghost use Rattle.std.specs.Prelude.{All, IsTrue, ◌≡◌, ◌+◌, ◌<◌, ◌≤◌, List, [], ◌∷◌, ◌++◌, length, drop, take, IsNone, None, Some, IfSome, ◌↔◌, Option, option_map, MatchOption};
+ghost use Rattle.std.specs.Bool.{OnFalse, OnTrue};
 ghost use Rattle.dns_name.specs.Labels.{labels_in, IsWhole};
 ghost use Rattle.dns_name.specs.Name.{wire_of, IsName, fold_name, parent_of, name_in, asterisk, is_under, canonical_cmp};
+ghost use Rattle.dns_name.specs.Stored.{name_stored, IsStored};
 
 use crate::beside::plain_front;
 use crate::compare::names_order;
@@ -177,13 +179,21 @@ impl Name {
     /// Becomes the name that octets stand for, where this is the one that others stand for, and both differ in their first label alone, of as
     /// many octets, each of which stands for itself; else it stays.
     fn set_first_label(&mut self, before: &[u8], octets: &[u8]) -> bool
+        requires own { IsStored before.now }
+        requires others { IsStored octets.now }
+        requires name { self.old ≡ name_stored before.now }
+        ensures set { OnTrue result (self.new ≡ name_stored octets.now) }
+        ensures stays { OnFalse result (self.new ≡ self.old) }
     {
         let Some(front) = plain_front(octets) else {
             return false;
         };
         let at = front.len();
         let len = octets.len() - at - 1;
-        if before.len() != octets.len() || usize::from(self.octets[0]) != len || &before[..at] != front {
+        if before.len() != octets.len()
+            || usize::from(self.octets[0]) != len
+            || &before[..at] != front
+        {
             return false;
         }
         self.octets.as_mut_slice()[1..len + 1].copy_from_slice(&octets[at..at + len]);
