@@ -85,11 +85,21 @@ fn put_shown(out: &mut [u8], at: usize, names: &mut NameWriter, shown: &Shown<'_
 {
     match shown.owner.octets() {
         Some(owner) => put_sets(out, at, names, owner, shown.ttl, shown.sets),
-        None => {
-            let owner = shown.owner.to_name();
-            put_sets(out, at, names, owner.wire(), shown.ttl, shown.sets)
-        }
+        None => put_stored(out, at, names, shown),
     }
+}
+
+/// Writes the records of sets at a position under an owner that stands nowhere in full, as [`put_name`] does. It is a function of its own, since
+/// its room for a name is made at each call.
+#[inline(never)]
+fn put_stored(out: &mut [u8], at: usize, names: &mut NameWriter, shown: &Shown<'_>) -> Option<usize>
+    requires within { at ≤ length out.old }
+    requires most { length out.old < 2 ^ 16 }
+    requires table { IsTable (take at out.old) names.old }
+    ensures { WritesEncoding (each record_octets (records_shown shown.now)) out.old out.new at names.old names.new result }
+{
+    let owner = shown.owner.to_name();
+    put_sets(out, at, names, owner.wire(), shown.ttl, shown.sets)
 }
 
 /// Writes the records of sets at a position, under the owner in these octets and with this TTL where there is one, as [`put_name`] does.
