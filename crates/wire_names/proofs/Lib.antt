@@ -10,5 +10,6 @@ pub mod OverwrittenLemmas
 pub mod PassLemmas
 pub mod PlainLemmas
 pub mod ReadLemmas
+pub mod RuledOutLemmas
 pub mod TableLemmas
 pub mod WrittenLemmas

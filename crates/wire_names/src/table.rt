@@ -1,5 +1,5 @@
 //! The names of a message that pointers can name.
-ghost use Rattle.std.specs.Prelude.{◌≡◌, ◌≢◌, ℕ, ◌+◌, ◌/◌, ◌<◌, ◌^◌, ◌↔◌, ◌++◌, [], length, take, drop, All, IsTrue, IfSome, get_or};
+ghost use Rattle.std.specs.Prelude.{◌≡◌, ◌≢◌, ℕ, ◌+◌, ◌/◌, ◌<◌, ◌≤◌, ◌^◌, ◌↔◌, ◌++◌, [], length, take, drop, All, IsTrue, IfSome, get_or};
 ghost use Rattle.std.specs.Bool.{OnTrue};
 ghost use Rattle.dns_name.specs.Labels.{labels_in, IsWhole};
 ghost use Rattle.wire_names.specs.Spells.{Spells};
@@ -13,7 +13,7 @@ use dns_name::first_label;
 use std::marker::Model;
 
 /// The most positions that a table has (own).
-const MAX_POSITIONS: usize = 256;
+pub(crate) const MAX_POSITIONS: usize = 256;
 
 /// The highest position that a pointer can name, of 14 bits (RFC 1035, 4.1.4).
 const MAX_TARGET: usize = 16383;
@@ -125,7 +125,8 @@ impl Positions {
 
     /// How many positions there are.
     pub(crate) fn count(&self) -> usize
-        ensures { result ≡ length self.now }
+        ensures is { result ≡ length self.now }
+        ensures few { result ≤ MAX_POSITIONS }
     {
         self.keys.len()
     }
@@ -205,7 +206,7 @@ fn unmark(marks: &mut [bool; MARKS]) {
 
 /// Whether the octets at a position spell the name in these octets, case included. Where the keys differ, the message isn't
 /// looked at.
-fn is_spelt(msg: &[u8], position: u16, own: u32, key: u32, octets: &[u8]) -> bool
+pub(crate) fn is_spelt(msg: &[u8], position: u16, own: u32, key: u32, octets: &[u8]) -> bool
     requires entry { IsEntry msg.now (record { position = position; key = own }) }
     requires whole { IsWhole octets.now }
     requires key { key ≡ name_key (labels_in octets.now) }
