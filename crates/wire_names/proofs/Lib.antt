@@ -6,6 +6,7 @@ pub mod KeyLemmas
 pub mod KeySumLemmas
 pub mod LeadsLemmas
 pub mod LongerLemmas
+pub mod NextLemmas
 pub mod OverwrittenLemmas
 pub mod PassLemmas
 pub mod PlainLemmas

@@ -1,5 +1,5 @@
 -- Positions that are ruled out for the rest of a name.
-use Rattle.std.proofs.Common.{◌≡◌, ℕ, ◌+◌, ◌<◌, ◌≤◌, ◌↔◌, IsTrue, Bool, true, false, not, inl, inr, List, [], ◌∷◌, ◌++◌, length, drop, set, replicate, get_or, ⊎_elim, Ok, refl, sym, ap, subst, ◌∙◌, arith}
+use Rattle.std.proofs.Common.{◌≡◌, ℕ, ◌+◌, ◌<◌, ◌≤◌, Bool, true, false, not, inl, inr, List, [], ◌∷◌, ◌++◌, length, drop, set, replicate, get_or, ⊎_elim, Ok, refl, sym, ap, subst, ◌∙◌, arith}
 use Rattle.std.proofs.lemmas.List.{append_assoc, length-append, length-replicate, get_or-replicate, get_or_past, get_or-set_same, get_or-set_other}
 use Rattle.std.proofs.lemmas.Bool.{cases_lt, cases_eq}
 use Rattle.std.proofs.Math.Seq.{drop-append_seam}
@@ -11,7 +11,7 @@ use Rattle.wire_names.specs.Spells.{Spells, closing, label, pointer}
 use Rattle.wire_names.specs.declared.part.Part.TheVariants.{Label, Pointer}
 use Rattle.wire_names.specs.Table.{Entry, IsTable, IsTarget, IsEntry, IsRuledOut, AreRuledOut, spelt_at}
 use Rattle.wire_names.proofs.GrammarLemmas.{once}
-use Rattle.wire_names.proofs.TableLemmas.{Answers, SpellsIn, SpellsAlike, target_spells, spells_label, spells_pointer, alike_label, alike_pointer}
+use Rattle.wire_names.proofs.TableLemmas.{Answers, SpellsAlike, target_spells, spells_label, spells_pointer, alike_label, alike_pointer}
 
 -- a run that began higher spells no less
 spells_up : (msg : List ℕ) (run high at next : ℕ) (name : List (List ℕ)) → run ≤ high → Spells msg run at name next → Spells msg high at name next
@@ -135,11 +135,20 @@ pub answers_known : (msg : List ℕ) (at : ℕ) (name : List (List ℕ)) → IsT
 answers_known msg at name target other =
     (λ e. cc, λ s. let own = target_spells msg at target in absurd (other (once msg at at own.0 s.0 (spelt_at msg at) name own.1 s.1).0))
 
-pub other_known : (msg : List ℕ) (at : ℕ) (name : List (List ℕ)) (b : Bool) → IsTarget msg at → Answers msg at name b → b ≡ false → spelt_at msg at ≡ name → ⊥
-other_known msg at name b target answers differs is =
+other_known : (msg : List ℕ) (at : ℕ) (name : List (List ℕ)) → IsTarget msg at → Answers msg at name false → spelt_at msg at ≡ name → ⊥
+other_known msg at name target answers is =
     let own = target_spells msg at target in
     let yes = answers.1 (own.0, subst (λ (x : List (List ℕ)). Spells msg at at x own.0) is own.1) in
     cc
+
+-- a position that was passed is ruled out where another name is spelt
+pub record Rules (msg : List ℕ) (at : ℕ) (name : List (List ℕ)) (b : Bool) (Known : Type 0) : Type 0 where
+  pub spells : Answers msg at name b
+  pub known : b ≡ false → Known
+
+pub rules : (msg : List ℕ) (at : ℕ) (name : List (List ℕ)) (b : Bool) (Known : Type 0) → IsTarget msg at → ((spelt_at msg at ≡ name → ⊥) → Known) → Answers msg at name b → Rules msg at name b Known
+rules msg at name true Known target known answers = record { spells = answers; known = λ e. cc }
+rules msg at name false Known target known answers = record { spells = answers; known = λ e. known (other_known msg at name target answers) }
 
 -- an entry of a table, and what it doesn't spell
 pub entry_at : (msg : List ℕ) (entries : List Entry) (i : ℕ) (d entry : Entry) → IsTable msg entries → i < length entries → entry ≡ get_or entries i d → IsEntry msg entry

@@ -1,5 +1,5 @@
 -- The table of a message's names that pointers can name (RFC 1035, 4.1.4).
-use Rattle.std.specs.Prelude.{◌≡◌, true, false, ℕ, ◌+◌, ◌-◌, ◌*◌, ◌/◌, ◌%◌, ◌^◌, ◌<◌, Bool, ◌&&◌, List, [], ◌∷◌, ◌++◌, length, map, min, All, AllPairs, slice_index_or, nat_lt, nat_le, if◌then◌else◌, Option, Some, Ok, Err, bytes_eq}
+use Rattle.std.specs.Prelude.{◌≡◌, true, false, ℕ, ◌+◌, ◌-◌, ◌*◌, ◌/◌, ◌%◌, ◌^◌, ◌<◌, ◌≤◌, Bool, ◌&&◌, List, [], ◌∷◌, ◌++◌, length, map, min, All, AllPairs, slice_index_or, nat_lt, nat_le, if◌then◌else◌, Option, Some, Ok, Err, bytes_eq}
 use Rattle.std.specs.List.{filter, reduce}
 use Rattle.std.specs.Cmp.Lexicographic.{pointwise}
 use Rattle.std.specs.Result.{IsOk}
@@ -77,6 +77,21 @@ abbrev pub with_keys : List ℕ → List ℕ → List Entry
 with_keys [] keys = []
 with_keys (at ∷ positions) [] = []
 with_keys (at ∷ positions) (key ∷ keys) = record { position = at; key = key } ∷ with_keys positions keys
+
+-- the keys of entries
+abbrev pub keys_of : List Entry → List ℕ
+keys_of entries = map (λ entry. entry.key) entries
+
+-- a key stands at no index from one up to another
+abbrev pub IsNowhere : List ℕ → ℕ → ℕ → ℕ → Type 0
+IsNowhere keys key from end = (i : ℕ) → from ≤ i → i < end → slice_index_or keys i 0 ≡ key → ⊥
+
+-- a key stands at an index, the first from one on
+pub record IsNext (keys : List ℕ) (key from index : ℕ) : Type 0 where
+  pub up : from ≤ index
+  pub within : index < length keys
+  pub is : slice_index_or keys index 0 ≡ key
+  pub others : IsNowhere keys key from index
 
 -- each key has its mark: one of 2048, by its highest 11 bits (own)
 abbrev pub AreMarked : List ℕ → List Bool → Type 0

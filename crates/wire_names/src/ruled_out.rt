@@ -2,14 +2,15 @@
 //!
 //! Names can be chosen whose keys are all equal. Where a position has the key of a name and spells another, the two are compared label
 //! by label up to one that differs; and no position that is passed on the way spells the rest of the name that is left there. So it is
-//! ruled out for that rest, and all the rests of a name are compared with no more labels than the table has.
-ghost use Rattle.std.specs.Prelude.{◌≡◌, ℕ, ◌<◌, List, length, get_or};
+//! ruled out for that rest, and all the rests of a name are compared with about as many labels as the table has.
+ghost use Rattle.std.specs.Prelude.{◌≡◌, false, ℕ, ◌<◌, ◌↔◌, IsTrue, List, length, get_or, None};
 ghost use Rattle.std.specs.Bool.{OnTrue};
 ghost use Rattle.dns_name.specs.Labels.{labels_in, IsWhole};
-ghost use Rattle.wire_names.specs.Table.{IsTable, IsTarget, Ascend, AreRuledOut, IsRuledOut, name_key, spelt_at, table_of, position_in};
+ghost use Rattle.wire_names.specs.Spells.{Spells};
+ghost use Rattle.wire_names.specs.Table.{IsTable, IsTarget, Ascend, AreRuledOut, IsRuledOut, name_key, table_of, position_in};
 
 use crate::part::{Part, label_at, part_at};
-use crate::table::{MAX_POSITIONS, Positions, is_spelt};
+use crate::table::{MAX_POSITIONS, Positions};
 use dns_name::first_label;
 
 /// For each position, how many octets the rest of a name takes that it doesn't spell; 0 where none is known.
@@ -17,7 +18,7 @@ pub(crate) type RuledOut = [u8; MAX_POSITIONS];
 
 impl Positions {
     /// The position that [`position_of`](Self::position_of) tells, where positions are ruled out for rests of the name in these octets:
-    /// none of them is compared. Those that are found out here are ruled out behind it.
+    /// none of them is compared. Where there is none, those that were found out here are ruled out, too.
     pub(crate) fn position_of_rest(
         &self,
         msg: &[u8],
@@ -31,46 +32,55 @@ impl Positions {
         requires key { key ≡ name_key (labels_in octets.now) }
         requires known { AreRuledOut msg.now self.now octets.now ruled_out.old }
         ensures position { result ≡ position_in (table_of msg.now self.now) (labels_in octets.now) }
-        ensures known { AreRuledOut msg.now self.now octets.now ruled_out.new }
+        ensures known { result ≡ None → AreRuledOut msg.now self.now octets.now ruled_out.new }
     {
         if self.has_no_key(key) {
             return None;
         }
-        for i in 0..self.count() {
-            let (position, own) = self.entry(i);
-            if own != key || is_ruled_out(ruled_out, i, octets) {
+        let mut from = 0;
+        while let Some(i) = self.next_of(key, from) {
+            let (position, _key) = self.entry(i);
+            from = i + 1;
+            if is_ruled_out(ruled_out, i, octets) {
                 continue;
             }
-            if is_spelt(msg, position, own, key, octets) {
+            if self.spells_rest(msg, octets, position, i, ruled_out) {
                 return Some(position);
             }
-            self.rule_out(msg, octets, i, ruled_out);
         }
         None
     }
 
-    /// Rules out the positions that are passed where the name in these octets is compared with the one at an index, which is another.
-    fn rule_out(&self, msg: &[u8], octets: &[u8], index: usize, ruled_out: &mut RuledOut)
+    /// Whether the octets at a position, which has this index, spell the name in these octets. Where they don't, the positions that were
+    /// passed are ruled out.
+    fn spells_rest(
+        &self,
+        msg: &[u8],
+        octets: &[u8],
+        start: u16,
+        index: usize,
+        ruled_out: &mut RuledOut,
+    ) -> bool
         requires table { IsTable msg.now self.now }
+        requires target { IsTarget msg.now start }
         requires whole { IsWhole octets.now }
-        requires within { index < length self.now }
-        requires other { spelt_at msg.now (get_or self.now index (record { position = 0; key = 0 })).position ≡ labels_in octets.now → ⊥ }
         requires known { AreRuledOut msg.now self.now octets.now ruled_out.old }
-        ensures { AreRuledOut msg.now self.now octets.now ruled_out.new }
+        ensures spells { IsTrue result ↔ ((next : ℕ) × Spells msg.now start start (labels_in octets.now) next) }
+        ensures known { result ≡ false → AreRuledOut msg.now self.now octets.now ruled_out.new }
     {
-        let (start, _key) = self.entry(index);
         let mut run = usize::from(start);
         let mut place = run;
         let mut rest = octets;
         let mut i = index;
         loop {
             match part_at(msg, place) {
+                Ok(Part::Closing) => return first_label(rest).is_none(),
                 Ok(Part::Label(len)) => {
                     let Some((label, behind)) = first_label(rest) else {
-                        return;
+                        return false;
                     };
                     if label != label_at(msg, place, len) {
-                        return;
+                        return false;
                     }
                     rest = behind;
                     place += 1 + len;
@@ -83,7 +93,7 @@ impl Positions {
                     i = self.index_of(target);
                     self.rule_out_at(i, target, rest.len(), ruled_out);
                 }
-                _ => return,
+                _ => return false,
             }
         }
     }

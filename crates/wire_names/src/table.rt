@@ -1,9 +1,9 @@
 //! The names of a message that pointers can name.
-ghost use Rattle.std.specs.Prelude.{◌≡◌, ◌≢◌, ℕ, ◌+◌, ◌/◌, ◌<◌, ◌≤◌, ◌^◌, ◌↔◌, ◌++◌, [], length, take, drop, All, IsTrue, IfSome, get_or};
+ghost use Rattle.std.specs.Prelude.{◌≡◌, ◌≢◌, ℕ, ◌+◌, ◌/◌, ◌<◌, ◌≤◌, ◌^◌, ◌↔◌, ◌++◌, [], length, take, drop, All, IsTrue, IfSome, MatchOption, get_or};
 ghost use Rattle.std.specs.Bool.{OnTrue};
 ghost use Rattle.dns_name.specs.Labels.{labels_in, IsWhole};
 ghost use Rattle.wire_names.specs.Spells.{Spells};
-ghost use Rattle.wire_names.specs.Table.{IsTable, IsEarliest, IsEntry, Ascend, name_key, table_of, position_in, enter, entered};
+ghost use Rattle.wire_names.specs.Table.{IsTable, IsEarliest, IsEntry, Ascend, IsNowhere, IsNext, keys_of, name_key, table_of, position_in, enter, entered};
 ghost use Rattle.wire_names.specs.Written.{starts_of};
 
 use crate::key::key_behind;
@@ -20,6 +20,9 @@ const MAX_TARGET: usize = 16383;
 
 /// Up to how many positions are looked at one by one at once; of more, the keys alone are searched first.
 const FEW: usize = 24;
+
+/// How many keys are searched at once.
+const BLOCK: usize = 16;
 
 /// How many marks there are for keys (own).
 const MARKS: usize = 2048;
@@ -146,6 +149,14 @@ impl Positions {
         !self.marks[mark_of(key)] || !self.keys.as_slice().contains(&key)
     }
 
+    /// The first index from one on whose position has this key.
+    pub(crate) fn next_of(&self, key: u32, from: usize) -> Option<usize>
+        ensures next { MatchOption result (IsNowhere (keys_of self.now) key from (length (keys_of self.now))) (IsNext (keys_of self.now) key from) }
+        ensures few { IfSome result (λ index. index < MAX_POSITIONS) }
+    {
+        next_in(self.keys.as_slice(), key, from)
+    }
+
     /// The position at an index, and its key.
     pub(crate) fn entry(&self, i: usize) -> (u16, u32)
         requires { i < length self.now }
@@ -188,6 +199,27 @@ impl Positions {
     }
 }
 
+/// The first index from one on at which this key stands. Blocks of keys are searched at once: few have it.
+fn next_in(keys: &[u32], key: u32, from: usize) -> Option<usize>
+    ensures { MatchOption result (IsNowhere keys.now key from (length keys.now)) (IsNext keys.now key from) }
+{
+    let mut i = from;
+    while i < keys.len() {
+        if i % BLOCK == 0 {
+            let end = keys.len().min(i + BLOCK);
+            if !keys[i..end].contains(&key) {
+                i = end;
+                continue;
+            }
+        }
+        if keys[i] == key {
+            return Some(i);
+        }
+        i += 1;
+    }
+    None
+}
+
 /// The index of a key's mark.
 fn mark_of(key: u32) -> usize
     ensures is { result ≡ key / 2097152 }
@@ -206,7 +238,7 @@ fn unmark(marks: &mut [bool; MARKS]) {
 
 /// Whether the octets at a position spell the name in these octets, case included. Where the keys differ, the message isn't
 /// looked at.
-pub(crate) fn is_spelt(msg: &[u8], position: u16, own: u32, key: u32, octets: &[u8]) -> bool
+fn is_spelt(msg: &[u8], position: u16, own: u32, key: u32, octets: &[u8]) -> bool
     requires entry { IsEntry msg.now (record { position = position; key = own }) }
     requires whole { IsWhole octets.now }
     requires key { key ≡ name_key (labels_in octets.now) }

@@ -1,4 +1,4 @@
-use Rattle.std.proofs.Common.{ℕ, List, length, length-append, rules, drop, ap, sym, subst, ◌∙◌}
+use Rattle.std.proofs.Common.{ℕ, List, length, length-append, rules, drop, refl, ap, sym, subst, ◌∙◌}
 use Rattle.wire_names.specs.Table.{Entry, AreRuledOut, name_key}
 use Rattle.wire_names.proofs.CutLemmas.{IsCut-pointer, IsCut-label}
 use Rattle.wire_names.proofs.RuledOutLemmas.{behind_known}
@@ -21,5 +21,5 @@ sought_rest-rest-requires t c =
     let both = length-append c.in-Some.label.now c.in-Some.behind.now in
     let key = c.key_behind.ensures ∙ ap (λ (name : List (List ℕ)). name_key (drop 1 name)) first.labels in
     let known = behind_known c.args.msg.now c.args.self.now c.args.octets.now _ _ _ _ first.octets_are
-    (subst (λ (xs : List Entry). AreRuledOut c.args.msg.now xs c.args.octets.now c.position_of_rest.new.ruled_out) c.self.view_is c.in_default-position_of_rest.ensures.known) in
+    (subst (λ (xs : List Entry). AreRuledOut c.args.msg.now xs c.args.octets.now c.position_of_rest.new.ruled_out) c.self.view_is (c.in_default-position_of_rest.ensures.known refl)) in
     (search rules, (c.requires.table, (first.whole, (key, known))))
