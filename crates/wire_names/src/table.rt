@@ -22,7 +22,7 @@ const MAX_TARGET: usize = 16383;
 const FEW: usize = 24;
 
 /// How many keys are searched at once.
-const BLOCK: usize = 16;
+const BLOCK: usize = 32;
 
 /// How many marks there are for keys (own).
 const MARKS: usize = 2048;
