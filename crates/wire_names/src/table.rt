@@ -3,7 +3,7 @@ ghost use Rattle.std.specs.Prelude.{◌≡◌, ◌≢◌, ℕ, ◌+◌, ◌/◌,
 ghost use Rattle.std.specs.Bool.{OnTrue};
 ghost use Rattle.dns_name.specs.Labels.{labels_in, IsWhole};
 ghost use Rattle.wire_names.specs.Spells.{Spells};
-ghost use Rattle.wire_names.specs.Table.{IsTable, IsEarliest, IsEntry, Ascend, IsNowhere, IsNext, keys_of, name_key, table_of, position_in, enter, entered};
+ghost use Rattle.wire_names.specs.Table.{IsTable, IsEarliest, Ascend, IsNowhere, IsNext, keys_of, name_key, table_of, position_in, enter, entered};
 ghost use Rattle.wire_names.specs.Written.{starts_of};
 
 use crate::key::key_behind;
@@ -86,11 +86,13 @@ impl Positions {
         if self.has_no_key(key) {
             return None;
         }
-        for i in 0..self.keys.len() {
-            let (position, own) = self.entry(i);
-            if is_spelt(msg, position, own, key, octets) {
+        let mut from = 0;
+        while let Some(i) = self.next_of(key, from) {
+            let (position, _key) = self.entry(i);
+            if spells(msg, usize::from(position), octets) {
                 return Some(position);
             }
+            from = i + 1;
         }
         None
     }
@@ -234,24 +236,6 @@ fn unmark(marks: &mut [bool; MARKS]) {
     for i in 0..MARKS {
         marks[i] = false;
     }
-}
-
-/// Whether the octets at a position spell the name in these octets, case included. Where the keys differ, the message isn't
-/// looked at.
-fn is_spelt(msg: &[u8], position: u16, own: u32, key: u32, octets: &[u8]) -> bool
-    requires entry { IsEntry msg.now (record { position = position; key = own }) }
-    requires whole { IsWhole octets.now }
-    requires key { key ≡ name_key (labels_in octets.now) }
-    ensures { IsTrue result ↔ ((next : ℕ) × Spells msg.now position position (labels_in octets.now) next) }
-{
-    if own != key {
-        return false;
-    }
-    let at = usize::from(position);
-    if stands_at(msg, at, octets) {
-        return true;
-    }
-    spells(msg, at, octets)
 }
 
 /// Whether these very octets stand at a position. The first is compared in front of the others: most names differ there.
