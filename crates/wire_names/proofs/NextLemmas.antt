@@ -1,9 +1,6 @@
 -- The next position that has a key.
-use Rattle.std.proofs.Common.{◌≡◌, ℕ, zero, suc, ◌+◌, ◌-◌, ◌<◌, ◌≤◌, Bool, true, false, List, [], ◌∷◌, length, take, drop, get_or, nat_eq, inl, inr, refl, sym, ap, subst, ◌∙◌, arith}
-use Rattle.std.specs.List.{IsAnyAnswer}
-use Rattle.std.proofs.lemmas.Bool.{cases_lt}
-use Rattle.std.proofs.lemmas.Cmp.{nat_eq_equiv}
-use Rattle.std.proofs.lemmas.List.{length-drop, length-take-le, length-map, get_or-take, get_or-drop, get_or-map}
+use Rattle.std.proofs.Common.{◌≡◌, ℕ, zero, suc, ◌+◌, ◌-◌, ◌<◌, ◌≤◌, false, List, [], ◌∷◌, length, drop, get_or, refl, ap, subst, ◌∙◌, arith}
+use Rattle.std.proofs.lemmas.List.{length-map, get_or-map}
 use Rattle.wire_names.specs.Table.{Entry, IsTable, IsEntry, IsNowhere, IsNext, name_key, keys_of, with_keys, table_of, position_in}
 use Rattle.wire_names.proofs.TableLemmas.{other_key, position_passed}
 
@@ -13,33 +10,6 @@ keys_are [] [] e = refl
 keys_are [] (key ∷ keys) e = cc
 keys_are (at ∷ positions) [] e = cc
 keys_are (at ∷ positions) (key ∷ keys) e = ap (λ (xs : List ℕ). key ∷ xs) (keys_are positions keys (omega arith))
-
--- one more index without the key, and many
-pub nowhere_more : (keys : List ℕ) (key from i : ℕ) → IsNowhere keys key from i → (get_or keys i 0 ≡ key → ⊥) → IsNowhere keys key from (i + 1)
-nowhere_more keys key from i others here k up low is =
-    elim (cases_lt k i) [
-      | inl less ↦ others k up less is
-      | inr more ↦ (let same : k ≡ i = omega arith in here (ap (λ (n : ℕ). get_or keys n 0) (sym same) ∙ is))
-    ]
-
-pub nowhere_block : (keys : List ℕ) (key from i end : ℕ) (found : Bool) → i ≤ end → end ≤ length keys → IsNowhere keys key from i → IsAnyAnswer (λ y b. nat_eq y key ≡ b) (take (end - i) (drop i keys)) found → found ≡ false → IsNowhere keys key from end
-nowhere_block keys key from i end true up within others any lacks k low high e = cc
-nowhere_block keys key from i end false up within others any lacks k low high e =
-    elim (cases_lt k i) [
-      | inl less ↦ others k low less e
-      | inr more ↦ (let block = take (end - i) (drop i keys) in
-          let room : k - i < end - i = omega arith in
-          let left : length (drop i keys) ≡ length keys - i = length-drop i keys in
-          let len : length block ≡ end - i = length-take-le (end - i) (drop i keys) (omega arith) in
-          let inside : k - i < length block = omega arith in
-          let none : nat_eq (get_or block (k - i) 0) key ≡ false = any (k - i) 0 (omega arith) inside in
-          let back : i + (k - i) ≡ k = omega arith in
-          let own : get_or block (k - i) 0 ≡ key =
-          get_or-take (end - i) (drop i keys) (k - i) 0 room ∙ get_or-drop i keys (k - i) 0 ∙ ap (λ (n : ℕ). get_or keys n 0) back ∙ e in
-          let yes = nat_eq_equiv.refl key in
-          let same : nat_eq (get_or block (k - i) 0) key ≡ nat_eq key key = ap (λ (x : ℕ). nat_eq x key) own in
-          cc)
-    ]
 
 -- the index of a key is one of the positions
 pub next_within : (own : List Entry) (key from index : ℕ) → IsNext (keys_of own) key from index → index < length own

@@ -21,9 +21,6 @@ const MAX_TARGET: usize = 16383;
 /// Up to how many positions are looked at one by one at once; of more, the keys alone are searched first.
 const FEW: usize = 24;
 
-/// How many keys are searched at once.
-const BLOCK: usize = 32;
-
 /// How many marks there are for keys (own).
 const MARKS: usize = 2048;
 
@@ -201,19 +198,12 @@ impl Positions {
     }
 }
 
-/// The first index from one on at which this key stands. Blocks of keys are searched at once: few have it.
+/// The first index from one on at which this key stands.
 fn next_in(keys: &[u32], key: u32, from: usize) -> Option<usize>
     ensures { MatchOption result (IsNowhere keys.now key from (length keys.now)) (IsNext keys.now key from) }
 {
     let mut i = from;
     while i < keys.len() {
-        if i % BLOCK == 0 {
-            let end = keys.len().min(i + BLOCK);
-            if !keys[i..end].contains(&key) {
-                i = end;
-                continue;
-            }
-        }
         if keys[i] == key {
             return Some(i);
         }
