@@ -1,5 +1,7 @@
+pub mod AlikeLemmas
 pub mod AscendLemmas
 pub mod CutLemmas
+pub mod DifferLemmas
 pub mod EntryLemmas
 pub mod GrammarLemmas
 pub mod KeyLemmas

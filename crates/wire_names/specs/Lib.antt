@@ -1,3 +1,4 @@
+pub mod Alike
 pub mod Cut
 pub mod Examples
 pub mod Leads

@@ -3,6 +3,7 @@
 //! Contracts see a message as the list of its octets and a name as the list of its labels. No call takes memory.
 #![tactic(auto)]
 
+mod alike;
 mod key;
 mod laws;
 mod message;

@@ -1,5 +1,5 @@
 //! What stands at one place of a name: its end, a label or a pointer (RFC 1035, 4.1.4).
-ghost use Rattle.std.specs.Prelude.{◌≡◌, ◌+◌, ◌<◌, ◌≤◌, length};
+ghost use Rattle.std.specs.Prelude.{◌≡◌, ◌+◌, ◌<◌, ◌≤◌, not, length, bytes_eq};
 ghost use Rattle.wire_names.specs.Parts.{part_at, part_of, label_of, pointer_of, label_at};
 
 use dns_name::MAX_LABEL;
@@ -98,4 +98,47 @@ pub(crate) fn label_at(msg: &[u8], at: usize, len: usize) -> &[u8]
     ensures { result.now ≡ label_at msg.now at len }
 {
     &msg[at + 1..at + 1 + len]
+}
+
+/// Whether two labels differ, case included. Four octets are compared at a time, in the caller itself: most labels are short, and differ in
+/// their first octets.
+#[inline(always)]
+pub(crate) fn differ(label: &[u8], other: &[u8]) -> bool
+    ensures { result ≡ not (bytes_eq label.now other.now) }
+{
+    if label.len() != other.len() {
+        return true;
+    }
+    let mut rest = label;
+    let mut others = other;
+    while let (Some((four, behind)), Some((same, after))) =
+        (rest.split_first_chunk::<4>(), others.split_first_chunk::<4>())
+    {
+        if four != same {
+            return true;
+        }
+        rest = behind;
+        others = after;
+    }
+    differ_singly(rest, others)
+}
+
+/// Whether two labels of one length differ, octet by octet.
+#[inline(always)]
+fn differ_singly(label: &[u8], other: &[u8]) -> bool
+    requires { length label.now ≡ length other.now }
+    ensures { result ≡ not (bytes_eq label.now other.now) }
+{
+    let mut rest = label;
+    let mut others = other;
+    while let (Some((octet, behind)), Some((same, after))) =
+        (rest.split_first(), others.split_first())
+    {
+        if octet != same {
+            return true;
+        }
+        rest = behind;
+        others = after;
+    }
+    false
 }

@@ -7,9 +7,11 @@ ghost use Rattle.std.specs.Prelude.{◌≡◌, false, ℕ, ◌<◌, ◌↔◌, I
 ghost use Rattle.std.specs.Bool.{OnTrue};
 ghost use Rattle.dns_name.specs.Labels.{labels_in, IsWhole};
 ghost use Rattle.wire_names.specs.Spells.{Spells};
-ghost use Rattle.wire_names.specs.Table.{IsTable, IsTarget, Ascend, AreRuledOut, IsRuledOut, name_key, table_of, position_in};
+ghost use Rattle.wire_names.specs.Alike.{AreLinks};
+ghost use Rattle.wire_names.specs.Table.{IsTable, IsTarget, Ascend, AreRuledOut, IsRuledOut, keys_of, name_key, table_of, position_in};
 
-use crate::part::{Part, label_at, part_at};
+use crate::alike::Links;
+use crate::part::{Part, differ, label_at, part_at};
 use crate::table::{MAX_POSITIONS, Positions};
 use dns_name::first_label;
 
@@ -24,12 +26,14 @@ impl Positions {
         msg: &[u8],
         octets: &[u8],
         key: u32,
+        links: &Links,
         ruled_out: &mut RuledOut,
     ) -> Option<u16>
         requires table { IsTable msg.now self.now }
         requires ascending { Ascend self.now }
         requires whole { IsWhole octets.now }
         requires key { key ≡ name_key (labels_in octets.now) }
+        requires links { AreLinks (keys_of self.now) links.now.first links.now.next }
         requires known { AreRuledOut msg.now self.now octets.now ruled_out.old }
         ensures position { result ≡ position_in (table_of msg.now self.now) (labels_in octets.now) }
         ensures known { result ≡ None → AreRuledOut msg.now self.now octets.now ruled_out.new }
@@ -38,12 +42,12 @@ impl Positions {
             return None;
         }
         let mut from = 0;
-        while let Some(i) = self.next_of(key, from) {
-            let (position, _key) = self.entry(i);
+        while let Some(i) = self.next_by(key, from, links) {
             from = i + 1;
             if is_ruled_out(ruled_out, i, octets) {
                 continue;
             }
+            let (position, _key) = self.entry(i);
             if self.spells_rest(msg, octets, position, i, ruled_out) {
                 return Some(position);
             }
@@ -79,7 +83,7 @@ impl Positions {
                     let Some((label, behind)) = first_label(rest) else {
                         return false;
                     };
-                    if label != label_at(msg, place, len) {
+                    if differ(label, label_at(msg, place, len)) {
                         return false;
                     }
                     rest = behind;

@@ -3,11 +3,13 @@ ghost use Rattle.std.specs.Prelude.{◌≡◌, ◌≢◌, ℕ, ◌+◌, ◌/◌,
 ghost use Rattle.std.specs.Bool.{OnTrue};
 ghost use Rattle.dns_name.specs.Labels.{labels_in, IsWhole};
 ghost use Rattle.wire_names.specs.Spells.{Spells};
+ghost use Rattle.wire_names.specs.Alike.{AreLinks, HasBehind};
 ghost use Rattle.wire_names.specs.Table.{IsTable, IsEarliest, Ascend, IsNowhere, IsNext, keys_of, name_key, table_of, position_in, enter, entered};
 ghost use Rattle.wire_names.specs.Written.{starts_of};
 
 use crate::key::key_behind;
-use crate::part::{Part, label_at, part_at};
+use crate::alike::{Links, links_of, next_linked};
+use crate::part::{Part, differ, label_at, part_at};
 use arrayvec::ArrayVec;
 use dns_name::first_label;
 use std::marker::Model;
@@ -86,10 +88,32 @@ impl Positions {
         let mut from = 0;
         while let Some(i) = self.next_of(key, from) {
             let (position, _key) = self.entry(i);
-            if spells(msg, usize::from(position), octets) {
+            if is_spelt(msg, usize::from(position), octets) {
                 return Some(position);
             }
             from = i + 1;
+        }
+        None
+    }
+
+    /// What [`position_of`](Self::position_of) tells, where the first position that has the key tells it: None where that spells another
+    /// name.
+    pub(crate) fn position_at_once(&self, msg: &[u8], octets: &[u8], key: u32) -> Option<Option<u16>>
+        requires table { IsTable msg.now self.now }
+        requires ascending { Ascend self.now }
+        requires whole { IsWhole octets.now }
+        requires key { key ≡ name_key (labels_in octets.now) }
+        ensures { IfSome result (λ position. position ≡ position_in (table_of msg.now self.now) (labels_in octets.now)) }
+    {
+        if self.has_no_key(key) {
+            return Some(None);
+        }
+        let Some(i) = self.next_of(key, 0) else {
+            return Some(None);
+        };
+        let (position, _key) = self.entry(i);
+        if is_spelt(msg, usize::from(position), octets) {
+            return Some(Some(position));
         }
         None
     }
@@ -154,6 +178,23 @@ impl Positions {
         ensures few { IfSome result (λ index. index < MAX_POSITIONS) }
     {
         next_in(self.keys.as_slice(), key, from)
+    }
+
+    /// The links between the keys.
+    pub(crate) fn links(&self) -> Links
+        ensures { AreLinks (keys_of self.now) result.first result.next }
+    {
+        links_of(self.keys.as_slice())
+    }
+
+    /// As [`next_of`](Self::next_of), by links: from 0 on, or behind a position that has the key.
+    pub(crate) fn next_by(&self, key: u32, from: usize, links: &Links) -> Option<usize>
+        requires links { AreLinks (keys_of self.now) links.now.first links.now.next }
+        requires behind { HasBehind (keys_of self.now) key from }
+        ensures next { MatchOption result (IsNowhere (keys_of self.now) key from (length (keys_of self.now))) (IsNext (keys_of self.now) key from) }
+        ensures few { IfSome result (λ index. index < MAX_POSITIONS) }
+    {
+        next_linked(self.keys.as_slice(), key, from, links)
     }
 
     /// The position at an index, and its key.
@@ -252,7 +293,33 @@ fn is_there(msg: &[u8], place: usize, octets: &[u8], follows: bool) -> bool
     spells(msg, place, octets)
 }
 
+/// Whether the octets at a position spell the name in these octets. The first label is compared in front of all else: most names differ
+/// there, and that is told in the caller itself.
+#[inline(always)]
+fn is_spelt(msg: &[u8], at: usize, octets: &[u8]) -> bool
+    requires { IsWhole octets.now }
+    ensures { IsTrue result ↔ ((next : ℕ) × Spells msg.now at at (labels_in octets.now) next) }
+{
+    !has_other_label(msg, at, octets) && spells(msg, at, octets)
+}
+
+/// Whether another label stands at a position than the first of the name in these octets.
+#[inline(always)]
+fn has_other_label(msg: &[u8], at: usize, octets: &[u8]) -> bool
+    requires { IsWhole octets.now }
+    ensures { OnTrue result ((next : ℕ) → Spells msg.now at at (labels_in octets.now) next → ⊥) }
+{
+    let Ok(Part::Label(len)) = part_at(msg, at) else {
+        return false;
+    };
+    let Some((label, _behind)) = first_label(octets) else {
+        return false;
+    };
+    differ(label, label_at(msg, at, len))
+}
+
 /// Whether the octets at a position spell the name in these octets, label by label.
+#[inline(never)]
 fn spells(msg: &[u8], at: usize, octets: &[u8]) -> bool
     requires { IsWhole octets.now }
     ensures { IsTrue result ↔ ((next : ℕ) × Spells msg.now at at (labels_in octets.now) next) }
@@ -267,7 +334,7 @@ fn spells(msg: &[u8], at: usize, octets: &[u8]) -> bool
                 let Some((label, behind)) = first_label(rest) else {
                     return false;
                 };
-                if label != label_at(msg, place, len) {
+                if differ(label, label_at(msg, place, len)) {
                     return false;
                 }
                 rest = behind;

@@ -3,9 +3,11 @@ ghost use Rattle.std.specs.Prelude.{◌≡◌, true, ◌<◌, ◌≤◌, ◌++�
 ghost use Rattle.dns_name.specs.Labels.{labels_in, IsWhole};
 ghost use Rattle.dns_name.specs.Name.{IsName};
 ghost use Rattle.wire_names.specs.Cut.{cut_octets, IsCut};
-ghost use Rattle.wire_names.specs.Table.{IsTable, IsEarliest, AreRuledOut, table_of, name_key};
+ghost use Rattle.wire_names.specs.Alike.{AreLinks};
+ghost use Rattle.wire_names.specs.Table.{IsTable, IsEarliest, AreRuledOut, keys_of, table_of, name_key};
 ghost use Rattle.wire_names.specs.Written.{pointer_to, written, table_after, WritesOctets};
 
+use crate::alike::Links;
 use crate::key::{key_before, key_behind, key_of};
 use crate::part::POINTER;
 use crate::ruled_out::RuledOut;
@@ -272,21 +274,81 @@ impl NameWriter {
     }
 
     /// How the name in these octets, of this key, is written behind the message with compression: each of its labels is sought.
+    #[inline(never)]
     fn sought(&self, msg: &[u8], octets: &[u8], key: u32) -> Cut
         requires table { IsTable msg.now self.now }
         requires whole { IsWhole octets.now }
         requires key { key ≡ name_key (labels_in octets.now) }
         ensures { IsCut true (table_of msg.now self.now) octets.now result }
     {
-        let mut ruled_out: RuledOut = [0; MAX_POSITIONS];
-        self.sought_rest(msg, octets, key, &mut ruled_out)
+        match self.sought_at_once(msg, octets, key) {
+            Some(cut) => cut,
+            None => self.sought_among(msg, octets, key),
+        }
     }
 
-    /// As [`sought`](Self::sought), where positions are ruled out for rests of the name in these octets.
-    fn sought_rest(&self, msg: &[u8], octets: &[u8], key: u32, ruled_out: &mut RuledOut) -> Cut
+    /// As [`sought`](Self::sought), where no position that has the key of a suffix first spells another name; None where one does.
+    fn sought_at_once(&self, msg: &[u8], octets: &[u8], key: u32) -> Option<Cut>
         requires table { IsTable msg.now self.now }
         requires whole { IsWhole octets.now }
         requires key { key ≡ name_key (labels_in octets.now) }
+        ensures { IfSome result (λ cut. IsCut true (table_of msg.now self.now) octets.now cut) }
+    {
+        let Some((label, behind)) = first_label(octets) else {
+            return Some(Cut {
+                labels: 0,
+                len: 1,
+                target: None,
+                key,
+                index: self.likely.parent,
+            });
+        };
+        if let Some(target) = self.positions.position_at_once(msg, octets, key)? {
+            return Some(Cut {
+                labels: 0,
+                len: 0,
+                target: Some(target),
+                key,
+                index: self.likely.parent,
+            });
+        }
+        let rest = self.sought_at_once(msg, behind, key_behind(key, octets))?;
+        Some(Cut {
+            labels: rest.labels + 1,
+            len: rest.len + 1 + label.len(),
+            target: rest.target,
+            key,
+            index: rest.index,
+        })
+    }
+
+    /// As [`sought`](Self::sought), where positions that have the key of a suffix spell other names. It is a function of its own, since it
+    /// is seldom called.
+    #[inline(never)]
+    fn sought_among(&self, msg: &[u8], octets: &[u8], key: u32) -> Cut
+        requires table { IsTable msg.now self.now }
+        requires whole { IsWhole octets.now }
+        requires key { key ≡ name_key (labels_in octets.now) }
+        ensures { IsCut true (table_of msg.now self.now) octets.now result }
+    {
+        let links = self.positions.links();
+        let mut ruled_out: RuledOut = [0; MAX_POSITIONS];
+        self.sought_rest(msg, octets, key, &links, &mut ruled_out)
+    }
+
+    /// As [`sought`](Self::sought), where positions are ruled out for rests of the name in these octets.
+    fn sought_rest(
+        &self,
+        msg: &[u8],
+        octets: &[u8],
+        key: u32,
+        links: &Links,
+        ruled_out: &mut RuledOut,
+    ) -> Cut
+        requires table { IsTable msg.now self.now }
+        requires whole { IsWhole octets.now }
+        requires key { key ≡ name_key (labels_in octets.now) }
+        requires links { AreLinks (keys_of self.now) links.now.first links.now.next }
         requires known { AreRuledOut msg.now self.now octets.now ruled_out.old }
         ensures { IsCut true (table_of msg.now self.now) octets.now result }
     {
@@ -299,7 +361,7 @@ impl NameWriter {
                 index: self.likely.parent,
             };
         };
-        if let Some(target) = self.positions.position_of_rest(msg, octets, key, ruled_out) {
+        if let Some(target) = self.positions.position_of_rest(msg, octets, key, links, ruled_out) {
             return Cut {
                 labels: 0,
                 len: 0,
@@ -308,7 +370,7 @@ impl NameWriter {
                 index: self.likely.parent,
             };
         }
-        let rest = self.sought_rest(msg, behind, key_behind(key, octets), ruled_out);
+        let rest = self.sought_rest(msg, behind, key_behind(key, octets), links, ruled_out);
         Cut {
             labels: rest.labels + 1,
             len: rest.len + 1 + label.len(),

@@ -15,13 +15,13 @@ pub returns-in_default-first_label : goal.returns-in_default-first_label
 returns-in_default-first_label c =
     answers_end _ _ _ _ _ _ _ c.loop-len.invariant.alike (sym c.part_at.ensures ∙ c.in-Ok-Label.is ∙ ap Ok c.in-Ok-Label.field-0-is) c.in_default-first_label.ensures
 
-pub returns-then-ne : goal.returns-then-ne
-returns-then-ne c =
-    answers_other _ _ _ _ _ _ _ _ _ _ _ c.loop-len.invariant.alike (sym c.part_at.ensures ∙ c.in-Ok-Label.is ∙ ap Ok c.in-Ok-Label.field-0-is) c.in-Some.ensures.labels c.label_at.ensures c.ne.ensures c.if-ne.true
+pub returns-then-differ : goal.returns-then-differ
+returns-then-differ c =
+    answers_other _ _ _ _ _ _ _ _ _ _ _ c.loop-len.invariant.alike (sym c.part_at.ensures ∙ c.in-Ok-Label.is ∙ ap Ok c.in-Ok-Label.field-0-is) c.in-Some.ensures.labels c.label_at.ensures c.differ.ensures c.if-differ.true
 
 pub loop-len-preserved-in-Label-1 : goal.loop-len-preserved-in-Label-1
 loop-len-preserved-in-Label-1 c = record {
-  alike = alike_label _ _ _ _ _ _ _ _ _ _ _ c.loop-len.invariant.alike (sym c.part_at.ensures ∙ c.in-Ok-Label.is ∙ ap Ok c.in-Ok-Label.field-0-is) c.in-Some.ensures.labels c.label_at.ensures c.ne.ensures c.if-ne.false;
+  alike = alike_label _ _ _ _ _ _ _ _ _ _ _ c.loop-len.invariant.alike (sym c.part_at.ensures ∙ c.in-Ok-Label.is ∙ ap Ok c.in-Ok-Label.field-0-is) c.in-Some.ensures.labels c.label_at.ensures c.differ.ensures c.if-differ.false;
   whole = c.in-Some.ensures.whole;
 }
 

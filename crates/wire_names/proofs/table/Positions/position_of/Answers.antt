@@ -15,25 +15,25 @@ returns-then-has_no_key c =
 pub entry-position-requires : goal.entry-position-requires
 entry-position-requires c = next_within c.args.self.now c.args.key c.loop-i.from c.in-Some.i c.in-Some.ensures.next
 
-pub returns-then-spells : goal.returns-then-spells
-returns-then-spells c =
+pub returns-then-is_spelt : goal.returns-then-is_spelt
+returns-then-is_spelt c =
     let next = c.in-Some.ensures.next in
     let within = next_within c.args.self.now c.args.key c.loop-i.from c.in-Some.i next in
     let entry : Entry = record { position = c.entry-position.result.0; key = c.entry-position.result.1 } in
-    let answers = subst (λ (n : ℕ). Answers c.args.msg.now n (labels_in c.args.octets.now) c.spells.result) c.from.ensures c.spells.ensures in
+    let answers = subst (λ (n : ℕ). Answers c.args.msg.now n (labels_in c.args.octets.now) c.is_spelt.result) c.from.ensures c.is_spelt.ensures in
     let so_far = position_up_to c.args.msg.now c.args.self.now c.loop-i.from c.in-Some.i c.args.key (record { position = 0; key = 0 }) _ c.requires.table c.requires.key next.up (omega arith) next.others c.loop-i.invariant.so_far in
-    position_found _ c.args.self.now c.args.self.now c.in-Some.i _ entry _ _ c.requires.table c.requires.ascending refl within c.entry-position.ensures answers c.if-spells.true so_far
+    position_found _ c.args.self.now c.args.self.now c.in-Some.i _ entry _ _ c.requires.table c.requires.ascending refl within c.entry-position.ensures answers c.if-is_spelt.true so_far
 
 pub loop-i-preserved : goal.loop-i-preserved
 loop-i-preserved c =
     let next = c.in-Some.ensures.next in
     let within = next_within c.args.self.now c.args.key c.loop-i.from c.in-Some.i next in
     let entry : Entry = record { position = c.entry-position.result.0; key = c.entry-position.result.1 } in
-    let answers = subst (λ (n : ℕ). Answers c.args.msg.now n (labels_in c.args.octets.now) c.spells.result) c.from.ensures c.spells.ensures in
+    let answers = subst (λ (n : ℕ). Answers c.args.msg.now n (labels_in c.args.octets.now) c.is_spelt.result) c.from.ensures c.is_spelt.ensures in
     let so_far = position_up_to c.args.msg.now c.args.self.now c.loop-i.from c.in-Some.i c.args.key (record { position = 0; key = 0 }) _ c.requires.table c.requires.key next.up (omega arith) next.others c.loop-i.invariant.so_far in
     record {
       within = omega arith;
-      so_far = position_passed _ c.args.self.now c.args.self.now c.in-Some.i _ entry _ _ c.requires.table refl within c.entry-position.ensures answers c.if-spells.false so_far;
+      so_far = position_passed _ c.args.self.now c.args.self.now c.in-Some.i _ entry _ _ c.requires.table refl within c.entry-position.ensures answers c.if-is_spelt.false so_far;
     }
 
 pub returns : goal.returns

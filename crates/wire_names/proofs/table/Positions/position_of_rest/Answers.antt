@@ -1,11 +1,12 @@
-use Rattle.std.proofs.Common.{◌≡◌, ◌≤◌, List, length, refl, sym, ap, ◌∙◌, arith}
+use Rattle.std.proofs.Common.{◌≡◌, ◌≤◌, List, length, get_or, refl, sym, ap, ◌∙◌, arith}
 use Rattle.std.proofs.lemmas.List.{length-map}
 use Rattle.std.proofs.Math.ListN.{drop_of_length-le}
 use Rattle.dns_name.specs.Labels.{labels_in}
 use Rattle.wire_names.specs.Table.{Entry, keys_of, table_of, position_in}
+use Rattle.wire_names.proofs.AlikeLemmas.{behind_next}
 use Rattle.wire_names.proofs.NextLemmas.{next_within, position_up_to}
 use Rattle.wire_names.proofs.PlainLemmas.{on_true}
-use Rattle.wire_names.proofs.RuledOutLemmas.{entry_at, other_at, known_other, answers_known}
+use Rattle.wire_names.proofs.RuledOutLemmas.{entry_at, known_other, answers_known}
 use Rattle.wire_names.proofs.TableLemmas.{position_nowhere, position_found, position_passed}
 use Rattle.wire_names.proofs.table.Positions.position_of_rest.Goals as goal
 
@@ -20,15 +21,17 @@ pub loop-i-preserved-then-is_ruled_out : goal.loop-i-preserved-then-is_ruled_out
 loop-i-preserved-then-is_ruled_out c =
     let next = c.in-Some.ensures.next in
     let within = next_within c.args.self.now c.args.key c.loop-i.from c.in-Some.i next in
-    let entry : Entry = record { position = c.entry-position.result.0; key = c.entry-position.result.1 } in
-    let is = entry_at c.args.msg.now c.args.self.now c.in-Some.i _ entry c.requires.table within c.entry-position.ensures in
-    let so_far = position_up_to c.args.msg.now c.args.self.now c.loop-i.from c.in-Some.i c.args.key (record { position = 0; key = 0 }) _ c.requires.table c.requires.key next.up (omega arith) next.others c.loop-i.invariant.so_far in
+    let d : Entry = record { position = 0; key = 0 } in
+    let entry : Entry = get_or c.args.self.now c.in-Some.i d in
+    let is = entry_at c.args.msg.now c.args.self.now c.in-Some.i d entry c.requires.table within refl in
+    let so_far = position_up_to c.args.msg.now c.args.self.now c.loop-i.from c.in-Some.i c.args.key d _ c.requires.table c.requires.key next.up (omega arith) next.others c.loop-i.invariant.so_far in
     let size = on_true _ _ c.if-is_ruled_out.true c.is_ruled_out.ensures in
-    let other = known_other c.args.msg.now c.args.self.now c.args.octets.now _ c.in-Some.i _ c.loop-i.invariant.known within c.requires.whole size in
-    let answers = answers_known c.args.msg.now c.entry-position.result.0 _ is.target (other_at c.args.msg.now entry _ _ c.entry-position.ensures other) in
+    let other = known_other c.args.msg.now c.args.self.now c.args.octets.now _ c.in-Some.i d c.loop-i.invariant.known within c.requires.whole size in
+    let answers = answers_known c.args.msg.now entry.position _ is.target other in
     record {
       within = omega arith;
-      so_far = position_passed _ c.args.self.now c.args.self.now c.in-Some.i _ entry _ _ c.requires.table refl within c.entry-position.ensures answers refl so_far;
+      so_far = position_passed _ c.args.self.now c.args.self.now c.in-Some.i d entry _ _ c.requires.table refl within refl answers refl so_far;
+      behind = behind_next (keys_of c.args.self.now) c.args.key c.loop-i.from c.in-Some.i next;
       known = c.loop-i.invariant.known;
     }
 
@@ -56,6 +59,7 @@ loop-i-preserved c =
     record {
       within = omega arith;
       so_far = position_passed _ c.args.self.now c.args.self.now c.in-Some.i _ entry _ _ c.requires.table refl within c.entry-position.ensures c.spells_rest.ensures.spells c.if-spells_rest.false so_far;
+      behind = behind_next (keys_of c.args.self.now) c.args.key c.loop-i.from c.in-Some.i next;
       known = c.spells_rest.ensures.known c.if-spells_rest.false;
     }
 

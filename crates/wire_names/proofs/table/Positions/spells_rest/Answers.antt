@@ -25,10 +25,10 @@ returns-in_default-first_label c =
     let both = rules c.args.msg.now c.args.start _ _ _ c.requires.target c.loop-len.invariant.known (answers_end _ _ _ _ _ _ _ comes.alike (sym c.part_at.ensures ∙ c.in-Ok-Label.is ∙ ap Ok c.in-Ok-Label.field-0-is) c.in_default-first_label.ensures) in
     record { spells = both.spells; known = both.known }
 
-pub returns-then-ne : goal.returns-then-ne
-returns-then-ne c =
+pub returns-then-differ : goal.returns-then-differ
+returns-then-differ c =
     let comes = c.loop-len.invariant.comes in
-    let both = rules c.args.msg.now c.args.start _ _ _ c.requires.target c.loop-len.invariant.known (answers_other _ _ _ _ _ _ _ _ _ _ _ comes.alike (sym c.part_at.ensures ∙ c.in-Ok-Label.is ∙ ap Ok c.in-Ok-Label.field-0-is) c.in-Some.ensures.labels c.label_at.ensures c.ne.ensures c.if-ne.true) in
+    let both = rules c.args.msg.now c.args.start _ _ _ c.requires.target c.loop-len.invariant.known (answers_other _ _ _ _ _ _ _ _ _ _ _ comes.alike (sym c.part_at.ensures ∙ c.in-Ok-Label.is ∙ ap Ok c.in-Ok-Label.field-0-is) c.in-Some.ensures.labels c.label_at.ensures c.differ.ensures c.if-differ.true) in
     record { spells = both.spells; known = both.known }
 
 pub returns-in_default : goal.returns-in_default
@@ -45,7 +45,7 @@ returns-in_default-2 c =
 
 pub loop-len-preserved-in-Label-1 : goal.loop-len-preserved-in-Label-1
 loop-len-preserved-in-Label-1 c =
-    let comes = comes_label _ _ _ _ _ _ _ _ _ _ _ c.loop-len.invariant.comes (sym c.part_at.ensures ∙ c.in-Ok-Label.is ∙ ap Ok c.in-Ok-Label.field-0-is) c.in-Some.ensures c.label_at.ensures c.ne.ensures c.if-ne.false in
+    let comes = comes_label _ _ _ _ _ _ _ _ _ _ _ c.loop-len.invariant.comes (sym c.part_at.ensures ∙ c.in-Ok-Label.is ∙ ap Ok c.in-Ok-Label.field-0-is) c.in-Some.ensures c.label_at.ensures c.differ.ensures c.if-differ.false in
     record {
       comes = comes;
       known = λ other. c.rule_out_at.ensures c.args.msg.now c.args.octets.now c.requires.table (c.loop-len.invariant.known other) (passed_rest _ _ _ _ _ _ c.requires.target other comes);

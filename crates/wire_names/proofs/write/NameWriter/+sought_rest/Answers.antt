@@ -22,4 +22,4 @@ sought_rest-rest-requires t c =
     let key = c.key_behind.ensures ∙ ap (λ (name : List (List ℕ)). name_key (drop 1 name)) first.labels in
     let known = behind_known c.args.msg.now c.args.self.now c.args.octets.now _ _ _ _ first.octets_are
     (subst (λ (xs : List Entry). AreRuledOut c.args.msg.now xs c.args.octets.now c.position_of_rest.new.ruled_out) c.self.view_is (c.in_default-position_of_rest.ensures.known refl)) in
-    (search rules, (c.requires.table, (first.whole, (key, known))))
+    (search rules, (c.requires.table, (first.whole, (key, (c.requires.links, known)))))
