@@ -1,9 +1,9 @@
 -- Keys that are alike in their low octet.
 use Rattle.std.proofs.Common.{◌≡◌, ℕ, ◌+◌, ◌-◌, ◌%◌, ◌<◌, ◌≤◌, inl, inr, List, length, set, replicate, get_or, refl, sym, ap, subst, ◌∙◌, arith}
-use Rattle.std.proofs.lemmas.List.{length-replicate, get_or-replicate, get_or-set_same, get_or-set_other}
-use Rattle.std.proofs.lemmas.Bool.{cases_lt, cases_eq}
+use Rattle.std.proofs.lemmas.List.{get_or-replicate, get_or-set_same, get_or-set_other}
+use Rattle.std.proofs.lemmas.Bool.{cases_eq}
 use Rattle.wire_names.specs.Alike.{IsFirstAlike, AreLinks, HasBehind}
-use Rattle.wire_names.specs.Table.{IsNowhere, IsNext}
+use Rattle.wire_names.specs.Table.{IsNext}
 
 -- the links from an index on
 pub record Linked (keys first next : List ℕ) (i : ℕ) : Type 0 where
@@ -44,7 +44,7 @@ linked_step keys first next i from low e within own room wide few linked = recor
         let is : get_or keys i 0 % 256 ≡ other = sym own ∙ sym same in
         subst (IsFirstAlike keys other i) (sym here) (subst (λ (n : ℕ). IsFirstAlike keys n i i) is (alike_here keys i (omega arith))))
     | inr differs ↦ subst (IsFirstAlike keys other i) (sym (get_or-set_other first low other i 0 differs))
-      (alike_other keys other i (get_or first other 0) (λ same. differs (sym same ∙ sym own)) (subst (λ (n : ℕ). IsFirstAlike keys other n (get_or first other 0)) e (linked.heads other lt)))
+        (alike_other keys other i (get_or first other 0) (λ same. differs (sym same ∙ sym own)) (subst (λ (n : ℕ). IsFirstAlike keys other n (get_or first other 0)) e (linked.heads other lt)))
   ];
   nexts = λ k up below. elim (cases_eq k i) [
     | inl same ↦ (let here : get_or (set next i (get_or first low 0)) k 0 ≡ get_or first low 0 = ap (λ (n : ℕ). get_or (set next i (get_or first low 0)) n 0) same ∙ get_or-set_same next i (get_or first low 0) 0 wide in

@@ -8,7 +8,7 @@ use Rattle.dns_name.specs.Labels.{labels_in, IsFirstLabel}
 use Rattle.wire_names.specs.Parts.{part_at, label_at}
 use Rattle.wire_names.specs.Spells.{Spells}
 use Rattle.wire_names.specs.declared.part.Part.TheVariants.{Label}
-use Rattle.wire_names.proofs.TableLemmas.{SpellsAlike, Answers, answers_other}
+use Rattle.wire_names.proofs.TableLemmas.{SpellsAlike, answers_other}
 
 same_answer : (a b : Bool) → (a ≡ true → b ≡ true) → (b ≡ true → a ≡ true) → a ≡ b
 same_answer true b f g = sym (f refl)
@@ -40,9 +40,10 @@ both_empty (x ∷ xs) ys many none = cc
 
 -- where as many octets in front are the same, the others decide
 pub same_behind : (xs ys rest others : List ℕ) (n : ℕ) → ((xs ≡ ys) ↔ (rest ≡ others)) → take n rest ≡ take n others → (xs ≡ ys) ↔ (drop n rest ≡ drop n others)
-same_behind xs ys rest others n same front =
-    (λ e. ap (drop n) (same.0 e),
-      λ e. same.1 (sym (take-append-drop n rest) ∙ ap (λ (zs : List ℕ). zs ++ drop n rest) front ∙ ap (λ (zs : List ℕ). take n others ++ zs) e ∙ take-append-drop n others))
+same_behind xs ys rest others n same front = (
+  λ e. ap (drop n) (same.0 e),
+  λ e. same.1 (sym (take-append-drop n rest) ∙ ap (λ (zs : List ℕ). zs ++ drop n rest) front ∙ ap (λ (zs : List ℕ). take n others ++ zs) e ∙ take-append-drop n others),
+)
 
 -- another label stands at a position: it doesn't spell the name
 pub other_label : (msg rest own behind text : List ℕ) (at n : ℕ) (b : Bool) → part_at msg at ≡ Ok (Label n) → IsFirstLabel rest own behind → text ≡ label_at msg at n → b ≡ not (bytes_eq own text) → OnTrue b ((next : ℕ) → Spells msg at at (labels_in rest) next → ⊥)

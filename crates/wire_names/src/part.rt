@@ -109,11 +109,15 @@ pub(crate) fn differ(label: &[u8], other: &[u8]) -> bool
     if label.len() != other.len() {
         return true;
     }
+    if label.len() < 4 {
+        return differ_singly(label, other);
+    }
     let mut rest = label;
     let mut others = other;
-    while let (Some((four, behind)), Some((same, after))) =
-        (rest.split_first_chunk::<4>(), others.split_first_chunk::<4>())
-    {
+    while let (Some((four, behind)), Some((same, after))) = (
+        rest.split_first_chunk::<4>(),
+        others.split_first_chunk::<4>(),
+    ) {
         if four != same {
             return true;
         }
@@ -131,9 +135,10 @@ fn differ_singly(label: &[u8], other: &[u8]) -> bool
 {
     let mut rest = label;
     let mut others = other;
-    while let (Some((octet, behind)), Some((same, after))) =
-        (rest.split_first(), others.split_first())
-    {
+    while let (Some((octet, behind)), Some((same, after))) = (
+        rest.split_first(),
+        others.split_first(),
+    ) {
         if octet != same {
             return true;
         }

@@ -88,7 +88,7 @@ impl Positions {
                     }
                     rest = behind;
                     place += 1 + len;
-                    i = i.saturating_add(1);
+                    i = i.wrapping_add(1);
                     self.rule_out_at(i, place, behind.len(), ruled_out);
                 }
                 Ok(Part::Pointer(target)) if target < run => {

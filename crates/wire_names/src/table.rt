@@ -7,8 +7,8 @@ ghost use Rattle.wire_names.specs.Alike.{AreLinks, HasBehind};
 ghost use Rattle.wire_names.specs.Table.{IsTable, IsEarliest, Ascend, IsNowhere, IsNext, keys_of, name_key, table_of, position_in, enter, entered};
 ghost use Rattle.wire_names.specs.Written.{starts_of};
 
-use crate::key::key_behind;
 use crate::alike::{Links, links_of, next_linked};
+use crate::key::key_behind;
 use crate::part::{Part, differ, label_at, part_at};
 use arrayvec::ArrayVec;
 use dns_name::first_label;
@@ -98,7 +98,12 @@ impl Positions {
 
     /// What [`position_of`](Self::position_of) tells, where the first position that has the key tells it: None where that spells another
     /// name.
-    pub(crate) fn position_at_once(&self, msg: &[u8], octets: &[u8], key: u32) -> Option<Option<u16>>
+    pub(crate) fn position_at_once(
+        &self,
+        msg: &[u8],
+        octets: &[u8],
+        key: u32,
+    ) -> Option<Option<u16>>
         requires table { IsTable msg.now self.now }
         requires ascending { Ascend self.now }
         requires whole { IsWhole octets.now }
@@ -111,9 +116,9 @@ impl Positions {
         let Some(i) = self.next_of(key, 0) else {
             return Some(None);
         };
-        let (position, _key) = self.entry(i);
-        if is_spelt(msg, usize::from(position), octets) {
-            return Some(Some(position));
+        let (first, _key) = self.entry(i);
+        if is_spelt(msg, usize::from(first), octets) {
+            return Some(Some(first));
         }
         None
     }

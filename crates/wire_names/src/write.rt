@@ -312,13 +312,13 @@ impl NameWriter {
                 index: self.likely.parent,
             });
         }
-        let rest = self.sought_at_once(msg, behind, key_behind(key, octets))?;
+        let cut = self.sought_at_once(msg, behind, key_behind(key, octets))?;
         Some(Cut {
-            labels: rest.labels + 1,
-            len: rest.len + 1 + label.len(),
-            target: rest.target,
+            labels: cut.labels + 1,
+            len: cut.len + 1 + label.len(),
+            target: cut.target,
             key,
-            index: rest.index,
+            index: cut.index,
         })
     }
 
@@ -361,7 +361,10 @@ impl NameWriter {
                 index: self.likely.parent,
             };
         };
-        if let Some(target) = self.positions.position_of_rest(msg, octets, key, links, ruled_out) {
+        if let Some(target) = self
+            .positions
+            .position_of_rest(msg, octets, key, links, ruled_out)
+        {
             return Cut {
                 labels: 0,
                 len: 0,

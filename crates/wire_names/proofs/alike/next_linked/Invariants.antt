@@ -1,4 +1,4 @@
-use Rattle.std.proofs.Common.{◌≡◌, ◌+◌, ◌-◌, ◌%◌, ◌<◌, ◌≤◌, length, get_or}
+use Rattle.std.proofs.Common.{◌≡◌, ◌-◌, ◌%◌, ◌<◌, ◌≤◌, length, get_or}
 use Rattle.wire_names.specs.Table.{IsNowhere}
 use Rattle.wire_names.proofs.alike.next_linked.Given as goal
 

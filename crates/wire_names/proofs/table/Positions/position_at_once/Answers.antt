@@ -12,8 +12,8 @@ pub returns-then-has_no_key : goal.returns-then-has_no_key
 returns-then-has_no_key c =
     position_nowhere _ _ c.args.key _ c.requires.table c.requires.key (on_true _ _ c.if-has_no_key.true c.has_no_key.ensures)
 
-pub entry-position-requires : goal.entry-position-requires
-entry-position-requires c = next_within c.args.self.now c.args.key 0 c.in-Some.i c.in-Some.ensures.next
+pub entry-first-requires : goal.entry-first-requires
+entry-first-requires c = next_within c.args.self.now c.args.key 0 c.in-Some.i c.in-Some.ensures.next
 
 pub returns-in_default : goal.returns-in_default
 returns-in_default c =
@@ -27,7 +27,7 @@ pub returns-then-is_spelt : goal.returns-then-is_spelt
 returns-then-is_spelt c =
     let next = c.in-Some.ensures.next in
     let within = next_within c.args.self.now c.args.key 0 c.in-Some.i next in
-    let entry : Entry = record { position = c.entry-position.result.0; key = c.entry-position.result.1 } in
+    let entry : Entry = record { position = c.entry-first.result.0; key = c.entry-first.result.1 } in
     let answers = subst (λ (n : ℕ). Answers c.args.msg.now n (labels_in c.args.octets.now) c.is_spelt.result) c.from.ensures c.is_spelt.ensures in
     let so_far = position_up_to c.args.msg.now c.args.self.now 0 c.in-Some.i c.args.key (record { position = 0; key = 0 }) _ c.requires.table c.requires.key next.up (omega arith) next.others refl in
-    position_found _ c.args.self.now c.args.self.now c.in-Some.i _ entry _ _ c.requires.table c.requires.ascending refl within c.entry-position.ensures answers c.if-is_spelt.true so_far
+    position_found _ c.args.self.now c.args.self.now c.in-Some.i _ entry _ _ c.requires.table c.requires.ascending refl within c.entry-first.ensures answers c.if-is_spelt.true so_far

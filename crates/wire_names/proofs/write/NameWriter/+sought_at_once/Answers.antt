@@ -10,4 +10,4 @@ returns-in-Some-2 t c =
 
 pub returns : goal.returns
 returns t c =
-    IsCut-label _ _ _ _ c.in-Some.ensures c.in_ok-rest.rest _ _ (at_view _ _ _ _ _ c.self.view_is (sym c.in_ok-target.ensures ∙ c.in_default-2.is)) c.requires.key c.in_ok-rest.ensures
+    IsCut-label _ _ _ _ c.in-Some.ensures c.in_ok-cut.cut _ _ (at_view _ _ _ _ _ c.self.view_is (sym c.in_ok-target.ensures ∙ c.in_default-2.is)) c.requires.key c.in_ok-cut.ensures
