@@ -1,6 +1,6 @@
 #!/usr/bin/env python3
-"""Measures two programs `dnsd` by turns, in one run: processor time of the server a query over UDP and over TCP (dnsperf asks; names that
-exist, that don't, and aliases), updates a second, one behind the reply to the one before, with the processor time of one, and an IXFR after one
+"""Measures two programs `dnsd` by turns, in one run: processor time of the server a query over UDP and over TCP, in whole and the
+part that isn't the kernel's (dnsperf asks; names that exist, that don't, and aliases), updates a second, one behind the reply to the one before, with the processor time of one, and an IXFR after one
 update, on a connection that stays: processor time and time. It prints each round's figures, and then the medians and how the second program's stand
 to the first's, round by round. Usage: bench/beside.py FIRST SECOND [--rounds N] [--seconds N] [--records N] [--workers N] [--ixfrs N], by default
 9 rounds of 2 seconds a figure, 1000 records, 1 worker and 30000 IXFRs. It needs Debian's dnsperf."""
@@ -58,23 +58,27 @@ class Server:
         self.port = int(re.match(r"listening on [^ ]*:(\d+):", self.process.stderr.readline()).group(1))
         self.updates = 0
 
-    def spent(self):
+    def parts(self):
+        """Seconds of processor time: in whole, and the user's part."""
         with open(f"/proc/{self.process.pid}/stat") as file:
             said = file.read().rpartition(")")[2].split()
-        return (int(said[11]) + int(said[12])) / TICKS
+        return (int(said[11]) + int(said[12])) / TICKS, int(said[11]) / TICKS
+
+    def spent(self):
+        return self.parts()[0]
 
     def end(self):
         self.process.terminate()
         self.process.wait()
 
     def queries(self, over, questions):
-        """Microseconds of processor time a query, and queries a second."""
-        before = self.spent()
+        """Microseconds of processor time a query: in whole, and the user's part."""
+        before = self.parts()
         said = subprocess.run(
             ["dnsperf", "-m", over, "-s", "127.0.0.1", "-p", str(self.port), "-d", questions, "-l", str(given.seconds), "-c", str(given.workers), "-T", "1", "-q", str(50 * given.workers)],
             capture_output=True, text=True, check=True).stdout
         done = int(re.search(r"Queries completed: +(\d+)", said).group(1))
-        return 1e6 * (self.spent() - before) / done, float(re.search(r"per second: +([\d.]+)", said).group(1))
+        return tuple(1e6 * (now - then) / done for now, then in zip(self.parts(), before))
 
     def update(self, client):
         client.send(updated(self.updates))
@@ -108,7 +112,7 @@ class Server:
         return 1e6 * spent / given.ixfrs, 1e6 * took / given.ixfrs
 
 
-FIGURES = ("us a query, UDP", "us a query, TCP", "updates a second", "us an update", "us an IXFR", "us of the clock an IXFR")
+FIGURES = ("us a query, UDP", "the user's part", "us a query, TCP", "the user's part of it", "updates a second", "us an update", "us an IXFR", "us of the clock an IXFR")
 got = {program: [] for program in given.programs}
 with tempfile.TemporaryDirectory() as work:
     write_zone(f"{work}/zone")
@@ -121,7 +125,7 @@ with tempfile.TemporaryDirectory() as work:
             client.connect(("127.0.0.1", server.port))
             client.settimeout(5)
             try:
-                figures = (server.queries("udp", f"{work}/questions")[0], server.queries("tcp", f"{work}/questions")[0], *server.update_all(client), *server.transfers(client))
+                figures = (*server.queries("udp", f"{work}/questions"), *server.queries("tcp", f"{work}/questions"), *server.update_all(client), *server.transfers(client))
             finally:
                 server.end()
             got[program].append(figures)
