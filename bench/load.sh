@@ -1,7 +1,8 @@
 #!/usr/bin/env bash
 # Makes zones of so many records, in canonical order and shuffled, and prints what reading and writing them costs: processor time,
-# records a second, peak memory, and octets of memory a record; of `dnsd check` (read and written), of `dnsd answer` without a query
-# (read alone), and of kzonecheck, nsd-checkzone and named-compilezone where these are installed.
+# records a second, peak memory, and octets of memory a record, in whole and beside the text's own; of `dnsd check` (read and written), of
+# `dnsd answer` without a query (read alone), of `dnsd check` over the same text whose last line is refused for a conflict, with how many
+# times an accepted one's time that is, and of kzonecheck, nsd-checkzone and named-compilezone where these are installed.
 # Usage: [DNSD=PROGRAM] bench/load.sh [RECORDS ..], by default 10000 100000 1000000. `make dnsd` builds the program.
 set -euo pipefail
 cd "$(dirname "$0")/.."
@@ -60,31 +61,37 @@ for owner, rtype, ttl, data in records:
 PY
 }
 
-# Runs a program with no input and prints what it cost: processor seconds, records a second, MiB, octets a record.
+# Runs a program over the zone's text, its last word, with no input, and prints what it cost: processor seconds, records a second, MiB, octets a
+# record, and these less the text's. With a status it has to end with that one. NAME RECORDS STATUS WORD ..
 measure() {
-    local name=$1 records=$2
-    shift 2
-    python3 - "$name" "$records" "$@" <<'PY'
-import resource, subprocess, sys
-name, n, command = sys.argv[1], int(sys.argv[2]), sys.argv[3:]
+    local name=$1 records=$2 status=$3
+    shift 3
+    python3 - "$name" "$records" "$status" "$@" 3>"$work/cost.${name// /_}" <<'PY'
+import os, resource, subprocess, sys
+name, n, status, command = sys.argv[1], int(sys.argv[2]), int(sys.argv[3]), sys.argv[4:]
 done = subprocess.run(command, stdin=subprocess.DEVNULL, stdout=subprocess.DEVNULL, stderr=subprocess.PIPE)
 used = resource.getrusage(resource.RUSAGE_CHILDREN)
-if done.returncode != 0:
+if done.returncode != status:
     print(f"  {name:18} status {done.returncode}: {done.stderr[:200].decode(errors='replace')}")
 else:
-    seconds = max(used.ru_utime + used.ru_stime, 0.001)
-    print(f"  {name:18} {seconds:8.2f} s {n / seconds:11,.0f} records/s {used.ru_maxrss / 1024:8.1f} MiB {used.ru_maxrss * 1024 / n:8.0f} octets a record")
+    seconds, text = max(used.ru_utime + used.ru_stime, 0.001), os.path.getsize(command[-1])
+    print(f"  {name:18} {seconds:8.2f} s {n / seconds:11,.0f} records/s {used.ru_maxrss / 1024:8.1f} MiB {used.ru_maxrss * 1024 / n:8.0f} octets a record, {(used.ru_maxrss * 1024 - text) / n:.0f} beside the text's")
+    os.write(3, b"%.3f\n" % seconds)
 PY
 }
 
 for records in ${@:-10000 100000 1000000}; do for order in sorted shuffled; do
     zone "$records" "$order" > "$work/zone"
     echo "$records records, $order, $(stat -c %s "$work/zone") octets of text"
-    measure "dnsd check" "$records" "$program" check "$work/zone"
-    measure "dnsd answer" "$records" "$program" answer "$work/zone"
-    if command -v kzonecheck > /dev/null; then measure kzonecheck "$records" kzonecheck -o example.test. "$work/zone"; fi
-    if command -v nsd-checkzone > /dev/null; then measure nsd-checkzone "$records" nsd-checkzone example.test. "$work/zone"; fi
+    measure "dnsd check" "$records" 0 "$program" check "$work/zone"
+    measure "dnsd answer" "$records" 0 "$program" answer "$work/zone"
+    # the last record is a conflict with the first
+    { head -n -1 "$work/zone" && echo "example.test. 3600 IN CNAME host.example.test."; } > "$work/refused"
+    measure "dnsd refused" "$records" 1 "$program" check "$work/refused"
+    paste "$work"/cost.dnsd_{refused,check,answer} | awk 'NF == 3 { printf "  %-18s %8.2f times an accepted text'"'"'s time that is printed, %.2f that is read alone\n", "refused", $1 / $2, $1 / $3 }'
+    if command -v kzonecheck > /dev/null; then measure kzonecheck "$records" 0 kzonecheck -o example.test. "$work/zone"; fi
+    if command -v nsd-checkzone > /dev/null; then measure nsd-checkzone "$records" 0 nsd-checkzone example.test. "$work/zone"; fi
     if command -v named-compilezone > /dev/null; then
-        measure named-compilezone "$records" named-compilezone -i none -k ignore -o /dev/null example.test. "$work/zone"
+        measure named-compilezone "$records" 0 named-compilezone -i none -k ignore -o /dev/null example.test. "$work/zone"
     fi
 done; done
