@@ -1,18 +1,24 @@
 #!/usr/bin/env python3
-"""Asks a running `dnsd serve` for a zone of so many records as AXFR over loopback (RFC 5936), and prints for each run the processor
-time that the server took, the octets and the records that came, and the server's memory before the first run and behind each.
+"""Asks a running `dnsd serve` for a zone of so many records as AXFR over loopback (RFC 5936), by turns with NSD where it is installed, and prints for each
+run the processor time that the server took, the octets and the records that came, and the server's memory before the first run and behind each; and last
+the least and the middle of each server's times, and how dnsd's stand to NSD's. A run is as many transfers as have a million records, and its time is of one.
 Usage: [DNSD=PROGRAM] bench/serve_transfer.py [RECORDS [RUNS]], by default 1000000 records and 5 runs. `make dnsd` builds the program."""
+import glob
 import os
+import shutil
 import socket
+import statistics
 import subprocess
 import sys
 import tempfile
+import time
 
 records = int(sys.argv[1]) if len(sys.argv) > 1 else 1_000_000
 runs = int(sys.argv[2]) if len(sys.argv) > 2 else 5
 root = os.path.dirname(os.path.dirname(os.path.abspath(__file__)))
 program = os.environ.get("DNSD", f"{root}/crates/dnsd/out/dnsd")
-TICKS = os.sysconf("SC_CLK_TCK")
+nsd = shutil.which("nsd", path=os.environ["PATH"] + ":/usr/sbin:/sbin")
+times = max(1, 1_000_000 // records)
 
 
 def write_zone(file):
@@ -24,10 +30,23 @@ def write_zone(file):
     file.flush()
 
 
+def processes(pid):
+    """A process and those below it."""
+    for path in glob.glob(f"/proc/{pid}/task/*/children"):
+        with open(path) as file:
+            for child in file.read().split():
+                yield from processes(child)
+    yield pid
+
+
 def processor_seconds(pid):
-    with open(f"/proc/{pid}/stat") as file:
-        said = file.read().rpartition(")")[2].split()
-    return (int(said[11]) + int(said[12])) / TICKS
+    """The time that all threads of a server have run (Linux, /proc/PID/task/TID/schedstat)."""
+    spent = 0
+    for one in processes(pid):
+        for path in glob.glob(f"/proc/{one}/task/*/schedstat"):
+            with open(path) as file:
+                spent += int(file.read().split()[0])
+    return spent / 1e9
 
 
 def memory(pid):
@@ -53,20 +72,66 @@ def transfer(port):
     return octets, answers
 
 
-with tempfile.NamedTemporaryFile("w", suffix=".zone") as zone:
-    write_zone(zone)
-    server = subprocess.Popen([program, "serve", "--listen", "127.0.0.1:0", "--workers", "1", zone.name], stderr=subprocess.PIPE, text=True)
+def start_dnsd(folder):
+    server = subprocess.Popen([program, "serve", "--listen", "127.0.0.1:0", "--workers", "1", f"{folder}/zone"], stderr=subprocess.PIPE, text=True)
+    line = server.stderr.readline()
+    if not line.startswith("listening on "):
+        sys.exit(f"serve_transfer: {line}")
+    return server, int(line.split()[2].rstrip(":").rpartition(":")[2])
+
+
+def start_nsd(folder):
+    """NSD of one server, once it answers by TCP."""
+    with socket.create_server(("127.0.0.1", 0)) as free:
+        port = free.getsockname()[1]
+    with open(f"{folder}/nsd.conf", "w") as file:
+        file.write(f"""server:
+    ip-address: 127.0.0.1@{port}
+    username: ""
+    server-count: 1
+    zonesdir: "{folder}"
+    xfrdir: "{folder}"
+    database: ""
+    zonelistfile: "{folder}/zone.list"
+    xfrdfile: "{folder}/xfrd.state"
+    pidfile: ""
+remote-control:
+    control-enable: no
+zone:
+    name: example.test
+    zonefile: zone
+    provide-xfr: 127.0.0.1 NOKEY
+""")
+    server = subprocess.Popen([nsd, "-d", "-c", f"{folder}/nsd.conf"], stderr=subprocess.DEVNULL)
+    for _ in range(600):
+        try:
+            socket.create_connection(("127.0.0.1", port), timeout=1).close()
+            return server, port
+        except OSError:
+            time.sleep(0.1)
+    sys.exit("serve_transfer: nsd doesn't listen")
+
+
+servers, took = {}, {}
+with tempfile.TemporaryDirectory() as folder:
+    with open(f"{folder}/zone", "w") as zone:
+        write_zone(zone)
     try:
-        line = server.stderr.readline()
-        if not line.startswith("listening on "):
-            sys.exit(f"serve_transfer: {line}")
-        port = int(line.split()[2].rstrip(":").rpartition(":")[2])
-        print(f"{records} records, memory {memory(server.pid)} KiB")
+        for name, start in (("dnsd", start_dnsd), *((("nsd", start_nsd),) if nsd else ())):
+            servers[name], took[name] = start(folder), []
+            print(f"{name}: {records} records, memory {memory(servers[name][0].pid)} KiB")
         for run in range(runs):
-            before = processor_seconds(server.pid)
-            octets, answers = transfer(port)
-            spent = processor_seconds(server.pid) - before
-            print(f"run {run + 1}: {spent:.2f} s of processor, {octets} octets, {answers} answers, memory {memory(server.pid)} KiB")
+            for name, (server, port) in servers.items():
+                before = processor_seconds(server.pid)
+                for _ in range(times):
+                    octets, answers = transfer(port)
+                took[name].append((processor_seconds(server.pid) - before) / times)
+                print(f"run {run + 1}: {name}, {took[name][-1]:.4f} s of processor, {octets} octets, {answers} answers, memory {memory(server.pid)} KiB", flush=True)
     finally:
-        server.kill()
-        server.wait()
+        for server, _ in servers.values():
+            server.terminate()
+            server.wait()
+for name, all_of in took.items():
+    print(f"{name}: {min(all_of):.4f} s at least, {statistics.median(all_of):.4f} in the middle")
+if "nsd" in took:
+    print(f"dnsd's of nsd's: least {min(took['dnsd']) / min(took['nsd']):.2f}, middle {statistics.median(took['dnsd']) / statistics.median(took['nsd']):.2f}")
