@@ -1,0 +1,81 @@
+#!/usr/bin/env bash
+# Counts the instructions of a query of `dnsd serve` over UDP, from its datagram to that of its reply: by turns a name that exists, one that doesn't, and an alias,
+# asked by one client that waits for each reply. Each figure is the difference of two runs under callgrind, of 300 and of 3,300 queries. Prints
+# what a query takes in whole; what of it tells whether its peer may update and transfer (less where --allow names nobody); and the functions that take most,
+# as they are called once the compiler has put others in them. What bench/instructions.sh counts for these three kinds is the answering alone; the rest is the loop, the
+# system calls, the cell and the head.
+# Usage: [DNSD=PROGRAM] bench/serve_instructions.sh [--port N] [--functions N] [RECORDS], by default port 15483, 20 functions and 1000 records
+# It needs python3 and Debian's valgrind. `make dnsd` builds the program.
+set -euo pipefail
+cd "$(dirname "$0")/.."
+. bench/program.sh
+port=15483
+functions=20
+records=1000
+while [ $# -gt 0 ]; do
+    case $1 in
+        --port) port=$2; shift 2 ;;
+        --functions) functions=$2; shift 2 ;;
+        *) records=$1; shift ;;
+    esac
+done
+command -v valgrind >/dev/null || { echo "bench: there is no valgrind" >&2; exit 1; }
+server=
+trap '[ -z "$server" ] || kill "$server" 2>/dev/null || true; rm -rf "$work"' EXIT
+
+# Asks so many queries of the port, each behind the reply to the one before: COUNT
+ask() {
+    python3 - "$port" "$1" "$records" <<'PY'
+import socket, struct, sys
+port, count, records = map(int, sys.argv[1:])
+client = socket.socket(socket.AF_INET, socket.SOCK_DGRAM)
+client.connect(("127.0.0.1", port))
+client.settimeout(30)
+for i in range(count):
+    at = i * 7919 % (records - 2) // 10 * 10
+    label = (b"h%d" % at, b"x%d" % at, b"h%d" % (at + 9))[i % 3]
+    client.send(struct.pack(">6H", i, 0x100, 1, 0, 0, 0) + bytes([len(label)]) + label + b"\7example\4test\0\0\1\0\1")
+    reply = client.recv(2000)
+    if reply[:2] != struct.pack(">H", i) or reply[3] & 15 != (0, 3, 0)[i % 3]:
+        sys.exit("bench: a query is answered wrongly")
+PY
+}
+
+# The instructions of a run that answers so many queries, whose parts go to a file: FILE COUNT [OPTION ..]
+count() {
+    local file=$1 n=$2
+    shift 2
+    valgrind --tool=callgrind --callgrind-out-file="$work/$file" "$program" serve --listen "127.0.0.1:$port" --workers 1 --count "$n" "$@" "$work/zone" 2>"$work/log" &
+    server=$!
+    until grep -q '^listening on' "$work/log"; do
+        kill -0 "$server" 2>/dev/null || { cat "$work/log" >&2; exit 1; }
+        sleep 0.1
+    done
+    ask "$n"
+    wait "$server"
+    server=
+    sed -n 's/.*Collected *: *\([0-9]*\).*/\1/p' "$work/log"
+}
+
+zone "$records" >"$work/zone"
+few=$(count few 300)
+many=$(count many 3300)
+nobody_few=$(count nobody 300 --allow '')
+nobody_many=$(count nobody 3300 --allow '')
+for file in few many; do callgrind_annotate --threshold=100 --show-percs=no "$work/$file" >"$work/$file.told"; done
+awk -v a="$few" -v b="$many" -v c="$nobody_few" -v d="$nobody_many" -v n="$records" 'BEGIN {
+    all = (b - a) / 3000; nobody = (d - c) / 3000
+    printf "%d records: %.0f instructions a query over UDP; %.0f of them tell by the list of --allow whether its peer may update and transfer\n", n, all, all - nobody }'
+python3 - "$work/few.told" "$work/many.told" "$functions" <<'PY'
+import re, sys
+def parts(path):
+    rows = {}
+    for line in open(path):
+        row = re.match(r" *([\d,]+) +(?:\([^)]*\) +)?\S*?:(\S.*?)(?: \[.*\])?$", line)
+        if row:
+            rows[row[2]] = rows.get(row[2], 0) + int(row[1].replace(",", ""))
+    return rows
+few, many = parts(sys.argv[1]), parts(sys.argv[2])
+for name in sorted(many, key=lambda it: few.get(it, 0) - many[it])[:int(sys.argv[3])]:
+    print(f"  {(many[name] - few.get(name, 0)) / 3000:8.1f}  {name}")
+PY
