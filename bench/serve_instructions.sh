@@ -32,7 +32,7 @@ client = socket.socket(socket.AF_INET, socket.SOCK_DGRAM)
 client.connect(("127.0.0.1", port))
 client.settimeout(30)
 for i in range(count):
-    at = i * 7919 % (records - 2) // 10 * 10
+    at = i * 7919 % (records - 12) // 10 * 10
     label = (b"h%d" % at, b"x%d" % at, b"h%d" % (at + 9))[i % 3]
     client.send(struct.pack(">6H", i, 0x100, 1, 0, 0, 0) + bytes([len(label)]) + label + b"\7example\4test\0\0\1\0\1")
     reply = client.recv(2000)
@@ -41,7 +41,7 @@ for i in range(count):
 PY
 }
 
-# The instructions of a run that answers so many queries, whose parts go to a file: FILE COUNT [OPTION ..]
+# Sets `counted` to the instructions of a run that answers so many queries, whose parts go to a file: FILE COUNT [OPTION ..]
 count() {
     local file=$1 n=$2
     shift 2
@@ -54,14 +54,18 @@ count() {
     ask "$n"
     wait "$server"
     server=
-    sed -n 's/.*Collected *: *\([0-9]*\).*/\1/p' "$work/log"
+    counted=$(sed -n 's/.*Collected *: *\([0-9]*\).*/\1/p' "$work/log")
 }
 
 zone "$records" >"$work/zone"
-few=$(count few 300)
-many=$(count many 3300)
-nobody_few=$(count nobody 300 --allow '')
-nobody_many=$(count nobody 3300 --allow '')
+count few 300
+few=$counted
+count many 3300
+many=$counted
+count nobody 300 --allow ''
+nobody_few=$counted
+count nobody 3300 --allow ''
+nobody_many=$counted
 for file in few many; do callgrind_annotate --threshold=100 --show-percs=no "$work/$file" >"$work/$file.told"; done
 awk -v a="$few" -v b="$many" -v c="$nobody_few" -v d="$nobody_many" -v n="$records" 'BEGIN {
     all = (b - a) / 3000; nobody = (d - c) / 3000

@@ -1,29 +1,41 @@
 /* What is put in front of the C library (LD_PRELOAD) to refuse requests of a program: for memory, or for threads where REFUSE_WHAT is
-   `threads`; so many in a row as REFUSE_COUNT says, of which the first is that of the number REFUSE_FIRST, counted from 1. Each that is
-   refused is told on the standard error. refused.sh and tests/ending.py make it by a C compiler. */
+   `threads`; so many in a row as REFUSE_COUNT says, of which the first is that of the number REFUSE_FIRST, counted from 1. Where REFUSE_FILE
+   names a file, the two numbers are what stands in it at the time, each of eight octets, the first one before the count, and requests are
+   counted by the third number in it. Each that is refused is told on the standard error. refused.sh, tests/ending.py and
+   tests/refused_updates.py make it by a C compiler. */
 #define _GNU_SOURCE
 #include <dlfcn.h>
 #include <errno.h>
+#include <fcntl.h>
 #include <pthread.h>
 #include <stdatomic.h>
 #include <stdlib.h>
 #include <string.h>
+#include <sys/mman.h>
 #include <unistd.h>
 
 extern void *__libc_malloc(size_t);
 extern void *__libc_realloc(void *, size_t);
-static atomic_ulong made;
+static struct { volatile unsigned long first, count; atomic_ulong made; } own, *now = &own;
 
 static unsigned long number(const char *name) {
     const char *said = getenv(name);
     return said ? strtoul(said, 0, 10) : 0;
 }
 
+__attribute__((constructor)) static void begin(void) {
+    own.first = number("REFUSE_FIRST"), own.count = number("REFUSE_COUNT");
+    const char *path = getenv("REFUSE_FILE");
+    int file = path ? open(path, O_RDWR) : -1;
+    void *shared = file >= 0 ? mmap(0, sizeof own, PROT_READ | PROT_WRITE, MAP_SHARED, file, 0) : MAP_FAILED;
+    if (shared != MAP_FAILED) now = shared;
+}
+
 static int is_refused(const char *what) {
     const char *meant = getenv("REFUSE_WHAT");
     if (strcmp(meant ? meant : "memory", what)) return 0;
-    unsigned long first = number("REFUSE_FIRST"), at = ++made;
-    if (at < first || at >= first + number("REFUSE_COUNT")) return 0;
+    unsigned long at = ++now->made;
+    if (at < now->first || at - now->first >= now->count) return 0;
     static const char said[] = "a request was refused\n";
     return write(2, said, sizeof said - 1) >= -1;
 }
