@@ -45,6 +45,7 @@ PY
 count() {
     local file=$1 n=$2
     shift 2
+    : >"$work/log"
     valgrind --tool=callgrind --callgrind-out-file="$work/$file" "$program" serve --listen "127.0.0.1:$port" --workers 1 --count "$n" "$@" "$work/zone" 2>"$work/log" &
     server=$!
     until grep -q '^listening on' "$work/log"; do
