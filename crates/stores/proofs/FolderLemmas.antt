@@ -1,5 +1,5 @@
 -- What a folder means, and what each step of a compaction leaves of it.
-use Rattle.std.proofs.Common.{◌≡◌, ◌≢◌, ◌==◌, ℕ, Bool, true, false, List, [], take, drop, map, Option, None, Some, Result, Ok, if◌then◌else◌, refl, sym, ap, ◌∙◌, subst}
+use Rattle.std.proofs.Common.{◌≡◌, ◌≢◌, ◌==◌, ℕ, Bool, true, false, List, [], length, take, drop, map, Option, None, Some, Result, Ok, if◌then◌else◌, refl, sym, ap, ◌∙◌, subst}
 use Rattle.std.proofs.lemmas.Bool.{ne_eqb}
 use Rattle.dns_rdata.specs.Record.{Record}
 use Rattle.dns_message.specs.declared.update.Update.{Update}
@@ -12,13 +12,18 @@ use Rattle.journal.specs.Head.{salt_of}
 use Rattle.journal.specs.Recovered.{journal_of, updates_in}
 use Rattle.journal.proofs.FramesLemmas.{read_once, written_read}
 use Rattle.journal.proofs.HeadLemmas.{one_head}
-use Rattle.journal.proofs.RecoveredLemmas.{same_batches}
+use Rattle.journal.proofs.RecoveredLemmas.{same_batches, written_recovered}
 use Rattle.update_core.specs.Act.{replay}
+use Rattle.recovery.specs.declared.fault.StartFault.{StartFault}
+use Rattle.recovery.specs.declared.fault.StartFault.TheVariants.{NoMemory}
+use Rattle.recovery.specs.declared.start.Start.{Start}
 use Rattle.recovery.specs.Replay.{AreRead}
+use Rattle.recovery.specs.Start.{IsStarted, IsStartFault}
 use Rattle.recovery.specs.Store.{IsStore}
 use Rattle.recovery.proofs.ReadLemmas.{read_once as updates_once}
+use Rattle.recovery.proofs.StoreLemmas.{store_taken, store_accepted}
 use Rattle.stores.specs.Behind.{AreBehind}
-use Rattle.stores.specs.Folder.{Folder, Means, with_text, without_text, with_journal}
+use Rattle.stores.specs.Folder.{Folder, Means, HasPair, with_text, without_text, with_journal}
 use Rattle.stores.proofs.CompactedLemmas.{compacted_store}
 
 -- a file's octets, and a text's zone, are one
@@ -99,3 +104,30 @@ journal_renamed folder head next batches rest zone updates k written means there
   there = there;
   store = compacted_store means.text written head next batches rest zone updates k means.store begun behind;
 }
+
+-- what a start reads of a folder that means a store: its journal and its zone text
+pair_read : (folder : Folder) (head : Head) (batches : List (List (List ℕ))) (zone : List Record) (updates : List Update) (octets text : List ℕ)
+    → (means : Means folder head batches zone updates) → HasPair folder octets text → (octets ≡ journal_of head batches) × (text ≡ means.text)
+pair_read folder head batches zone updates octets text means pair =
+    let same : octets ≡ journal_of head batches = one_file folder.journal octets (journal_of head batches) pair.journal means.journal in
+    let one = one_head pair.head head pair.behind (frames_of (salt_of head) 0 (map batch_of batches)) pair.begins.is_head means.store.is_head (sym pair.begins.spelt ∙ same) in
+    (same, one_file (folder.texts head.number) text means.text (ap (λ (h : Head). folder.texts h.number) (sym one.0) ∙ pair.there) means.there)
+
+-- and a start of it
+pub folder_taken : (folder : Folder) (head : Head) (batches : List (List (List ℕ))) (zone : List Record) (updates : List Update) (octets text : List ℕ) (start : Start)
+    → Means folder head batches zone updates → HasPair folder octets text → IsStarted text octets start
+    → (start.head ≡ head) × (start.newest.last.zone ≡ replay zone updates) × (start.newest.last.number ≡ length updates)
+folder_taken folder head batches zone updates octets text start means pair is =
+    let same = pair_read folder head batches zone updates octets text means pair in
+    let read : IsStarted text (journal_of head batches) start = subst (λ (o : List ℕ). IsStarted text o start) same.0 is in
+    let here : IsStarted means.text (journal_of head batches) start = subst (λ (t : List ℕ). IsStarted t (journal_of head batches) start) same.1 read in
+    let found = written_recovered means.text head start.head batches here.messages start.number start.end here.torn means.store.is_head means.store.fit means.store.short here.recovered in
+    let last = store_taken means.text head batches zone updates start means.store here in
+    (found.0, last.0, last.1)
+
+pub folder_accepted : (folder : Folder) (head : Head) (batches : List (List (List ℕ))) (zone : List Record) (updates : List Update) (octets text : List ℕ) (fault : StartFault)
+    → Means folder head batches zone updates → HasPair folder octets text → IsStartFault text octets fault → fault ≡ NoMemory
+folder_accepted folder head batches zone updates octets text fault means pair is =
+    let same = pair_read folder head batches zone updates octets text means pair in
+    let read : IsStartFault text (journal_of head batches) fault = subst (λ (o : List ℕ). IsStartFault text o fault) same.0 is in
+    store_accepted means.text head batches zone updates fault means.store (subst (λ (t : List ℕ). IsStartFault t (journal_of head batches) fault) same.1 read)

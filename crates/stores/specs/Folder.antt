@@ -3,7 +3,7 @@ use Rattle.std.specs.Prelude.{◌≡◌, ◌==◌, ℕ, List, Option, None, Some
 use Rattle.dns_rdata.specs.Record.{Record}
 use Rattle.dns_message.specs.declared.update.Update.{Update}
 use Rattle.journal.specs.declared.heads.Head.{Head}
-use Rattle.journal.specs.Recovered.{journal_of}
+use Rattle.journal.specs.Recovered.{BeginsHead, journal_of}
 use Rattle.recovery.specs.Store.{IsStore}
 
 -- a folder's files: its journal, and its zone texts by their numbers
@@ -17,6 +17,14 @@ pub record Means (folder : Folder) (head : Head) (batches : List (List (List ℕ
   pub journal : folder.journal ≡ Some (journal_of head batches)
   pub there : folder.texts head.number ≡ Some text
   pub store : IsStore text head batches zone updates
+
+-- what a start reads of a folder: the octets of its journal, and the zone text that the head names with which these begin
+pub record HasPair (folder : Folder) (octets text : List ℕ) : Type 0 where
+  pub head : Head
+  pub behind : List ℕ
+  pub journal : folder.journal ≡ Some octets
+  pub begins : BeginsHead octets head behind
+  pub there : folder.texts head.number ≡ Some text
 
 -- a folder with a zone text of this number, with none of it, and with this journal
 abbrev pub with_text : Folder → ℕ → List ℕ → Folder

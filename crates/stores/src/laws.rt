@@ -12,15 +12,17 @@ ghost use Rattle.journal.specs.Batch.{batch_of, IsShort};
 ghost use Rattle.journal.specs.Frame.{Fit};
 ghost use Rattle.journal.specs.Head.{IsText};
 ghost use Rattle.journal.specs.Recovered.{journal_of};
+ghost use Rattle.recovery.specs.declared.fault.StartFault.{StartFault};
+ghost use Rattle.recovery.specs.declared.fault.StartFault.TheVariants.{NoMemory};
 ghost use Rattle.recovery.specs.declared.start.Start.{Start};
-ghost use Rattle.recovery.specs.Start.{IsStarted};
+ghost use Rattle.recovery.specs.Start.{IsStarted, IsStartFault};
 ghost use Rattle.recovery.specs.Store.{IsStore};
 ghost use Rattle.stores.specs.declared.choices.Choice.{Choice};
 ghost use Rattle.stores.specs.declared.choices.Choice.TheVariants.{Same};
 ghost use Rattle.stores.specs.declared.choices.Take.{Take};
 ghost use Rattle.stores.specs.Behind.{AreBehind, batches_behind};
 ghost use Rattle.stores.specs.Choice.{IsChoice, IsChoiceFault};
-ghost use Rattle.stores.specs.Folder.{Folder, Means, with_text, without_text, with_journal};
+ghost use Rattle.stores.specs.Folder.{Folder, Means, HasPair, with_text, without_text, with_journal};
 
 /// A start has one choice at most; and where it has one, want of memory is the only fault.
 pub fn one_choice()
@@ -53,6 +55,16 @@ pub fn compacted_is_the_same()
         → IsStarted text (journal_of head batches) start → IsStarted written (journal_of next rest) later
         → (start.newest.last.zone ≡ later.newest.last.zone) × (start.newest.last.number ≡ k + later.newest.last.number) }
     ensures behind { (batches : List (List (List ℕ))) (k : ℕ) → All (All IsShort) batches → Fit 0 (map batch_of batches) → AreBehind k batches (batches_behind k batches) }
+{}
+
+/// A start of a folder that means a store, of its journal and the zone text that the journal's head names, has the store's last version; and it is refused for want of
+/// memory alone.
+pub fn what_a_folder_means_is_started()
+    ensures taken { (folder : Folder) (head : Head) (batches : List (List (List ℕ))) (zone : List Record) (updates : List Update) (octets text : List ℕ) (start : Start)
+        → Means folder head batches zone updates → HasPair folder octets text → IsStarted text octets start
+        → (start.head ≡ head) × (start.newest.last.zone ≡ replay zone updates) × (start.newest.last.number ≡ length updates) }
+    ensures accepted { (folder : Folder) (head : Head) (batches : List (List (List ℕ))) (zone : List Record) (updates : List Update) (octets text : List ℕ) (fault : StartFault)
+        → Means folder head batches zone updates → HasPair folder octets text → IsStartFault text octets fault → fault ≡ NoMemory }
 {}
 
 /// A folder means one store at most. Each step of a compaction leaves it a meaning: the next zone text is written, and the store is the one that it was; a journal that

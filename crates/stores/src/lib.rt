@@ -2,7 +2,7 @@
 //!
 //! A store is a zone text and a journal of the updates since (`recovery`). [`begin_store`] makes one of a zone, with no update yet; made of a version of a store,
 //! and with the batches behind it, it is a store of the same versions ([`compacted_is_the_same`]), whichever step of the way is the last one that the disk has
-//! ([`each_step_keeps_the_meaning`]). [`choose`] says which is served at a start, the store or the zone text that the operator names. No file is here, and nothing
+//! ([`each_step_keeps_the_meaning`], [`what_a_folder_means_is_started`]). [`choose`] says which is served at a start, the store or the zone text that the operator names. No file is here, and nothing
 //! is written.
 #![tactic(auto)]
 
@@ -14,4 +14,5 @@ pub use begin::begin_store;
 pub use choices::{Choice, Take, choose};
 pub use laws::{
     begun_from_is_served, compacted_is_the_same, each_step_keeps_the_meaning, one_choice,
+    what_a_folder_means_is_started,
 };
