@@ -2,7 +2,7 @@
 use Rattle.std.proofs.Common.{◌≡◌, ℕ, ◌+◌, ◌-◌, ◌%◌, ◌<◌, ◌≤◌, inl, inr, List, length, set, replicate, get_or, refl, sym, ap, subst, ◌∙◌, arith}
 use Rattle.std.proofs.lemmas.List.{get_or-replicate, get_or-set_same, get_or-set_other}
 use Rattle.std.proofs.lemmas.Bool.{cases_eq}
-use Rattle.wire_names.specs.Alike.{IsFirstAlike, AreLinks, HasBehind}
+use Rattle.wire_names.specs.Alike.{IsFirstAlike, AreLinks}
 use Rattle.wire_names.specs.Table.{IsNext}
 
 -- the links from an index on
@@ -63,9 +63,8 @@ links_all keys first next i e linked = record {
   nexts = λ k below. linked.nexts k (omega arith) below;
 }
 
--- a key stands right in front of the index behind it
-pub behind_next : (keys : List ℕ) (key from i : ℕ) → IsNext keys key from i → HasBehind keys key (i + 1)
-behind_next keys key from i next some =
-    let within = next.within in
-    let back : i + 1 - 1 ≡ i = omega arith in
-    (omega arith, ap (λ (n : ℕ). get_or keys n 0) back ∙ next.is)
+-- behind a key that stands at an index, the next that is alike is where the link leads
+pub alike_next : (keys first next : List ℕ) (key from i alike : ℕ) → AreLinks keys first next → IsNext keys key from i → alike ≡ get_or next i 0 → IsFirstAlike keys (key % 256) (i + 1) alike
+alike_next keys first next key from i alike links found is =
+    subst (IsFirstAlike keys (key % 256) (i + 1)) (sym is)
+    (subst (λ (n : ℕ). IsFirstAlike keys (n % 256) (i + 1) (get_or next i 0)) found.is (links.nexts i found.within))

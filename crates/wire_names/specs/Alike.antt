@@ -1,5 +1,5 @@
 -- Keys of a table that are alike in their low octet.
-use Rattle.std.specs.Prelude.{◌≡◌, ℕ, ◌+◌, ◌-◌, ◌%◌, ◌<◌, ◌≤◌, List, length, slice_index_or}
+use Rattle.std.specs.Prelude.{◌≡◌, ℕ, ◌+◌, ◌%◌, ◌<◌, ◌≤◌, List, length, slice_index_or}
 
 -- an index is that of the first key from one on that has a low octet; the number of keys where there is none (own)
 pub record IsFirstAlike (keys : List ℕ) (low from index : ℕ) : Type 0 where
@@ -12,7 +12,3 @@ pub record IsFirstAlike (keys : List ℕ) (low from index : ℕ) : Type 0 where
 pub record AreLinks (keys first next : List ℕ) : Type 0 where
   pub heads : (low : ℕ) → low < 256 → IsFirstAlike keys low 0 (slice_index_or first low 0)
   pub nexts : (i : ℕ) → i < length keys → IsFirstAlike keys (slice_index_or keys i 0 % 256) (i + 1) (slice_index_or next i 0)
-
--- an index is 0, or a key stands right in front of it
-abbrev pub HasBehind : List ℕ → ℕ → ℕ → Type 0
-HasBehind keys key from = 0 < from → (from ≤ length keys) × (slice_index_or keys (from - 1) 0 ≡ key)

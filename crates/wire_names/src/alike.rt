@@ -3,8 +3,8 @@
 //! Names can be chosen whose keys are equal. The low octet of a key counts the octets of the labels, so a key is alike, in its low octet,
 //! to one suffix of a name at most; and where each key leads to the next that is alike, the keys of all suffixes are found by one
 //! walk over the keys together.
-ghost use Rattle.std.specs.Prelude.{◌≡◌, ◌%◌, ◌<◌, ◌≤◌, length, slice_index_or, MatchOption};
-ghost use Rattle.wire_names.specs.Alike.{AreLinks, HasBehind};
+ghost use Rattle.std.specs.Prelude.{◌≡◌, ℕ, ◌%◌, ◌<◌, ◌≤◌, List, length, slice_index_or, MatchOption};
+ghost use Rattle.wire_names.specs.Alike.{IsFirstAlike, AreLinks};
 ghost use Rattle.wire_names.specs.Table.{IsNowhere, IsNext};
 
 use crate::table::MAX_POSITIONS;
@@ -20,40 +20,63 @@ pub(crate) struct Links {
     pub(crate) next: [u16; MAX_POSITIONS],
 }
 
+impl Links {
+    /// The index of the first key that is alike to this one; the number of keys where there is none.
+    pub(crate) fn first_of(&self, key: u32) -> usize
+        ensures { (keys : List ℕ) → AreLinks keys self.now.first self.now.next → IsFirstAlike keys (key % 256) 0 result }
+    {
+        usize::from(self.first[low_octet(key)])
+    }
+
+    /// The index of the next key that is alike to the one at an index; the number of keys where there is none.
+    pub(crate) fn behind(&self, index: usize) -> usize
+        requires { index < 256 }
+        ensures { result ≡ slice_index_or self.now.next index 0 }
+    {
+        usize::from(self.next[index])
+    }
+}
+
 /// The links between these keys.
 pub(crate) fn links_of(keys: &[u32]) -> Links
     requires { length keys.now ≤ 256 }
     ensures { AreLinks keys.now result.first result.next }
 {
     let none = keys.len() as u16;
-    let mut first = [none; LOW_OCTETS];
-    let mut next = [none; MAX_POSITIONS];
+    let mut links = Links {
+        first: [none; LOW_OCTETS],
+        next: [none; MAX_POSITIONS],
+    };
     let mut i = keys.len();
     while i > 0 {
         i -= 1;
         let low = low_octet(keys[i]);
-        next[i] = first[low];
-        first[low] = i as u16;
+        links.next[i] = links.first[low];
+        links.first[low] = i as u16;
     }
-    Links { first, next }
+    links
 }
 
-/// The first index from one on at which this key stands, by the links between the keys: from 0 on, or behind one at which it stands.
-pub(crate) fn next_linked(keys: &[u32], key: u32, from: usize, links: &Links) -> Option<usize>
+/// The first index from one on at which this key stands, by the links between the keys, where the second index is that of the first key
+/// from there on that is alike to it.
+pub(crate) fn next_linked(
+    keys: &[u32],
+    key: u32,
+    _from: usize,
+    alike: usize,
+    links: &Links,
+) -> Option<usize>
     requires few { length keys.now ≤ 256 }
     requires links { AreLinks keys.now links.now.first links.now.next }
-    requires behind { HasBehind keys.now key from }
-    ensures { MatchOption result (IsNowhere keys.now key from (length keys.now)) (IsNext keys.now key from) }
+    requires alike { IsFirstAlike keys.now (key % 256) _from alike }
+    ensures { MatchOption result (IsNowhere keys.now key _from (length keys.now)) (IsNext keys.now key _from) }
 {
-    let mut i = match from.checked_sub(1) {
-        Some(last) => usize::from(links.next[last]),
-        None => usize::from(links.first[low_octet(key)]),
-    };
+    let mut i = alike;
     while i < keys.len() {
         if keys[i] == key {
             return Some(i);
         }
-        i = usize::from(links.next[i]);
+        i = links.behind(i);
     }
     None
 }

@@ -42,8 +42,10 @@ impl Positions {
             return None;
         }
         let mut from = 0;
-        while let Some(i) = self.next_by(key, from, links) {
+        let mut alike = links.first_of(key);
+        while let Some(i) = self.next_by(key, from, alike, links) {
             from = i + 1;
+            alike = links.behind(i);
             if is_ruled_out(ruled_out, i, octets) {
                 continue;
             }

@@ -1,9 +1,9 @@
 //! The names of a message that pointers can name.
-ghost use Rattle.std.specs.Prelude.{◌≡◌, ◌≢◌, ℕ, ◌+◌, ◌/◌, ◌<◌, ◌≤◌, ◌^◌, ◌↔◌, ◌++◌, [], length, take, drop, All, IsTrue, IfSome, MatchOption, get_or};
+ghost use Rattle.std.specs.Prelude.{◌≡◌, ◌≢◌, ℕ, ◌+◌, ◌/◌, ◌%◌, ◌<◌, ◌≤◌, ◌^◌, ◌↔◌, ◌++◌, [], length, take, drop, All, IsTrue, IfSome, MatchOption, get_or};
 ghost use Rattle.std.specs.Bool.{OnTrue};
 ghost use Rattle.dns_name.specs.Labels.{labels_in, IsWhole};
 ghost use Rattle.wire_names.specs.Spells.{Spells};
-ghost use Rattle.wire_names.specs.Alike.{AreLinks, HasBehind};
+ghost use Rattle.wire_names.specs.Alike.{IsFirstAlike, AreLinks};
 ghost use Rattle.wire_names.specs.Table.{IsTable, IsEarliest, Ascend, IsNowhere, IsNext, keys_of, name_key, table_of, position_in, enter, entered};
 ghost use Rattle.wire_names.specs.Written.{starts_of};
 
@@ -192,14 +192,20 @@ impl Positions {
         links_of(self.keys.as_slice())
     }
 
-    /// As [`next_of`](Self::next_of), by links: from 0 on, or behind a position that has the key.
-    pub(crate) fn next_by(&self, key: u32, from: usize, links: &Links) -> Option<usize>
+    /// As [`next_of`](Self::next_of), by links, where the second index is that of the first key from the first index on that is alike.
+    pub(crate) fn next_by(
+        &self,
+        key: u32,
+        from: usize,
+        alike: usize,
+        links: &Links,
+    ) -> Option<usize>
         requires links { AreLinks (keys_of self.now) links.now.first links.now.next }
-        requires behind { HasBehind (keys_of self.now) key from }
+        requires alike { IsFirstAlike (keys_of self.now) (key % 256) from alike }
         ensures next { MatchOption result (IsNowhere (keys_of self.now) key from (length (keys_of self.now))) (IsNext (keys_of self.now) key from) }
         ensures few { IfSome result (λ index. index < MAX_POSITIONS) }
     {
-        next_linked(self.keys.as_slice(), key, from, links)
+        next_linked(self.keys.as_slice(), key, from, alike, links)
     }
 
     /// The position at an index, and its key.

@@ -23,17 +23,17 @@ loop-i-preserved c =
     let few = c.low_octet-low.ensures.within in
     let small = c.requires in
     let e : c.loop-i.i ≡ i + 1 = omega arith in
-    let room : low < length c.loop-i.first = omega arith in
-    let wide : i < length c.loop-i.next = omega arith in
+    let room : low < length c.loop-i.links.first = omega arith in
+    let wide : i < length c.loop-i.links.next = omega arith in
     record {
       within = omega arith;
-      heads = length-set c.loop-i.first low i ∙ heads;
-      nexts = length-set c.loop-i.next i (get_or c.loop-i.first low 0) ∙ nexts;
-      linked = linked_step c.args.keys.now c.loop-i.first c.loop-i.next i c.loop-i.i low e within c.low_octet-low.ensures.is room wide few own.linked;
+      heads = length-set c.loop-i.links.first low i ∙ heads;
+      nexts = length-set c.loop-i.links.next i (get_or c.loop-i.links.first low 0) ∙ nexts;
+      linked = linked_step c.args.keys.now c.loop-i.links.first c.loop-i.links.next i c.loop-i.i low e within c.low_octet-low.ensures.is room wide few own.linked;
     }
 
 pub returns : goal.returns
 returns c =
     let done = c.loop-i-test.false in
     let none : c.loop-i.i ≡ 0 = omega arith in
-    links_all c.args.keys.now c.loop-i.first c.loop-i.next c.loop-i.i none c.loop-i.invariant.linked
+    links_all c.args.keys.now c.loop-i.links.first c.loop-i.links.next c.loop-i.i none c.loop-i.invariant.linked

@@ -6,9 +6,9 @@ use Rattle.wire_names.proofs.alike.links_of.Given as goal
 abbrev pub invariant-loop-i : goal.invariant-loop-i
 invariant-loop-i l = record {
   within : l.i ≤ length l.keys;
-  heads : length l.first ≡ 256;
-  nexts : length l.next ≡ 256;
-  linked : Linked l.keys l.first l.next l.i;
+  heads : length l.links.first ≡ 256;
+  nexts : length l.links.next ≡ 256;
+  linked : Linked l.keys l.links.first l.links.next l.i;
 }
 
 abbrev pub decreases-loop-i : goal.decreases-loop-i

@@ -5,10 +5,10 @@ use Rattle.wire_names.proofs.alike.next_linked.Given as goal
 -- the key is at none of the indexes so far
 abbrev pub invariant-loop-i : goal.invariant-loop-i
 invariant-loop-i l = record {
-  up : l.from ≤ l.i;
+  up : l._from ≤ l.i;
   within : l.i ≤ length l.keys;
   alike : l.i < length l.keys → get_or l.keys l.i 0 % 256 ≡ l.key % 256;
-  others : IsNowhere l.keys l.key l.from l.i;
+  others : IsNowhere l.keys l.key l._from l.i;
 }
 
 abbrev pub decreases-loop-i : goal.decreases-loop-i

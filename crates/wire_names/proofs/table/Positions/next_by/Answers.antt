@@ -1,5 +1,5 @@
-use Rattle.std.proofs.Common.{◌≡◌, List, ℕ, length, MatchOption, sym, ap, subst, ◌∙◌}
-use Rattle.wire_names.specs.Alike.{AreLinks, HasBehind}
+use Rattle.std.proofs.Common.{◌≡◌, ◌%◌, List, ℕ, length, MatchOption, sym, ap, subst, ◌∙◌}
+use Rattle.wire_names.specs.Alike.{IsFirstAlike, AreLinks}
 use Rattle.wire_names.specs.Table.{IsNowhere, IsNext, keys_of}
 use Rattle.wire_names.proofs.NextLemmas.{keys_are}
 use Rattle.wire_names.proofs.table.Positions.next_by.Goals as goal
@@ -10,8 +10,8 @@ keys_now c = c.as_slice.ensures.value ∙ sym (keys_are c.self.inside.positions.
 pub next_linked-requires-clause-links : goal.next_linked-requires-clause-links
 next_linked-requires-clause-links c = subst (λ (xs : List ℕ). AreLinks xs c.args.links.now.first c.args.links.now.next) (sym (keys_now c)) c.requires.links
 
-pub next_linked-requires-clause-behind : goal.next_linked-requires-clause-behind
-next_linked-requires-clause-behind c = subst (λ (xs : List ℕ). HasBehind xs c.args.key c.args.from) (sym (keys_now c)) c.requires.behind
+pub next_linked-requires-clause-alike : goal.next_linked-requires-clause-alike
+next_linked-requires-clause-alike c = subst (λ (xs : List ℕ). IsFirstAlike xs (c.args.key % 256) c.args.from c.args.alike) (sym (keys_now c)) c.requires.alike
 
 pub returns-clause-next : goal.returns-clause-next
 returns-clause-next c =

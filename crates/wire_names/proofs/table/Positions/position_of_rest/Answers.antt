@@ -3,7 +3,7 @@ use Rattle.std.proofs.lemmas.List.{length-map}
 use Rattle.std.proofs.Math.ListN.{drop_of_length-le}
 use Rattle.dns_name.specs.Labels.{labels_in}
 use Rattle.wire_names.specs.Table.{Entry, keys_of, table_of, position_in}
-use Rattle.wire_names.proofs.AlikeLemmas.{behind_next}
+use Rattle.wire_names.proofs.AlikeLemmas.{alike_next}
 use Rattle.wire_names.proofs.NextLemmas.{next_within, position_up_to}
 use Rattle.wire_names.proofs.PlainLemmas.{on_true}
 use Rattle.wire_names.proofs.RuledOutLemmas.{entry_at, known_other, answers_known}
@@ -31,7 +31,7 @@ loop-i-preserved-then-is_ruled_out c =
     record {
       within = omega arith;
       so_far = position_passed _ c.args.self.now c.args.self.now c.in-Some.i d entry _ _ c.requires.table refl within refl answers refl so_far;
-      behind = behind_next (keys_of c.args.self.now) c.args.key c.loop-i.from c.in-Some.i next;
+      alike = alike_next (keys_of c.args.self.now) c.args.links.now.first c.args.links.now.next c.args.key c.loop-i.from c.in-Some.i _ c.requires.links next c.behind-alike.ensures;
       known = c.loop-i.invariant.known;
     }
 
@@ -59,7 +59,7 @@ loop-i-preserved c =
     record {
       within = omega arith;
       so_far = position_passed _ c.args.self.now c.args.self.now c.in-Some.i _ entry _ _ c.requires.table refl within c.entry-position.ensures c.spells_rest.ensures.spells c.if-spells_rest.false so_far;
-      behind = behind_next (keys_of c.args.self.now) c.args.key c.loop-i.from c.in-Some.i next;
+      alike = alike_next (keys_of c.args.self.now) c.args.links.now.first c.args.links.now.next c.args.key c.loop-i.from c.in-Some.i _ c.requires.links next c.behind-alike.ensures;
       known = c.spells_rest.ensures.known c.if-spells_rest.false;
     }
 

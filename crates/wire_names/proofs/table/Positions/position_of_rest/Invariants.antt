@@ -1,6 +1,6 @@
-use Rattle.std.proofs.Common.{◌≡◌, ◌-◌, ◌≤◌, drop, length}
+use Rattle.std.proofs.Common.{◌≡◌, ◌-◌, ◌%◌, ◌≤◌, drop, length}
 use Rattle.dns_name.specs.Labels.{labels_in}
-use Rattle.wire_names.specs.Alike.{HasBehind}
+use Rattle.wire_names.specs.Alike.{IsFirstAlike}
 use Rattle.wire_names.specs.Table.{AreRuledOut, keys_of, table_of, position_in}
 use Rattle.wire_names.proofs.table.Positions.position_of_rest.Given as goal
 
@@ -9,7 +9,7 @@ abbrev pub invariant-loop-i : goal.invariant-loop-i
 invariant-loop-i l = record {
   within : l.from ≤ length l.self;
   so_far : position_in (table_of l.msg l.self) (labels_in l.octets) ≡ position_in (table_of l.msg (drop l.from l.self)) (labels_in l.octets);
-  behind : HasBehind (keys_of l.self) l.key l.from;
+  alike : IsFirstAlike (keys_of l.self) (l.key % 256) l.from l.alike;
   known : AreRuledOut l.msg l.self l.octets l.ruled_out;
 }
 
