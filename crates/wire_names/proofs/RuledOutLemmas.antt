@@ -154,9 +154,6 @@ rules msg at name false Known target known answers = record { spells = answers; 
 pub entry_at : (msg : List ℕ) (entries : List Entry) (i : ℕ) (d entry : Entry) → IsTable msg entries → i < length entries → entry ≡ get_or entries i d → IsEntry msg entry
 entry_at msg entries i d entry table within here = subst (IsEntry msg) (sym here) (table i d within)
 
-pub other_at : (msg : List ℕ) (entry same : Entry) (name : List (List ℕ)) → entry ≡ same → (spelt_at msg same.position ≡ name → ⊥) → spelt_at msg entry.position ≡ name → ⊥
-other_at msg entry same name e other is = other (ap (λ (x : Entry). spelt_at msg x.position) (sym e) ∙ is)
-
 -- one more is ruled out
 pub known_more : (msg : List ℕ) (entries : List Entry) (octets sizes after : List ℕ) (index size : ℕ) → after ≡ set sizes index size → index < length sizes → AreRuledOut msg entries octets sizes → ((d : Entry) → index < length entries → IsRuledOut msg (get_or entries index d).position octets size) → AreRuledOut msg entries octets after
 known_more msg entries octets sizes after index size is room known here i d within =

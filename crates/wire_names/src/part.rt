@@ -11,6 +11,9 @@ pub(crate) const POINTER: usize = 192;
 /// How many places the second octet of a pointer tells apart.
 const SECOND_OCTET: usize = 256;
 
+/// How many octets of two labels are compared at a time.
+const AT_ONCE: usize = 4;
+
 /// Why octets spell no name. The first fault in reading order is told.
 #[derive(Clone, Copy, Debug, PartialEq, Eq, Error)]
 pub enum NameReadFault {
@@ -100,7 +103,7 @@ pub(crate) fn label_at(msg: &[u8], at: usize, len: usize) -> &[u8]
     &msg[at + 1..at + 1 + len]
 }
 
-/// Whether two labels differ, case included. Four octets are compared at a time, in the caller itself: most labels are short, and differ in
+/// Whether two labels differ, case included. Some octets are compared at a time, in the caller itself: most labels are short, and differ in
 /// their first octets.
 #[inline(always)]
 pub(crate) fn differ(label: &[u8], other: &[u8]) -> bool
@@ -109,14 +112,14 @@ pub(crate) fn differ(label: &[u8], other: &[u8]) -> bool
     if label.len() != other.len() {
         return true;
     }
-    if label.len() < 4 {
+    if label.len() < AT_ONCE {
         return differ_singly(label, other);
     }
     let mut rest = label;
     let mut others = other;
     while let (Some((four, behind)), Some((same, after))) = (
-        rest.split_first_chunk::<4>(),
-        others.split_first_chunk::<4>(),
+        rest.split_first_chunk::<AT_ONCE>(),
+        others.split_first_chunk::<AT_ONCE>(),
     ) {
         if four != same {
             return true;
