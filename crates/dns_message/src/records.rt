@@ -205,6 +205,8 @@ fn put_fixed(out: &mut [u8], at: usize, rtype: RType, ttl: Ttl) -> Option<usize>
     let [type_high, type_low] = rtype.0.to_be_bytes();
     let [class_high, class_low] = Class::IN.0.to_be_bytes();
     let [first, second, third, fourth] = ttl.0.to_be_bytes();
-    let octets = [type_high, type_low, class_high, class_low, first, second, third, fourth];
+    let octets = [
+        type_high, type_low, class_high, class_low, first, second, third, fourth,
+    ];
     put(out, at, &octets)
 }
