@@ -6,6 +6,7 @@ pub mod EntryLemmas
 pub mod GrammarLemmas
 pub mod KeyLemmas
 pub mod KeySumLemmas
+pub mod KnownLemmas
 pub mod LeadsLemmas
 pub mod LongerLemmas
 pub mod NextLemmas
@@ -13,6 +14,5 @@ pub mod OverwrittenLemmas
 pub mod PassLemmas
 pub mod PlainLemmas
 pub mod ReadLemmas
-pub mod RuledOutLemmas
 pub mod TableLemmas
 pub mod WrittenLemmas

@@ -99,7 +99,7 @@ pub answers_end : (msg : List ℕ) (at run place n : ℕ) (name rest : List (Lis
 answers_end msg at run place n name rest alike p nil =
     answers_no msg at run place name rest alike (λ next s. let is = (spells_label msg run place next n rest p s).is in cc)
 
-equal_from : (e b : Bool) → b ≡ not e → b ≡ false → e ≡ true
+pub equal_from : (e b : Bool) → b ≡ not e → b ≡ false → e ≡ true
 equal_from true b t f = refl
 equal_from false b t f = cc
 

@@ -1,6 +1,7 @@
 pub mod Alike
 pub mod Cut
 pub mod Examples
+pub mod Known
 pub mod Leads
 pub mod NameAt
 pub mod Parts

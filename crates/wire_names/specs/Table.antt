@@ -128,12 +128,3 @@ pub record IsEarliest (msg : List ℕ) (entries : List Entry) (name : Name) (ind
 -- each position is above those before it
 abbrev pub Ascend : List Entry → Type 0
 Ascend entries = AllPairs (λ entry other. entry.position < other.position) entries
-
--- a position of a message doesn't spell the rest of a name's octets that takes so many of them
-abbrev pub IsRuledOut : List ℕ → ℕ → List ℕ → ℕ → Type 0
-IsRuledOut msg at octets size = (front rest : List ℕ) → octets ≡ front ++ rest → IsWhole rest → length rest ≡ size → spelt_at msg at ≡ labels_in rest → ⊥
-
--- nor does any position of a table, by the number that stands at its index
-abbrev pub AreRuledOut : List ℕ → List Entry → List ℕ → List ℕ → Type 0
-AreRuledOut msg entries octets sizes =
-    (i : ℕ) (d : Entry) → i < length entries → IsRuledOut msg (slice_index_or entries i d).position octets (slice_index_or sizes i 0)

@@ -5,13 +5,13 @@
 
 mod alike;
 mod key;
+mod known;
 mod laws;
 mod message;
 mod part;
 mod pass;
 mod read;
 mod read_into;
-mod ruled_out;
 mod table;
 mod write;
 

@@ -331,7 +331,7 @@ fn has_other_label(msg: &[u8], at: usize, octets: &[u8]) -> bool
 
 /// Whether the octets at a position spell the name in these octets, label by label.
 #[inline(never)]
-fn spells(msg: &[u8], at: usize, octets: &[u8]) -> bool
+pub(crate) fn spells(msg: &[u8], at: usize, octets: &[u8]) -> bool
     requires { IsWhole octets.now }
     ensures { IsTrue result ↔ ((next : ℕ) × Spells msg.now at at (labels_in octets.now) next) }
 {

@@ -4,13 +4,14 @@ ghost use Rattle.dns_name.specs.Labels.{labels_in, IsWhole};
 ghost use Rattle.dns_name.specs.Name.{IsName};
 ghost use Rattle.wire_names.specs.Cut.{cut_octets, IsCut};
 ghost use Rattle.wire_names.specs.Alike.{AreLinks};
-ghost use Rattle.wire_names.specs.Table.{IsTable, IsEarliest, AreRuledOut, keys_of, table_of, name_key};
+ghost use Rattle.wire_names.specs.Known.{AreKnown, IsRest};
+ghost use Rattle.wire_names.specs.Table.{IsTable, IsEarliest, keys_of, table_of, name_key};
 ghost use Rattle.wire_names.specs.Written.{pointer_to, written, table_after, WritesOctets};
 
 use crate::alike::Links;
 use crate::key::{key_before, key_behind, key_of};
+use crate::known::Known;
 use crate::part::POINTER;
-use crate::ruled_out::RuledOut;
 use crate::table::{MAX_POSITIONS, Positions};
 use dns_name::{Name, first_label};
 use std::marker::Model;
@@ -332,25 +333,32 @@ impl NameWriter {
         ensures { IsCut true (table_of msg.now self.now) octets.now result }
     {
         let links = self.positions.links();
-        let mut ruled_out: RuledOut = [0; MAX_POSITIONS];
-        self.sought_rest(msg, octets, key, &links, &mut ruled_out)
+        let mut known = Known {
+            ruled_out: [0; MAX_POSITIONS],
+            found: [0; MAX_POSITIONS],
+        };
+        self.sought_rest(msg, octets, octets, key, &links, &mut known)
     }
 
-    /// As [`sought`](Self::sought), where positions are ruled out for rests of the name in these octets.
+    /// As [`sought`](Self::sought), where these octets are a rest of a name and positions are known for its rests: the shortest is sought
+    /// first.
     fn sought_rest(
         &self,
         msg: &[u8],
+        name: &[u8],
         octets: &[u8],
         key: u32,
         links: &Links,
-        ruled_out: &mut RuledOut,
+        known: &mut Known,
     ) -> Cut
         requires table { IsTable msg.now self.now }
         requires whole { IsWhole octets.now }
+        requires rest { IsRest name.now octets.now }
         requires key { key ≡ name_key (labels_in octets.now) }
         requires links { AreLinks (keys_of self.now) links.now.first links.now.next }
-        requires known { AreRuledOut msg.now self.now octets.now ruled_out.old }
-        ensures { IsCut true (table_of msg.now self.now) octets.now result }
+        requires known { AreKnown msg.now self.now name.now known.old.ruled_out known.old.found }
+        ensures cut { IsCut true (table_of msg.now self.now) octets.now result }
+        ensures known { AreKnown msg.now self.now name.now known.new.ruled_out known.new.found }
     {
         let Some((label, behind)) = first_label(octets) else {
             return Cut {
@@ -361,9 +369,10 @@ impl NameWriter {
                 index: self.likely.parent,
             };
         };
+        let rest = self.sought_rest(msg, name, behind, key_behind(key, octets), links, known);
         if let Some(target) = self
             .positions
-            .position_of_rest(msg, octets, key, links, ruled_out)
+            .position_of_rest(msg, name, octets, key, links, known)
         {
             return Cut {
                 labels: 0,
@@ -373,7 +382,6 @@ impl NameWriter {
                 index: self.likely.parent,
             };
         }
-        let rest = self.sought_rest(msg, behind, key_behind(key, octets), links, ruled_out);
         Cut {
             labels: rest.labels + 1,
             len: rest.len + 1 + label.len(),

@@ -1,7 +1,8 @@
 use Rattle.std.proofs.Common.{◌≡◌, ◌-◌, ◌%◌, ◌≤◌, drop, length}
 use Rattle.dns_name.specs.Labels.{labels_in}
 use Rattle.wire_names.specs.Alike.{IsFirstAlike}
-use Rattle.wire_names.specs.Table.{AreRuledOut, keys_of, table_of, position_in}
+use Rattle.wire_names.specs.Known.{AreKnown}
+use Rattle.wire_names.specs.Table.{keys_of, table_of, position_in}
 use Rattle.wire_names.proofs.table.Positions.position_of_rest.Given as goal
 
 -- the positions so far don't spell the name
@@ -10,7 +11,7 @@ invariant-loop-i l = record {
   within : l.from ≤ length l.self;
   so_far : position_in (table_of l.msg l.self) (labels_in l.octets) ≡ position_in (table_of l.msg (drop l.from l.self)) (labels_in l.octets);
   alike : IsFirstAlike (keys_of l.self) (l.key % 256) l.from l.alike;
-  known : AreRuledOut l.msg l.self l.octets l.ruled_out;
+  known : AreKnown l.msg l.self l._name l.known.ruled_out l.known.found;
 }
 
 abbrev pub decreases-loop-i : goal.decreases-loop-i
