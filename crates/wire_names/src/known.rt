@@ -14,7 +14,6 @@ ghost use Rattle.wire_names.specs.Table.{IsTable, IsTarget, Ascend, keys_of, nam
 use crate::alike::Links;
 use crate::part::{Part, differ, label_at, part_at};
 use crate::table::{MAX_POSITIONS, Positions, spells};
-use dns_name::first_label;
 
 /// For each position, how many octets the rest of a name takes; 0 where none is known.
 pub(crate) type Sizes = [u8; MAX_POSITIONS];
@@ -27,13 +26,15 @@ pub(crate) struct Known {
 }
 
 impl Positions {
-    /// The position that [`position_of`](Self::position_of) tells, where positions are known for shorter rests of a name than these octets.
-    /// The positions that were found out here are known then, too.
+    /// The position that [`position_of`](Self::position_of) tells of these octets, the rest of a name, of which this is the first label, and
+    /// these are the octets behind it. What is known of positions for shorter rests is used, and what is found out here is known then, too.
     pub(crate) fn position_of_rest(
         &self,
         msg: &[u8],
         _name: &[u8],
         octets: &[u8],
+        label: &[u8],
+        behind: &[u8],
         key: u32,
         links: &Links,
         known: &mut Known,
@@ -42,15 +43,13 @@ impl Positions {
         requires ascending { Ascend self.now }
         requires whole { IsWhole octets.now }
         requires rest { IsRest _name.now octets.now }
+        requires first { IsFirstLabel octets.now label.now behind.now }
         requires key { key ≡ name_key (labels_in octets.now) }
         requires links { AreLinks (keys_of self.now) links.now.first links.now.next }
         requires known { AreKnown msg.now self.now _name.now known.old.ruled_out known.old.found }
         ensures position { result ≡ position_in (table_of msg.now self.now) (labels_in octets.now) }
         ensures known { AreKnown msg.now self.now _name.now known.new.ruled_out known.new.found }
     {
-        let Some((label, behind)) = first_label(octets) else {
-            return self.position_of(msg, octets, key);
-        };
         let size = size_of(octets);
         let mut from = 0;
         let mut alike = links.first_of(key);

@@ -23,6 +23,9 @@ const MAX_TARGET: usize = 16383;
 /// Up to how many positions are looked at one by one at once; of more, the keys alone are searched first.
 const FEW: usize = 24;
 
+/// How many positions that have the key of a name are compared with it at once.
+const TRIES: usize = 8;
+
 /// How many marks there are for keys (own).
 const MARKS: usize = 2048;
 
@@ -96,8 +99,8 @@ impl Positions {
         None
     }
 
-    /// What [`position_of`](Self::position_of) tells, where the first position that has the key tells it: None where that spells another
-    /// name.
+    /// What [`position_of`](Self::position_of) tells, where the first few positions that have the key tell it: None where those spell other
+    /// names.
     pub(crate) fn position_at_once(
         &self,
         msg: &[u8],
@@ -113,12 +116,16 @@ impl Positions {
         if self.has_no_key(key) {
             return Some(None);
         }
-        let Some(i) = self.next_of(key, 0) else {
-            return Some(None);
-        };
-        let (first, _key) = self.entry(i);
-        if is_spelt(msg, usize::from(first), octets) {
-            return Some(Some(first));
+        let mut from = 0;
+        for _try in 0..TRIES {
+            let Some(i) = self.next_of(key, from) else {
+                return Some(None);
+            };
+            let (position, _key) = self.entry(i);
+            if is_spelt(msg, usize::from(position), octets) {
+                return Some(Some(position));
+            }
+            from = i + 1;
         }
         None
     }

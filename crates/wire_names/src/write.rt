@@ -372,7 +372,7 @@ impl NameWriter {
         let rest = self.sought_rest(msg, name, behind, key_behind(key, octets), links, known);
         if let Some(target) = self
             .positions
-            .position_of_rest(msg, name, octets, key, links, known)
+            .position_of_rest(msg, name, octets, label, behind, key, links, known)
         {
             return Cut {
                 labels: 0,
