@@ -23,8 +23,9 @@ const MAX_TARGET: usize = 16383;
 /// Up to how many positions are looked at one by one at once; of more, the keys alone are searched first.
 const FEW: usize = 24;
 
-/// How many positions that have the key of a name are compared with it at once.
-const TRIES: usize = 8;
+/// For how many octets of a name one more position that has its key is compared with it at once: to seek all its suffixes is the dearer, the
+/// longer it is (own).
+const OCTETS_OF_A_TRY: usize = 32;
 
 /// How many marks there are for keys (own).
 const MARKS: usize = 2048;
@@ -117,13 +118,16 @@ impl Positions {
             return Some(None);
         }
         let mut from = 0;
-        for _try in 0..TRIES {
+        for _try in 0..1 + octets.len() / OCTETS_OF_A_TRY {
             let Some(i) = self.next_of(key, from) else {
+                if from > 0 {
+                    return None;
+                }
                 return Some(None);
             };
-            let (position, _key) = self.entry(i);
-            if is_spelt(msg, usize::from(position), octets) {
-                return Some(Some(position));
+            let (tried, _key) = self.entry(i);
+            if is_spelt(msg, usize::from(tried), octets) {
+                return Some(Some(tried));
             }
             from = i + 1;
         }

@@ -12,28 +12,28 @@ pub returns-then-has_no_key : goal.returns-then-has_no_key
 returns-then-has_no_key c =
     position_nowhere _ _ c.args.key _ c.requires.table c.requires.key (on_true _ _ c.if-has_no_key.true c.has_no_key.ensures)
 
-pub entry-position-requires : goal.entry-position-requires
-entry-position-requires c = next_within c.args.self.now c.args.key c.loop-try.from c.in-Some.i c.in-Some.ensures.next
+pub entry-tried-requires : goal.entry-tried-requires
+entry-tried-requires c = next_within c.args.self.now c.args.key c.loop-try.from c.in-Some.i c.in-Some.ensures.next
 
 pub returns-then-is_spelt : goal.returns-then-is_spelt
 returns-then-is_spelt c =
     let next = c.in-Some.ensures.next in
     let within = next_within c.args.self.now c.args.key c.loop-try.from c.in-Some.i next in
-    let entry : Entry = record { position = c.entry-position.result.0; key = c.entry-position.result.1 } in
+    let entry : Entry = record { position = c.entry-tried.result.0; key = c.entry-tried.result.1 } in
     let answers = subst (λ (n : ℕ). Answers c.args.msg.now n (labels_in c.args.octets.now) c.is_spelt.result) c.from.ensures c.is_spelt.ensures in
     let so_far = position_up_to c.args.msg.now c.args.self.now c.loop-try.from c.in-Some.i c.args.key (record { position = 0; key = 0 }) _ c.requires.table c.requires.key next.up (omega arith) next.others c.loop-try.invariant.so_far in
-    position_found _ c.args.self.now c.args.self.now c.in-Some.i _ entry _ _ c.requires.table c.requires.ascending refl within c.entry-position.ensures answers c.if-is_spelt.true so_far
+    position_found _ c.args.self.now c.args.self.now c.in-Some.i _ entry _ _ c.requires.table c.requires.ascending refl within c.entry-tried.ensures answers c.if-is_spelt.true so_far
 
 pub loop-try-preserved : goal.loop-try-preserved
 loop-try-preserved c =
     let next = c.in-Some.ensures.next in
     let within = next_within c.args.self.now c.args.key c.loop-try.from c.in-Some.i next in
-    let entry : Entry = record { position = c.entry-position.result.0; key = c.entry-position.result.1 } in
+    let entry : Entry = record { position = c.entry-tried.result.0; key = c.entry-tried.result.1 } in
     let answers = subst (λ (n : ℕ). Answers c.args.msg.now n (labels_in c.args.octets.now) c.is_spelt.result) c.from.ensures c.is_spelt.ensures in
     let so_far = position_up_to c.args.msg.now c.args.self.now c.loop-try.from c.in-Some.i c.args.key (record { position = 0; key = 0 }) _ c.requires.table c.requires.key next.up (omega arith) next.others c.loop-try.invariant.so_far in
     record {
       within = omega arith;
-      so_far = position_passed _ c.args.self.now c.args.self.now c.in-Some.i _ entry _ _ c.requires.table refl within c.entry-position.ensures answers c.if-is_spelt.false so_far;
+      so_far = position_passed _ c.args.self.now c.args.self.now c.in-Some.i _ entry _ _ c.requires.table refl within c.entry-tried.ensures answers c.if-is_spelt.false so_far;
     }
 
 pub returns-in_default : goal.returns-in_default
