@@ -147,9 +147,9 @@ set_at : (xs : List ℕ) (index x : ℕ) → 0 < get_or (set xs index x) index 0
 set_at xs index x some =
     ⊎_elim (λ (room : index < length xs). get_or-set_same xs index x 0 room)
     (λ (past : length xs ≤ index).
-        let len = length-set xs index x in
-        let none : get_or (set xs index x) index 0 ≡ 0 = get_or_past (set xs index x) index 0 (omega arith) in
-        absurd (omega arith)) (cases_lt index (length xs))
+    let len = length-set xs index x in
+    let none : get_or (set xs index x) index 0 ≡ 0 = get_or_past (set xs index x) index 0 (omega arith) in
+    absurd (omega arith)) (cases_lt index (length xs))
 
 -- the rest for which the number that was set stands
 rest_told : (octets front rest behind sizes : List ℕ) (split : IsRest octets rest) (i index size : ℕ) → i ≡ index → octets ≡ front ++ behind → IsWhole behind → length behind ≡ get_or (set sizes index size) i 0 → (0 < size → size ≡ length rest) → behind ≡ rest
@@ -171,9 +171,9 @@ ruled_out_more msg entries octets rest ruled_out found index size other entry kn
   never = λ i d within.
       elim (cases_eq i index) [
         | inl same ↦ (λ front behind e whole len is.
-              let at = entry_position entries i index d other entry same room here in
-              let left = rest_told octets front rest behind ruled_out split i index size same e whole len told in
-              never (ap (spelt_at msg) (sym at) ∙ is ∙ ap labels_in left))
+            let at = entry_position entries i index d other entry same room here in
+            let left = rest_told octets front rest behind ruled_out split i index size same e whole len told in
+            never (ap (spelt_at msg) (sym at) ∙ is ∙ ap labels_in left))
         | inr differs ↦ subst (IsRuledOut msg (get_or entries i d).position octets) (sym (get_or-set_other ruled_out index i size 0 differs)) (known.never i d within)
       ];
   spelt = known.spelt;
@@ -186,9 +186,9 @@ found_more msg entries octets rest ruled_out found index size other entry known 
   spelt = λ i d within.
       elim (cases_eq i index) [
         | inl same ↦ (λ front behind e whole len.
-              let at = entry_position entries i index d other entry same room here in
-              let left = rest_told octets front rest behind found split i index size same e whole len told in
-              ap (spelt_at msg) at ∙ there ∙ sym (ap labels_in left))
+            let at = entry_position entries i index d other entry same room here in
+            let left = rest_told octets front rest behind found split i index size same e whole len told in
+            ap (spelt_at msg) at ∙ there ∙ sym (ap labels_in left))
         | inr differs ↦ subst (IsFound msg (get_or entries i d).position octets) (sym (get_or-set_other found index i size 0 differs)) (known.spelt i d within)
       ];
 }

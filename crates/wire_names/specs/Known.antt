@@ -1,5 +1,5 @@
 -- What is known of the positions of a table for the rests of a name.
-use Rattle.std.specs.Prelude.{◌≡◌, ℕ, ◌+◌, ◌<◌, List, ◌∷◌, ◌++◌, length, slice_index_or, Ok}
+use Rattle.std.specs.Prelude.{◌≡◌, ℕ, ◌<◌, List, ◌∷◌, ◌++◌, length, slice_index_or, Ok}
 use Rattle.dns_name.specs.Labels.{labels_in, IsWhole}
 use Rattle.wire_names.specs.Parts.{part_at, label_at}
 use Rattle.wire_names.specs.declared.part.Part.TheVariants.{Label}

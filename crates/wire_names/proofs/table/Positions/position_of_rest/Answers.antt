@@ -2,7 +2,7 @@ use Rattle.std.proofs.Common.{◌≡◌, ◌≤◌, ℕ, Bool, List, length, ref
 use Rattle.std.proofs.lemmas.List.{length-map}
 use Rattle.std.proofs.Math.ListN.{drop_of_length-le}
 use Rattle.dns_name.specs.Labels.{labels_in}
-use Rattle.wire_names.specs.Table.{Entry, IsEntry, keys_of, table_of, position_in}
+use Rattle.wire_names.specs.Table.{Entry, keys_of, table_of, position_in}
 use Rattle.wire_names.proofs.AlikeLemmas.{alike_next}
 use Rattle.wire_names.proofs.KnownLemmas.{entry_at, rest_known, rest_behind, ruled_out_more, found_more, spelt_known, other_known}
 use Rattle.wire_names.proofs.NextLemmas.{next_within, position_up_to}
