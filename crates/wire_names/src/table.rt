@@ -25,7 +25,7 @@ const FEW: usize = 24;
 
 /// For how many octets of a name one more position that has its key is compared with it at once: to seek all its suffixes is the dearer, the
 /// longer it is (own).
-const OCTETS_OF_A_TRY: usize = 32;
+const OCTETS_OF_A_TRY: usize = 8;
 
 /// How many marks there are for keys (own).
 const MARKS: usize = 2048;

@@ -258,7 +258,8 @@ impl NameWriter {
         None
     }
 
-    /// The likely index of the name in these octets, which are those behind a first label: also of one that ends in a pointer.
+    /// The likely index of the name in these octets, which are those behind a first label: also of one that ends in a pointer, which was
+    /// looked for before where there are many positions.
     fn parent_index(&self, msg: &[u8], behind: &[u8]) -> Option<usize>
         requires table { IsTable msg.now self.now }
         requires whole { IsWhole behind.now }
@@ -266,6 +267,9 @@ impl NameWriter {
     {
         if let Some(index) = self.likely_index(msg, behind) {
             return Some(index);
+        }
+        if self.positions.are_many() {
+            return None;
         }
         let Likely { parent, .. } = self.likely;
         if self.positions.stands(msg, behind, parent, true) {
