@@ -15,7 +15,7 @@ ghost use Rattle.dns_message.specs.Encoded.{WritesParts, WritesEncoding};
 ghost use Rattle.dns_message.specs.Octets.{questions, question_octets, record_octets};
 
 use crate::data::{put_measured, put_name, put_name_octets};
-use crate::octets::{put_u16, put_u32};
+use crate::octets::{put, put_u16};
 use crate::query::Question;
 use dns_name::Name;
 use dns_rdata::{Class, RRset, RType, Shown, Ttl};
@@ -85,11 +85,21 @@ fn put_shown(out: &mut [u8], at: usize, names: &mut NameWriter, shown: &Shown<'_
 {
     match shown.owner.octets() {
         Some(owner) => put_sets(out, at, names, owner, shown.ttl, shown.sets),
-        None => {
-            let owner = shown.owner.to_name();
-            put_sets(out, at, names, owner.wire(), shown.ttl, shown.sets)
-        }
+        None => put_stored(out, at, names, shown),
     }
+}
+
+/// Writes the records of sets at a position under an owner that stands nowhere in full, as [`put_name`] does. It is a function of its own, since
+/// its room for a name is made at each call.
+#[inline(never)]
+fn put_stored(out: &mut [u8], at: usize, names: &mut NameWriter, shown: &Shown<'_>) -> Option<usize>
+    requires within { at ≤ length out.old }
+    requires most { length out.old < 2 ^ 16 }
+    requires table { IsTable (take at out.old) names.old }
+    ensures { WritesEncoding (each record_octets (records_shown shown.now)) out.old out.new at names.old names.new result }
+{
+    let owner = shown.owner.to_name();
+    put_sets(out, at, names, owner.wire(), shown.ttl, shown.sets)
 }
 
 /// Writes the records of sets at a position, under the owner in these octets and with this TTL where there is one, as [`put_name`] does.
@@ -192,7 +202,9 @@ fn put_record_under(
 fn put_fixed(out: &mut [u8], at: usize, rtype: RType, ttl: Ttl) -> Option<usize>
     ensures { WritesParts out.old out.new at (to_be_bytes w16 rtype.0 ++ to_be_bytes w16 class_IN ++ to_be_bytes w32 ttl.0) result }
 {
-    let at = put_u16(out, at, rtype.0)?;
-    let at = put_u16(out, at, Class::IN.0)?;
-    put_u32(out, at, ttl.0)
+    let [type_high, type_low] = rtype.0.to_be_bytes();
+    let [class_high, class_low] = Class::IN.0.to_be_bytes();
+    let [first, second, third, fourth] = ttl.0.to_be_bytes();
+    let octets = [type_high, type_low, class_high, class_low, first, second, third, fourth];
+    put(out, at, &octets)
 }

@@ -1,4 +1,5 @@
 pub mod BelowLemmas
+pub mod BesideLemmas
 pub mod CountLemmas
 pub mod FirstLemmas
 pub mod FrontLemmas

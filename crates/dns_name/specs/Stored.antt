@@ -67,3 +67,9 @@ pub record IsLastPiece (octets front piece : List ℕ) : Type 0 where
   pub octets_are : octets ≡ front ++ piece ++ 0 ∷ []
   pub closed : IsClosed front
   pub shorter : length front < length octets
+
+-- they end with what stands for a label, each octet of which stands for itself, and this is in front of it
+pub record IsPlainFront (octets front : List ℕ) : Type 0 where
+  pub piece : List ℕ
+  pub last : IsLastPiece octets front piece
+  pub itself : octets_stored piece ≡ piece

@@ -6,6 +6,7 @@
 //! Pointers inside a message are not read here.
 #![tactic(auto)]
 
+mod beside;
 mod compare;
 mod front;
 mod kept;

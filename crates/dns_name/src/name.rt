@@ -1,8 +1,11 @@
 //! The name itself.
 ghost use Rattle.std.specs.Prelude.{All, IsTrue, ◌≡◌, ◌+◌, ◌<◌, ◌≤◌, List, [], ◌∷◌, ◌++◌, length, drop, take, IsNone, None, Some, IfSome, ◌↔◌, Option, option_map, MatchOption};
+ghost use Rattle.std.specs.Bool.{OnFalse, OnTrue};
 ghost use Rattle.dns_name.specs.Labels.{labels_in, IsWhole};
 ghost use Rattle.dns_name.specs.Name.{wire_of, IsName, fold_name, parent_of, name_in, asterisk, is_under, canonical_cmp};
+ghost use Rattle.dns_name.specs.Stored.{name_stored, IsStored};
 
+use crate::beside::plain_front;
 use crate::compare::names_order;
 use crate::labels::Labels;
 use crate::octets::{append, ends_in, first_label, first_name, name_len};
@@ -158,6 +161,43 @@ impl Name {
         self.octets.clear();
         put_name_front(&mut self.octets, name.octets());
         self.octets.push(0);
+    }
+
+    /// Becomes a name that a zone keeps, in lower case, where this is the one of another that it keeps. Where both differ in their first label
+    /// alone, and those are as long as each other, that label alone is written.
+    pub fn set_stored_behind(&mut self, before: &StoredName, name: &StoredName)
+        requires { self.old ≡ before.now }
+        ensures name { self.new ≡ name.now }
+        ensures folded { self.new ≡ fold_name self.new }
+        ensures lawful { IsName self.new }
+    {
+        if !self.set_first_label(before.octets(), name.octets()) {
+            self.set_stored(name);
+        }
+    }
+
+    /// Becomes the name that octets stand for, where this is the one that others stand for, and both differ in their first label alone, of as
+    /// many octets, each of which stands for itself; else it stays.
+    fn set_first_label(&mut self, before: &[u8], octets: &[u8]) -> bool
+        requires own { IsStored before.now }
+        requires others { IsStored octets.now }
+        requires name { self.old ≡ name_stored before.now }
+        ensures set { OnTrue result (self.new ≡ name_stored octets.now) }
+        ensures stays { OnFalse result (self.new ≡ self.old) }
+    {
+        let Some(front) = plain_front(octets) else {
+            return false;
+        };
+        let at = front.len();
+        let len = octets.len() - at - 1;
+        if before.len() != octets.len()
+            || usize::from(self.octets[0]) != len
+            || &before[..at] != front
+        {
+            return false;
+        }
+        self.octets.as_mut_slice()[1..len + 1].copy_from_slice(&octets[at..at + len]);
+        true
     }
 
     /// The label `*` in front of the name; None where that has more than 255 octets (RFC 4592, 2.1.1).

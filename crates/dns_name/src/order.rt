@@ -1,12 +1,24 @@
 //! Which names are the same, and their canonical order (RFC 4343, 3; RFC 4034, 6.1).
 ghost use Rattle.std.specs.Cmp.{partial_equiv_from_equiv, partial_order_from_agreeing_total};
 ghost use Rattle.std.specs.Ordering.{as_partial_cmp};
-ghost use Rattle.std.specs.Prelude.{refl};
-ghost use Rattle.dns_name.specs.Name.{canonical_cmp, is_same};
+ghost use Rattle.std.specs.Prelude.{◌≡◌, refl};
+ghost use Rattle.dns_name.specs.Labels.{labels_in, IsWhole};
+ghost use Rattle.dns_name.specs.Name.{IsName, canonical_cmp, is_same};
 ghost use Rattle.dns_name.specs.Order.{canonical_total, is_same_equiv, is_same_tied};
 
 use crate::name::Name;
 use std::cmp::Ordering;
+
+impl Name {
+    /// Whether the octets, labels behind their lengths up to a zero octet, are those of this name, without regard to case (RFC 4343, 3).
+    pub fn is_spelt_by(&self, wire: &[u8]) -> bool
+        requires whole { IsWhole wire.now }
+        requires lawful { IsName (labels_in wire.now) }
+        ensures { result ≡ is_same (labels_in wire.now) self.now }
+    {
+        wire.eq_ignore_ascii_case(self.wire())
+    }
+}
 
 impl PartialEq for Name {
     ghost eq = { is_same };

@@ -22,7 +22,7 @@ pub const MAX_STORED: usize = 510;
 pub(crate) const CLOSING: u8 = 0;
 
 /// The octet in front of one that stands for another.
-const ESCAPE: u8 = 1;
+pub(crate) const ESCAPE: u8 = 1;
 
 /// What stands for an octet of a label, behind the others.
 pub(crate) fn put_octet(to: &mut ArrayVec<u8, MAX_STORED>, octet: u8)

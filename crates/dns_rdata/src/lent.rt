@@ -1,7 +1,7 @@
 //! Names lent from where they stand.
 ghost use Rattle.std.specs.Prelude.{true, ◌≡◌, ◌==◌, if◌then◌else◌, [], None, IfSome, unwrap_or};
 ghost use Rattle.dns_name.specs.Labels.{IsWire};
-ghost use Rattle.dns_name.specs.Name.{fold_name, is_under};
+ghost use Rattle.dns_name.specs.Name.{fold_name, is_same, is_under};
 ghost use Rattle.dns_rdata.specs.Data.{target_of};
 ghost use Rattle.dns_rdata.specs.Numbers.{type_CNAME};
 
@@ -121,6 +121,16 @@ impl<'a> LentName<'a> {
             Source::Name(name) => Sought::below(top, apex, name, room),
             Source::Stored(name) => Sought::below(top, apex, &name.to_name(), room),
             Source::Target(rdata) => Sought::below_of_wire(top, apex, octets_of(rdata), room),
+        }
+    }
+
+    /// Whether this is another name, without regard to case (RFC 4343, 3).
+    pub fn is_same(&self, name: &Name) -> bool
+        ensures { result ≡ is_same self.now name.now }
+    {
+        match self.octets() {
+            Some(octets) => name.is_spelt_by(octets),
+            None => self.to_name() == *name,
         }
     }
 

@@ -14,7 +14,6 @@ use Rattle.lookup_core.specs.declared.matched.Matched.{Matched}
 use Rattle.lookup_core.specs.declared.matched.Matched.TheVariants as matched
 use Rattle.lookup_core.specs.declared.look.Look.{Look}
 use Rattle.lookup_core.specs.declared.look.Look.TheVariants.{Cut, Alias, Data, NoData, NoName}
-use Rattle.lookup_core.specs.declared.aliases.Chain.{Chain}
 use Rattle.lookup_core.specs.declared.aliases.End.{End}
 use Rattle.lookup_core.specs.declared.aliases.End.TheVariants as end
 use Rattle.lookup_core.specs.declared.sections.Answer.{Answer}
@@ -91,9 +90,9 @@ abbrev pub AreServersOfEnd : List Record → End → Type 0
 AreServersOfEnd zone (end.Cut name servers) = servers.now ≡ rrset_of zone (at_owner name servers.now) type_NS
 AreServersOfEnd zone _ = Unit {0}
 
--- a chain, with the records that it shows
-abbrev pub chain_shown : Chain → chain.Chain
-chain_shown followed = record { aliases = section_shown followed.aliases.items; end = end_shown followed.end }
+-- a chain of aliases with its end, with the records that they show
+abbrev pub chain_shown : List Shown → End → chain.Chain
+chain_shown aliases end = record { aliases = section_shown aliases; end = end_shown end }
 
 -- an answer's sections, with the records that they show
 abbrev pub sections_shown : Answer → Sections

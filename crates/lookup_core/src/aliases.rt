@@ -1,5 +1,5 @@
 //! Aliases followed, and where a chain of them ends (RFC 1034, 3.6.2 and 4.3.2, step 3a).
-ghost use Rattle.std.specs.Prelude.{◌≡◌, ◌≤◌, ◌==◌, length};
+ghost use Rattle.std.specs.Prelude.{◌≡◌, ◌≤◌, ◌==◌, [], length};
 ghost use Rattle.std.specs.List.{flat_map, list_any};
 ghost use Rattle.dns_name.specs.Name.{is_same};
 ghost use Rattle.dns_rdata.specs.Numbers.{type_CNAME};
@@ -38,29 +38,23 @@ pub(crate) enum End<'z> {
     Stop,
 }
 
-/// A chain: its aliases in order, and its end.
-#[derive(Drop)]
-pub(crate) struct Chain<'z> {
-    pub(crate) aliases: ArrayVec<Shown<'z>, MOST_SHOWN>,
-    pub(crate) end: End<'z>,
-}
-
-/// The chain from the name asked, at which this was found. It stops at a target outside the zone, at one already searched,
-/// or after [`MOST_ALIASES`] aliases (own).
+/// The chain from the name asked, at which this was found: its aliases in order, put into the room lent, and its end. It stops at a target
+/// outside the zone, at one already searched, or after [`MOST_ALIASES`] aliases (own).
 pub(crate) fn follow<'z, Z: ZoneRead>(
     zone: &'z Z,
     name: &'z Name,
     rtype: RType,
     first: Look<'z>,
-) -> Chain<'z>
+    aliases: &mut ArrayVec<Shown<'z>, MOST_SHOWN>,
+) -> End<'z>
+    requires empty { aliases.old.items ≡ [] }
     requires seen { look_shown name.now first ≡ look (Z.records zone.now) name.now rtype.0 }
     requires servers { HasItsServers (Z.records zone.now) name.now first }
-    ensures chain { chain_shown result ≡ chain (Z.records zone.now) name.now rtype.0 }
-    ensures few { length result.aliases.items ≤ MOST_ALIASES }
-    ensures some { is_none_of (section_shown result.aliases.items) ≡ (length result.aliases.items == 0) }
-    ensures servers { AreServersOfEnd (Z.records zone.now) result.end }
+    ensures chain { chain_shown aliases.new.items result ≡ chain (Z.records zone.now) name.now rtype.0 }
+    ensures few { length aliases.new.items ≤ MOST_ALIASES }
+    ensures some { is_none_of (section_shown aliases.new.items) ≡ (length aliases.new.items == 0) }
+    ensures servers { AreServersOfEnd (Z.records zone.now) result }
 {
-    let mut aliases = ArrayVec::new();
     let mut searched = LentName::spelt(name);
     let mut found = first;
     for _ in 0..MOST_ALIASES {
@@ -70,10 +64,7 @@ pub(crate) fn follow<'z, Z: ZoneRead>(
                 aliases.push(under(searched, slice::from_ref(alias)));
                 let name = target.to_name();
                 if is_final(zone, aliases.as_slice(), &name) {
-                    return Chain {
-                        aliases,
-                        end: End::Stop,
-                    };
+                    return End::Stop;
                 }
                 found = look_below(zone, zone.soa(), &name, rtype);
                 searched = target;
@@ -84,12 +75,9 @@ pub(crate) fn follow<'z, Z: ZoneRead>(
             Look::NoData => End::NoData,
             Look::NoName => End::NoName,
         };
-        return Chain { aliases, end };
+        return end;
     }
-    Chain {
-        aliases,
-        end: End::Stop,
-    }
+    End::Stop
 }
 
 /// Sets under the name searched, with their own TTLs (RFC 4592, 3.3).
@@ -124,7 +112,7 @@ fn is_searched(aliases: &[Shown<'_>], name: &Name) -> bool
     ensures { result ≡ list_any (λ before. is_same before name.now) (searched_before aliases.now) }
 {
     for alias in aliases {
-        if alias.owner.to_name() == *name {
+        if alias.owner.is_same(name) {
             return true;
         }
     }

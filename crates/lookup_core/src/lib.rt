@@ -30,5 +30,5 @@ pub use laws::{
 };
 pub use matched::Place;
 pub use places::place;
-pub use question::{answer, answer_from, front_from};
+pub use question::{answer, answer_from, fill_front};
 pub use sections::{Answer, Front};

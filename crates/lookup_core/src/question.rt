@@ -1,11 +1,11 @@
 //! From a question to its answer (RFC 1034, 4.3.2).
-ghost use Rattle.std.specs.Prelude.{◌≡◌};
+ghost use Rattle.std.specs.Prelude.{◌≡◌, []};
 ghost use Rattle.lookup_core.specs.First.{IsSeen};
 ghost use Rattle.lookup_core.specs.Sections.{sections};
 ghost use Rattle.lookup_core.specs.Shown.{front_shown, sections_shown};
 
 use crate::additional::additional_of;
-use crate::aliases::{Chain, End, follow};
+use crate::aliases::{End, follow};
 use crate::first::More;
 use crate::look::look_up;
 use crate::sections::{Answer, Front, authority_of, is_referral, rcode_of};
@@ -35,13 +35,15 @@ pub fn answer_from<'z, Z: ZoneRead>(
     requires { IsSeen (Z.records zone.now) name.now rtype.0 first.look }
     ensures { sections_shown result ≡ sections (Z.records zone.now) name.now rtype.0 }
 {
+    let mut front = Front::new();
+    fill_front(zone, name, rtype, first, &mut front);
     let Front {
         rcode,
         aa,
         answer,
         authority,
         below_cut,
-    } = front_from(zone, name, rtype, first);
+    } = front;
     let additional = additional_of(zone, answer.as_slice(), authority.as_slice());
     Answer {
         rcode,
@@ -53,33 +55,25 @@ pub fn answer_from<'z, Z: ZoneRead>(
     }
 }
 
-/// The same answer in front of its additional section.
-pub fn front_from<'z, Z: ZoneRead>(
+/// Fills an empty front with the same answer, but for its additional section.
+pub fn fill_front<'z, Z: ZoneRead>(
     zone: &'z Z,
     name: &'z Name,
     rtype: RType,
     first: More<'z>,
-) -> Front<'z>
-    requires { IsSeen (Z.records zone.now) name.now rtype.0 first.look }
-    ensures { front_shown (Z.records zone.now) result ≡ sections (Z.records zone.now) name.now rtype.0 }
+    front: &mut Front<'z>,
+)
+    requires seen { IsSeen (Z.records zone.now) name.now rtype.0 first.look }
+    requires empty { front.old.answer.items ≡ [] }
+    ensures { front_shown (Z.records zone.now) front.new ≡ sections (Z.records zone.now) name.now rtype.0 }
 {
-    let Chain {
-        aliases: mut answer,
-        end,
-    } = follow(zone, name, rtype, first.look);
-    let rcode = rcode_of(&end);
-    let below_cut = is_referral(&end);
-    let authority = authority_of(zone, &end);
+    let end = follow(zone, name, rtype, first.look, &mut front.answer);
+    front.rcode = rcode_of(&end);
+    front.below_cut = is_referral(&end);
+    front.authority = authority_of(zone, &end);
     // A referral is authoritative for the aliases in front of it alone.
-    let aa = !answer.is_empty() || !below_cut;
+    front.aa = !front.answer.is_empty() || !front.below_cut;
     if let End::Data(found) = end {
-        answer.push(found);
-    }
-    Front {
-        rcode,
-        aa,
-        answer,
-        authority,
-        below_cut,
+        front.answer.push(found);
     }
 }

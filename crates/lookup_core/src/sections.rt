@@ -47,6 +47,21 @@ pub struct Front<'z> {
     pub below_cut: bool,
 }
 
+impl<'z> Front<'z> {
+    /// An empty one, to be filled: NOERROR, with no section.
+    pub fn new() -> Front<'z>
+        ensures { result.answer.items ≡ [] }
+    {
+        Front {
+            rcode: Rcode::NoError,
+            aa: false,
+            answer: ArrayVec::new(),
+            authority: ArrayVec::new(),
+            below_cut: false,
+        }
+    }
+}
+
 /// The reply code is that of the last name looked up (RFC 2308, 2.1; RFC 6604, 3).
 pub(crate) fn rcode_of(end: &End<'_>) -> Rcode
     ensures { result ≡ rcode_of (end_shown end.now) }

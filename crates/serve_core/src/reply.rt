@@ -15,7 +15,7 @@ use crate::heading::reply_opt;
 use crate::transport::Transport;
 use dns_message::{MIN_LIMIT, Query, Question, Reply, write_reply, write_reply_by};
 use dns_rdata::{Class, RType, Rcode, Shown};
-use lookup_core::{First, Front, More, additional_of, first_look, front_from, may_name_hosts};
+use lookup_core::{First, Front, More, additional_of, fill_front, first_look, may_name_hosts};
 use std::slice;
 use wire_names::NameWriter;
 use zone_tree::ZoneRead;
@@ -124,24 +124,19 @@ fn write_more<'z, Z: ZoneRead>(
     ensures len { result ≤ limit_of transport query.now.edns }
 {
     let question = &query.question;
-    let Front {
-        rcode,
-        aa,
-        answer,
-        authority,
-        below_cut,
-    } = front_from(zone, &question.name, question.rtype, more);
+    let mut front = Front::new();
+    fill_front(zone, &question.name, question.rtype, more, &mut front);
     let limit = transport.limit(query.edns);
     let plain = Reply {
         head: query.head,
-        rcode,
-        aa,
+        rcode: front.rcode,
+        aa: front.aa,
         question: Some(question),
-        answer: answer.as_slice(),
-        authority: authority.as_slice(),
+        answer: front.answer.as_slice(),
+        authority: front.authority.as_slice(),
         additional: &[],
         opt: reply_opt(query.edns),
-        below_cut,
+        below_cut: front.below_cut,
     };
     if may_name_hosts(plain.answer) || may_name_hosts(plain.authority) {
         return write_with_hosts(names, zone, &plain, limit, out);

@@ -1,5 +1,5 @@
 //! The messages of a transfer: whole records, as many in each as fit (RFC 5936, 2.2).
-ghost use Rattle.std.specs.Prelude.{◌≡◌, ◌≤◌, List, [], ◌∷◌, ◌++◌, length, take, drop, map, MatchOption, IfSome, Some, None, nat_le, if◌then◌else◌};
+ghost use Rattle.std.specs.Prelude.{◌≡◌, true, ◌≤◌, List, [], ◌∷◌, ◌++◌, length, take, drop, map, MatchOption, IfSome, Some, None, nat_le, if◌then◌else◌};
 ghost use Rattle.std.specs.Option.{option_copied, option_map, option_to_list};
 ghost use Rattle.dns_rdata.specs.Limits.{max_data};
 ghost use Rattle.dns_name.specs.Name.{IsName};
@@ -16,7 +16,7 @@ use crate::list::{FullList, LentRecord, SetRecords};
 use dns_message::{
     Head, MIN_LIMIT, Opt, Question, RecordList, Reply, SentRecord, write_answers, write_reply,
 };
-use dns_name::Name;
+use dns_name::{Name, StoredName};
 use dns_rdata::{LentName, RRset, Rcode, Shown};
 use std::marker::Model;
 use std::slice;
@@ -60,12 +60,14 @@ impl<'a, C: ChainView> TransferRecords<'a, C> {
 }
 
 /// The records of a list as the one who asked for a name is shown them: that name keeps the spelling asked (own). The owner of the next
-/// one is kept as it is shown.
+/// one is kept as it is shown, and whether that is as the zone keeps it.
 pub(crate) struct SpeltList<'a, C: ChainView> {
     name: &'a Name,
     next: Option<LentRecord<'a>>,
     owner: Name,
+    is_stored: bool,
     rest: TransferRecords<'a, C>,
+    ghost stored: { (r : Record) → is_stored ≡ true → next ≡ Some r → owner ≡ r.owner },
     ghost owned: { (r : Record) → next ≡ Some r → record r { owner = owner } ≡ spelt name.now r },
     ghost ended: { next ≡ None → listed rest ≡ [] },
 }
@@ -76,6 +78,7 @@ impl<'a, C: ChainView> Drop for SpeltList<'a, C> {
             name: _,
             next: _,
             owner: _,
+            is_stored: _,
             rest: _,
         } = self;
     }
@@ -87,12 +90,28 @@ impl<'a, C: ChainView> SpeltList<'a, C> {
     {
         let next = list.next_record();
         let mut owner = Name::root();
-        spell_owner(&mut owner, name, &next);
+        let is_stored = spell_owner(&mut owner, name, None, &next);
         SpeltList {
             name,
             next,
             owner,
+            is_stored,
             rest: list,
+        }
+    }
+}
+
+impl<'a, C: ChainView> SpeltList<'a, C> {
+    /// The owner of the next record as the zone keeps it, where it is shown so.
+    fn stored_owner(&self) -> Option<&'a StoredName>
+        ensures { IfSome result (λ stored. stored.now ≡ self.now.owner) }
+    {
+        if !self.is_stored {
+            return None;
+        }
+        match &self.next {
+            Some(record) => Some(record.owner()),
+            None => None,
         }
     }
 }
@@ -112,22 +131,36 @@ impl<'a, C: ChainView> RecordList for SpeltList<'a, C> {
     }
 
     fn advance(&mut self) {
+        let before = self.stored_owner();
         self.next = self.rest.next_record();
-        spell_owner(&mut self.owner, self.name, &self.next);
+        self.is_stored = spell_owner(&mut self.owner, self.name, before, &self.next);
     }
 }
 
-/// Becomes the owner of the next record, where there is one, as the one who asked for a name is shown it.
-fn spell_owner(owner: &mut Name, name: &Name, next: &Option<LentRecord<'_>>)
-    ensures { (r : Record) → next.now ≡ Some r → record r { owner = owner.new } ≡ spelt name.now r }
+/// Becomes the owner of the next record, where there is one, as the one who asked for a name is shown it, where it is the owner before, if one
+/// is told, as the zone keeps it. Whether it is as the zone keeps it again.
+fn spell_owner(
+    owner: &mut Name,
+    name: &Name,
+    before: Option<&StoredName>,
+    next: &Option<LentRecord<'_>>,
+) -> bool
+    requires { IfSome before (λ stored. owner.old ≡ stored.now) }
+    ensures shown { (r : Record) → next.now ≡ Some r → record r { owner = owner.new } ≡ spelt name.now r }
+    ensures stored { (r : Record) → result ≡ true → next.now ≡ Some r → owner.new ≡ r.owner }
 {
     let Some(record) = next else {
-        return;
+        return false;
     };
-    owner.set_stored(record.owner());
+    match before {
+        Some(stored) => owner.set_stored_behind(stored, record.owner()),
+        None => owner.set_stored(record.owner()),
+    }
     if *owner == *name {
         *owner = name.copy();
+        return false;
     }
+    true
 }
 
 /// A record whose owner is shown so.

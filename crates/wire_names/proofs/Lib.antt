@@ -6,9 +6,11 @@ pub mod KeyLemmas
 pub mod KeySumLemmas
 pub mod LeadsLemmas
 pub mod LongerLemmas
+pub mod NextLemmas
 pub mod OverwrittenLemmas
 pub mod PassLemmas
 pub mod PlainLemmas
 pub mod ReadLemmas
+pub mod RuledOutLemmas
 pub mod TableLemmas
 pub mod WrittenLemmas

@@ -37,12 +37,12 @@ spells_closing msg run at next _ p (label q l s) = cc
 spells_closing msg run at next name p (pointer q g s e) = cc
 
 pub record SpellsLabel (msg : List ℕ) (run at n : ℕ) (name : List (List ℕ)) : Type 0 where
-  rest : List (List ℕ)
-  is : name ≡ label_at msg at n ∷ rest
-  next : ℕ
-  spells : Spells msg run (at + 1 + n) rest next
+  pub rest : List (List ℕ)
+  pub is : name ≡ label_at msg at n ∷ rest
+  pub next : ℕ
+  pub spells : Spells msg run (at + 1 + n) rest next
 
-spells_label : (msg : List ℕ) (run at next n : ℕ) (name : List (List ℕ)) → part_at msg at ≡ Ok (Label n) → Spells msg run at name next → SpellsLabel msg run at n name
+pub spells_label : (msg : List ℕ) (run at next n : ℕ) (name : List (List ℕ)) → part_at msg at ≡ Ok (Label n) → Spells msg run at name next → SpellsLabel msg run at n name
 spells_label msg run at next n _ p (closing q e) = cc
 spells_label msg run at next n _ p (label {n = m} {l = l} {ls = ls} q e s) =
     let same : m ≡ n = cc in
@@ -50,7 +50,7 @@ spells_label msg run at next n _ p (label {n = m} {l = l} {ls = ls} q e s) =
     record { rest = ls; is = ap (λ (x : List ℕ). x ∷ ls) first; next = next; spells = subst (λ (x : ℕ). Spells msg run (at + 1 + x) ls next) same s }
 spells_label msg run at next n name p (pointer q g s e) = cc
 
-spells_pointer : (msg : List ℕ) (run at next target : ℕ) (name : List (List ℕ)) → part_at msg at ≡ Ok (Pointer target) → Spells msg run at name next → (target < run) × SpellsIn msg target target name
+pub spells_pointer : (msg : List ℕ) (run at next target : ℕ) (name : List (List ℕ)) → part_at msg at ≡ Ok (Pointer target) → Spells msg run at name next → (target < run) × SpellsIn msg target target name
 spells_pointer msg run at next target _ p (closing q e) = cc
 spells_pointer msg run at next target _ p (label q l s) = cc
 spells_pointer msg run at next target name p (pointer {target = a} {beyond = x} q g s e) =

@@ -1,8 +1,9 @@
 -- The table of a message's names that pointers can name (RFC 1035, 4.1.4).
-use Rattle.std.specs.Prelude.{◌≡◌, true, false, ℕ, ◌+◌, ◌-◌, ◌*◌, ◌/◌, ◌%◌, ◌^◌, ◌<◌, Bool, ◌&&◌, List, [], ◌∷◌, ◌++◌, length, map, min, All, AllPairs, slice_index_or, nat_lt, nat_le, if◌then◌else◌, Option, Some, Ok, Err, bytes_eq}
+use Rattle.std.specs.Prelude.{◌≡◌, true, false, ℕ, ◌+◌, ◌-◌, ◌*◌, ◌/◌, ◌%◌, ◌^◌, ◌<◌, ◌≤◌, Bool, ◌&&◌, List, [], ◌∷◌, ◌++◌, length, map, min, All, AllPairs, slice_index_or, nat_lt, nat_le, if◌then◌else◌, Option, Some, Ok, Err, bytes_eq}
 use Rattle.std.specs.List.{filter, reduce}
 use Rattle.std.specs.Cmp.Lexicographic.{pointwise}
 use Rattle.std.specs.Result.{IsOk}
+use Rattle.dns_name.specs.Labels.{labels_in, IsWhole}
 use Rattle.dns_name.specs.Name.{Name, wire_of}
 use Rattle.wire_names.specs.NameAt.{name_at}
 
@@ -77,6 +78,21 @@ with_keys [] keys = []
 with_keys (at ∷ positions) [] = []
 with_keys (at ∷ positions) (key ∷ keys) = record { position = at; key = key } ∷ with_keys positions keys
 
+-- the keys of entries
+abbrev pub keys_of : List Entry → List ℕ
+keys_of entries = map (λ entry. entry.key) entries
+
+-- a key stands at no index from one up to another
+abbrev pub IsNowhere : List ℕ → ℕ → ℕ → ℕ → Type 0
+IsNowhere keys key from end = (i : ℕ) → from ≤ i → i < end → slice_index_or keys i 0 ≡ key → ⊥
+
+-- a key stands at an index, the first from one on
+pub record IsNext (keys : List ℕ) (key from index : ℕ) : Type 0 where
+  pub up : from ≤ index
+  pub within : index < length keys
+  pub is : slice_index_or keys index 0 ≡ key
+  pub others : IsNowhere keys key from index
+
 -- each key has its mark: one of 2048, by its highest 11 bits (own)
 abbrev pub AreMarked : List ℕ → List Bool → Type 0
 AreMarked keys marks = All (λ key. slice_index_or marks (key / 2097152) false ≡ true) keys
@@ -112,3 +128,12 @@ pub record IsEarliest (msg : List ℕ) (entries : List Entry) (name : Name) (ind
 -- each position is above those before it
 abbrev pub Ascend : List Entry → Type 0
 Ascend entries = AllPairs (λ entry other. entry.position < other.position) entries
+
+-- a position of a message doesn't spell the rest of a name's octets that takes so many of them
+abbrev pub IsRuledOut : List ℕ → ℕ → List ℕ → ℕ → Type 0
+IsRuledOut msg at octets size = (front rest : List ℕ) → octets ≡ front ++ rest → IsWhole rest → length rest ≡ size → spelt_at msg at ≡ labels_in rest → ⊥
+
+-- nor does any position of a table, by the number that stands at its index
+abbrev pub AreRuledOut : List ℕ → List Entry → List ℕ → List ℕ → Type 0
+AreRuledOut msg entries octets sizes =
+    (i : ℕ) (d : Entry) → i < length entries → IsRuledOut msg (slice_index_or entries i d).position octets (slice_index_or sizes i 0)

@@ -2,8 +2,8 @@
 //!
 //! A key is the sum of what each label adds, so that one pass over a name tells it, and the key of the name behind a label is a
 //! difference. Nothing here is secret, so names can be chosen whose keys are equal. But the low octet of a key counts the octets
-//! of the labels: a position in the table has the key of one suffix of a name at most, and so the search of all suffixes of a name
-//! compares octets of the message once a position at most, however the names were chosen.
+//! of the labels: a position in the table has the key of one suffix of a name at most, however the names were chosen. And a position
+//! that was passed in vain is ruled out, so the search of all suffixes of a name compares about as many labels as the table has.
 ghost use Rattle.std.specs.Prelude.{◌≡◌, ◌<◌, drop, IfSome, slice_index_or};
 ghost use Rattle.dns_name.specs.Labels.{labels_in, IsWhole};
 ghost use Rattle.wire_names.specs.Table.{name_key, key_part, first_key, key_up_to};

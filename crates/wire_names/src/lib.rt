@@ -10,6 +10,7 @@ mod part;
 mod pass;
 mod read;
 mod read_into;
+mod ruled_out;
 mod table;
 mod write;
 

@@ -1,9 +1,9 @@
 //! The names of a message that pointers can name.
-ghost use Rattle.std.specs.Prelude.{◌≡◌, ◌≢◌, ℕ, ◌+◌, ◌/◌, ◌<◌, ◌^◌, ◌↔◌, ◌++◌, [], length, take, drop, All, IsTrue, IfSome, get_or};
+ghost use Rattle.std.specs.Prelude.{◌≡◌, ◌≢◌, ℕ, ◌+◌, ◌/◌, ◌<◌, ◌≤◌, ◌^◌, ◌↔◌, ◌++◌, [], length, take, drop, All, IsTrue, IfSome, MatchOption, get_or};
 ghost use Rattle.std.specs.Bool.{OnTrue};
 ghost use Rattle.dns_name.specs.Labels.{labels_in, IsWhole};
 ghost use Rattle.wire_names.specs.Spells.{Spells};
-ghost use Rattle.wire_names.specs.Table.{IsTable, IsEarliest, IsEntry, Ascend, name_key, table_of, position_in, enter, entered};
+ghost use Rattle.wire_names.specs.Table.{IsTable, IsEarliest, Ascend, IsNowhere, IsNext, keys_of, name_key, table_of, position_in, enter, entered};
 ghost use Rattle.wire_names.specs.Written.{starts_of};
 
 use crate::key::key_behind;
@@ -13,7 +13,7 @@ use dns_name::first_label;
 use std::marker::Model;
 
 /// The most positions that a table has (own).
-const MAX_POSITIONS: usize = 256;
+pub(crate) const MAX_POSITIONS: usize = 256;
 
 /// The highest position that a pointer can name, of 14 bits (RFC 1035, 4.1.4).
 const MAX_TARGET: usize = 16383;
@@ -60,11 +60,13 @@ impl Positions {
         }
     }
 
-    /// Forgets all positions.
+    /// Forgets all positions. The marks of few keys stay: they are looked at among many keys alone, where a mark too many costs a search.
     pub(crate) fn clear(&mut self)
         ensures { self.new ≡ [] }
     {
-        unmark(&mut self.marks, self.keys.as_slice());
+        if self.keys.len() > FEW {
+            unmark(&mut self.marks);
+        }
         self.positions.clear();
         self.keys.clear();
     }
@@ -81,11 +83,13 @@ impl Positions {
         if self.has_no_key(key) {
             return None;
         }
-        for i in 0..self.keys.len() {
-            let (position, own) = self.entry(i);
-            if is_spelt(msg, position, own, key, octets) {
+        let mut from = 0;
+        while let Some(i) = self.next_of(key, from) {
+            let (position, _key) = self.entry(i);
+            if spells(msg, usize::from(position), octets) {
                 return Some(position);
             }
+            from = i + 1;
         }
         None
     }
@@ -123,7 +127,8 @@ impl Positions {
 
     /// How many positions there are.
     pub(crate) fn count(&self) -> usize
-        ensures { result ≡ length self.now }
+        ensures is { result ≡ length self.now }
+        ensures few { result ≤ MAX_POSITIONS }
     {
         self.keys.len()
     }
@@ -141,6 +146,14 @@ impl Positions {
             return false;
         }
         !self.marks[mark_of(key)] || !self.keys.as_slice().contains(&key)
+    }
+
+    /// The first index from one on whose position has this key.
+    pub(crate) fn next_of(&self, key: u32, from: usize) -> Option<usize>
+        ensures next { MatchOption result (IsNowhere (keys_of self.now) key from (length (keys_of self.now))) (IsNext (keys_of self.now) key from) }
+        ensures few { IfSome result (λ index. index < MAX_POSITIONS) }
+    {
+        next_in(self.keys.as_slice(), key, from)
     }
 
     /// The position at an index, and its key.
@@ -185,6 +198,20 @@ impl Positions {
     }
 }
 
+/// The first index from one on at which this key stands.
+fn next_in(keys: &[u32], key: u32, from: usize) -> Option<usize>
+    ensures { MatchOption result (IsNowhere keys.now key from (length keys.now)) (IsNext keys.now key from) }
+{
+    let mut i = from;
+    while i < keys.len() {
+        if keys[i] == key {
+            return Some(i);
+        }
+        i += 1;
+    }
+    None
+}
+
 /// The index of a key's mark.
 fn mark_of(key: u32) -> usize
     ensures is { result ≡ key / 2097152 }
@@ -193,29 +220,12 @@ fn mark_of(key: u32) -> usize
     (key / KEYS_OF_A_MARK) as usize
 }
 
-/// Takes the marks of keys away.
-fn unmark(marks: &mut [bool; MARKS], keys: &[u32]) {
-    for key in keys {
-        marks[mark_of(*key)] = false;
+/// Takes all marks away. It is a function of its own, since it is seldom called.
+#[inline(never)]
+fn unmark(marks: &mut [bool; MARKS]) {
+    for i in 0..MARKS {
+        marks[i] = false;
     }
-}
-
-/// Whether the octets at a position spell the name in these octets, case included. Where the keys differ, the message isn't
-/// looked at.
-fn is_spelt(msg: &[u8], position: u16, own: u32, key: u32, octets: &[u8]) -> bool
-    requires entry { IsEntry msg.now (record { position = position; key = own }) }
-    requires whole { IsWhole octets.now }
-    requires key { key ≡ name_key (labels_in octets.now) }
-    ensures { IsTrue result ↔ ((next : ℕ) × Spells msg.now position position (labels_in octets.now) next) }
-{
-    if own != key {
-        return false;
-    }
-    let at = usize::from(position);
-    if stands_at(msg, at, octets) {
-        return true;
-    }
-    spells(msg, at, octets)
 }
 
 /// Whether these very octets stand at a position. The first is compared in front of the others: most names differ there.

@@ -3,12 +3,13 @@ ghost use Rattle.std.specs.Prelude.{◌≡◌, true, ◌<◌, ◌≤◌, ◌++�
 ghost use Rattle.dns_name.specs.Labels.{labels_in, IsWhole};
 ghost use Rattle.dns_name.specs.Name.{IsName};
 ghost use Rattle.wire_names.specs.Cut.{cut_octets, IsCut};
-ghost use Rattle.wire_names.specs.Table.{IsTable, IsEarliest, table_of, name_key};
+ghost use Rattle.wire_names.specs.Table.{IsTable, IsEarliest, AreRuledOut, table_of, name_key};
 ghost use Rattle.wire_names.specs.Written.{pointer_to, written, table_after, WritesOctets};
 
 use crate::key::{key_before, key_behind, key_of};
 use crate::part::POINTER;
-use crate::table::Positions;
+use crate::ruled_out::RuledOut;
+use crate::table::{MAX_POSITIONS, Positions};
 use dns_name::{Name, first_label};
 use std::marker::Model;
 
@@ -176,13 +177,13 @@ impl NameWriter {
             return None;
         }
         let (label, behind) = first_label(octets)?;
-        let (_, _) = first_label(behind)?;
+        let (_first, _rest) = first_label(behind)?;
         let Likely { parent: index, .. } = self.likely;
         if !self.positions.stands(msg, behind, index, true) {
             return None;
         }
-        let (parent, own) = self.positions.entry(index);
-        let key = key_before(own, octets);
+        let (parent, parents_key) = self.positions.entry(index);
+        let key = key_before(parents_key, octets);
         if !self.positions.has_no_key(key) {
             return None;
         }
@@ -277,6 +278,18 @@ impl NameWriter {
         requires key { key ≡ name_key (labels_in octets.now) }
         ensures { IsCut true (table_of msg.now self.now) octets.now result }
     {
+        let mut ruled_out: RuledOut = [0; MAX_POSITIONS];
+        self.sought_rest(msg, octets, key, &mut ruled_out)
+    }
+
+    /// As [`sought`](Self::sought), where positions are ruled out for rests of the name in these octets.
+    fn sought_rest(&self, msg: &[u8], octets: &[u8], key: u32, ruled_out: &mut RuledOut) -> Cut
+        requires table { IsTable msg.now self.now }
+        requires whole { IsWhole octets.now }
+        requires key { key ≡ name_key (labels_in octets.now) }
+        requires known { AreRuledOut msg.now self.now octets.now ruled_out.old }
+        ensures { IsCut true (table_of msg.now self.now) octets.now result }
+    {
         let Some((label, behind)) = first_label(octets) else {
             return Cut {
                 labels: 0,
@@ -286,7 +299,7 @@ impl NameWriter {
                 index: self.likely.parent,
             };
         };
-        if let Some(target) = self.positions.position_of(msg, octets, key) {
+        if let Some(target) = self.positions.position_of_rest(msg, octets, key, ruled_out) {
             return Cut {
                 labels: 0,
                 len: 0,
@@ -295,7 +308,7 @@ impl NameWriter {
                 index: self.likely.parent,
             };
         }
-        let rest = self.sought(msg, behind, key_behind(key, octets));
+        let rest = self.sought_rest(msg, behind, key_behind(key, octets), ruled_out);
         Cut {
             labels: rest.labels + 1,
             len: rest.len + 1 + label.len(),

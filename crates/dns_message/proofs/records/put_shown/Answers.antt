@@ -1,8 +1,7 @@
-use Rattle.std.proofs.Common.{◌≡◌, List, ℕ, map, option_map, sym, subst, ◌∙◌}
+use Rattle.std.proofs.Common.{map, option_map, sym, subst}
 use Rattle.std.specs.List.{flat_map}
 use Rattle.dns_name.specs.Labels.{labels_in}
 use Rattle.dns_name.specs.Name.{Name, IsName}
-use Rattle.dns_name.proofs.FirstLemmas.{IsWire-of}
 use Rattle.dns_rdata.specs.Record.{shown_as}
 use Rattle.dns_message.specs.Encoded.{WritesEncoding}
 use Rattle.dns_message.specs.Encoding.{each}
@@ -19,14 +18,3 @@ pub returns-in-Some : goal.returns-in-Some
 returns-in-Some c =
     subst (λ (n : Name). WritesEncoding (each record_octets (map (shown_as n (option_map (λ ttl. ttl.0) c.args.shown.now.ttl)) (flat_map (λ set. set) c.args.shown.now.sets.now))) c.args.out.now c.put_sets.new.out c.args.at c.args.names.now c.put_sets.new.names c.put_sets.result)
     c.in-Some.ensures.labels c.put_sets.ensures
-
-pub put_sets-requires-in-None-clause-whole : goal.put_sets-requires-in-None-clause-whole
-put_sets-requires-in-None-clause-whole c = (IsWire-of _ _ c.wire.ensures.octets c.wire.ensures.lawful).whole
-
-pub put_sets-requires-in-None-clause-lawful : goal.put_sets-requires-in-None-clause-lawful
-put_sets-requires-in-None-clause-lawful c = subst IsName (sym (IsWire-of _ _ c.wire.ensures.octets c.wire.ensures.lawful).labels) c.wire.ensures.lawful
-
-pub returns-in-None : goal.returns-in-None
-returns-in-None c =
-    subst (λ (n : Name). WritesEncoding (each record_octets (map (shown_as n (option_map (λ ttl. ttl.0) c.args.shown.now.ttl)) (flat_map (λ set. set) c.args.shown.now.sets.now))) c.args.out.now c.put_sets-in-None.new.out c.args.at c.args.names.now c.put_sets-in-None.new.names c.put_sets-in-None.result)
-    ((IsWire-of _ _ c.wire.ensures.octets c.wire.ensures.lawful).labels ∙ c.to_name-owner.ensures) c.put_sets-in-None.ensures

@@ -9,8 +9,8 @@ use Rattle.lookup_core.proofs.aliases.follow.Goals.{in-Cut, in-Data, in-NoData, 
 
 pub loop-init : goal.loop-init
 loop-init g c = record {
-  way = λ more all. rw (c.new-aliases.ensures, c.spelt-searched.ensures) (begins (g.Z.ZoneRead.records c.args.zone.now) c.args.name.now c.args.rtype.0 more (omega arith));
-  count = ap length c.new-aliases.ensures;
+  way = λ more all. rw (c.requires.empty, c.spelt-searched.ensures) (begins (g.Z.ZoneRead.records c.args.zone.now) c.args.name.now c.args.rtype.0 more (omega arith));
+  count = ap length c.requires.empty;
   seen = subst (λ (n : List (List ℕ)). look_shown n c.args.first ≡ look (g.Z.ZoneRead.records c.args.zone.now) n c.args.rtype.0) (sym c.spelt-searched.ensures) c.requires.seen;
   servers = subst (λ (n : List (List ℕ)). HasItsServers (g.Z.ZoneRead.records c.args.zone.now) n c.args.first) (sym c.spelt-searched.ensures) c.requires.servers;
 }

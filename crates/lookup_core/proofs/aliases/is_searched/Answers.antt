@@ -5,12 +5,12 @@ use Rattle.lookup_core.proofs.AliasLemmas.{list_any-searched_before}
 use Rattle.lookup_core.proofs.aliases.is_searched.Goals as goal
 
 -- the alias in hand was found at the name
-pub returns-then-eq : goal.returns-then-eq
-returns-then-eq c =
+pub returns-then-is_same : goal.returns-then-is_same
+returns-then-is_same c =
     sym
     (list_any-searched_before c.args.name.now c.args.aliases.now
     ∙ list_any_at (λ alias. is_same alias.owner c.args.name.now) c.args.aliases.now c.loop-alias.alias-index c.alias-item.result (omega arith)
-    (ap (λ alias. is_same alias.owner c.args.name.now) (sym c.alias-item.is) ∙ ap (λ owner. is_same owner c.args.name.now) (sym c.to_name.ensures) ∙ sym c.eq.ensures ∙ c.if-eq.true))
+    (ap (λ alias. is_same alias.owner c.args.name.now) (sym c.alias-item.is) ∙ sym c.is_same.ensures ∙ c.if-is_same.true))
 
 -- all aliases were seen
 pub returns : goal.returns

@@ -16,7 +16,7 @@ pub returns-clause-octets : goal.returns-clause-octets
 returns-clause-octets g c =
     let zone = g.Z.ZoneRead.records c.args.zone.now in
     let query = c.args.query.now in
-    let front = c.front_from-rcode.result in
+    let front = c.fill_front.new.front in
     let limit = limit_of c.args.transport query.edns in
     let any = λ (section : List Shown). list_any (λ (r : Record). has_hosts r.rtype) (section_shown section) in
     let none =
@@ -26,4 +26,4 @@ returns-clause-octets g c =
     in
     let octets = rw (c.limit-limit.ensures.limit, c.reply_opt.ensures, c.as_slice.ensures.value, c.as_slice-2.ensures.value) at c.write_reply_by.ensures.octets in
     let told = subst (λ (more : List Record). take c.write_reply_by.result c.write_reply_by.new.out ≡ fit (record (answered query (front_shown zone front)) { additional = more }) limit) (sym none) octets in
-    subst (λ (sections : Sections). take c.write_reply_by.result c.write_reply_by.new.out ≡ fit (answered query sections) limit) c.front_from-rcode.ensures told
+    subst (λ (sections : Sections). take c.write_reply_by.result c.write_reply_by.new.out ≡ fit (answered query sections) limit) c.fill_front.ensures told

@@ -25,4 +25,4 @@ returns c =
     let none : position_in (table_of msg c.args.self.now) name ≡ None =
     subst (λ (xs : List Entry). position_in (table_of msg xs) name ≡ None) c.self.view_is (sym nowhere) in
     IsCut-label _ _ _ _ c.in_ok-label.ensures (record { labels = 0; len = 0; target = Some target; key = 0; index = 0 }) _ _ none c.key_before-key.ensures
-    (IsCut-pointer _ _ _ _ c.in_ok-first_label.ensures _ 0 0 found low)
+    (IsCut-pointer _ _ _ _ c.in_ok-_first.ensures _ 0 0 found low)
