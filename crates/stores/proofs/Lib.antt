@@ -1,0 +1,4 @@
+pub mod BegunLemmas
+pub mod BehindLemmas
+pub mod ChoiceLemmas
+pub mod CompactedLemmas

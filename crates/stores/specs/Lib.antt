@@ -1,0 +1,4 @@
+pub mod Begun
+pub mod Behind
+pub mod Choice
+pub mod Private

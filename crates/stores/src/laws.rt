@@ -1,0 +1,55 @@
+//! Laws of stores: each is the contract of a function that does nothing.
+ghost use Rattle.std.specs.Prelude.{◌≡◌, ◌+◌, ◌≤◌, ℕ, List, [], Option, length, take, drop, map, All};
+ghost use Rattle.dns_name.specs.Name.{Name};
+ghost use Rattle.dns_rdata.specs.Record.{Record};
+ghost use Rattle.dns_message.specs.declared.update.Update.{Update};
+ghost use Rattle.update_core.specs.Act.{replay};
+ghost use Rattle.master_file.specs.declared.fault.FileFault.{FileFault};
+ghost use Rattle.master_file.specs.Fault.{no_memory};
+ghost use Rattle.journal.specs.declared.heads.Head.{Head};
+ghost use Rattle.journal.specs.declared.heads.TextSum.{TextSum};
+ghost use Rattle.journal.specs.Batch.{batch_of, IsShort};
+ghost use Rattle.journal.specs.Frame.{Fit};
+ghost use Rattle.journal.specs.Head.{IsText};
+ghost use Rattle.journal.specs.Recovered.{journal_of};
+ghost use Rattle.recovery.specs.declared.start.Start.{Start};
+ghost use Rattle.recovery.specs.Start.{IsStarted};
+ghost use Rattle.recovery.specs.Store.{IsStore};
+ghost use Rattle.stores.specs.declared.choices.Choice.{Choice};
+ghost use Rattle.stores.specs.declared.choices.Choice.TheVariants.{Same};
+ghost use Rattle.stores.specs.declared.choices.Take.{Take};
+ghost use Rattle.stores.specs.Behind.{AreBehind, batches_behind};
+ghost use Rattle.stores.specs.Choice.{IsChoice, IsChoiceFault};
+
+/// A start has one choice at most; and where it has one, want of memory is the only fault.
+pub fn one_choice()
+    ensures once { (begun : TextSum) (last : ℕ) (origin : Name) (text : List ℕ) (taken : Option Take) (choice other : Choice)
+        → IsChoice begun last origin text taken choice → IsChoice begun last origin text taken other → choice ≡ other }
+    ensures apart { (begun : TextSum) (last : ℕ) (origin : Name) (text : List ℕ) (taken : Option Take) (choice : Choice) (fault : FileFault)
+        → IsChoice begun last origin text taken choice → IsChoiceFault begun origin text taken fault → fault ≡ no_memory }
+{}
+
+/// Where the zone text is the one that the store was begun from, the store is served, and there is no fault, whatever is taken: so at the start behind one at which
+/// the zone text was taken.
+pub fn begun_from_is_served()
+    ensures same { (begun : TextSum) (last : ℕ) (origin : Name) (text : List ℕ) (taken : Option Take) (choice : Choice)
+        → IsText begun text → IsChoice begun last origin text taken choice → choice ≡ Same }
+    ensures no_fault { (begun : TextSum) (origin : Name) (text : List ℕ) (taken : Option Take) (fault : FileFault)
+        → IsText begun text → IsChoiceFault begun origin text taken fault → ⊥ }
+{}
+
+/// A store that is begun of the version behind the first updates of another, with the batches behind them, is a store of the versions from there on: each is the same
+/// zone. A start of it has the zone that a start of the other has, with as many updates fewer. What is left of a store's batches fits a journal of its own.
+pub fn compacted_is_the_same()
+    ensures store { (text written : List ℕ) (head next : Head) (batches rest : List (List (List ℕ))) (zone : List Record) (updates : List Update) (k : ℕ)
+        → IsStore text head batches zone updates → IsStore written next [] (replay zone (take k updates)) [] → AreBehind k batches rest
+        → IsStore written next rest (replay zone (take k updates)) (drop k updates) }
+    ensures versions { (zone : List Record) (updates : List Update) (k n : ℕ)
+        → replay (replay zone (take k updates)) (take n (drop k updates)) ≡ replay zone (take (k + n) updates) }
+    ensures last { (zone : List Record) (updates : List Update) (k : ℕ) → replay (replay zone (take k updates)) (drop k updates) ≡ replay zone updates }
+    ensures started { (text written : List ℕ) (head next : Head) (batches rest : List (List (List ℕ))) (zone : List Record) (updates : List Update) (k : ℕ) (start later : Start)
+        → IsStore text head batches zone updates → IsStore written next [] (replay zone (take k updates)) [] → AreBehind k batches rest → k ≤ length updates
+        → IsStarted text (journal_of head batches) start → IsStarted written (journal_of next rest) later
+        → (start.newest.last.zone ≡ later.newest.last.zone) × (start.newest.last.number ≡ k + later.newest.last.number) }
+    ensures behind { (batches : List (List (List ℕ))) (k : ℕ) → All (All IsShort) batches → Fit 0 (map batch_of batches) → AreBehind k batches (batches_behind k batches) }
+{}
