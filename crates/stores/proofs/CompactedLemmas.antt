@@ -1,6 +1,6 @@
 -- A store of a later version of another.
 use Rattle.std.proofs.Common.{◌≡◌, ℕ, zero, suc, ◌+◌, ◌≤◌, List, [], ◌∷◌, length, take, drop, unwrap_or, refl, sym, ap, ◌∙◌, subst, arith}
-use Rattle.std.proofs.lemmas.List.{take_all, length-drop}
+use Rattle.std.proofs.lemmas.List.{length-drop}
 use Rattle.dns_rdata.specs.Record.{Record}
 use Rattle.dns_message.specs.declared.update.Update.{Update}
 use Rattle.journal.specs.declared.heads.Head.{Head}
@@ -28,15 +28,17 @@ changes_drop zero zone updates taken = taken
 changes_drop (suc k) zone [] taken = tt
 changes_drop (suc k) zone (update ∷ updates) taken = changes_drop k (unwrap_or (act zone update) zone) updates taken.2
 
+-- no updates leave a zone as it is
+none_left : (zone : List Record) (n : ℕ) → replay zone (take n []) ≡ zone
+none_left zone zero = refl
+none_left zone (suc n) = refl
+
 -- the zones behind the first updates
 pub replay_parts : (zone : List Record) (updates : List Update) (k n : ℕ) → replay (replay zone (take k updates)) (take n (drop k updates)) ≡ replay zone (take (k + n) updates)
 replay_parts zone updates zero n =
     let same : n ≡ zero + n = omega arith in
     ap (λ (m : ℕ). replay zone (take m updates)) same
-replay_parts zone [] (suc k) n =
-    let none : take n [] ≡ [] = take_all n [] (omega arith) in
-    let all : take (suc k + n) [] ≡ [] = take_all (suc k + n) [] (omega arith) in
-    ap (λ (us : List Update). replay zone us) (none ∙ sym all)
+replay_parts zone [] (suc k) n = none_left zone n ∙ sym (none_left zone (suc k + n))
 replay_parts zone (update ∷ updates) (suc k) n =
     let more : suc (k + n) ≡ suc k + n = omega arith in
     replay_parts (unwrap_or (act zone update) zone) updates k n ∙ ap (λ (m : ℕ). replay zone (take m (update ∷ updates))) more

@@ -1,4 +1,4 @@
-use Rattle.std.proofs.Common.{◌≡◌, ◌<◌, ◌^◌, ℕ, List, length, string_bytes, refl, ap, ◌∙◌, subst, arith, rules}
+use Rattle.std.proofs.Common.{◌<◌, ◌^◌, ℕ, List, length, string_bytes, refl, ap, ◌∙◌, subst, arith, rules}
 use Rattle.sha2.proofs.Facts256.{length-sha256}
 use Rattle.journal.specs.declared.heads.Head.{Head}
 use Rattle.journal.specs.Head.{IsHead, IsSum, IsText}
