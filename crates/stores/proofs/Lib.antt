@@ -2,3 +2,4 @@ pub mod BegunLemmas
 pub mod BehindLemmas
 pub mod ChoiceLemmas
 pub mod CompactedLemmas
+pub mod FolderLemmas

@@ -1,4 +1,5 @@
 pub mod Begun
 pub mod Behind
 pub mod Choice
+pub mod Folder
 pub mod Private

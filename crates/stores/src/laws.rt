@@ -1,5 +1,5 @@
 //! Laws of stores: each is the contract of a function that does nothing.
-ghost use Rattle.std.specs.Prelude.{◌≡◌, ◌+◌, ◌≤◌, ℕ, List, [], Option, length, take, drop, map, All};
+ghost use Rattle.std.specs.Prelude.{◌≡◌, ◌≢◌, ◌+◌, ◌≤◌, ℕ, List, [], Option, Some, length, take, drop, map, All};
 ghost use Rattle.dns_name.specs.Name.{Name};
 ghost use Rattle.dns_rdata.specs.Record.{Record};
 ghost use Rattle.dns_message.specs.declared.update.Update.{Update};
@@ -20,6 +20,7 @@ ghost use Rattle.stores.specs.declared.choices.Choice.TheVariants.{Same};
 ghost use Rattle.stores.specs.declared.choices.Take.{Take};
 ghost use Rattle.stores.specs.Behind.{AreBehind, batches_behind};
 ghost use Rattle.stores.specs.Choice.{IsChoice, IsChoiceFault};
+ghost use Rattle.stores.specs.Folder.{Folder, Means, with_text, without_text, with_journal};
 
 /// A start has one choice at most; and where it has one, want of memory is the only fault.
 pub fn one_choice()
@@ -52,4 +53,20 @@ pub fn compacted_is_the_same()
         → IsStarted text (journal_of head batches) start → IsStarted written (journal_of next rest) later
         → (start.newest.last.zone ≡ later.newest.last.zone) × (start.newest.last.number ≡ k + later.newest.last.number) }
     ensures behind { (batches : List (List (List ℕ))) (k : ℕ) → All (All IsShort) batches → Fit 0 (map batch_of batches) → AreBehind k batches (batches_behind k batches) }
+{}
+
+/// A folder means one store at most. Each step of a compaction leaves it a meaning: the next zone text is written, and the store is the one that it was; a journal that
+/// names that text is renamed over the one before, and the store is that of the later version, with the batches behind it; and a text that the journal doesn't name
+/// goes. So whatever a crash leaves between two steps, the versions are the same ([`compacted_is_the_same`]).
+pub fn each_step_keeps_the_meaning()
+    ensures once { (folder : Folder) (head other : Head) (batches others : List (List (List ℕ))) (zone other_zone : List Record) (updates other_updates : List Update)
+        → Means folder head batches zone updates → Means folder other others other_zone other_updates
+        → (head ≡ other) × (batches ≡ others) × (zone ≡ other_zone) × (updates ≡ other_updates) }
+    ensures written { (folder : Folder) (head : Head) (batches : List (List (List ℕ))) (zone : List Record) (updates : List Update) (number : ℕ) (text : List ℕ)
+        → Means folder head batches zone updates → number ≢ head.number → Means (with_text folder number text) head batches zone updates }
+    ensures renamed { (folder : Folder) (head next : Head) (batches rest : List (List (List ℕ))) (zone : List Record) (updates : List Update) (k : ℕ) (written : List ℕ)
+        → Means folder head batches zone updates → folder.texts next.number ≡ Some written → IsStore written next [] (replay zone (take k updates)) [] → AreBehind k batches rest
+        → Means (with_journal folder (journal_of next rest)) next rest (replay zone (take k updates)) (drop k updates) }
+    ensures removed { (folder : Folder) (head : Head) (batches : List (List (List ℕ))) (zone : List Record) (updates : List Update) (number : ℕ)
+        → Means folder head batches zone updates → number ≢ head.number → Means (without_text folder number) head batches zone updates }
 {}
