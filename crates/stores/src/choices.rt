@@ -60,8 +60,8 @@ pub fn choose(
             Ok(Choice::Zone(zone))
         }
         None => {
-            let zone = read_zone(alloc, text, origin)?;
-            Ok(by_serial(last, zone.serial()))
+            let given = read_zone(alloc, text, origin)?;
+            Ok(by_serial(last, given.serial()))
         }
     }
 }
