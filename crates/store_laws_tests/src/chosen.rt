@@ -62,6 +62,12 @@ const FAULT: FileFault = FileFault {
     cause: Cause::BadData,
 };
 
+/// Want of memory, which is told on no line.
+const NO_MEMORY: FileFault = FileFault {
+    line: 0,
+    cause: Cause::NoMemory,
+};
+
 // The text that the store was begun from isn't looked into, whatever is taken, and whatever it says.
 #[test]
 fn text_that_the_store_was_begun_from(rt: HostRuntime) -> Result<(), Fail> {
@@ -164,7 +170,36 @@ fn next_start(rt: HostRuntime) -> Result<(), Fail> {
             &root,
             taken,
         );
-        assert!(rt; matches!(next, Ok(Choice::Same)));
+        assert!(rt; matches!(&next, Ok(Choice::Same)));
     }
+    Ok(())
+}
+
+/// Whether a start's choices are told, and a store begun, as they are with ample memory; None where memory is refused.
+fn begun_and_chosen(alloc: Global) -> Option<bool> {
+    let text = text_of(alloc, 11).ok()?;
+    let given = text.as_bytes();
+    let root = Name::root();
+    let begun = TextSum::of(b"");
+    // The store that the text began, and one that is taken, want no memory.
+    let same = choose(alloc, &TextSum::of(given), Serial(10), given, &root, None);
+    let store = choose(alloc, &begun, Serial(10), given, &root, Some(Take::Store));
+    if !matches!(&same, Ok(Choice::Same)) || !matches!(&store, Ok(Choice::Store)) {
+        return Some(false);
+    }
+    let zone = match choose(alloc, &begun, Serial(10), given, &root, Some(Take::Zone)) {
+        Ok(Choice::Zone(zone)) => zone,
+        Err(fault) if fault == NO_MEMORY => return None,
+        _ => return Some(false),
+    };
+    let (written, head) = begin_store(alloc, &zone, 2, [7; 16], TextSum::of(given)).ok()?;
+    Some(written == text && head.text.is_of(given) && head.serial == 11)
+}
+
+// Where a request for memory is refused, that is what is told, and nothing else.
+#[test]
+fn memory_is_refused(rt: HostRuntime) -> Result<(), Fail> {
+    let told = begun_and_chosen(rt.alloc());
+    assert!(rt; told != Some(false));
     Ok(())
 }
