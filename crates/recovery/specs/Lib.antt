@@ -1,5 +1,6 @@
 pub mod Replay
 pub mod Start
+pub mod Before
 pub mod Store
 pub mod Private
 pub use Rattle.dns_engine.specs.Held
