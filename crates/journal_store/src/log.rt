@@ -122,6 +122,24 @@ impl<D: Disk> Log<D> {
         Ok(())
     }
 
+    /// Goes on with another journal of so many batches, which ends at this octet and is on its disk: also one that is stuck goes on by it. What it lay on
+    /// before is dropped.
+    pub fn switch(&mut self, disk: D, salt: &[u8; SUM], number: u64, end: u64)
+        ensures holds { (head : Head) (bodies : List (List ℕ)) → D.written disk ≡ octets_of head bodies → D.synced disk ≡ octets_of head bodies
+            → salt.now ≡ salt_of head → number ≡ length bodies → end ≡ length (octets_of head bodies) → Fit 0 bodies
+            → Holds D.written D.synced head self.new bodies }
+        ensures disk { disk_of self.new ≡ disk }
+        ensures goes_on { is_stuck self.new ≡ false }
+    {
+        *self = Log {
+            disk,
+            salt: *salt,
+            number,
+            end,
+            stuck: false,
+        };
+    }
+
     /// What it lies on.
     pub fn disk(&self) -> &D
         ensures { result.now ≡ disk_of self.now }
