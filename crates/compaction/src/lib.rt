@@ -1,0 +1,27 @@
+//! A store that is begun anew of a later version while updates go on (own).
+//!
+//! A [`StoreWriter`] brings the batches of updates to the disk, and keeps the [`Trail`] of what is published: the newest versions, as many as an engine keeps, each
+//! with the octets of the update that made it. A [`Compaction`] begins with the trail's oldest version, whose zone text is the next one ([`next_text`]), and with
+//! the batch of the updates behind that version; batches that are appended meanwhile are added to it. Its [`NextJournal`] belongs to that text, and has them all
+//! under a head of its own; once it is the store's journal, the log goes on with it, also one that is stuck. Both stores have the same versions
+//! ([`compactions_keep_the_versions`]), so a crash leaves a start of the same zone whichever of them it leaves; and a start of the later one has the versions that
+//! the trail has. No file is here: `store_files` writes the text and puts the journal in place.
+#![tactic(auto)]
+
+mod laws;
+mod marked;
+mod next;
+mod start;
+mod step;
+mod together;
+mod trail;
+mod writer;
+
+pub use laws::{compactions_keep_the_versions, trails_end_their_stores};
+pub use marked::{Compaction, next_text};
+pub use next::NextJournal;
+pub use start::updates_behind;
+pub use step::{Step, group_steps, steps_of};
+pub use together::update_stored;
+pub use trail::Trail;
+pub use writer::StoreWriter;

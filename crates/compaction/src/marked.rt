@@ -1,0 +1,90 @@
+//! What is kept for the next journal while its zone text is written (own).
+ghost use Rattle.std.specs.Prelude.{◌≡◌, ◌^◌, ◌<◌, ◌≤◌, ℕ, List, [], ◌∷◌, ◌++◌, length, All, IfOk, OnOk, OnErr, string_bytes};
+ghost use Rattle.journal.specs.Batch.{batch_of, IsShort};
+ghost use Rattle.journal.specs.Recovered.{updates_in};
+ghost use Rattle.stores.specs.Begun.{IsBegun};
+ghost use Rattle.compaction.specs.Marked.{bodies_of, IsMarked, IsNextJournal, next_number};
+
+use crate::next::NextJournal;
+use dns_engine::SharedVersion;
+use journal::{Head, write_frame, write_head};
+use std::alloc::{AllocError, Global};
+use stores::begin_store;
+
+/// The octets of a batch.
+#[derive(Drop)]
+pub(crate) struct Body {
+    octets: Vec<u8>,
+    ghost short: { length octets.items < 2 ^ 32 },
+}
+
+/// What is kept for the journal of the next zone text, while that is written: the batches behind its version, those that are appended meanwhile too.
+#[derive(Drop)]
+pub struct Compaction {
+    pub(crate) bodies: Vec<Body>,
+}
+
+impl Compaction {
+    /// That of one batch. It takes memory.
+    pub(crate) fn of(alloc: Global, octets: Vec<u8>) -> Result<Compaction, AllocError>
+        requires { length octets.items < 2 ^ 32 }
+        ensures { IfOk result (λ compaction. bodies_of compaction ≡ octets.items ∷ []) }
+    {
+        let mut bodies = Vec::new(alloc);
+        bodies.push(Body { octets })?;
+        Ok(Compaction { bodies })
+    }
+
+    /// Adds a batch that is appended to the store's journal. It takes memory; where there is none it has what it had, and is of no use: another one is begun.
+    pub fn follow(&mut self, alloc: Global, body: &[u8]) -> Result<(), AllocError>
+        requires { length body.now < 2 ^ 32 }
+        ensures followed { OnOk result (bodies_of self.new ≡ bodies_of self.old ++ body.now ∷ []) }
+        ensures same { OnErr result (bodies_of self.new ≡ bodies_of self.old) }
+        ensures marked { OnOk result ((k : ℕ) (batches : List (List (List ℕ))) (batch : List (List ℕ)) → IsMarked k batches self.old
+            → k ≤ length (updates_in batches) → All IsShort batch → body.now ≡ batch_of batch → IsMarked k (batches ++ batch ∷ []) self.new) }
+    {
+        let octets = body.to_vec(alloc)?;
+        self.bodies.push(Body { octets })?;
+        Ok(())
+    }
+
+    /// How many octets its batches have, at most 2^64 - 1 of them.
+    pub fn len(&self) -> u64 {
+        let mut len = 0u64;
+        for body in &self.bodies {
+            len = len.saturating_add(body.octets.len() as u64);
+        }
+        len
+    }
+
+    /// The journal of its batches under a head: their frames are numbered from 0, and have that head's salt. It takes memory.
+    pub fn journal(&self, alloc: Global, head: &Head) -> Result<NextJournal, AllocError>
+        ensures { IfOk result (λ next. IsNextJournal head.now (bodies_of self.now) next) }
+    {
+        let (mut octets, salt) = write_head(alloc, head)?;
+        for (number, body) in self.bodies.iter().enumerate() {
+            let frame = write_frame(alloc, &salt, number as u64, &body.octets)?;
+            octets.extend_from_slice(&frame)?;
+        }
+        Ok(NextJournal {
+            octets,
+            salt,
+            number: self.bodies.len() as u64,
+        })
+    }
+}
+
+/// The zone text behind that of a head, of a version, and the head of its journal, with random octets that nobody outside knows. It has the next number, and
+/// all began from the same text as before. It takes memory, and nothing else: a thread of its own writes it while updates go on.
+pub fn next_text(
+    alloc: Global,
+    version: &SharedVersion,
+    before: &Head,
+    random: [u8; 16],
+) -> Result<(String, Head), AllocError>
+    ensures { IfOk result (λ r. IsBegun version.now.zone (next_number before.now.number) random before.now.origin (string_bytes r.0) r.1) }
+{
+    let zone = version.get().zone();
+    let number = before.number.wrapping_add(1);
+    begin_store(alloc, zone, number, random, before.origin)
+}
