@@ -1,0 +1,4 @@
+pub mod TrailLemmas
+pub mod MadeLemmas
+pub mod MarkedLemmas
+pub mod EndLemmas
