@@ -64,9 +64,9 @@ last_is text head batches zone updates trail k end =
     ∙ (ap (λ (us : List Update). replay (replay zone (take k updates)) us) others ∙ replay_rest zone updates k))
 
 -- a store that begins with a version
-pub begun_end : (text : List ℕ) (head : Head) (number : ℕ) (random : List ℕ) (origin : TextSum) (version : Version) → IsBegun version.zone number random origin text head
-    → IsEndOf text head [] version.zone [] (record { oldest = version; steps = [] }) 0
-begun_end text head number random origin version begun = record { store = begun.store; within = omega arith; oldest = refl; rest = refl; made = tt }
+pub begun_end : (text : List ℕ) (head : Head) (number keep : ℕ) (random : List ℕ) (origin : TextSum) (version : Version) → IsBegun version.zone number random origin text head
+    → IsEndOf text head [] version.zone [] (record { oldest = version; steps = []; keep = keep }) 0
+begun_end text head number keep random origin version begun = record { store = begun.store; within = omega arith; oldest = refl; rest = refl; made = tt }
 
 -- a store with one batch more
 store_more : (text : List ℕ) (head : Head) (batches : List (List (List ℕ))) (zone : List Record) (updates more : List Update) (batch : List (List ℕ)) → IsStore text head batches zone updates

@@ -1,12 +1,11 @@
 -- A trail that follows versions that are published.
-use Rattle.std.proofs.Common.{◌≡◌, ◌==◌, ℕ, Bool, true, false, List, [], ◌∷◌, ◌++◌, length, map, if◌then◌else◌, refl, sym, ap, ◌∙◌, subst, append_assoc}
+use Rattle.std.proofs.Common.{◌≡◌, ℕ, Bool, true, false, nat_lt, List, [], ◌∷◌, ◌++◌, length, map, if◌then◌else◌, refl, sym, ap, ◌∙◌, subst, append_assoc}
 use Rattle.std.proofs.lemmas.List.{map-append, append-nil}
 use Rattle.zone_tree.specs.Version.{Version}
-use Rattle.dns_engine.specs.Held.{KEPT}
 use Rattle.update_group.specs.Group.{newest_of}
 use Rattle.lasting_engine.specs.Journal.{AreMadeBy}
 use Rattle.compaction.specs.declared.step.Step.{Step}
-use Rattle.compaction.specs.Trail.{TrailState, versions_in, updates_of, IsTrail, last_in, shortened, with_room, pushed, followed}
+use Rattle.compaction.specs.Trail.{TrailState, versions_in, updates_of, IsTrail, last_in, shortened, longer, pushed, followed}
 
 -- what is made behind versions that are made of a first one
 pub made_behind : (first : Version) (versions more : List Version) (updates others : List (List ℕ)) → AreMadeBy first versions updates → AreMadeBy (newest_of first versions) more others
@@ -45,15 +44,14 @@ room_at trail false is = (is, refl)
 pushed_is : (trail : TrailState) (step : Step) → IsTrail trail → AreMadeBy (last_in trail) (step.version ∷ []) (step.update.items ∷ [])
     → IsTrail (pushed trail step) × (last_in (pushed trail step) ≡ step.version)
 pushed_is trail step is made =
-    let room = room_at trail (length trail.steps == KEPT) is in
-    let kept : TrailState = with_room trail in
-    let here : AreMadeBy (last_in kept) (step.version ∷ []) (step.update.items ∷ []) =
-    subst (λ (v : Version). AreMadeBy v (step.version ∷ []) (step.update.items ∷ [])) (sym room.1) made in
-    let all : AreMadeBy kept.oldest (versions_in kept.steps ++ step.version ∷ []) (updates_of kept.steps ++ step.update.items ∷ []) =
-    made_behind kept.oldest (versions_in kept.steps) (step.version ∷ []) (updates_of kept.steps) (step.update.items ∷ []) room.0 here in (
-      subst (λ (us : List (List ℕ)). AreMadeBy kept.oldest (versions_in (kept.steps ++ step ∷ [])) us) (sym (updates_of-append kept.steps (step ∷ [])))
-          (subst (λ (vs : List Version). AreMadeBy kept.oldest vs (updates_of kept.steps ++ step.update.items ∷ [])) (sym (versions-append kept.steps (step ∷ []))) all),
-      ap (newest_of kept.oldest) (versions-append kept.steps (step ∷ [])) ∙ newest_behind kept.oldest (versions_in kept.steps) (step.version ∷ []),
+    let all : AreMadeBy trail.oldest (versions_in trail.steps ++ step.version ∷ []) (updates_of trail.steps ++ step.update.items ∷ []) =
+    made_behind trail.oldest (versions_in trail.steps) (step.version ∷ []) (updates_of trail.steps) (step.update.items ∷ []) is made in
+    let here : IsTrail (longer trail step) =
+    subst (λ (us : List (List ℕ)). AreMadeBy trail.oldest (versions_in (trail.steps ++ step ∷ [])) us) (sym (updates_of-append trail.steps (step ∷ [])))
+    (subst (λ (vs : List Version). AreMadeBy trail.oldest vs (updates_of trail.steps ++ step.update.items ∷ [])) (sym (versions-append trail.steps (step ∷ []))) all) in
+    let room = room_at (longer trail step) (nat_lt trail.keep (length (trail.steps ++ step ∷ []))) here in (
+      room.0,
+      room.1 ∙ (ap (newest_of trail.oldest) (versions-append trail.steps (step ∷ [])) ∙ newest_behind trail.oldest (versions_in trail.steps) (step.version ∷ [])),
     )
 
 -- with all of them
@@ -71,14 +69,18 @@ pub record Split (trail : TrailState) (all : List Step) (after : TrailState) : T
   pub parts : all ≡ gone ++ after.steps
   pub oldest : after.oldest ≡ newest_of trail.oldest (versions_in gone)
 
-shortened_split : (trail : TrailState) (steps more : List Step) → trail.steps ≡ steps → Split trail (steps ++ more) (record { oldest = (shortened trail steps).oldest; steps = (shortened trail steps).steps ++ more })
-shortened_split trail [] more same = record { gone = []; parts = ap (λ (s : List Step). s ++ more) (sym same); oldest = refl }
-shortened_split trail (step ∷ steps) more same = record { gone = step ∷ []; parts = refl; oldest = refl }
+shortened_split : (trail : TrailState) (steps : List Step) → trail.steps ≡ steps → Split trail steps (shortened trail steps)
+shortened_split trail [] same = record { gone = []; parts = sym same; oldest = refl }
+shortened_split trail (step ∷ steps) same = record { gone = step ∷ []; parts = refl; oldest = refl }
 
-room_split : (trail : TrailState) (full : Bool) (more : List Step)
-    → Split trail (trail.steps ++ more) (record { oldest = (if full then shortened trail trail.steps else trail).oldest; steps = (if full then shortened trail trail.steps else trail).steps ++ more })
-room_split trail true more = shortened_split trail trail.steps more refl
-room_split trail false more = record { gone = []; parts = refl; oldest = refl }
+room_split : (trail : TrailState) (full : Bool) → Split trail trail.steps (if full then shortened trail trail.steps else trail)
+room_split trail true = shortened_split trail trail.steps refl
+room_split trail false = record { gone = []; parts = refl; oldest = refl }
+
+pushed_split : (trail : TrailState) (step : Step) → Split trail (trail.steps ++ step ∷ []) (pushed trail step)
+pushed_split trail step =
+    let long = room_split (longer trail step) (nat_lt trail.keep (length (trail.steps ++ step ∷ []))) in
+    record { gone = long.gone; parts = long.parts; oldest = long.oldest }
 
 -- what is let go at first, and then
 both_split : (trail between after : TrailState) (all more : List Step) → Split trail all between → Split between (between.steps ++ more) after → Split trail (all ++ more) after
@@ -93,7 +95,7 @@ both_split trail between after all more one two = record {
 pub followed_split : (trail : TrailState) (steps : List Step) → Split trail (trail.steps ++ steps) (followed trail steps)
 followed_split trail [] = record { gone = []; parts = append-nil trail.steps; oldest = refl }
 followed_split trail (step ∷ steps) =
-    let first : Split trail (trail.steps ++ step ∷ []) (pushed trail step) = room_split trail (length trail.steps == KEPT) (step ∷ []) in
+    let first : Split trail (trail.steps ++ step ∷ []) (pushed trail step) = pushed_split trail step in
     let whole : Split trail ((trail.steps ++ step ∷ []) ++ steps) (followed (pushed trail step) steps) =
     both_split trail (pushed trail step) (followed (pushed trail step) steps) (trail.steps ++ step ∷ []) steps first (followed_split (pushed trail step) steps) in
     subst (λ (all : List Step). Split trail all (followed (pushed trail step) steps)) (append_assoc trail.steps (step ∷ []) steps) whole

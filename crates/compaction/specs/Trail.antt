@@ -1,15 +1,15 @@
 -- The newest versions, each with the update that made it of the one before (RFC 2136, 3; own).
-use Rattle.std.specs.Prelude.{◌==◌, ℕ, List, [], ◌∷◌, ◌++◌, length, map, if◌then◌else◌}
+use Rattle.std.specs.Prelude.{ℕ, nat_lt, List, [], ◌∷◌, ◌++◌, length, map, if◌then◌else◌}
 use Rattle.zone_tree.specs.Version.{Version}
-use Rattle.dns_engine.specs.Held.{KEPT}
 use Rattle.update_group.specs.Group.{newest_of}
 use Rattle.lasting_engine.specs.Journal.{AreMadeBy}
 use Rattle.compaction.specs.declared.step.Step.{Step}
 
--- a trail: an oldest version, and steps behind it, the oldest first
+-- a trail: an oldest version, steps behind it, the oldest first, and how many older versions are kept beside the last
 pub record TrailState : Type 0 where
   pub oldest : Version
   pub steps : List Step
+  pub keep : ℕ
 
 -- the versions of steps, and their updates
 abbrev pub versions_in : List Step → List Version
@@ -29,15 +29,18 @@ last_in trail = newest_of trail.oldest (versions_in trail.steps)
 -- a trail without the first of its steps, whose version is its oldest
 abbrev pub shortened : TrailState → List Step → TrailState
 shortened trail [] = trail
-shortened trail (step ∷ steps) = record { oldest = step.version; steps = steps }
+shortened trail (step ∷ steps) = record { oldest = step.version; steps = steps; keep = trail.keep }
 
--- the same, where it has as many steps as older versions are kept
-abbrev pub with_room : TrailState → TrailState
-with_room trail = if length trail.steps == KEPT then shortened trail trail.steps else trail
+-- the same, where it has more steps than older versions are kept
+abbrev pub trimmed : TrailState → TrailState
+trimmed trail = if nat_lt trail.keep (length trail.steps) then shortened trail trail.steps else trail
 
--- a trail with a step behind the others
+-- a trail with a step behind the others, of which the newest stay
+abbrev pub longer : TrailState → Step → TrailState
+longer trail step = record { oldest = trail.oldest; steps = trail.steps ++ step ∷ []; keep = trail.keep }
+
 abbrev pub pushed : TrailState → Step → TrailState
-pushed trail step = record { oldest = (with_room trail).oldest; steps = (with_room trail).steps ++ step ∷ [] }
+pushed trail step = trimmed (longer trail step)
 
 -- a trail with steps behind the others, one after another
 abbrev pub followed : TrailState → List Step → TrailState

@@ -27,8 +27,8 @@ ghost use Rattle.compaction.specs.End.{IsEndOf};
 pub fn trails_end_their_stores()
     ensures follows { (trail : TrailState) (steps : List Step) → IsTrail trail → AreMadeBy (last_in trail) (versions_in steps) (updates_of steps)
         → IsTrail (followed trail steps) × (last_in (followed trail steps) ≡ newest_of (last_in trail) (versions_in steps)) }
-    ensures begun { (text : List ℕ) (head : Head) (number : ℕ) (random : List ℕ) (origin : TextSum) (version : Version)
-        → IsBegun version.zone number random origin text head → IsEndOf text head [] version.zone [] (record { oldest = version; steps = [] }) 0 }
+    ensures begun { (text : List ℕ) (head : Head) (number keep : ℕ) (random : List ℕ) (origin : TextSum) (version : Version)
+        → IsBegun version.zone number random origin text head → IsEndOf text head [] version.zone [] (record { oldest = version; steps = []; keep = keep }) 0 }
     ensures goes_on { (text : List ℕ) (head : Head) (batches : List (List (List ℕ))) (zone : List Record) (updates : List Update) (trail : TrailState) (k : ℕ) (steps : List Step)
         → IsEndOf text head batches zone updates trail k → AreMadeBy (last_in trail) (versions_in steps) (updates_of steps)
         → length (batch_of (updates_of steps)) < 2 ^ 32 → length batches < 2 ^ 64

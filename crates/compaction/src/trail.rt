@@ -1,11 +1,11 @@
 //! The newest versions with the updates that made them (own).
-ghost use Rattle.std.specs.Prelude.{◌≡◌, ◌<◌, ◌^◌, ℕ, List, [], ◌∷◌, length, IfOk};
+ghost use Rattle.std.specs.Prelude.{◌≡◌, ◌<◌, ◌^◌, ℕ, List, [], ◌∷◌, length, min, IfOk};
 ghost use Rattle.dns_rdata.specs.Record.{Record};
 ghost use Rattle.dns_message.specs.declared.update.Update.{Update};
 ghost use Rattle.dns_engine.specs.Held.{KEPT};
 ghost use Rattle.journal.specs.declared.heads.Head.{Head};
 ghost use Rattle.journal.specs.Batch.{batch_of};
-ghost use Rattle.compaction.specs.Trail.{with_room, pushed, followed, updates_of};
+ghost use Rattle.compaction.specs.Trail.{pushed, followed, updates_of};
 ghost use Rattle.compaction.specs.Marked.{bodies_of, IsMarked};
 ghost use Rattle.compaction.specs.End.{IsEndOf};
 
@@ -17,35 +17,38 @@ use std::alloc::{AllocError, Global};
 use std::marker::Model;
 use std::sync::Wait;
 
-/// The newest of the versions that are published, the last and at most [`KEPT`] older ones, each but the oldest with the octets of the update that made it. They
-/// are shared with the engine, which keeps as many, so that none is held longer than it keeps them. Contracts see the oldest, and the steps behind it.
+/// The newest of the versions that are published, the last and at most so many older ones, each but the oldest with the octets of the update that made it. They
+/// are shared with the engine: where that keeps as many, none is held longer than it keeps them. Contracts see the oldest, the steps behind it, and how many are kept.
 #[derive(Drop)]
 pub struct Trail {
     oldest: SharedVersion,
     steps: Vec<Step>,
+    keep: usize,
 }
 
 impl Model for Trail {
-    ghost use Rattle.std.specs.Prelude.{◌≤◌, length};
+    ghost use Rattle.std.specs.Prelude.{◌≤◌, ◌<◌, length};
     ghost use Rattle.std.specs.Vec.{vec_capacity};
     ghost use Rattle.dns_engine.specs.Held.{KEPT};
     ghost use Rattle.compaction.specs.Trail.{TrailState};
 
     ghost Value = { TrailState };
 
-    ghost view = { λ a. record { oldest = a.oldest; steps = a.steps.items } };
+    ghost view = { λ a. record { oldest = a.oldest; steps = a.steps.items; keep = a.keep } };
 
-    ghost invariant = { λ a. (length a.steps.items ≤ KEPT) × (KEPT ≤ vec_capacity a.steps) };
+    ghost invariant = { λ a. (length a.steps.items ≤ a.keep) × (a.keep ≤ KEPT) × (a.keep < vec_capacity a.steps) };
 }
 
 impl Trail {
-    /// The trail of a version alone. It takes memory, for as many as it ever has.
-    pub fn of(alloc: Global, version: SharedVersion) -> Result<Trail, AllocError>
-        ensures { IfOk result (λ trail. trail ≡ record { oldest = version; steps = [] }) }
+    /// The trail of a version alone, to keep so many older versions beside the last, or [`KEPT`] where that is less. It takes memory, for as many as it ever has.
+    pub fn of(alloc: Global, version: SharedVersion, keep: usize) -> Result<Trail, AllocError>
+        ensures { IfOk result (λ trail. trail ≡ record { oldest = version; steps = []; keep = min keep KEPT }) }
     {
+        let keep = keep.min(KEPT);
         Ok(Trail {
             oldest: version,
-            steps: Vec::with_capacity(alloc, KEPT)?,
+            steps: Vec::with_capacity(alloc, keep + 1)?,
+            keep,
         })
     }
 
@@ -62,18 +65,10 @@ impl Trail {
     fn push(&mut self, step: Step)
         ensures { self.new ≡ pushed self.old step }
     {
-        self.make_room();
         if self.steps.push(step).is_err() {
             unreachable!()
         }
-    }
-
-    /// Lets the oldest version go where there are so many.
-    fn make_room(&mut self)
-        ensures room { length self.new.steps < KEPT }
-        ensures trail { self.new ≡ with_room self.old }
-    {
-        if self.steps.len() == KEPT {
+        if self.steps.len() > self.keep {
             let Step { update: _, version } = self.steps.remove(0);
             self.oldest = version;
         }

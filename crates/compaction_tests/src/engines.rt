@@ -98,7 +98,7 @@ pub(crate) fn begin<R: Wait, Z: FirstZone, N: Naming>(
         origin,
     ).ok()?;
     let log = Log::begin(alloc, ToldDisk::new(alloc, plan), &head).ok()?;
-    let trail = Trail::of(alloc, version.share(rt)).ok()?;
+    let trail = Trail::of(alloc, version.share(rt), KEPT).ok()?;
     Some((text, StoreWriter::of(head, log, trail)))
 }
 

@@ -2,7 +2,7 @@
 use crate::engines::{Run, are_told, begin, goes};
 use crate::folder::Folder;
 use compaction::{Trail, steps_of, updates_behind};
-use dns_engine::{FirstZone, Naming, SharedVersion};
+use dns_engine::{FirstZone, KEPT, Naming, SharedVersion};
 use lasting_engine::LastingEngine;
 use recovery::Newest;
 use std::alloc::Global;
@@ -17,7 +17,7 @@ fn trail_of<R: Wait>(rt: &R, alloc: Global, newest: Newest, updates: &[&[u8]]) -
     }
     versions.push(SharedVersion::new(alloc, newest.last)?).ok()?;
     let (oldest, later) = versions.split_first()?;
-    let mut trail = Trail::of(alloc, oldest.share(rt)).ok()?;
+    let mut trail = Trail::of(alloc, oldest.share(rt), KEPT).ok()?;
     if later.len() != updates.len() || updates.iter().any(|update| update.len() > 65_535) {
         return None;
     }
