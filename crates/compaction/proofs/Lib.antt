@@ -2,3 +2,4 @@ pub mod TrailLemmas
 pub mod MadeLemmas
 pub mod MarkedLemmas
 pub mod EndLemmas
+pub mod JudgedLemmas

@@ -99,3 +99,8 @@ followed_split trail (step ∷ steps) =
     let whole : Split trail ((trail.steps ++ step ∷ []) ++ steps) (followed (pushed trail step) steps) =
     both_split trail (pushed trail step) (followed (pushed trail step) steps) (trail.steps ++ step ∷ []) steps first (followed_split (pushed trail step) steps) in
     subst (λ (all : List Step). Split trail all (followed (pushed trail step) steps)) (append_assoc trail.steps (step ∷ []) steps) whole
+
+-- one step behind those that follow
+pub followed_push : (trail : TrailState) (steps : List Step) (step : Step) → followed trail (steps ++ step ∷ []) ≡ pushed (followed trail steps) step
+followed_push trail [] step = refl
+followed_push trail (other ∷ steps) step = followed_push (pushed trail other) steps step

@@ -48,15 +48,6 @@ impl Compaction {
         Ok(())
     }
 
-    /// How many octets its batches have, at most 2^64 - 1 of them.
-    pub fn len(&self) -> u64 {
-        let mut len = 0u64;
-        for body in &self.bodies {
-            len = len.saturating_add(body.octets.len() as u64);
-        }
-        len
-    }
-
     /// The journal of its batches under a head: their frames are numbered from 0, and have that head's salt. It takes memory.
     pub fn journal(&self, alloc: Global, head: &Head) -> Result<NextJournal, AllocError>
         ensures { IfOk result (λ next. IsNextJournal head.now (bodies_of self.now) next) }

@@ -18,8 +18,8 @@ pub fn updates_behind<'a>(
     ensures refused { IfErr result (λ why. IsRefused text.now journal.now why) }
 {
     let found = recover(alloc, text, journal)?;
-    let mut updates = found.updates;
-    let first = updates.len().saturating_sub(count);
-    updates.drain(..first);
+    let first = found.updates.len().saturating_sub(count);
+    let mut updates = Vec::new(alloc);
+    updates.extend_from_slice(&found.updates[first..])?;
     Ok(updates)
 }

@@ -11,20 +11,11 @@ use std::test::Fail;
 use told_disks::ToldDisk;
 
 /// A store with its folder, and the address that is added next.
+#[derive(Drop)]
 struct Store {
     writer: StoreWriter<ToldDisk>,
     folder: Folder,
     next: u8,
-}
-
-impl Drop for Store {
-    fn drop(self) {
-        let Store {
-            writer: _,
-            folder: _,
-            next: _,
-        } = self;
-    }
 }
 
 impl Store {
