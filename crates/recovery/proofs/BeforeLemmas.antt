@@ -10,20 +10,21 @@ use Rattle.journal.specs.declared.start.Refused.TheVariants.{BadHead, Damaged}
 use Rattle.journal.specs.Batch.{batch_of}
 use Rattle.journal.specs.Frame.{frames_of, IsRead}
 use Rattle.journal.specs.Head.{head_of, salt_of}
-use Rattle.journal.specs.Recovered.{journal_of, updates_in, IsOpened}
+use Rattle.journal.specs.Recovered.{journal_of, updates_in, IsOpened, IsDamaged}
 use Rattle.journal.proofs.FramesLemmas.{read_once, written_read, frames-append, synced_first}
 use Rattle.journal.proofs.HeadLemmas.{one_head}
 use Rattle.journal.proofs.RecoveredLemmas.{opened_read, same_batches}
 use Rattle.journal.proofs.StartLemmas.{later_within}
 use Rattle.update_core.specs.Act.{replay}
+use Rattle.dns_engine.specs.Held.{Held}
 use Rattle.dns_engine.specs.Replayed.{EachChanges}
 use Rattle.recovery.specs.declared.fault.StartFault.{StartFault}
 use Rattle.recovery.specs.declared.fault.StartFault.TheVariants.{Journal, NoMemory}
 use Rattle.recovery.specs.declared.newest.Newest.{Newest}
 use Rattle.recovery.specs.declared.start.Start.{Start}
-use Rattle.recovery.specs.Before.{EndsWhole, IsUnread, IsStartedBefore, IsBeforeFault}
+use Rattle.recovery.specs.Before.{EndsWhole, IsUnread, IsStartedBefore, IsCutFault, IsBeforeFault}
 use Rattle.recovery.specs.Replay.{AreRead, IsReplayed, begun, held_from}
-use Rattle.recovery.specs.Start.{IsStarted, IsStartFault}
+use Rattle.recovery.specs.Start.{IsStarted}
 use Rattle.recovery.specs.Store.{IsStore}
 use Rattle.recovery.proofs.ReadLemmas.{read_once as updates_once}
 use Rattle.recovery.proofs.StoreLemmas.{synced_taken}
@@ -65,7 +66,7 @@ replayed_once zone other messages told one two same_zone same is also =
     let updates : is.updates ≡ also.updates = updates_once messages is.updates also.updates is.read (subst (λ (ms : List (List ℕ)). AreRead ms also.updates) (sym same) also.read) in
     let held : held_from (begun zone) is.updates ≡ held_from (begun other) also.updates =
     ap (λ (us : List Update). held_from (begun zone) us) updates ∙ ap (λ (z : List Record). held_from (begun z) also.updates) same_zone in
-    (is.last ∙ (ap (λ h. h.last) held ∙ sym also.last), is.older ∙ (ap (λ h. h.older) held ∙ sym also.older))
+    (is.last ∙ (ap (λ (h : Held). h.last) held ∙ sym also.last), is.older ∙ (ap (λ (h : Held). h.older) held ∙ sym also.older))
 
 -- a start of a journal that isn't damaged
 pub before_same : (text octets : List ℕ) (start before : Start) → IsStarted text octets start → IsStartedBefore text octets before
@@ -110,8 +111,8 @@ never_unread at octets (inr starved) = no_memory starved
 pub never_damaged : (text octets : List ℕ) (at : ℕ) → IsBeforeFault text octets (Journal (Damaged at)) → ⊥
 never_damaged text octets at (inl unread) = never_unread at octets unread
 never_damaged text octets at (inr fault) =
-    let damage = fault.2.0 in
-    let once = opened_once (take fault.0 octets) damage.head fault.1.head damage.bodies fault.1.bodies damage.rest [] damage.opened (whole_opened octets fault.0 fault.1) in
+    let damage : IsDamaged text (take fault.end octets) at = fault.why.0 in
+    let once = opened_once (take fault.end octets) damage.head fault.whole.head damage.bodies fault.whole.bodies damage.rest [] damage.opened (whole_opened octets fault.end fault.whole) in
     let within : damage.place < length damage.rest = later_within (salt_of damage.head) (length damage.bodies) damage.place damage.rest damage.later.0 in
     omega (arith, within, ap length once.2)
 

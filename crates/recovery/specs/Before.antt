@@ -28,6 +28,12 @@ pub record IsStartedBefore (text octets : List ℕ) (start : Start) : Type 0 whe
   pub whole : EndsWhole octets end
   pub started : IsStarted text (take end octets) start
 
+-- why a start of these has none
+pub record IsCutFault (text octets : List ℕ) (fault : StartFault) : Type 0 where
+  pub end : ℕ
+  pub whole : EndsWhole octets end
+  pub why : IsStartFault text (take end octets) fault
+
 -- why there is none
 abbrev pub IsBeforeFault : List ℕ → List ℕ → StartFault → Type 0
-IsBeforeFault text octets fault = IsUnread octets fault ⊎ ((end : ℕ) × EndsWhole octets end × IsStartFault text (take end octets) fault)
+IsBeforeFault text octets fault = IsUnread octets fault ⊎ IsCutFault text octets fault
