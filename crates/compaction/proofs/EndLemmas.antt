@@ -1,5 +1,5 @@
 -- A trail as the end of a store, and what a compaction leaves.
-use Rattle.std.proofs.Common.{◌≡◌, ◌≢◌, ℕ, zero, suc, ◌+◌, ◌-◌, ◌^◌, ◌<◌, ◌≤◌, ◌%◌, List, [], ◌∷◌, ◌++◌, length, take, drop, map, refl, sym, ap, ◌∙◌, subst, length-append, arith}
+use Rattle.std.proofs.Common.{◌≡◌, ℕ, zero, suc, ◌+◌, ◌-◌, ◌^◌, ◌<◌, ◌≤◌, List, [], ◌∷◌, ◌++◌, length, take, drop, map, refl, sym, ap, ◌∙◌, subst, length-append, arith}
 use Rattle.std.specs.Prelude.{All}
 use Rattle.std.proofs.lemmas.List.{map-append, drop-append-le, take-append-le, length-map, length-drop}
 use Rattle.std.proofs.lemmas.List.Elements.{All-nil, All-cons, All-append}
@@ -205,7 +205,3 @@ end_left text written head next batches rest zone updates trail k m end begun be
   rest = end.rest ∙ (sym (drop_both m k (updates_in batches)) ∙ ap (λ (ms : List (List ℕ)). drop m ms) (sym behind.all));
   made = end.made;
 }
-
--- the next number is another one
-pub next_apart : (number : ℕ) → number < 2 ^ 64 → (number + 1) % (2 ^ 64) ≢ number
-next_apart number few same = omega (arith, few, same)

@@ -1,5 +1,5 @@
 -- What is kept for the next journal while its zone text is written (own).
-use Rattle.std.specs.Prelude.{◌≡◌, ℕ, ◌+◌, ◌^◌, ◌%◌, List, map, length}
+use Rattle.std.specs.Prelude.{◌≡◌, ℕ, List, map, length}
 use Rattle.journal.specs.declared.heads.Head.{Head}
 use Rattle.journal.specs.Batch.{batch_of}
 use Rattle.journal.specs.Frame.{Fit}
@@ -25,7 +25,3 @@ pub record IsNextJournal (head : Head) (bodies : List (List ℕ)) (next : NextJo
   pub salt : next.salt ≡ salt_of head
   pub number : next.number ≡ length bodies
   pub fit : Fit 0 bodies
-
--- the number of the zone text behind the one of this number
-abbrev pub next_number : ℕ → ℕ
-next_number number = (number + 1) % (2 ^ 64)

@@ -1,5 +1,5 @@
 //! Laws of compactions: each is the contract of a function that does nothing.
-ghost use Rattle.std.specs.Prelude.{◌≡◌, ◌≢◌, ◌+◌, ◌≤◌, ◌<◌, ◌^◌, ◌++◌, ℕ, List, [], ◌∷◌, All, length, take, drop, map};
+ghost use Rattle.std.specs.Prelude.{◌≡◌, ◌+◌, ◌≤◌, ◌<◌, ◌^◌, ◌++◌, ℕ, List, [], ◌∷◌, length, take, drop, map};
 ghost use Rattle.dns_rdata.specs.Record.{Record};
 ghost use Rattle.dns_message.specs.declared.update.Update.{Update};
 ghost use Rattle.zone_tree.specs.Version.{Version};
@@ -18,7 +18,7 @@ ghost use Rattle.stores.specs.Behind.{AreBehind};
 ghost use Rattle.compaction.specs.declared.marked.Compaction.{Compaction};
 ghost use Rattle.compaction.specs.declared.step.Step.{Step};
 ghost use Rattle.compaction.specs.Trail.{TrailState, versions_in, updates_of, IsTrail, last_in, followed};
-ghost use Rattle.compaction.specs.Marked.{bodies_of, IsMarked, next_number};
+ghost use Rattle.compaction.specs.Marked.{bodies_of, IsMarked};
 ghost use Rattle.compaction.specs.End.{IsEndOf};
 
 /// A trail follows the versions that are published, one made from the other by the updates of its steps, and ends at the last of them. With a batch that is appended
@@ -39,7 +39,7 @@ pub fn trails_end_their_stores()
 
 /// What a compaction leaves is a store of the same versions: its zone text is that of the version behind the first k updates of the store before it, its batches are those
 /// that were kept, and a start of either has the same zone. A trail that is the end of the store before is the end of this one, so a start of it has each version that
-/// the trail has. Its text isn't of the number that the store before has.
+/// the trail has.
 pub fn compactions_keep_the_versions()
     ensures store { (text written : List ℕ) (head next : Head) (batches : List (List (List ℕ))) (zone : List Record) (updates : List Update) (k number : ℕ)
         (random : List ℕ) (origin : TextSum) (version : Version) (compaction : Compaction)
@@ -53,5 +53,4 @@ pub fn compactions_keep_the_versions()
     ensures trail { (text written : List ℕ) (head next : Head) (batches rest : List (List (List ℕ))) (zone : List Record) (updates : List Update) (trail : TrailState) (k m : ℕ)
         → IsEndOf text head batches zone updates trail (k + m) → IsStore written next [] (replay zone (take k updates)) [] → AreBehind k batches rest
         → IsEndOf written next rest (replay zone (take k updates)) (drop k updates) trail m }
-    ensures apart { (number : ℕ) → number < 2 ^ 64 → next_number number ≢ number }
 {}

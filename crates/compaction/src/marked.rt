@@ -3,7 +3,7 @@ ghost use Rattle.std.specs.Prelude.{◌≡◌, ◌^◌, ◌<◌, ◌≤◌, ℕ,
 ghost use Rattle.journal.specs.Batch.{batch_of, IsShort};
 ghost use Rattle.journal.specs.Recovered.{updates_in};
 ghost use Rattle.stores.specs.Begun.{IsBegun};
-ghost use Rattle.compaction.specs.Marked.{bodies_of, IsMarked, IsNextJournal, next_number};
+ghost use Rattle.compaction.specs.Marked.{bodies_of, IsMarked, IsNextJournal};
 
 use crate::next::NextJournal;
 use dns_engine::SharedVersion;
@@ -65,17 +65,17 @@ impl Compaction {
     }
 }
 
-/// The zone text behind that of a head, of a version, and the head of its journal, with random octets that nobody outside knows. It has the next number, and
-/// all began from the same text as before. It takes memory, and nothing else: a thread of its own writes it while updates go on.
+/// The zone text of this number, of a version of a store with this head, and the head of its journal, with random octets that nobody outside knows. All began from
+/// the same text as before. It takes memory, and nothing else: a thread of its own writes it while updates go on.
 pub fn next_text(
     alloc: Global,
     version: &SharedVersion,
     before: &Head,
+    number: u64,
     random: [u8; 16],
 ) -> Result<(String, Head), AllocError>
-    ensures { IfOk result (λ r. IsBegun version.now.zone (next_number before.now.number) random before.now.origin (string_bytes r.0) r.1) }
+    ensures { IfOk result (λ r. IsBegun version.now.zone number random before.now.origin (string_bytes r.0) r.1) }
 {
     let zone = version.get().zone();
-    let number = before.number.wrapping_add(1);
     begin_store(alloc, zone, number, random, before.origin)
 }

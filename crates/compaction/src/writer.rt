@@ -1,5 +1,5 @@
 //! A store that is written (own).
-ghost use Rattle.std.specs.Prelude.{◌≡◌, ◌≢◌, ◌↔◌, ◌⊎◌, ◌<◌, ◌^◌, ⊤, ℕ, List, [], ◌∷◌, ◌++◌, None, Some, IsTrue, length, All, IfOk, OnOk, OnErr, MatchOption, IfSome};
+ghost use Rattle.std.specs.Prelude.{◌≡◌, ◌≢◌, ◌↔◌, ◌⊎◌, ◌<◌, ◌≤◌, ◌^◌, ⊤, ℕ, List, [], ◌∷◌, ◌++◌, None, Some, IsTrue, length, All, IfOk, OnOk, OnErr, MatchOption, IfSome};
 ghost use Rattle.journal.specs.declared.heads.Head.{Head as HeadState};
 ghost use Rattle.journal.specs.Batch.{IsShort};
 ghost use Rattle.journal_store.specs.Log.{Holds, IsStuck};
@@ -28,6 +28,8 @@ pub struct StoreWriter<D: Disk> {
     log: Log<D>,
     trail: Trail,
     under_way: Option<Compaction>,
+    last: u64,
+    ghost later: { head.number ≤ last },
 }
 
 impl<D: Disk> StoreWriter<D> {
@@ -43,6 +45,7 @@ impl<D: Disk> StoreWriter<D> {
             log,
             trail,
             under_way: None,
+            last: head.number,
         }
     }
 
@@ -147,8 +150,29 @@ impl<D: Disk> StoreWriter<D> {
         ensures none { under_way_of self.new ≡ None }
     {
         next.switch(&mut self.log, disk);
+        self.last = self.last.max(head.number);
         self.head = head;
         self.under_way = None;
+    }
+
+    /// Writes nothing more, until it goes on with another journal: nobody knows whether a start finds the journal that it has, or one of the zone text of this
+    /// number. The compaction is given up.
+    pub fn stop(&mut self, number: u64)
+        ensures stopped { (head : HeadState) (bodies : List (List ℕ)) → Holds D.written D.synced head (log_of self.old) bodies → IsStuck D.synced head (log_of self.new) bodies }
+        ensures trail { trail_of self.new ≡ trail_of self.old }
+        ensures head { head_of self.new ≡ head_of self.old }
+        ensures none { under_way_of self.new ≡ None }
+    {
+        self.log.stop();
+        self.last = self.last.max(number);
+        self.under_way = None;
+    }
+
+    /// The number of the next zone text: no journal that a start may find names it. None where there is no number left.
+    pub fn next_number(&self) -> Option<u64>
+        ensures { IfSome result (λ number. (head_of self.now).number < number) }
+    {
+        self.last.checked_add(1)
     }
 
     /// The head of its journal.

@@ -3,7 +3,7 @@ use compaction::{StoreWriter, Trail, update_stored};
 use dns_engine::{Engine, FirstZone, KEPT, Naming, VersionCell, VersionPublisher, VersionReader};
 use dns_name::Name;
 use journal::{Head, TextSum};
-use journal_store::Log;
+use journal_store::{Disk, Log};
 use lasting_engine::{Asked, LastingEngine};
 use master_file::read_zone;
 use played_zones::{Play, Played, is_played};
@@ -111,11 +111,11 @@ pub(crate) fn update(alloc: Global, last: u8) -> Option<Vec<u8>> {
 }
 
 /// Sends updates as one batch, of so many addresses from one on: whether each gets this code.
-pub(crate) fn are_told<R: Wait, Z: FirstZone, N: Naming>(
+pub(crate) fn are_told<R: Wait, Z: FirstZone, N: Naming, D: Disk>(
     rt: &R,
     alloc: Global,
     engine: &mut LastingEngine<'_, Z, N>,
-    writer: &mut StoreWriter<ToldDisk>,
+    writer: &mut StoreWriter<D>,
     addresses: (u8, u8),
     code: u8,
 ) -> Option<bool> {

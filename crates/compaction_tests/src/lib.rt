@@ -4,6 +4,8 @@
 #[cfg(test)]
 mod engines;
 #[cfg(test)]
+mod files;
+#[cfg(test)]
 mod folder;
 #[cfg(test)]
 mod starts;

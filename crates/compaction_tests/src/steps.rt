@@ -48,7 +48,8 @@ impl Store {
         count: u8,
     ) -> Option<(bool, Head, NextJournal)> {
         let version = self.writer.begin_compaction(rt, alloc).ok()?;
-        let (text, head) = next_text(alloc, &version, self.writer.head(), [9; 16]).ok()?;
+        let number = self.writer.next_number()?;
+        let (text, head) = next_text(alloc, &version, self.writer.head(), number, [9; 16]).ok()?;
         let mut right = self.is_there(alloc)?;
         let half = &text.as_bytes()[..text.len() / 2];
         self.folder.put(alloc, head.number, half)?;

@@ -39,7 +39,8 @@ impl Run for Fails {
         right = folder.has_written(alloc, &writer)? && right;
         // Another pair ends that.
         let version = writer.begin_compaction(rt, alloc).ok()?;
-        let (text, head) = next_text(alloc, &version, writer.head(), [9; 16]).ok()?;
+        let number = writer.next_number()?;
+        let (text, head) = next_text(alloc, &version, writer.head(), number, [9; 16]).ok()?;
         folder.put(alloc, head.number, text.as_bytes())?;
         let next = writer.next_journal(alloc, &head).ok()??;
         let disk = ToldDisk::of(alloc, next.octets()).ok()?;

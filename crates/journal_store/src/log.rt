@@ -140,6 +140,15 @@ impl<D: Disk> Log<D> {
         };
     }
 
+    /// Appends nothing more, until it goes on with another journal: nobody knows whether what it lies on is what a start finds.
+    pub fn stop(&mut self)
+        ensures stopped { (head : Head) (bodies : List (List ℕ)) → Holds D.written D.synced head self.old bodies → IsStuck D.synced head self.new bodies }
+        ensures stuck { is_stuck self.new ≡ true }
+        ensures disk { disk_of self.new ≡ disk_of self.old }
+    {
+        self.stuck = true;
+    }
+
     /// What it lies on.
     pub fn disk(&self) -> &D
         ensures { result.now ≡ disk_of self.now }

@@ -1,0 +1,23 @@
+-- What a compaction makes of files (own).
+use Rattle.std.specs.Prelude.{◌≡◌, ℕ, Bool, true, false, List, Some}
+use Rattle.dns_rdata.specs.Record.{Record}
+use Rattle.journal.specs.declared.heads.Head.{Head}
+use Rattle.journal.specs.declared.heads.TextSum.{TextSum}
+use Rattle.journal_store.specs.declared.log.Log.{Log}
+use Rattle.journal_store.specs.Log.{Holds}
+use Rattle.file_disks.specs.declared.file.FileDisk.{FileDisk}
+use Rattle.file_disks.specs.File.{written, synced}
+use Rattle.stores.specs.Begun.{IsBegun}
+use Rattle.compaction.specs.declared.marked.Compaction.{Compaction}
+use Rattle.compaction.specs.declared.writer.StoreWriter.{StoreWriter}
+use Rattle.compaction.specs.Marked.{bodies_of}
+use Rattle.compaction.specs.Writer.{log_of, under_way_of}
+
+-- a head is that of a zone text with which a store of this zone begins
+abbrev pub BeginsText : List Record → ℕ → List ℕ → TextSum → Head → Type 0
+BeginsText zone number random origin head = (text : List ℕ) × IsBegun zone number random origin text head
+
+-- a writer goes on with the journal of a head, which has what its compaction kept; or has no compaction under way
+abbrev pub GoesOn : {F : Type 0} → Head → StoreWriter FileDisk F → StoreWriter FileDisk F → Bool → Type 0
+GoesOn head old new true = (compaction : Compaction) × (under_way_of old ≡ Some compaction) × Holds written synced head (log_of new) (bodies_of compaction)
+GoesOn head old new false = new ≡ old
