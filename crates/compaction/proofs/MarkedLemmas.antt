@@ -13,7 +13,7 @@ use Rattle.journal.proofs.FramesLemmas.{fit_more}
 use Rattle.recovery.proofs.CutLemmas.{updates-append}
 use Rattle.stores.specs.Behind.{AreBehind}
 use Rattle.compaction.specs.declared.marked.Compaction.{Compaction}
-use Rattle.compaction.specs.declared.marked.Body.{Body}
+use Rattle.compaction.specs.declared.body.Body.{Body}
 use Rattle.compaction.specs.declared.step.Step.{Step}
 use Rattle.compaction.specs.Trail.{updates_of}
 use Rattle.compaction.specs.Marked.{bodies_of, IsMarked}

@@ -8,11 +8,13 @@
 //! the trail has. No file is here: `store_files` writes the text and puts the journal in place.
 #![tactic(auto)]
 
+mod body;
 mod laws;
 mod marked;
 mod next;
 mod start;
 mod step;
+mod steps;
 mod together;
 mod trail;
 mod writer;
@@ -21,7 +23,8 @@ pub use laws::{compactions_keep_the_versions, trails_end_their_stores};
 pub use marked::{Compaction, next_text};
 pub use next::NextJournal;
 pub use start::updates_behind;
-pub use step::{Step, group_steps, steps_of};
+pub use step::Step;
+pub use steps::{group_steps, steps_of};
 pub use together::update_stored;
 pub use trail::Trail;
 pub use writer::StoreWriter;

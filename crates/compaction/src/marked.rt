@@ -5,18 +5,12 @@ ghost use Rattle.journal.specs.Recovered.{updates_in};
 ghost use Rattle.stores.specs.Begun.{IsBegun};
 ghost use Rattle.compaction.specs.Marked.{bodies_of, IsMarked, IsNextJournal};
 
+use crate::body::Body;
 use crate::next::NextJournal;
 use dns_engine::SharedVersion;
 use journal::{Head, write_frame, write_head};
 use std::alloc::{AllocError, Global};
 use stores::begin_store;
-
-/// The octets of a batch.
-#[derive(Drop)]
-pub(crate) struct Body {
-    octets: Vec<u8>,
-    ghost short: { length octets.items < 2 ^ 32 },
-}
 
 /// What is kept for the journal of the next zone text, while that is written: the batches behind its version, those that are appended meanwhile too.
 #[derive(Drop)]

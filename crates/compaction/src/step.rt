@@ -1,14 +1,7 @@
-//! Versions with the updates that made them (RFC 2136, 3; own).
-ghost use Rattle.std.specs.Prelude.{◌≡◌, ◌^◌, ◌<◌, ℕ, List, length, map, All, IfOk};
-ghost use Rattle.journal.specs.Batch.{IsShort};
-ghost use Rattle.update_group.specs.Group.{versions_of, IsBatch};
-ghost use Rattle.compaction.specs.Trail.{versions_in, updates_of};
+//! A version with the update that made it (RFC 2136, 3; own).
+ghost use Rattle.std.specs.Prelude.{◌≡◌, ◌^◌, ◌<◌, length};
 
 use dns_engine::SharedVersion;
-use journal::read_batch;
-use std::alloc::{AllocError, Global};
-use std::sync::Wait;
-use update_group::Group;
 
 /// A version, with the octets of the update that made it of the one before, as they were received.
 #[derive(Drop)]
@@ -31,44 +24,5 @@ impl Step {
         ensures { result.now ≡ self.now.update.items }
     {
         &self.update
-    }
-}
-
-/// Versions with their updates, one each. It takes memory.
-pub fn steps_of<R: Wait>(
-    rt: &R,
-    alloc: Global,
-    versions: &[SharedVersion],
-    updates: &[&[u8]],
-) -> Result<Vec<Step>, AllocError>
-    requires short { All IsShort (map (λ update. update.now) updates.now) }
-    requires many { length versions.now ≡ length updates.now }
-    ensures versions { IfOk result (λ steps. versions_in steps.items ≡ versions.now) }
-    ensures updates { IfOk result (λ steps. updates_of steps.items ≡ map (λ update. update.now) updates.now) }
-{
-    let mut steps = Vec::with_capacity(alloc, versions.len())?;
-    for (version, update) in versions.iter().zip(updates) {
-        steps.push(Step {
-            update: update.to_vec(alloc)?,
-            version: version.share(rt),
-        })?;
-    }
-    Ok(steps)
-}
-
-/// The steps of updates that are judged, and make versions. It takes memory: what is wanted for them is had before the updates are brought to the disk.
-pub fn group_steps<R: Wait>(
-    rt: &R,
-    alloc: Global,
-    group: &Group<SharedVersion>,
-) -> Result<Vec<Step>, AllocError>
-    ensures { IfOk result (λ steps. (updates : List (List ℕ)) → IsBatch group.now updates → All IsShort updates
-        → (versions_in steps.items ≡ versions_of group.now) × (updates_of steps.items ≡ updates)) }
-{
-    match read_batch(alloc, group.body())? {
-        Some(updates) if updates.len() == group.versions().len() => {
-            steps_of(rt, alloc, group.versions(), &updates)
-        }
-        _ => Ok(Vec::new(alloc)),
     }
 }

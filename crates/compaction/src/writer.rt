@@ -1,18 +1,9 @@
 //! A store that is written (own).
-ghost use Rattle.std.specs.Prelude.{◌≡◌, ◌≢◌, ◌↔◌, ◌⊎◌, ◌<◌, ◌≤◌, ◌^◌, ⊤, ℕ, List, [], ◌∷◌, ◌++◌, None, Some, IsTrue, length, All, IfOk, OnOk, OnErr, MatchOption, IfSome};
-ghost use Rattle.journal.specs.declared.heads.Head.{Head as HeadState};
-ghost use Rattle.journal.specs.Batch.{IsShort};
-ghost use Rattle.journal_store.specs.Log.{Holds, IsStuck};
-ghost use Rattle.update_group.specs.Group.{versions_of, IsBatch, IsGivenUp, logged};
-ghost use Rattle.compaction.specs.declared.marked.Compaction.{Compaction as Kept};
-ghost use Rattle.compaction.specs.declared.step.Step.{Step as TrailStep};
-ghost use Rattle.compaction.specs.Trail.{followed};
-ghost use Rattle.compaction.specs.Marked.{bodies_of, IsNextJournal};
-ghost use Rattle.compaction.specs.Writer.{log_of, trail_of, head_of, under_way_of, AreSteps, Adds, Begins};
+ghost use Rattle.std.specs.Prelude.{◌≤◌};
 
 use crate::marked::Compaction;
 use crate::next::NextJournal;
-use crate::step::group_steps;
+use crate::steps::group_steps;
 use crate::trail::Trail;
 use dns_engine::SharedVersion;
 use journal::Head;
@@ -33,6 +24,17 @@ pub struct StoreWriter<D: Disk> {
 }
 
 impl<D: Disk> StoreWriter<D> {
+    ghost use Rattle.std.specs.Prelude.{◌≡◌, ◌≢◌, ◌↔◌, ◌⊎◌, ◌<◌, ◌^◌, ⊤, ℕ, List, [], ◌∷◌, ◌++◌, None, Some, IsTrue, length, All, IfOk, OnOk, OnErr, MatchOption, IfSome};
+    ghost use Rattle.journal.specs.declared.heads.Head.{Head as HeadState};
+    ghost use Rattle.journal.specs.Batch.{IsShort};
+    ghost use Rattle.journal_store.specs.Log.{Holds, IsStuck};
+    ghost use Rattle.update_group.specs.Group.{versions_of, IsBatch, IsGivenUp, logged};
+    ghost use Rattle.compaction.specs.declared.marked.Compaction.{Compaction as Kept};
+    ghost use Rattle.compaction.specs.declared.step.Step.{Step as TrailStep};
+    ghost use Rattle.compaction.specs.Trail.{followed};
+    ghost use Rattle.compaction.specs.Marked.{bodies_of, IsNextJournal};
+    ghost use Rattle.compaction.specs.Writer.{log_of, trail_of, head_of, under_way_of, AreSteps, Adds, Begins};
+
     /// That of a store with this head and this log, whose versions this trail has. No compaction is under way.
     pub fn of(head: Head, log: Log<D>, trail: Trail) -> StoreWriter<D>
         ensures log { log_of result ≡ log }
