@@ -4,9 +4,11 @@ use Rattle.dns_rdata.specs.Record.{Record}
 use Rattle.journal.specs.declared.heads.Head.{Head}
 use Rattle.journal.specs.declared.heads.TextSum.{TextSum}
 use Rattle.journal_store.specs.declared.log.Log.{Log}
-use Rattle.journal_store.specs.Log.{Holds}
+use Rattle.journal_store.specs.Log.{Holds, IsStuck}
 use Rattle.file_disks.specs.declared.file.FileDisk.{FileDisk}
 use Rattle.file_disks.specs.File.{written, synced}
+use Rattle.store_files.specs.declared.pair.PairFault.{PairFault}
+use Rattle.store_files.specs.declared.pair.PairFault.TheVariants.{Before, Unknown}
 use Rattle.stores.specs.Begun.{IsBegun}
 use Rattle.compaction.specs.declared.marked.Compaction.{Compaction}
 use Rattle.compaction.specs.declared.writer.StoreWriter.{StoreWriter}
@@ -21,3 +23,8 @@ BeginsText zone number random origin head = (text : List ℕ) × IsBegun zone nu
 abbrev pub GoesOn : {F : Type 0} → Head → StoreWriter FileDisk F → StoreWriter FileDisk F → Bool → Type 0
 GoesOn head old new true = (compaction : Compaction) × (under_way_of old ≡ Some compaction) × Holds written synced head (log_of new) (bodies_of compaction)
 GoesOn head old new false = new ≡ old
+
+-- at a fault the writer is as it was; or, where nobody knows which journal a crash leaves, it appends nothing more
+abbrev pub Stops : {F : Type 0} → PairFault → StoreWriter FileDisk F → StoreWriter FileDisk F → Type 0
+Stops (Before fault) old new = new ≡ old
+Stops (Unknown fault) old new = (head : Head) (bodies : List (List ℕ)) → Holds written synced head (log_of old) bodies → IsStuck synced head (log_of new) bodies

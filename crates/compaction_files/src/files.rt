@@ -1,7 +1,7 @@
 //! The files of a compaction (own).
-ghost use Rattle.std.specs.Prelude.{◌≡◌, IfOk};
+ghost use Rattle.std.specs.Prelude.{◌≡◌, IfOk, IfErr};
 ghost use Rattle.compaction.specs.Writer.{trail_of};
-ghost use Rattle.compaction_files.specs.Files.{BeginsText, GoesOn};
+ghost use Rattle.compaction_files.specs.Files.{BeginsText, GoesOn, Stops};
 
 use compaction::{StoreWriter, next_text};
 use dns_engine::SharedVersion;
@@ -41,6 +41,7 @@ pub fn replace_with_next<R: Files<File = File>>(
     head: Head,
 ) -> Result<bool, PairFault>
     ensures goes_on { IfOk result (λ done. GoesOn head writer.old writer.new done) }
+    ensures stops { IfErr result (λ fault. Stops fault writer.old writer.new) }
     ensures trail { trail_of writer.new ≡ trail_of writer.old }
 {
     let next = match writer.next_journal(alloc, &head) {
