@@ -42,10 +42,11 @@ pub fn group_steps<R: Wait>(
     ensures { IfOk result (λ steps. (updates : List (List ℕ)) → IsBatch group.now updates → All IsShort updates
         → (versions_in steps.items ≡ versions_of group.now) × (updates_of steps.items ≡ updates)) }
 {
-    match read_batch(alloc, group.body())? {
-        Some(updates) if updates.len() == group.versions().len() => {
-            steps_of(rt, alloc, group.versions(), &updates)
-        }
-        _ => Ok(Vec::new(alloc)),
+    let Some(updates) = read_batch(alloc, group.body())? else {
+        return Ok(Vec::new(alloc));
+    };
+    if updates.len() != group.versions().len() {
+        return Ok(Vec::new(alloc));
     }
+    steps_of(rt, alloc, group.versions(), &updates)
 }
