@@ -54,6 +54,34 @@ fn each_octet_turned(rt: HostRuntime) -> Result<(), Fail> {
     Ok(())
 }
 
+// Each length of a journal: within the head it is told by name; else the updates of the batches that are whole are replayed, and what is left is no part of it.
+#[test]
+fn each_length(rt: HostRuntime) -> Result<(), Fail> {
+    let alloc: Global = rt.alloc();
+    let octets = journal_of(alloc, &BATCHES)?;
+    for len in 0..=octets.len() {
+        let whole = PLACES.iter().filter(|end| **end <= len).count();
+        match before(alloc, &octets[..len]) {
+            Ok(start) => {
+                let batches = whole.checked_sub(1).ok_or("no head")?;
+                let count = *ENDS.get(batches).ok_or("too many batches")?;
+                let end = *PLACES.get(batches).ok_or("too many batches")?;
+                let told = updates_in(alloc, &start)?;
+                assert_eq!(rt; told, Some(count as u64), "{len} octets");
+                assert!(rt;
+                    start.end == end && start.ending == Ending::Clean,
+                    "{len} octets"
+                );
+            }
+            Err(fault) => assert!(rt;
+                whole == 0 && fault == StartFault::Journal(Refused::BadHead(HeadFault::Short)),
+                "{len} octets"
+            ),
+        }
+    }
+    Ok(())
+}
+
 // Of a journal that isn't damaged it is what a start has, also where it is torn; what stands behind is no part of it.
 #[test]
 fn nothing_is_damaged(rt: HostRuntime) -> Result<(), Fail> {
