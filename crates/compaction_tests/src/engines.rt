@@ -3,7 +3,7 @@ use compaction::{StoreWriter, Trail, update_stored};
 use dns_engine::{Engine, FirstZone, KEPT, Naming, VersionCell, VersionPublisher, VersionReader};
 use dns_name::Name;
 use journal::{Head, TextSum};
-use journal_store::{Disk, Log};
+use journal_store::{Disk, Log, LogFault};
 use lasting_engine::{Asked, LastingEngine};
 use master_file::read_zone;
 use played_zones::{Play, Played, is_played};
@@ -11,7 +11,6 @@ use std::alloc::Global;
 use std::sync::Wait;
 use stores::begin_store;
 use told_disks::ToldDisk;
-use update_group::Engine as Group;
 
 /// The zone text of the tests, of serial 7.
 pub(crate) const ZONE: &str = "example. 3600 IN SOA ns.example. host.example. 7 1 1 1 1
@@ -81,49 +80,69 @@ pub(crate) fn goes<R: Wait, T: Run + Drop>(rt: &R, alloc: Global, run: T) -> Opt
     told
 }
 
-/// A store that begins with the version that was published last, on a disk whose calls do what the plan says; and its zone text.
+/// A store that begins with the version that was published last: its zone text, the head of its journal, and its log, on a disk whose calls do what the plan says.
+pub(crate) fn logged<Z: FirstZone, N: Naming>(
+    alloc: Global,
+    engine: &LastingEngine<'_, Z, N>,
+    plan: Vec<u8>,
+) -> Option<(String, Head, Log<ToldDisk>)> {
+    let version = engine.engine().last_version();
+    let origin = TextSum::of(b"as it was given");
+    let (text, head) = begin_store(alloc, version.zone(), 0, [7; 16], origin).ok()?;
+    let log = Log::begin(alloc, ToldDisk::new(alloc, plan), &head).ok()?;
+    Some((text, head, log))
+}
+
+/// The writer of such a store, whose trail keeps as many versions as one may; and its zone text.
 pub(crate) fn begin<R: Wait, Z: FirstZone, N: Naming>(
     rt: &R,
     alloc: Global,
     engine: &LastingEngine<'_, Z, N>,
     plan: Vec<u8>,
 ) -> Option<(String, StoreWriter<ToldDisk>)> {
-    let version = engine.last();
-    let origin = TextSum::of(b"as it was given");
-    let (text, head): (String, Head) = begin_store(
-        alloc,
-        version.get().zone(),
-        0,
-        [7; 16],
-        origin,
-    ).ok()?;
-    let log = Log::begin(alloc, ToldDisk::new(alloc, plan), &head).ok()?;
-    let trail = Trail::of(alloc, version.share(rt), KEPT).ok()?;
+    let (text, head, log) = logged(alloc, engine, plan)?;
+    let trail = Trail::of(alloc, engine.engine().last_shared().share(rt), KEPT).ok()?;
     Some((text, StoreWriter::of(head, log, trail)))
 }
 
-/// An update that adds the address 192.0.2.N at a.example.
-pub(crate) fn update(alloc: Global, last: u8) -> Option<Vec<u8>> {
+/// An update that adds the address of a number at a.example: 192.0, and the number's two octets.
+pub(crate) fn update(alloc: Global, number: u16) -> Option<Vec<u8>> {
     let mut octets = hex::decode(alloc, ADD.as_bytes()).ok()?;
-    let octet = octets.last_mut()?;
-    *octet = last;
+    let front = octets.len().checked_sub(2)?;
+    octets.truncate(front);
+    octets.extend_from_slice(&number.to_be_bytes()).ok()?;
     Some(octets)
 }
 
-/// Sends updates as one batch, of so many addresses from one on: whether each gets this code.
+/// The codes of updates, and why their batch isn't on the disk, if it isn't.
+pub(crate) type Told<F> = (Vec<u8>, Option<LogFault<F>>);
+
+/// Sends updates as one batch, of the addresses of the numbers from one on up to another: what is told of them; None where memory is refused.
+pub(crate) fn send<R: Wait, Z: FirstZone, N: Naming, D: Disk>(
+    rt: &R,
+    alloc: Global,
+    engine: &mut LastingEngine<'_, Z, N>,
+    writer: &mut StoreWriter<D>,
+    numbers: (u16, u16),
+) -> Option<Told<D::Fault>> {
+    let mut asked = Vec::new(alloc);
+    for number in numbers.0..numbers.1 {
+        let octets = update(alloc, number)?;
+        asked.push(Asked::read(alloc, octets, true)?).ok()?;
+    }
+    update_stored(rt, alloc, engine, writer, &asked).ok()
+}
+
+/// Sends such updates: whether each gets this code.
 pub(crate) fn are_told<R: Wait, Z: FirstZone, N: Naming, D: Disk>(
     rt: &R,
     alloc: Global,
     engine: &mut LastingEngine<'_, Z, N>,
     writer: &mut StoreWriter<D>,
-    addresses: (u8, u8),
+    numbers: (u16, u16),
     code: u8,
 ) -> Option<bool> {
-    let mut asked = Vec::new(alloc);
-    for last in addresses.0..addresses.1 {
-        let octets = update(alloc, last)?;
-        asked.push(Asked::read(alloc, octets, true)?).ok()?;
-    }
-    let (codes, _) = update_stored(rt, alloc, engine, writer, &asked).ok()?;
-    Some(codes.len() == asked.len() && codes.iter().all(|told| *told == code))
+    let (codes, _) = send(rt, alloc, engine, writer, numbers)?;
+    let count = numbers.1.saturating_sub(numbers.0);
+    Some(codes.len() == count as usize && codes.iter().all(|told| *told == code))
 }

@@ -13,7 +13,7 @@ use std::alloc::Global;
 use std::fs::{self, File, Files};
 use std::sync::Wait;
 use std::test::Fail;
-use store_files::{Opened, drop_others, open_store, write_pair};
+use store_files::{Opened, drop_others, open_store, read_store, write_pair};
 use stores::begin_store;
 use update_group::Engine as Group;
 
@@ -31,32 +31,38 @@ impl<'a, F: Files<File = File> + Alloc + Clone + Drop> Drop for InFolder<'a, F> 
     }
 }
 
-/// A store's writer in the folder, whose store begins with the version that was published last.
-fn begin_in<R: Wait, F: Files<File = File>, Z: FirstZone, N: Naming>(
+/// A store's writer in a folder, whose store begins with the version that was published last.
+pub(crate) fn begin_in<R: Wait, F: Files<File = File>, Z: FirstZone, N: Naming>(
     rt: &R,
     files: &F,
     alloc: Global,
+    dir: &str,
     engine: &LastingEngine<'_, Z, N>,
 ) -> Option<StoreWriter<FileDisk>> {
     let version = engine.last();
     let origin = TextSum::of(b"as it was given");
     let (text, head) = begin_store(alloc, version.get().zone(), 0, [7; 16], origin).ok()?;
     let (octets, salt) = write_head(alloc, &head).ok()?;
-    let disk = write_pair(files, alloc, DIR, 0, text.as_bytes(), &octets).ok()?;
+    let disk = write_pair(files, alloc, dir, 0, text.as_bytes(), &octets).ok()?;
     let log = Log::resume(disk, &salt, 0, octets.len() as u64).ok()?;
     let trail = Trail::of(alloc, version.share(rt), KEPT).ok()?;
     Some(StoreWriter::of(head, log, trail))
 }
 
-/// Whether a start of the folder has the version that was published last.
-fn is_there<F: Files<File = File>, Z: FirstZone, N: Naming>(
+/// Whether a start of a folder has the version that was published last, and who only reads it finds the same.
+pub(crate) fn is_there<F: Files<File = File>, Z: FirstZone, N: Naming>(
     files: &F,
     alloc: Global,
+    dir: &str,
     engine: &LastingEngine<'_, Z, N>,
 ) -> Option<bool> {
-    let Opened::Found(_, pair) = open_store(files, alloc, DIR).ok()? else {
+    let Opened::Found(_, pair) = open_store(files, alloc, dir).ok()? else {
         return Some(false);
     };
+    let (text, journal) = read_store(files, alloc, dir).ok()?;
+    if text.as_slice() != pair.text.as_slice() || journal.as_slice() != pair.journal.as_slice() {
+        return Some(false);
+    }
     let start = recover_zone(alloc, &pair.text, &pair.journal).ok()?;
     let found = write_zone(alloc, start.newest.last.zone()).ok()?;
     let wanted = write_zone(alloc, engine.last().get().zone()).ok()?;
@@ -70,10 +76,10 @@ impl<'a, F: Files<File = File> + Alloc + Clone + Drop> Run for InFolder<'a, F> {
         alloc: Global,
         engine: &mut LastingEngine<'_, Z, N>,
     ) -> Option<bool> {
-        let mut writer = begin_in(rt, self.files, alloc, engine)?;
+        let mut writer = begin_in(rt, self.files, alloc, DIR, engine)?;
         let mut right = true;
         for round in 0..4u8 {
-            let first = round * 10;
+            let first = u16::from(round) * 10;
             right = are_told(rt, alloc, engine, &mut writer, (first, first + 5), 0)? && right;
             let version = writer.begin_compaction(rt, alloc).ok()?;
             let number = writer.next_number()?;
@@ -82,13 +88,13 @@ impl<'a, F: Files<File = File> + Alloc + Clone + Drop> Run for InFolder<'a, F> {
             let head = write_next_text(
                 self.files, alloc, DIR, &version, &before, number, random,
             ).ok()?;
-            right = is_there(self.files, alloc, engine)? && right;
+            right = is_there(self.files, alloc, DIR, engine)? && right;
             right = are_told(rt, alloc, engine, &mut writer, (first + 5, first + 9), 0)? && right;
             right = replace_with_next(self.files, alloc, DIR, &mut writer, head).ok()? && right;
-            right = is_there(self.files, alloc, engine)? && right;
+            right = is_there(self.files, alloc, DIR, engine)? && right;
             right = are_told(rt, alloc, engine, &mut writer, (first + 9, first + 10), 0)? && right;
             drop_others(self.files, DIR, head.number).ok()?;
-            right = is_there(self.files, alloc, engine)? && right;
+            right = is_there(self.files, alloc, DIR, engine)? && right;
         }
         Some(right)
     }

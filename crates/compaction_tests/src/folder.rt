@@ -1,12 +1,12 @@
 //! A store's folder in memory.
 use compaction::{StoreWriter, Trail};
-use dns_engine::SharedVersion;
-use journal::read_head;
-use master_file::write_zone;
-use recovery::{Newest, Start, recover_zone};
-use std::alloc::Global;
+use dns_engine::{KEPT, SharedVersion};
+use journal::{Refused, read_head};
+use master_file::{write_set, write_zone};
+use recovery::{Newest, Start, StartFault, recover_zone};
+use std::alloc::{AllocError, Global};
 use told_disks::ToldDisk;
-use zone_tree::Version;
+use zone_tree::{Delta, Version};
 
 /// A folder's zone texts, by their numbers.
 #[derive(Drop)]
@@ -26,49 +26,83 @@ impl Folder {
 
     /// Writes a zone text.
     pub(crate) fn put(&mut self, alloc: Global, number: u64, text: &[u8]) -> Option<()> {
+        let octets = text.to_vec(alloc).ok()?;
         self.remove(number);
-        self.texts.push((number, text.to_vec(alloc).ok()?)).ok()
+        self.texts.push((number, octets)).ok()
     }
 
-    /// Removes a zone text.
+    /// Removes the zone text of a number.
     pub(crate) fn remove(&mut self, number: u64) {
         self.texts.retain(|text| text.0 != number);
     }
 
-    /// What a start has of the folder with a journal; None where it has none, or memory is refused.
-    pub(crate) fn start(&self, alloc: Global, journal: &[u8]) -> Option<Start> {
-        let (head, _, _) = read_head(journal).ok()?;
-        let (_, text) = self.texts.iter().find(|text| text.0 == head.number)?;
-        recover_zone(alloc, text, journal).ok()
+    /// Removes the zone texts of other numbers than this one and the one before it.
+    pub(crate) fn drop_others(&mut self, number: u64) {
+        self.texts.retain(|text| text.0 == number || text.0 == number.wrapping_sub(1));
     }
 
-    /// Whether a start of a journal has each version of a trail; None where it has none, or memory is refused.
-    pub(crate) fn has(&self, alloc: Global, journal: &[u8], trail: &Trail) -> Option<bool> {
-        let start = self.start(alloc, journal)?;
-        let steps = trail.steps();
-        for back in 0..=steps.len() {
-            let version = match back_in(trail, back) {
-                Some(shared) => shared.get(),
-                None => return Some(false),
-            };
-            let Some(found) = back_of(&start.newest, back) else {
-                return Some(false);
-            };
-            if !is_same(alloc, version, found)? {
-                return Some(false);
-            }
+    /// The zone text of a number; no octets where there is none.
+    fn text(&self, number: u64) -> &[u8] {
+        match self.texts.iter().find(|text| text.0 == number) {
+            Some((_, text)) => text.as_slice(),
+            None => b"".as_slice(),
         }
-        Some(true)
     }
 
-    /// Whether what a crash leaves of the journal that is written has each version of its trail.
+    /// What a start has of the folder with a journal, or why there is none; None where memory is refused.
+    pub(crate) fn start(&self, alloc: Global, journal: &[u8]) -> Option<Result<Start, StartFault>> {
+        let number = match read_head(journal) {
+            Ok((head, _, _)) => head.number,
+            Err(fault) => return Some(Err(StartFault::Journal(Refused::BadHead(fault)))),
+        };
+        match recover_zone(alloc, self.text(number), journal) {
+            Err(StartFault::NoMemory) => None,
+            found => Some(found),
+        }
+    }
+
+    /// Whether a start of a journal has the versions of a trail, and so many behind them that the trail hasn't; None where memory is refused.
+    pub(crate) fn has(
+        &self,
+        alloc: Global,
+        journal: &[u8],
+        trail: &Trail,
+        more: usize,
+    ) -> Option<bool> {
+        let Ok(start) = self.start(alloc, journal)? else {
+            return Some(false);
+        };
+        let mut right = true;
+        for back in 0..=trail.steps().len() {
+            right = is_at(alloc, trail, back, &start.newest, more)? && right;
+        }
+        Some(right)
+    }
+
+    /// Whether what a crash leaves of the journal that is written, which loses all that wasn't synced, has the versions of its trail.
     pub(crate) fn has_written(
         &self,
         alloc: Global,
         writer: &StoreWriter<ToldDisk>,
     ) -> Option<bool> {
         let journal = writer.log().disk().crashed(alloc, b"").ok()?;
-        self.has(alloc, &journal, writer.trail())
+        self.has(alloc, &journal, writer.trail(), 0)
+    }
+}
+
+/// Whether a trail's version so many back is that of a start which has so many more behind it. A start keeps as many older versions as one may, so the oldest of a
+/// trail's may be older than those.
+fn is_at(alloc: Global, trail: &Trail, back: usize, newest: &Newest, more: usize) -> Option<bool> {
+    let Some(place) = back.checked_add(more) else {
+        return Some(false);
+    };
+    match (back_in(trail, back), back_of(newest, place)) {
+        (Some(shared), Some(found)) => {
+            let told = found.delta().is_some() || back == trail.steps().len();
+            Some(is_same(alloc, shared.get(), found)? && told)
+        }
+        (_, None) => Some(place > KEPT),
+        (None, Some(_)) => Some(false),
     }
 }
 
@@ -90,9 +124,30 @@ fn back_of(newest: &Newest, back: usize) -> Option<&Version> {
     newest.older.get(newest.older.len().checked_sub(back)?)
 }
 
-/// Whether two versions have the same zone; None where memory is refused.
+/// Whether two versions have the same zone, and changed the same of the one before, where both tell it; None where memory is refused.
 fn is_same(alloc: Global, one: &Version, other: &Version) -> Option<bool> {
     let first = write_zone(alloc, one.zone()).ok()?;
     let second = write_zone(alloc, other.zone()).ok()?;
-    Some(first == second)
+    let changed = match (one.delta(), other.delta()) {
+        (Some(delta), Some(found)) => {
+            let text = changes_in(alloc, delta).ok()?;
+            text == changes_in(alloc, found).ok()?
+        }
+        _ => true,
+    };
+    Some(changed && first == second)
+}
+
+/// What a version changed, as text: the SOA before, the records that it took out, and those that it put in.
+fn changes_in(alloc: Global, delta: &Delta) -> Result<String, AllocError> {
+    let mut text = String::new(alloc);
+    write_set(&mut text, delta.old_soa())?;
+    for set in delta.deletions() {
+        write_set(&mut text, set)?;
+    }
+    text.push('\n')?;
+    for set in delta.additions() {
+        write_set(&mut text, set)?;
+    }
+    Ok(text)
 }

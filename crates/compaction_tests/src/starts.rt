@@ -52,16 +52,16 @@ impl Run for Restart {
         let folder = Folder::of(alloc, 0, text.as_bytes())?;
         let mut right = true;
         for batch in 0..self.batches {
-            let first = batch.wrapping_mul(3);
+            let first = u16::from(batch).wrapping_mul(3);
             let addresses = (first, first.checked_add(3)?);
             right = are_told(rt, alloc, engine, &mut writer, addresses, 0)? && right;
         }
         let journal = writer.log().disk().octets();
-        let start = folder.start(alloc, journal)?;
+        let start = folder.start(alloc, journal)?.ok()?;
         let count = start.newest.older.len();
         let updates = updates_behind(alloc, text.as_bytes(), journal, count).ok()?;
         let trail = trail_of(rt, alloc, start.newest, &updates)?;
-        Some(right && are_same(&trail, writer.trail()) && folder.has(alloc, journal, &trail)?)
+        Some(right && are_same(&trail, writer.trail()) && folder.has(alloc, journal, &trail, 0)?)
     }
 }
 
