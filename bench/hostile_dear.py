@@ -9,7 +9,7 @@ import time
 
 sys.path.insert(0, os.path.dirname(os.path.abspath(__file__)))
 import worst
-from worst import A, ALL, ANY, CNAME, IN, NONE, SOA, TXT, Message, address, cleared, comb_owner, fitted, name, numbered, owner_of, pointer, types, update_of
+from worst import A, ALL, ANY, CNAME, IN, NONE, SOA, TXT, Message, address, cleared, comb_owner, fitted, name, next_message, numbered, owner_of, pointer, types, update_of
 
 worst.APEX = APEX = b"\7example\4test\0"
 # how many sets `many` owns, and how many texts of 4,096 octets each of two owners
@@ -104,19 +104,6 @@ class Client:
     def __init__(self, port):
         self.port, self.stream = port, None
 
-    def frame(self):
-        size = struct.unpack(">H", self.taken(2))[0]
-        return self.taken(size)
-
-    def taken(self, count):
-        octets = bytearray()
-        while len(octets) < count:
-            more = self.stream.recv(count - len(octets))
-            if not more:
-                raise ConnectionError("the server has closed the connection")
-            octets += more
-        return bytes(octets)
-
     def send(self, message):
         if self.stream is None:
             self.stream = socket.create_connection(("127.0.0.1", self.port), timeout=30)
@@ -126,7 +113,7 @@ class Client:
         """The reply, and how long it took."""
         began = time.perf_counter()
         self.send(message)
-        return self.frame(), time.perf_counter() - began
+        return next_message(self.stream), time.perf_counter() - began
 
     def close(self):
         if self.stream is not None:
@@ -228,7 +215,7 @@ def transferred(client, request, is_whole):
     client.send(request)
     serials, count = [], 0
     while True:
-        message = client.frame()
+        message = next_message(client.stream)
         if message[3] & 15:
             raise ValueError(f"a transfer got {message[3] & 15}")
         last = None

@@ -52,6 +52,21 @@ def soa(serial):
     return b"\0\0" + struct.pack(">5I", serial, 0, 0, 0, 0)
 
 
+def next_message(stream):
+    """The message that comes next on a connection, behind the two octets of its length (RFC 1035, 4.2.2)."""
+
+    def taken(count):
+        octets = bytearray()
+        while len(octets) < count:
+            more = stream.recv(count - len(octets))
+            if not more:
+                raise ConnectionError("the server has closed the connection")
+            octets += more
+        return bytes(octets)
+
+    return taken(int.from_bytes(taken(2), "big"))
+
+
 class Message:
     """A message that is put together: records by section, and where what is put next will stand (RFC 1035, 4.1)."""
 
@@ -128,20 +143,11 @@ class Server:
             last = now
             time.sleep(0.001)
 
-    def taken(self, count):
-        octets = bytearray()
-        while len(octets) < count:
-            more = self.stream.recv(count - len(octets))
-            if not more:
-                raise ConnectionError("the server has closed the connection")
-            octets += more
-        return bytes(octets)
-
     def ask(self, message, replies=1):
         """The replies to a message over TCP; of a transfer all until its second SOA is the last record, by the octets that it is to have."""
         stream = self.connected()
         stream.sendall(struct.pack(">H", len(message)) + message)
-        return [self.taken(struct.unpack(">H", self.taken(2))[0]) for _ in range(replies)]
+        return [next_message(stream) for _ in range(replies)]
 
     def cost(self, message, replies=1):
         """What a message costs, in microseconds, and the last of its replies."""
@@ -508,7 +514,7 @@ class Transfer:
         octets = messages = records = 0
         first = None
         while True:
-            message = self.server.taken(struct.unpack(">H", self.server.taken(2))[0])
+            message = next_message(self.server.stream)
             octets += len(message)
             messages += 1
             records += struct.unpack(">H", message[6:8])[0]
@@ -554,7 +560,7 @@ def receipt(server, message):
     server.connected()
     before = server.spent()
     server.stream.sendall(struct.pack(">H", len(message)) + message + struct.pack(">H", len(small)) + small)
-    server.taken(struct.unpack(">H", server.taken(2))[0])
+    next_message(server.stream)
     return max(0.0, (server.spent() - before) / 1000 - alone)
 
 
@@ -600,7 +606,7 @@ def measure_aliases(program, rounds):
                 before = server.spent()
                 server.stream.sendall(framed)
                 for _ in range(100):
-                    server.taken(struct.unpack(">H", server.taken(2))[0])
+                    next_message(server.stream)
                 own.append((server.spent() - before) / 1e5)
             many.append(min(own))
         server.end()

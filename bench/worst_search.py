@@ -17,7 +17,7 @@ import time
 
 from worst import (
     ALL, APEX, CNAME, IN, LIMIT, MX, NONE, NS, NULL, QUERY, SOA, SRV, TXT, UPDATE, A, ANY, Message, Server, Transfer,
-    axfr_request, comb_owner, ixfr_request, label, name, numbered, pointer, small_zone,
+    axfr_request, comb_owner, ixfr_request, label, name, next_message, numbered, pointer, small_zone,
 )
 
 # how many times as dear as a plain one anything may be
@@ -345,7 +345,7 @@ def fifty(server, message):
     before = server.spent()
     server.stream.sendall((struct.pack(">H", len(message)) + message) * 50)
     for _ in range(50):
-        reply = server.taken(struct.unpack(">H", server.taken(2))[0])
+        reply = next_message(server.stream)
     return (server.spent() - before) / 50_000, reply
 
 
