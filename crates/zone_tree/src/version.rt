@@ -60,6 +60,21 @@ impl Version {
         }
     }
 
+    /// Gives it another number: its zone, and what it changed, stay.
+    pub fn renumber(&mut self, number: u64)
+        ensures { self.new ≡ record { number = number; zone = self.old.zone; changes = self.old.changes } }
+    {
+        self.number = number;
+    }
+
+    /// Its zone alone.
+    pub fn into_zone(self) -> Zone
+        ensures { result ≡ self.zone }
+    {
+        let Version { zone, .. } = self;
+        zone
+    }
+
     /// Its number among the zone's versions, counted from 0.
     pub fn number(&self) -> u64
         ensures { result ≡ self.now.number }
