@@ -5,3 +5,4 @@ pub mod SendLemmas
 pub mod ChainLemmas
 pub mod EntryLemmas
 pub mod FreeLemmas
+pub mod ThroughLemmas

@@ -48,6 +48,19 @@ abbrev pub held_with : Held → Version → Held
 held_with held version =
     record held { published = held.published ++ version ∷ []; last = version; older = newest held.keep (held.older ++ held.last ∷ []) }
 
+-- the versions that are held, the oldest first
+abbrev pub all_held : Held → List Version
+all_held held = held.older ++ held.last ∷ []
+
+-- what is held where none older than the last of those published is kept, of so many that may be
+abbrev pub held_alone : List Version → Version → ℕ → Held
+held_alone published last keep = record { published = published; last = last; keep = keep; older = [] }
+
+-- what is held once versions are published one after another behind the last one
+abbrev pub held_through : Held → List Version → Held
+held_through held [] = held
+held_through held (version ∷ later) = held_through (held_with held version) later
+
 -- an engine once it has published a version, for which its reader has loaded it
 abbrev pub state_with : EngineState → Version → EngineState
 state_with state version = record { held = held_with state.held version; left = state.left - 1; free = state.free - 1 }

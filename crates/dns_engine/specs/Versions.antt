@@ -1,5 +1,5 @@
 -- Which versions of a zone may be published (RFC 2136, 3).
-use Rattle.std.specs.Prelude.{◌≡◌, ◌≢◌, ◌+◌, true, List, None, Some}
+use Rattle.std.specs.Prelude.{◌≡◌, ◌≢◌, ◌+◌, true, List, [], ◌∷◌, None, Some}
 use Rattle.dns_rdata.specs.Record.{Record}
 use Rattle.dns_message.specs.declared.update.Update.{Update}
 use Rattle.zone_tree.specs.Version.{Version, KnowsChanges}
@@ -25,3 +25,8 @@ pub record Makes (update : Update) (version next : Version) : Type 0 where
 pub record IsNext (version next : Version) : Type 0 where
   pub update : Update
   pub makes : Makes update version next
+
+-- versions may be published one after another behind a version
+abbrev pub AreNext : Version → List Version → Type 0
+AreNext version [] = Unit {0}
+AreNext version (next ∷ later) = IsNext version next × AreNext next later

@@ -9,7 +9,7 @@ pub enum EngineFault {
     /// More versions are to be kept than an engine keeps.
     #[error("E1 TooGreat")]
     TooGreat,
-    /// The reader has no grant left.
+    /// The reader has no grant left, the publisher can give no weak owner, or versions that an engine begins with aren't sure to be published.
     #[error("E2 Spent")]
     Spent,
 }

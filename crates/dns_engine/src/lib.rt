@@ -2,8 +2,9 @@
 //!
 //! The values of its cell are versions of a zone. Contracts say which may be published after which (`IsNext`): some update makes
 //! the one of the other. So each published version is the first zone with updates replayed (`IsReplay`), as many as its number.
-//! An [`Engine`] is seen as the versions published and the newest of them (`Held`), and what it tells of an update is `IsTold`. It has the
-//! history of what was published, and a [`VersionChain`] is what that tells of what changed (`TellsSince`). No call of it waits. Answering queries, transfers and the lock round the engine aren't here.
+//! An [`Engine`] is seen as the versions published and the newest of them (`Held`), and what it tells of an update is `IsTold`. It may begin with
+//! versions that were made before it ([`Engine::resume`]). It has the history of what was published, and a [`VersionChain`] is what that tells of
+//! what changed (`TellsSince`). No call of it waits. Answering queries, transfers and the lock round the engine aren't here.
 #![tactic(auto)]
 
 mod chain;
@@ -14,6 +15,7 @@ mod judged;
 mod laws;
 mod learn;
 mod owners;
+mod resume;
 mod shared;
 mod versions;
 

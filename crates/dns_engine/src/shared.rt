@@ -1,7 +1,7 @@
 //! Versions that several own.
-ghost use Rattle.std.specs.Prelude.{◌≡◌, IfSome};
+ghost use Rattle.std.specs.Prelude.{◌≡◌, IfSome, IfOk};
 
-use std::alloc::Global;
+use std::alloc::{AllocError, Global};
 use std::marker::Model;
 use std::sync::{Arc, Wait};
 use zone_tree::Version;
@@ -27,6 +27,20 @@ impl SharedVersion {
     {
         let version = Arc::new(alloc, version).ok()?;
         Some(SharedVersion { version })
+    }
+
+    /// The first owners of versions, in their order. Where there is no memory for them the versions are dropped.
+    pub fn all(alloc: Global, versions: Vec<Version>) -> Result<Vec<SharedVersion>, AllocError>
+        ensures { IfOk result (λ shared. shared.items ≡ versions.items) }
+    {
+        let mut shared = Vec::with_capacity(alloc, versions.len())?;
+        for version in versions {
+            let Some(owner) = SharedVersion::new(alloc, version) else {
+                return Err(AllocError);
+            };
+            shared.push_reserved(owner);
+        }
+        Ok(shared)
     }
 
     /// The version.
