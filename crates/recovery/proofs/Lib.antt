@@ -4,3 +4,4 @@ pub mod ReplayLemmas
 pub mod StartLemmas
 pub mod CutLemmas
 pub mod StoreLemmas
+pub mod RebasedLemmas

@@ -1,4 +1,5 @@
 pub mod Replay
+pub mod Rebased
 pub mod Start
 pub mod Store
 pub mod Private

@@ -1,17 +1,21 @@
 //! Laws of starts: each is the contract of a function that does nothing.
-ghost use Rattle.std.specs.Prelude.{◌≡◌, ◌⊎◌, ◌+◌, ◌≤◌, ◌++◌, ℕ, List, length, take};
+ghost use Rattle.std.specs.Prelude.{◌≡◌, ◌⊎◌, ◌+◌, ◌≤◌, [], ◌∷◌, ◌++◌, ℕ, List, length, take, drop};
 ghost use Rattle.dns_rdata.specs.Record.{Record};
 ghost use Rattle.dns_message.specs.declared.update.Update.{Update};
 ghost use Rattle.journal.specs.declared.heads.Head.{Head};
 ghost use Rattle.journal.specs.declared.start.Refused.TheVariants.{Damaged};
 ghost use Rattle.journal.specs.Recovered.{journal_of, updates_in};
 ghost use Rattle.update_core.specs.Act.{replay};
-ghost use Rattle.dns_engine.specs.Held.{IsNewest};
+ghost use Rattle.transfer_core.specs.Chain.{zones_of};
+ghost use Rattle.zone_tree.specs.Version.{Version};
+ghost use Rattle.dns_engine.specs.Held.{IsNewest, KEPT, newest, all_held, held_alone, held_through};
 ghost use Rattle.dns_engine.specs.Replayed.{EachChanges};
 ghost use Rattle.recovery.specs.declared.fault.StartFault.{StartFault};
 ghost use Rattle.recovery.specs.declared.fault.StartFault.TheVariants.{Journal, NoMemory};
 ghost use Rattle.recovery.specs.declared.start.Start.{Start};
-ghost use Rattle.recovery.specs.Replay.{begun, held_from};
+ghost use Rattle.recovery.specs.declared.newest.Newest.{Newest};
+ghost use Rattle.recovery.specs.Replay.{IsReplayed, begun, held_from};
+ghost use Rattle.recovery.specs.Rebased.{versions_in, rebased, changes_of};
 ghost use Rattle.recovery.specs.Start.{IsStarted, IsStartFault};
 ghost use Rattle.recovery.specs.Store.{IsStore};
 
@@ -21,6 +25,17 @@ pub fn what_is_replayed_is_held()
     ensures newest { (zone : List Record) (updates : List Update) → EachChanges zone updates → IsNewest zone (held_from (begun zone) updates) }
     ensures zone { (zone : List Record) (updates : List Update) → (held_from (begun zone) updates).last.zone ≡ replay zone updates }
     ensures number { (zone : List Record) (updates : List Update) → (held_from (begun zone) updates).last.number ≡ length updates }
+{}
+
+/// What an engine holds that begins with a start's newest versions is the newest of all versions that an engine has published which took the
+/// updates: their zones are the same, and behind the oldest of them what they changed (RFC 1995, 4).
+pub fn what_is_resumed_is_held()
+    ensures zones { (zone : List Record) (messages : List (List ℕ)) (kept : Newest) (first : Version) (later : List Version) (keep : ℕ) (is : IsReplayed zone messages kept)
+        → keep ≤ KEPT → first ∷ later ≡ rebased (versions_in kept)
+        → zones_of (all_held (held_through (held_alone (first ∷ []) first keep) later)) ≡ newest (keep + 1) (zones_of (held_from (begun zone) is.updates).published) }
+    ensures changes { (zone : List Record) (messages : List (List ℕ)) (kept : Newest) (first : Version) (later : List Version) (keep : ℕ) (is : IsReplayed zone messages kept)
+        → keep ≤ KEPT → first ∷ later ≡ rebased (versions_in kept)
+        → drop 1 (changes_of (all_held (held_through (held_alone (first ∷ []) first keep) later))) ≡ drop 1 (newest (keep + 1) (changes_of (held_from (begun zone) is.updates).published)) }
 {}
 
 /// A store gives a start, with all of its updates, and is refused for want of memory alone.

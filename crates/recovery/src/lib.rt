@@ -9,13 +9,14 @@
 mod fault;
 mod laws;
 mod newest;
+mod rebased;
 mod replayed;
 mod start;
 
 pub use fault::{StartFault, UpdateFault};
 pub use laws::{
     each_cut_is_a_replay, what_is_accepted_is_recovered, what_is_replayed_is_held,
-    what_was_synced_is_replayed_first,
+    what_is_resumed_is_held, what_was_synced_is_replayed_first,
 };
 pub use newest::Newest;
 pub use start::{Ending, Start, recover_zone};
