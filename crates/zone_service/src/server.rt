@@ -1,17 +1,19 @@
 //! The server: a cell of versions, and its engine behind a lock.
-ghost use Rattle.std.specs.Prelude.{◌≡◌, ◌⊎◌, ◌↔◌, ◌<◌, ◌≤◌, IfOk, IfErr};
+ghost use Rattle.std.specs.Prelude.{◌≡◌, ◌⊎◌, ◌↔◌, ◌<◌, ◌≤◌, IfOk, IfErr, length};
 ghost use Rattle.cell_core.specs.Words.{notes};
 ghost use Rattle.zone_tree.specs.Version.{zone_serial};
 ghost use Rattle.dns_engine.specs.Replayed.{IsReplay};
 ghost use Rattle.zone_service.specs.Known.{HasMet, MeetsAndAsks};
 ghost use Rattle.zone_service.specs.Updated.{IsUpdated};
+ghost use Rattle.dns_engine.specs.Versions.{AreNext};
 ghost use Rattle.dns_engine.specs.Held.{IsLatest};
 ghost use Rattle.dns_engine.specs.declared.fault.EngineFault.{EngineFault as Fault};
 ghost use Rattle.transfer_core.specs.declared.kept.TheConstants.{KEPT};
 
 use crate::service_log::Serials;
 use dns_engine::{
-    Engine, FirstZone, NoEngine, ToldChain, VersionCell, VersionPublisher, VersionReader,
+    Engine, FirstZone, NoEngine, SharedVersion, ToldChain, VersionCell, VersionPublisher,
+    VersionReader,
 };
 use dns_message::Update;
 use dns_rdata::{Rcode, Serial};
@@ -66,6 +68,29 @@ impl<'a, Z: FirstZone, N: Naming> Server<'a, Z, N> {
         ensures given_back { IfErr result (λ refused. (refused.publisher ≡ publisher) × (refused.reader ≡ reader)) }
     {
         let engine = Engine::new(cell, publisher, reader, keep)?;
+        Ok(Server {
+            cell,
+            engine: Mutex::new(engine),
+        })
+    }
+
+    /// The server of a cell in which the first version alone is published, once its engine has published these behind it. It is refused as the
+    /// engine is, which has then published none, and both tokens come back.
+    pub fn resume(
+        cell: &'a VersionCell<Z, N>,
+        publisher: VersionPublisher<Z, N>,
+        reader: VersionReader<N>,
+        keep: usize,
+        later: Vec<SharedVersion>,
+    ) -> Result<Server<'a, Z, N>, NoEngine<Z, N>>
+        requires first { publisher.number ≡ 0 }
+        requires follow { AreNext publisher.value later.items }
+        ensures kept { IfOk result (λ _. keep ≤ KEPT) }
+        ensures refused { IfErr result (λ refused. (refused.fault ≡ Fault.TooGreat) ↔ (KEPT < keep)) }
+        ensures spent { IfErr result (λ refused. refused.fault ≡ Fault.Spent → (reader.left ≡ 0) ⊎ (publisher.noted ≡ notes) ⊎ (0 < length later.items)) }
+        ensures given_back { IfErr result (λ refused. refused.publisher.published ≡ publisher.published) }
+    {
+        let engine = Engine::resume(cell, publisher, reader, keep, later)?;
         Ok(Server {
             cell,
             engine: Mutex::new(engine),
