@@ -270,5 +270,5 @@ fn is_answered<R: Net<Listener = StdListener, Stream = TcpStream> + Clock + Wait
 fn sockets_are_served_where_memory_is_refused(rt: HostRuntime) {
     let first = is_answered(&rt, rt.alloc()).ok();
     let second = is_answered(&rt, rt.alloc()).ok();
-    assert!(rt; first.or(second) == Some(true));
+    assert!(rt; first == Some(true) || second == Some(true));
 }
