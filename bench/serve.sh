@@ -1,11 +1,12 @@
 #!/usr/bin/env bash
 # Measures `dnsd serve` by dnsperf, beside knotd and nsd where these are installed, each with as many workers, in the same run: queries
-# a second over UDP, and over TCP on 20 and on 50 connections, and processor time a query (of the server alone, from /proc), in whole and the
-# part that isn't the kernel's; of another program of dnsd too, where --beside names one; then of dnsd the same
+# a second over UDP, by a client for each worker and by 20, and over TCP on 20 and on 50 connections, and processor time a query (of the server alone,
+# from /proc), in whole and the part that isn't the kernel's; of another program of dnsd too, where --beside names one; with more rounds than one
+# the servers take turns, and the middle of each figure is told at the end; then of dnsd the same
 # with 3,000 places a worker, without and beside idle connections that are opened anew as they end, updates a second, and the 99th percentile of queries' times without updates, while updates go to another dnsd on the same machine, and while as
 # many go to the one that is asked.
-# Usage: [DNSD=PROGRAM] bench/serve.sh [--seconds N] [--workers "N .."] [--port N] [--updates N] [--idle N] [--beside PROGRAM] [--queries-only] [RECORDS ..]
-#   by default 5 seconds a figure, 1, 2 and 4 workers, ports 15453 and 15454, at most 10000 updates a second beside queries, 2000 idle
+# Usage: [DNSD=PROGRAM] bench/serve.sh [--seconds N] [--workers "N .."] [--port N] [--updates N] [--idle N] [--beside PROGRAM] [--queries-only] [--rounds N] [RECORDS ..]
+#   by default 5 seconds a figure, one round, 1, 2 and 4 workers, ports 15453 and 15454, at most 10000 updates a second beside queries, 2000 idle
 #   connections, and zones of 1000 and 1000000 records; --queries-only leaves out idle connections and updates
 # It needs Debian's dnsperf, and knot and nsd for the figures beside. `make dnsd` builds the program.
 set -euo pipefail
@@ -19,6 +20,7 @@ most=10000
 idle=2000
 other_program=
 whole=yes
+rounds=1
 sizes=()
 while [ $# -gt 0 ]; do
     case $1 in
@@ -29,6 +31,7 @@ while [ $# -gt 0 ]; do
         --idle) idle=$2; shift 2 ;;
         --beside) other_program=$2; shift 2 ;;
         --queries-only) whole=; shift ;;
+        --rounds) rounds=$2; shift 2 ;;
         *) sizes+=("$1"); shift ;;
     esac
 done
@@ -76,7 +79,28 @@ measure_over() {
         each = 1000000 / hz / (done ? done : 1)
         printf "%s, %d workers, %d records, %s, %d clients: %d queries a second, %.2f microseconds of processor time a query, %.2f of them the user'"'"'s, %s lost\n",
             name, w, n, toupper(over), c, rate, t * each, u * each, lost
-    }'
+    }' | tee -a "$work/figures"
+}
+
+# The middle of the figures of all rounds, a line for each server and way of asking.
+middles() {
+    awk -F ': ' '{ if (!($1 in count)) order[++kinds] = $1
+            split($2, word, / /); at = ++count[$1]
+            time[$1, at] = word[5]; user[$1, at] = word[12] }
+        function middle(figure, kind, n,    i, j, own, list) {
+            for (i = 1; i <= n; i++) {
+                own = figure[kind, i] + 0
+                for (j = i - 1; j > 0 && list[j] > own; j--) list[j + 1] = list[j]
+                list[j + 1] = own
+            }
+            return (list[int((n + 1) / 2)] + list[int(n / 2) + 1]) / 2
+        }
+        END {
+            for (k = 1; k <= kinds; k++) {
+                kind = order[k]; n = count[kind]
+                printf "middle of %d: %s: %.2f microseconds of processor time a query, %.2f of them the user'"'"'s\n", n, kind, middle(time, kind, n), middle(user, kind, n)
+            }
+        }' "$work/figures"
 }
 
 # One server over UDP and then over TCP: NAME WORKERS RECORDS
@@ -84,7 +108,7 @@ measure() {
     local clients
     "start_$1" "$2"
     wait_for
-    measure_over "$1" "$2" "$3" udp "$2"
+    for clients in "$2" 20; do measure_over "$1" "$2" "$3" udp "$clients"; done
     for clients in 20 50; do measure_over "$1" "$2" "$3" tcp "$clients"; done
     stop
 }
@@ -142,12 +166,15 @@ for records in "${sizes[@]}"; do
     zone "$records" >"$work/zone"
     questions "$records" >"$work/questions"
     for w in $workers; do
-        measure dnsd "$w" "$records"
-        [ -z "$other_program" ] || measure before "$w" "$records"
-        for other in knotd nsd; do
-            if command -v $other >/dev/null; then measure $other "$w" "$records"; fi
+        for _ in $(seq "$rounds"); do
+            measure dnsd "$w" "$records"
+            [ -z "$other_program" ] || measure before "$w" "$records"
+            for other in knotd nsd; do
+                if command -v $other >/dev/null; then measure $other "$w" "$records"; fi
+            done
         done
     done
+    if [ "$rounds" -gt 1 ]; then middles && : >"$work/figures"; fi
     [ -n "$whole" ] || continue
     for w in $workers; do measure_idle "$w" "$records"; done
     # a zone of a million records is full (a limit of its own): the records that updates add need room
