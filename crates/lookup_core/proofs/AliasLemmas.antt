@@ -1,17 +1,25 @@
 -- Steps along a chain of aliases.
-use Rattle.std.proofs.Common.{◌≡◌, ℕ, suc, Bool, true, false, ◌||◌, not, ◌==◌, List, [], ◌∷◌, ◌++◌, length, map, reverse, refl, sym, ap, subst, ◌∙◌, arith, append_assoc, append-nil}
+use Rattle.std.proofs.Common.{Bor, ◌≡◌, ℕ, suc, Bool, true, false, ◌||◌, not, ◌==◌, List, [], ◌∷◌, ◌++◌, length, map, reverse, bytes_eq, eqb, refl, sym, ap, subst, ◌∙◌, arith, append_assoc, append-nil}
 use Rattle.std.specs.List.{list_any, flat_map}
 use Rattle.std.proofs.lemmas.List.{reverse-append, map-append}
+use Rattle.std.proofs.lemmas.Bool.Decides.{Decides-eqb, same_from_decides}
 use Rattle.std.proofs.lemmas.Grind.{flat_map-append}
-use Rattle.dns_name.specs.Name.{is_same}
+use Rattle.std.proofs.lemmas.Slice.Eq.{bytes_eq-Decides, slice_eq-Decides}
+use Rattle.std.specs.Cmp.Lexicographic.{pointwise, pointwise_decides}
+use Rattle.dns_name.specs.Name.{IsName, wire_of, fold_name, is_same}
+use Rattle.dns_name.proofs.SameLemmas.{wire_of_injective}
+use Rattle.dns_rdata.specs.declared.rrset.RRset.{RRset}
 use Rattle.dns_rdata.specs.declared.shown.Shown.{Shown}
 use Rattle.dns_rdata.specs.Record.{Record}
 use Rattle.dns_rdata.specs.Shown.{records_shown}
 use Rattle.lookup_core.specs.declared.aliases.TheConstants.{MOST_ALIASES}
+use Rattle.lookup_core.specs.declared.look.Look as code
+use Rattle.lookup_core.specs.declared.look.Look.TheVariants as seen
 use Rattle.lookup_core.specs.Place.{is_none_of}
 use Rattle.lookup_core.specs.Look.{Look, Cut, Alias, Data, NoData, NoName, look, owned_by}
-use Rattle.lookup_core.specs.Chain.{Chain, End, Found, Stop, onto, target, is_final, chain_from, chain}
-use Rattle.lookup_core.specs.Shown.{section_shown, searched_before}
+use Rattle.lookup_core.specs.Chain.{Chain, End, Found, Stop, onto, target, is_final, chain_from, chain, end_at}
+pub use Rattle.lookup_core.specs.Shown.{IsOnTheWay}
+use Rattle.lookup_core.specs.Shown.{section_shown, searched_before, look_shown}
 use Rattle.lookup_core.proofs.WalkLemmas.{list_any-reverse}
 
 -- whether a name is among those searched doesn't depend on their order
@@ -30,12 +38,6 @@ searched_before-append aliases alias = ap reverse (map-append (λ a. a.owner) al
 pub target-owned_by : (name : List (List ℕ)) (rs : List Record) → target (owned_by name rs) ≡ target rs
 target-owned_by name [] = refl
 target-owned_by name (r ∷ rs) = refl
-
--- what remains of a chain behind these aliases, when so many more may follow and this name is looked up next; each alias
--- shows a record
-pub record IsOnTheWay (zone : List Record) (name : List (List ℕ)) (rtype : ℕ) (aliases : List Shown) (more : ℕ) (at : List (List ℕ)) : Type 0 where
-  pub chain : chain zone name rtype ≡ onto (section_shown aliases) (chain_from zone more (searched_before aliases) at rtype)
-  pub some : is_none_of (section_shown aliases) ≡ (length aliases == 0)
 
 -- a chain begins at the name asked
 begins_with : (zone : List Record) (name : List (List ℕ)) (rtype : ℕ) → IsOnTheWay zone name rtype [] MOST_ALIASES name
@@ -167,3 +169,64 @@ ends zone name rtype aliases more at found end way seen other told = record {
 pub not_outside : (under searched : Bool) → (not under || searched) ≡ false → under ≡ true
 not_outside true searched e = refl
 not_outside false searched e = cc
+
+-- what isn't an alias ends a chain
+found_end : (found : Look) → is_alias found ≡ false → end_at found ≡ Found found
+found_end (Cut cut) other = refl
+found_end (Alias rs) other = absurd (cc)
+found_end (Data rs) other = refl
+found_end NoData other = refl
+found_end NoName other = refl
+
+pub ends_there : (zone : List Record) (name : List (List ℕ)) (rtype : ℕ) (aliases : List Shown) (more : ℕ) (at : List (List ℕ)) (found : Look) (end : End)
+    → IsOnTheWay zone name rtype aliases (suc more) at → found ≡ look zone at rtype → is_alias found ≡ false → end ≡ end_at found → Ends zone name rtype aliases end
+ends_there zone name rtype aliases more at found end way seen other told = ends zone name rtype aliases more at found end way (sym seen) other (told ∙ found_end found other)
+
+-- names are spelt the same where they have the same octets
+pub spelt_test : (name other : List (List ℕ)) (octets others : List ℕ) (r : Bool) → IsName name → IsName other → octets ≡ wire_of name → others ≡ wire_of other → r ≡ pointwise eqb octets others
+    → r ≡ pointwise bytes_eq name other
+spelt_test name other octets others r h k own theirs test =
+    let names = pointwise_decides bytes_eq-Decides name other in
+    same_from_decides r (pointwise bytes_eq name other) (slice_eq-Decides Decides-eqb octets others r test)
+    (λ e. own ∙ ap wire_of (names.0 e) ∙ sym theirs, λ e. names.1 (wire_of_injective name other h.labels k.labels (sym own ∙ e ∙ theirs)))
+
+-- one alias more, whose owner is kept in lower case
+pub folded-next : (aliases : List Shown) (shown : Shown) (names : List (List (List ℕ))) (folded at : List (List ℕ)) → names ≡ map (λ alias. fold_name alias.owner) aliases
+    → folded ≡ fold_name at → shown.owner ≡ at → names ++ folded ∷ [] ≡ map (λ alias. fold_name alias.owner) (aliases ++ shown ∷ [])
+folded-next aliases shown names folded at kept lower owner =
+    ap (λ ns. ns ++ folded ∷ []) kept ∙ ap (λ n. map (λ (alias : Shown). fold_name alias.owner) aliases ++ n ∷ []) (lower ∙ ap fold_name (sym owner))
+    ∙ sym (map-append (λ (alias : Shown). fold_name alias.owner) aliases (shown ∷ []))
+
+among_folded : (name : List (List ℕ)) (aliases : List Shown) → list_any (λ other. pointwise bytes_eq other (fold_name name)) (map (λ alias. fold_name alias.owner) aliases) ≡ list_any (λ alias. is_same alias.owner name) aliases
+among_folded name [] = refl
+among_folded name (alias ∷ aliases) = ap (λ rest. is_same alias.owner name || rest) (among_folded name aliases)
+
+-- a name was searched where it is among the owners in lower case
+pub among_searched : (name folded : List (List ℕ)) (names : List (List (List ℕ))) (aliases : List Shown) → folded ≡ fold_name name → names ≡ map (λ alias. fold_name alias.owner) aliases
+    → list_any (λ other. pointwise bytes_eq other folded) names ≡ list_any (λ before. is_same before name) (searched_before aliases)
+among_searched name folded names aliases lower kept =
+    ap (λ (n : List (List ℕ)). list_any (λ other. pointwise bytes_eq other n) names) lower ∙ ap (list_any (λ other. pointwise bytes_eq other (fold_name name))) kept
+    ∙ among_folded name aliases ∙ sym (list_any-searched_before name aliases)
+
+-- whether a name that is under another was searched is all that decides
+pub inside : (under searched : Bool) → under ≡ true → searched ≡ (not under || searched)
+inside true searched e = refl
+inside false searched e = cc
+
+-- something else than an alias is found
+pub no_alias : (at : List (List ℕ)) (found : code.Look) → ((alias : Bor RRset) → found ≡ seen.Alias alias → ⊥) → is_alias (look_shown at found) ≡ false
+no_alias at (seen.Cut servers) other = refl
+no_alias at (seen.Alias alias) other = absurd (other alias refl)
+no_alias at (seen.Data sets) other = refl
+no_alias at seen.NoData other = refl
+no_alias at seen.NoName other = refl
+
+owners_folded : (aliases : List Shown) → map fold_name (map (λ alias. alias.owner) aliases) ≡ map (λ alias. fold_name alias.owner) aliases
+owners_folded [] = refl
+owners_folded (alias ∷ aliases) = ap (λ (names : List (List (List ℕ))). fold_name alias.owner ∷ names) (owners_folded aliases)
+
+-- one alias alone, whose owner is kept in lower case
+pub folded-first : (aliases : List Shown) (name folded : List (List ℕ)) (names : List (List (List ℕ))) → map (λ alias. alias.owner) aliases ≡ name ∷ [] → names ≡ [] → folded ≡ fold_name name
+    → names ++ folded ∷ [] ≡ map (λ alias. fold_name alias.owner) aliases
+folded-first aliases name folded names one none lower =
+    ap (λ (ns : List (List (List ℕ))). ns ++ folded ∷ []) none ∙ ap (λ (n : List (List ℕ)). n ∷ []) lower ∙ ap (map fold_name) (sym one) ∙ owners_folded aliases

@@ -50,3 +50,8 @@ chain_from zone (suc more) searched name rtype =
 -- MOST_ALIASES aliases (own)
 unfoldable pub chain : List Record → Name → ℕ → Chain
 chain zone name rtype = chain_from zone MOST_ALIASES [] name rtype
+
+-- the end of a chain that goes no further than a name at which this was found: a stop at an alias
+abbrev pub end_at : Look → End
+end_at (Alias alias) = Stop
+end_at found = Found found

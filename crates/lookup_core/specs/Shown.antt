@@ -1,5 +1,5 @@
 -- What the code's values say, in the words of `Look`, `Chain` and `Sections`: the records that they show.
-use Rattle.std.specs.Prelude.{◌≡◌, ◌-◌, true, List, ◌++◌, length, take, drop, map, reverse}
+use Rattle.std.specs.Prelude.{◌≡◌, ◌-◌, ◌==◌, ℕ, true, List, ◌++◌, length, take, drop, map, reverse}
 use Rattle.std.specs.List.{flat_map}
 use Rattle.dns_name.specs.Name.{Name}
 use Rattle.dns_rdata.specs.declared.shown.Shown.{Shown}
@@ -18,7 +18,7 @@ use Rattle.lookup_core.specs.declared.aliases.End.{End}
 use Rattle.lookup_core.specs.declared.aliases.End.TheVariants as end
 use Rattle.lookup_core.specs.declared.sections.Answer.{Answer}
 use Rattle.lookup_core.specs.declared.sections.Front.{Front}
-use Rattle.lookup_core.specs.Place.{place_below}
+use Rattle.lookup_core.specs.Place.{is_none_of, place_below}
 use Rattle.lookup_core.specs.Look as look
 use Rattle.lookup_core.specs.Chain as chain
 use Rattle.lookup_core.specs.Additional.{additional_of, each_once, most_sets}
@@ -93,6 +93,12 @@ AreServersOfEnd zone _ = Unit {0}
 -- a chain of aliases with its end, with the records that they show
 abbrev pub chain_shown : List Shown → End → chain.Chain
 chain_shown aliases end = record { aliases = section_shown aliases; end = end_shown end }
+
+-- what remains of a chain behind these aliases, when so many more may follow and this name is looked up next; each alias
+-- shows a record
+pub record IsOnTheWay (zone : List Record) (name : Name) (rtype : ℕ) (aliases : List Shown) (more : ℕ) (at : Name) : Type 0 where
+  pub chain : chain.chain zone name rtype ≡ chain.onto (section_shown aliases) (chain.chain_from zone more (searched_before aliases) at rtype)
+  pub some : is_none_of (section_shown aliases) ≡ (length aliases == 0)
 
 -- an answer's sections, with the records that they show
 abbrev pub sections_shown : Answer → Sections

@@ -1,14 +1,16 @@
 //! Aliases followed, and where a chain of them ends (RFC 1034, 3.6.2 and 4.3.2, step 3a).
-ghost use Rattle.std.specs.Prelude.{◌≡◌, ◌≤◌, ◌==◌, [], length};
+ghost use Rattle.std.specs.Prelude.{◌≡◌, ◌≤◌, ◌==◌, ◌-◌, List, [], ◌∷◌, length, map, bytes_eq};
+ghost use Rattle.std.specs.Cmp.Lexicographic.{pointwise};
 ghost use Rattle.std.specs.List.{flat_map, list_any};
-ghost use Rattle.dns_name.specs.Name.{is_same};
+ghost use Rattle.dns_name.specs.Name.{fold_name, is_same};
 ghost use Rattle.dns_rdata.specs.Numbers.{type_CNAME};
-ghost use Rattle.dns_rdata.specs.Record.{rtype_of};
+ghost use Rattle.dns_rdata.specs.Record.{Record, rtype_of};
 ghost use Rattle.dns_rdata.specs.Shown.{records_shown};
 ghost use Rattle.lookup_core.specs.Place.{is_none_of};
 ghost use Rattle.lookup_core.specs.Look.{look, owned_by};
-ghost use Rattle.lookup_core.specs.Chain.{target, is_final, chain};
-ghost use Rattle.lookup_core.specs.Shown.{section_shown, searched_before, chain_shown, look_shown, AreServersOfEnd, HasItsServers};
+ghost use Rattle.lookup_core.specs.Chain.{target, is_final, chain, end_at};
+ghost use Rattle.lookup_core.specs.declared.aliases.TheConstants.{MOST_ALIASES};
+ghost use Rattle.lookup_core.specs.Shown.{section_shown, searched_before, end_shown, chain_shown, look_shown, AreServersOfEnd, HasItsServers, IsOnTheWay};
 
 use crate::look::{Look, look_below};
 use arrayvec::ArrayVec;
@@ -55,29 +57,78 @@ pub(crate) fn follow<'z, Z: ZoneRead>(
     ensures some { is_none_of (section_shown aliases.new.items) ≡ (length aliases.new.items == 0) }
     ensures servers { AreServersOfEnd (Z.records zone.now) result }
 {
-    let mut searched = LentName::spelt(name);
-    let mut found = first;
-    for _ in 0..MOST_ALIASES {
-        let end = match found {
-            Look::Alias(alias) => {
-                let target = target(alias);
-                aliases.push(under(searched, slice::from_ref(alias)));
-                let name = target.to_name();
-                if is_final(zone, aliases.as_slice(), &name) {
-                    return End::Stop;
-                }
-                found = look_below(zone, zone.soa(), &name, rtype);
-                searched = target;
-                continue;
-            }
-            Look::Cut(servers) => End::Cut(searched, servers),
-            Look::Data(sets) => End::Data(under(searched, sets)),
-            Look::NoData => End::NoData,
-            Look::NoName => End::NoName,
+    let asked = LentName::spelt(name);
+    let Look::Alias(alias) = first else {
+        return end_of(asked, first);
+    };
+    let target = target(alias);
+    aliases.push(under(asked, slice::from_ref(alias)));
+    let next = target.to_name();
+    if is_final(zone, aliases.as_slice(), &next) {
+        return End::Stop;
+    }
+    let found = look_below(zone, zone.soa(), &next, rtype);
+    match found {
+        Look::Alias(_) => follow_on(zone, name, rtype, target, found, aliases),
+        _ => end_of(target, found),
+    }
+}
+
+/// The same behind the first alias: from its target on, at which this was found. The names searched are kept in lower case, so that each is
+/// folded once, and those that are the same have the same octets (RFC 4343, 3). It is a function of its own, since most chains end before.
+#[inline(never)]
+fn follow_on<'z, Z: ZoneRead>(
+    zone: &'z Z,
+    name: &Name,
+    rtype: RType,
+    first: LentName<'z>,
+    found: Look<'z>,
+    aliases: &mut ArrayVec<Shown<'z>, MOST_SHOWN>,
+) -> End<'z>
+    requires way { IsOnTheWay (Z.records zone.now) name.now rtype.0 aliases.old.items (MOST_ALIASES - 1) first }
+    requires one { map (λ alias. alias.owner) aliases.old.items ≡ name.now ∷ [] }
+    requires seen { look_shown first found ≡ look (Z.records zone.now) first rtype.0 }
+    requires servers { HasItsServers (Z.records zone.now) first found }
+    ensures chain { chain_shown aliases.new.items result ≡ chain (Z.records zone.now) name.now rtype.0 }
+    ensures few { length aliases.new.items ≤ MOST_ALIASES }
+    ensures some { is_none_of (section_shown aliases.new.items) ≡ (length aliases.new.items == 0) }
+    ensures servers { AreServersOfEnd (Z.records zone.now) result }
+{
+    let mut names: ArrayVec<Name, MOST_ALIASES> = ArrayVec::new();
+    names.push(name.fold());
+    let mut folded = first.to_name().fold();
+    let mut searched = first;
+    let mut found = found;
+    for _ in 1..MOST_ALIASES {
+        let Look::Alias(alias) = found else {
+            return end_of(searched, found);
         };
-        return end;
+        let target = target(alias);
+        aliases.push(under(searched, slice::from_ref(alias)));
+        names.push(folded);
+        let next = target.to_name();
+        folded = next.fold();
+        if is_final_among(zone, names.as_slice(), &next, &folded) {
+            return End::Stop;
+        }
+        found = look_below(zone, zone.soa(), &next, rtype);
+        searched = target;
     }
     End::Stop
+}
+
+/// The end of a chain that goes no further than a name, at which this was found: a stop at an alias.
+fn end_of<'z>(name: LentName<'z>, found: Look<'z>) -> End<'z>
+    ensures end { end_shown result ≡ end_at (look_shown name.entry found.entry) }
+    ensures servers { (zone : List Record) → HasItsServers zone name.entry found.entry → AreServersOfEnd zone result }
+{
+    match found {
+        Look::Cut(servers) => End::Cut(name, servers),
+        Look::Alias(_) => End::Stop,
+        Look::Data(sets) => End::Data(under(name, sets)),
+        Look::NoData => End::NoData,
+        Look::NoName => End::NoName,
+    }
 }
 
 /// Sets under the name searched, with their own TTLs (RFC 4592, 3.3).
@@ -117,4 +168,32 @@ fn is_searched(aliases: &[Shown<'_>], name: &Name) -> bool
         }
     }
     false
+}
+
+/// Whether a target isn't searched, by names in lower case: those at which aliases were found, and its own (RFC 4343, 3).
+fn is_final_among<Z: ZoneRead>(zone: &Z, names: &[Name], target: &Name, folded: &Name) -> bool
+    requires { folded.now ≡ fold_name target.now }
+    ensures { (aliases : List Shown) → names.now ≡ map (λ alias. fold_name alias.owner) aliases
+        → result ≡ is_final (Z.records zone.now) (searched_before aliases) target.now }
+{
+    !target.is_under(zone.apex()) || is_among(names, folded)
+}
+
+/// Whether one of other names is spelt as a name is.
+fn is_among(names: &[Name], name: &Name) -> bool
+    ensures { result ≡ list_any (λ other. pointwise bytes_eq other name.now) names.now }
+{
+    for other in names {
+        if is_spelt_as(other, name) {
+            return true;
+        }
+    }
+    false
+}
+
+/// Whether two names are spelt the same: then they have the same octets (RFC 1035, 3.1).
+fn is_spelt_as(name: &Name, other: &Name) -> bool
+    ensures { result ≡ pointwise bytes_eq name.now other.now }
+{
+    name.wire() == other.wire()
 }
