@@ -1,6 +1,7 @@
 //! Which names are the same, which come first, and which are under which.
 use crate::made::{is_printed, name};
 use dns_name::{Name, SoughtName, StoredName};
+use dns_rdata::LentName;
 use std::alloc::Global;
 
 /// The names of RFC 4034, 6.1, in their order, with the root in front, octets that are stored as two, and a name of more octets
@@ -113,10 +114,23 @@ fn are_same(first: &[u8], second: &[u8]) -> Option<(bool, bool)> {
     is_same(&name(first)?, second)
 }
 
+/// Whether a name is that of a text, by the octets of the one and where the one is lent.
+fn is_spelt(own: &Name, text: &[u8]) -> Option<(bool, bool)> {
+    let other = name(text)?;
+    let lent = LentName::spelt(&other);
+    Some((own.is_spelt_by(lent.octets()?), lent.is_same(own)))
+}
+
+/// The same of the names of two texts.
+fn are_spelt(first: &[u8], second: &[u8]) -> Option<(bool, bool)> {
+    is_spelt(&name(first)?, second)
+}
+
 /// The first of these names that is told otherwise.
 fn wrong_case() -> Option<&'static [u8]> {
     for (first, second, same) in CASES {
-        if are_same(first, second) != Some((same, same)) {
+        let told = Some((same, same));
+        if are_same(first, second) != told || are_spelt(first, second) != told {
             return Some(first);
         }
     }

@@ -116,10 +116,35 @@ fn is_lent(alloc: Global) -> Option<bool> {
     Some(spelt && root && sought && LentName::stored(&kept).octets().is_none())
 }
 
+/// Whether a name that a zone keeps is the same as it is spelt in another case, and the root isn't (RFC 4343, 3).
+fn is_lent_as_same(alloc: Global) -> Option<bool> {
+    let own = name(b"Www.example")?;
+    let kept = stored(alloc, b"wWW.eXample")?;
+    Some(LentName::stored(&kept).is_same(&own) && !LentName::root().is_same(&own))
+}
+
+/// Whether a name becomes those that a zone keeps, one behind the other: one with another first label as long, and one with other labels.
+fn is_set_behind(alloc: Global) -> Option<bool> {
+    let first = stored(alloc, b"host1.example")?;
+    let second = stored(alloc, b"HOST2.example")?;
+    let third = stored(alloc, b"\\000.Other")?;
+    let mut own = first.to_name();
+    own.set_stored_behind(&first, &second);
+    let label = own.wire() == b"\x05host2\x07example\x00".as_slice();
+    own.set_stored_behind(&second, &third);
+    Some(label && own.wire() == b"\x01\x00\x05other\x00".as_slice())
+}
+
 // With any one growth refused, a stored name is made anew.
 #[test]
 fn names_that_are_lent_with_refused_growth(rt: HostRuntime) {
     assert!(rt; is_lent(rt.alloc()) == Some(true));
+    assert!(rt; is_lent_as_same(rt.alloc()) == Some(true));
+}
+
+#[test]
+fn names_that_are_set_with_refused_growth(rt: HostRuntime) {
+    assert!(rt; is_set_behind(rt.alloc()) == Some(true));
 }
 
 #[test]
