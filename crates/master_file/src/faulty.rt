@@ -15,7 +15,7 @@ ghost use Rattle.master_file.specs.ZoneText.{first_line, is_too_many, outside_li
 
 use crate::fault::FileFault;
 use crate::kept::KeptRecord;
-use crate::likely::likely_place;
+use crate::likely::Likely;
 use crate::records::Records;
 use crate::sorted::sets_of;
 use dns_name::Name;
@@ -67,22 +67,26 @@ pub(crate) fn first_of(
     requires { count ≤ length records.now }
     ensures { IfOk result (λ first. first.items ≡ take count records.now) }
 {
-    let mut first = Vec::new(alloc);
+    let mut first = Vec::with_capacity(alloc, count)?;
     for kept in &records[..count] {
         first.push(kept.copy(alloc)?)?;
     }
     Ok(first)
 }
 
-/// The sets of records; None where there are too many, of one set or in all.
-fn within_limits(alloc: Global, records: Vec<KeptRecord>) -> Result<Option<Vec<RRset>>, AllocError>
+/// The sets of records; None where there are too many, of one set or in all. Where that is asked, it is told as well where faults are likely.
+fn within_limits(
+    alloc: Global,
+    records: Vec<KeptRecord>,
+    likely: Option<&mut Likely>,
+) -> Result<Option<Vec<RRset>>, AllocError>
     ensures sets { IfOk result (λ found. IfSome found (λ sets. records_in sets.items ≡ zone_records records.items)) }
     ensures rising { IfOk result (λ found. IfSome found (λ sets. AreAscending sets.items)) }
     ensures small { IfOk result (λ found. IfSome found (λ sets. length (records_in sets.items) ≤ max_records)) }
     ensures few { IfOk result (λ found. IfSome found (λ sets. first_line is_too_many [] records.items ≡ None)) }
     ensures many { IfOk result (λ found. IfNone found (first_line is_too_many [] records.items ≡ None → ⊥)) }
 {
-    let Some(sets) = sets_of(alloc, records)? else {
+    let Some(sets) = sets_of(alloc, records, likely)? else {
         return Ok(None);
     };
     // The rules that are tried before a conflict.
@@ -127,7 +131,7 @@ fn is_shown(
     ensures none { IfOk result (λ shown. OnFalse shown (first_line (shows sought) [] (take count records.now) ≡ None)) }
 {
     let first = first_of(alloc, records, count)?;
-    let Some(sets) = within_limits(alloc, first)? else {
+    let Some(sets) = within_limits(alloc, first, None)? else {
         return Ok(true);
     };
     match sought {
@@ -162,12 +166,17 @@ fn line_at(records: &[KeptRecord], at: usize) -> u64
 
 /// The line of the first of records that shows what is sought, where one does. The likely place is tried first, and where it
 /// isn't that one the others are tried by halves.
-fn first_shown(alloc: Global, records: &[KeptRecord], sought: Sought) -> Result<u64, AllocError>
+fn first_shown(
+    alloc: Global,
+    records: &[KeptRecord],
+    sought: Sought,
+    likely: &Likely,
+) -> Result<u64, AllocError>
     requires few { sought ≢ Sought.Limit → first_line is_too_many [] records.now ≡ None }
     requires shown { first_line (shows sought) [] records.now ≡ None → ⊥ }
     ensures { IfOk result (λ line. first_line (shows sought) [] records.now ≡ Some line) }
 {
-    let likely = likely_place(alloc, records, sought)?;
+    let likely = likely.place(records, sought);
     let mut low = 0;
     let mut high = records.len();
     while low + 1 < high {
@@ -200,19 +209,25 @@ pub(crate) fn fault_of(alloc: Global, text: &[u8], origin: &Name) -> Result<File
 {
     let (records, fault) = read_all(alloc, text, origin)?;
     let all = first_of(alloc, &records, records.len())?;
-    let Some(sets) = within_limits(alloc, all)? else {
-        let line = first_shown(alloc, &records, Sought::Limit)?;
+    let mut likely = Likely::last();
+    let Some(sets) = within_limits(alloc, all, Some(&mut likely))? else {
+        let line = first_shown(alloc, &records, Sought::Limit, &likely)?;
         return Ok(told(line, Cause::Limit));
     };
     match fault {
         Some(fault) => Ok(fault),
-        None => judge(alloc, &records, sets),
+        None => judge(alloc, &records, sets, &likely),
     }
 }
 
 /// The fault of records that is told after the whole of their text: a second SOA, no SOA, no NS at the apex, an owner
 /// outside the apex and a conflict are tried in this order.
-fn judge(alloc: Global, records: &[KeptRecord], sets: Vec<RRset>) -> Result<FileFault, AllocError>
+fn judge(
+    alloc: Global,
+    records: &[KeptRecord],
+    sets: Vec<RRset>,
+    likely: &Likely,
+) -> Result<FileFault, AllocError>
     requires refused { (zone : List Record) → zone_of_read (record { rrs = records.now; fault = None }) ≡ Ok zone → ⊥ }
     requires few { first_line is_too_many [] records.now ≡ None }
     requires sets { records_in sets.items ≡ zone_records records.now }
@@ -222,7 +237,7 @@ fn judge(alloc: Global, records: &[KeptRecord], sets: Vec<RRset>) -> Result<File
 {
     if has_second_soa(&sets) {
         drop(sets);
-        let line = first_shown(alloc, records, Sought::SecondSoa)?;
+        let line = first_shown(alloc, records, Sought::SecondSoa, likely)?;
         return Ok(told(line, Cause::Apex));
     }
     let apex = match find_apex(&sets) {
@@ -236,7 +251,7 @@ fn judge(alloc: Global, records: &[KeptRecord], sets: Vec<RRset>) -> Result<File
     if let Some(line) = first_outside(records, &apex.name) {
         return Ok(told(line, Cause::Outside));
     }
-    let line = first_shown(alloc, records, Sought::Conflict)?;
+    let line = first_shown(alloc, records, Sought::Conflict, likely)?;
     Ok(told(line, Cause::Conflict))
 }
 

@@ -1,29 +1,42 @@
-//! The place at which the search for the record that shows a fault begins.
-use crate::faulty::{Sought, first_of};
+//! The places at which the search for the record that shows a fault begins.
+use crate::faulty::Sought;
 use crate::kept::KeptRecord;
 use dns_rdata::{MAX_SET, RType};
-use std::alloc::{AllocError, Global};
 
-/// The place of the record that likely shows first what is sought, or any other: the search is the faster the nearer it is.
-/// It is the right one but for a set of too many in which a record stands twice.
-pub(crate) fn likely_place(
-    alloc: Global,
-    records: &[KeptRecord],
-    sought: Sought,
-) -> Result<usize, AllocError> {
-    let line = match sought {
-        Sought::Limit => likely_limit(&sorted(alloc, records)?),
-        Sought::SecondSoa => likely_soa(records),
-        Sought::Conflict => likely_conflict(&sorted(alloc, records)?),
-    };
-    Ok(place_of(records, line))
+/// The lines of the records that likely show faults first: the search is the faster the nearer they are. They are the right ones but for a set of
+/// too many in which a record stands twice.
+#[derive(Clone, Copy)]
+pub(crate) struct Likely {
+    limit: u64,
+    conflict: u64,
 }
 
-/// Records in the order of their owners and types, those of one in the order of the text.
-fn sorted(alloc: Global, records: &[KeptRecord]) -> Result<Vec<KeptRecord>, AllocError> {
-    let mut sorted = first_of(alloc, records, records.len())?;
-    sorted.sort()?;
-    Ok(sorted)
+impl Likely {
+    /// Where nothing is known: the last of all.
+    pub(crate) fn last() -> Likely {
+        Likely {
+            limit: u64::MAX,
+            conflict: u64::MAX,
+        }
+    }
+
+    /// Those among records in the order of their owners and types, those of one in the order of the text.
+    pub(crate) fn among(sorted: &[KeptRecord]) -> Likely {
+        Likely {
+            limit: likely_limit(sorted),
+            conflict: likely_conflict(sorted),
+        }
+    }
+
+    /// The place among records of the one that likely shows first what is sought, or any other.
+    pub(crate) fn place(&self, records: &[KeptRecord], sought: Sought) -> usize {
+        let line = match sought {
+            Sought::Limit => self.limit,
+            Sought::SecondSoa => likely_soa(records),
+            Sought::Conflict => self.conflict,
+        };
+        place_of(records, line)
+    }
 }
 
 /// The place of the first record at a line or behind it, and else of the last.

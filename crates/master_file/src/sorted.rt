@@ -10,13 +10,16 @@ ghost use Rattle.master_file.specs.SetOrder.{is_set_of, put_last, sets_with, is_
 ghost use Rattle.master_file.specs.ZoneText.{record_in, in_lower, first_line, is_too_many, zone_records};
 
 use crate::kept::KeptRecord;
+use crate::likely::Likely;
 use dns_rdata::{RRset, SetFault};
 use std::alloc::{AllocError, Global};
 
-/// The sets of records, which are sorted by owner and type first; None where a set would have too many.
+/// The sets of records, which are sorted by owner and type first; None where a set would have too many. Where that is asked, it is told as well where
+/// faults are likely.
 pub(crate) fn sets_of(
     alloc: Global,
     mut records: Vec<KeptRecord>,
+    likely: Option<&mut Likely>,
 ) -> Result<Option<Vec<RRset>>, AllocError>
     ensures sets { IfOk result (λ found. IfSome found (λ sets. records_in sets.items ≡ zone_records records.items)) }
     ensures unsplit { IfOk result (λ found. IfSome found (λ sets. AreUnsplit sets.items)) }
@@ -24,6 +27,9 @@ pub(crate) fn sets_of(
     ensures many { IfOk result (λ found. IfNone found (first_line is_too_many [] records.items ≡ None → ⊥)) }
 {
     records.sort()?;
+    if let Some(likely) = likely {
+        *likely = Likely::among(&records);
+    }
     put_all(alloc, records)
 }
 

@@ -26,7 +26,7 @@ fn zone_in(alloc: Global, text: &[u8], origin: &Name) -> Result<Option<Zone>, Al
     if fault.is_some() {
         return Ok(None);
     }
-    let Some(sets) = sets_of(alloc, records)? else {
+    let Some(sets) = sets_of(alloc, records, None)? else {
         return Ok(None);
     };
     match Zone::new(alloc, sets) {
