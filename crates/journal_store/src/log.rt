@@ -38,7 +38,7 @@ impl<F> From<AllocError> for LogFault<F> {
 }
 
 impl<D: Disk> Log<D> {
-    ghost use Rattle.std.specs.Prelude.{◌≡◌, ℕ, ◌+◌, ◌^◌, ◌<◌, ◌≤◌, ◌⊎◌, ◌↔◌, true, List, [], ◌∷◌, ◌++◌, length, OnOk, OnErr, IfOk, IsErrOf};
+    ghost use Rattle.std.specs.Prelude.{◌≡◌, ℕ, ◌+◌, ◌^◌, ◌<◌, ◌≤◌, ◌⊎◌, ◌↔◌, true, false, List, [], ◌∷◌, ◌++◌, length, OnOk, OnErr, IfOk, IsErrOf};
     ghost use Rattle.journal.specs.declared.heads.Head.{Head};
     ghost use Rattle.journal.specs.Frame.{Fit};
     ghost use Rattle.journal.specs.Head.{salt_of, IsHead};
@@ -120,6 +120,33 @@ impl<D: Disk> Log<D> {
         self.number = number;
         self.end = end;
         Ok(())
+    }
+
+    /// Goes on with another journal of so many batches, which ends at this octet and is on its disk: also one that is stuck goes on by it. What it lay on
+    /// before is dropped.
+    pub fn switch(&mut self, disk: D, salt: &[u8; SUM], number: u64, end: u64)
+        ensures holds { (head : Head) (bodies : List (List ℕ)) → D.written disk ≡ octets_of head bodies → D.synced disk ≡ octets_of head bodies
+            → salt.now ≡ salt_of head → number ≡ length bodies → end ≡ length (octets_of head bodies) → Fit 0 bodies
+            → Holds D.written D.synced head self.new bodies }
+        ensures disk { disk_of self.new ≡ disk }
+        ensures goes_on { is_stuck self.new ≡ false }
+    {
+        *self = Log {
+            disk,
+            salt: *salt,
+            number,
+            end,
+            stuck: false,
+        };
+    }
+
+    /// Appends nothing more, until it goes on with another journal: nobody knows whether what it lies on is what a start finds.
+    pub fn stop(&mut self)
+        ensures stopped { (head : Head) (bodies : List (List ℕ)) → Holds D.written D.synced head self.old bodies → IsStuck D.synced head self.new bodies }
+        ensures stuck { is_stuck self.new ≡ true }
+        ensures disk { disk_of self.new ≡ disk_of self.old }
+    {
+        self.stuck = true;
     }
 
     /// What it lies on.
