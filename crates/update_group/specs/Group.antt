@@ -33,6 +33,10 @@ module _ {V : Type 0} where
   abbrev pub versions_of : Group V → List V
   versions_of group = group.versions.items
 
+  -- the octets of the batch of those that make one
+  abbrev pub body_of : Group V → List ℕ
+  body_of group = group.body.items
+
   -- these updates, one for each version of a group, are its batch
   pub record IsBatch (group : Group V) (updates : List (List ℕ)) : Type 0 where
     pub spelt : group.body.items ≡ batch_of updates

@@ -17,10 +17,34 @@ pub struct Group<V: Drop> {
 }
 
 impl<V: Drop> Group<V> {
-    ghost use Rattle.std.specs.Prelude.{◌≡◌, ◌⊎◌, ℕ, List, length, MatchOption};
+    ghost use Rattle.std.specs.Prelude.{◌≡◌, ◌⊎◌, ◌<◌, ◌^◌, ℕ, List, [], length, replicate, MatchOption};
     ghost use Rattle.journal.specs.declared.heads.Head.{Head};
     ghost use Rattle.journal_store.specs.Log.{Holds, IsStuck};
-    ghost use Rattle.update_group.specs.Group.{versions_of, IsBatch, IsGivenUp, logged};
+    ghost use Rattle.update_group.specs.Group.{servfail, codes_of, versions_of, body_of, IsBatch, IsGivenUp, logged};
+
+    /// The versions that its updates make.
+    pub fn versions(&self) -> &[V]
+        ensures { result.now ≡ versions_of self.now }
+    {
+        &self.versions
+    }
+
+    /// The batch of the updates that make one.
+    pub fn body(&self) -> &[u8]
+        ensures body { result.now ≡ body_of self.now }
+        ensures short { length result.now < 2 ^ 32 }
+    {
+        &self.body
+    }
+
+    /// Gives its updates up: each is told SERVFAIL, and there is no version to publish. It takes no memory.
+    pub fn give_up(&mut self)
+        ensures told { codes_of self.new ≡ replicate (length (codes_of self.old)) servfail }
+        ensures none { versions_of self.new ≡ [] }
+    {
+        self.codes.fill(SERVFAIL);
+        self.versions.clear();
+    }
 
     /// Brings the batch to the disk, if some update makes a version; else the disk isn't called. At a fault each update is told SERVFAIL, and there is no
     /// version to publish: the journal has what it had, or takes nothing more. It takes memory, before anything is written.
@@ -39,8 +63,7 @@ impl<V: Drop> Group<V> {
         match log.append(alloc, &self.body) {
             Ok(()) => None,
             Err(fault) => {
-                self.codes.fill(SERVFAIL);
-                self.versions.clear();
+                self.give_up();
                 Some(fault)
             }
         }
