@@ -37,12 +37,14 @@ pub fn keep_torn<R: Files<File = File>>(
 }
 
 /// Removes what a crash has left of a pair that isn't the store's, and the zone texts of other numbers than its own and the one before it: who copies
-/// a store and has copied the journal before finds its text still. It takes memory.
+/// a store and has copied the journal before finds its text still. The folder's names are brought to the disk first: a rename that isn't there yet could leave a
+/// journal whose text is gone; at an error nothing is removed. It takes memory.
 pub fn drop_others<R: Files + Alloc + Clone + Drop>(
     rt: &R,
     dir: &str,
     number: u64,
 ) -> io::Result<()> {
+    sync_folder(rt, dir)?;
     for entry in fs::read_dir(rt, dir)? {
         match entry {
             Ok(entry) => {

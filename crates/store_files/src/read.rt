@@ -1,5 +1,6 @@
 //! How a store is read (own).
-ghost use Rattle.std.specs.Prelude.{◌≡◌, ℕ, MatchOption};
+ghost use Rattle.std.specs.Prelude.{◌≡◌, ◌↔◌, IsTrue, ℕ, MatchOption};
+ghost use Rattle.journal_store.specs.Disk.{BeginsWith};
 ghost use Rattle.journal.specs.Head.{IsHeadFault};
 ghost use Rattle.journal.specs.declared.heads.HeadFault.{HeadFault};
 ghost use Rattle.store_files.specs.Names.{Names};
@@ -11,10 +12,11 @@ use std::alloc::Global;
 use std::fs::Files;
 use std::io::{self, ErrorKind};
 
-/// How often a store is read anew whose text went while it was read.
+/// How often a store is read anew that changes while it is read.
 const TRIES: u64 = 100;
 
 /// The zone text that a journal names.
+#[derive(Drop)]
 pub(crate) enum Text {
     /// Its octets.
     There(Vec<u8>),
@@ -49,21 +51,52 @@ pub(crate) fn read_text<R: Files>(
     }
 }
 
-/// The zone text and the journal of a store that another process may hold. The journal is read first: where its text went meanwhile, another journal
-/// stands there, and both are read anew. It takes memory.
+/// Whether octets of a journal that were read stand still where they stood when it is read again. Else it was cut behind a batch that failed, or replaced: what was
+/// read may be the front of what failed with what came behind it, and is no journal.
+fn stands_still(octets: &[u8], again: &[u8]) -> bool
+    ensures { IsTrue result ↔ BeginsWith again.now octets.now }
+{
+    again.starts_with(octets)
+}
+
+/// The zone text and the journal of a store that another process may hold; None where they change meanwhile. It takes memory.
+fn read_once<R: Files>(
+    rt: &R,
+    alloc: Global,
+    dir: &str,
+    path: &str,
+) -> io::Result<Option<(Vec<u8>, Vec<u8>)>> {
+    let Some(journal) = read_there(rt, alloc, path)? else {
+        return Err(io::Error::new(ErrorKind::NotFound, "the folder has no journal"));
+    };
+    let text = read_text(rt, alloc, dir, &journal)?;
+    let Some(again) = read_there(rt, alloc, path)? else {
+        return Ok(None);
+    };
+    if !stands_still(&journal, &again) {
+        return Ok(None);
+    }
+    match text {
+        Text::There(text) => Ok(Some((text, journal))),
+        Text::Gone(_) => Err(io::Error::new(
+            ErrorKind::NotFound,
+            "the zone text that the journal names isn't there",
+        )),
+    }
+}
+
+/// The zone text and the journal of a store that another process may hold. The journal is read first, and again behind its text: where what was read of it no longer
+/// stands there, all is read anew. So what a batch that failed left in front of others is never read with those, and a last batch that isn't on the disk yet may be.
+/// It takes memory.
 pub fn read_store<R: Files>(rt: &R, alloc: Global, dir: &str) -> io::Result<(Vec<u8>, Vec<u8>)> {
     let path = path_of(alloc, dir, JOURNAL)?;
     for _ in 0..TRIES {
-        let Some(journal) = read_there(rt, alloc, &path)? else {
-            return Err(io::Error::new(ErrorKind::NotFound, "the folder has no journal"));
-        };
-        match read_text(rt, alloc, dir, &journal)? {
-            Text::There(text) => return Ok((text, journal)),
-            Text::Gone(_) => {}
+        if let Some(pair) = read_once(rt, alloc, dir, &path)? {
+            return Ok(pair);
         }
     }
     Err(io::Error::new(
-        ErrorKind::NotFound,
-        "the zone text that the journal names isn't there",
+        ErrorKind::WouldBlock,
+        "the store changes whenever it is read",
     ))
 }
