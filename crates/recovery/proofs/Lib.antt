@@ -5,3 +5,4 @@ pub mod StartLemmas
 pub mod CutLemmas
 pub mod StoreLemmas
 pub mod RebasedLemmas
+pub mod BeforeLemmas

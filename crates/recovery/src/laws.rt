@@ -14,6 +14,7 @@ ghost use Rattle.recovery.specs.declared.fault.StartFault.{StartFault};
 ghost use Rattle.recovery.specs.declared.fault.StartFault.TheVariants.{Journal, NoMemory};
 ghost use Rattle.recovery.specs.declared.start.Start.{Start};
 ghost use Rattle.recovery.specs.declared.newest.Newest.{Newest};
+ghost use Rattle.recovery.specs.Before.{IsStartedBefore, IsBeforeFault};
 ghost use Rattle.recovery.specs.Replay.{IsReplayed, begun, held_from};
 ghost use Rattle.recovery.specs.Rebased.{versions_in, rebased, changes_of};
 ghost use Rattle.recovery.specs.Start.{IsStarted, IsStartFault};
@@ -64,4 +65,16 @@ pub fn each_cut_is_a_replay()
     ensures accepted { (text : List ℕ) (head : Head) (synced later : List (List (List ℕ))) (zone : List Record) (updates : List Update) (n : ℕ) (fault : StartFault)
         → IsStore text head (synced ++ later) zone updates → IsStartFault text (take (length (journal_of head synced) + n) (journal_of head (synced ++ later))) fault
         → (fault ≡ NoMemory) ⊎ ((at : ℕ) × (fault ≡ Journal (Damaged at))) }
+{}
+
+/// In front of damage a start has what stands there. Of a journal that isn't damaged it is what a start has; damage is never told; and whatever octets stand behind
+/// a store's journal, all of the store's updates come first.
+pub fn damage_takes_nothing_in_front()
+    ensures same { (text octets : List ℕ) (start before : Start) → IsStarted text octets start → IsStartedBefore text octets before
+        → (start.newest.last ≡ before.newest.last) × (start.newest.older.items ≡ before.newest.older.items) × (start.number ≡ before.number) × (start.end ≡ before.end) }
+    ensures undamaged { (text octets : List ℕ) (at : ℕ) → IsBeforeFault text octets (Journal (Damaged at)) → ⊥ }
+    ensures taken { (text left : List ℕ) (head : Head) (batches : List (List (List ℕ))) (zone : List Record) (updates : List Update) (start : Start)
+        → IsStore text head batches zone updates → IsStartedBefore text (journal_of head batches ++ left) start
+        → (more : List Update) × EachChanges zone (updates ++ more) × (start.newest.last.zone ≡ replay zone (updates ++ more))
+        × (start.newest.last.number ≡ length (updates ++ more)) }
 {}
