@@ -3,6 +3,7 @@ pub mod AscendLemmas
 pub mod CutLemmas
 pub mod DifferLemmas
 pub mod EntryLemmas
+pub mod FrontLemmas
 pub mod GrammarLemmas
 pub mod KeyLemmas
 pub mod KeySumLemmas

@@ -22,7 +22,7 @@ part_behind : (front octets : List ℕ) → part_at (front ++ octets) (length fr
 part_behind front octets = ap part_of (drop-append_seam front octets)
 
 -- a label that is written is a part
-part_of-label : (own rest : List ℕ) → IsLabel own → part_of (length own ∷ own ++ rest) ≡ Ok (Label (length own))
+pub part_of-label : (own rest : List ℕ) → IsLabel own → part_of (length own ∷ own ++ rest) ≡ Ok (Label (length own))
 part_of-label own rest is =
     let both = length-append own rest in
     let some = is.some in

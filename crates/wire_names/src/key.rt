@@ -16,6 +16,9 @@ const KEY: usize = 4;
 /// An odd number, near 2 ^ 32 over the golden ratio: the high bits of what is multiplied by it depend on all of its bits.
 const SPREAD: u32 = 2_654_435_761;
 
+/// The key of a label of one octet, but for that octet: its length octet three times.
+const ONE_OCTET: u32 = 16_843_008;
+
 /// The key of the name in these octets: the sum of what each of its labels adds.
 pub(crate) fn key_of(octets: &[u8]) -> u32
     requires whole { IsWhole octets.now }
@@ -65,6 +68,9 @@ fn first_key(octets: &[u8]) -> u32
     requires whole { IsWhole octets.now }
     ensures { result ≡ first_key (labels_in octets.now) }
 {
+    if let [1, octet, ..] = octets {
+        return ONE_OCTET + u32::from(*octet);
+    }
     let len = octet_at(octets, 0) as usize;
     match four_up_to(octets, len) {
         Some(key) => key,

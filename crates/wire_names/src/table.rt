@@ -4,6 +4,7 @@ ghost use Rattle.std.specs.Bool.{OnTrue};
 ghost use Rattle.dns_name.specs.Labels.{labels_in, IsWhole};
 ghost use Rattle.wire_names.specs.Spells.{Spells};
 ghost use Rattle.wire_names.specs.Alike.{IsFirstAlike, AreLinks};
+ghost use Rattle.wire_names.specs.Known.{IsAhead};
 ghost use Rattle.wire_names.specs.Table.{IsTable, IsEarliest, Ascend, IsNowhere, IsNext, keys_of, name_key, table_of, position_in, enter, entered};
 ghost use Rattle.wire_names.specs.Written.{starts_of};
 
@@ -350,6 +351,11 @@ pub(crate) fn spells(msg: &[u8], at: usize, octets: &[u8]) -> bool
     let mut run = at;
     let mut place = at;
     loop {
+        if let Some((len, behind)) = same_label(msg, place, rest) {
+            rest = behind;
+            place += 1 + len;
+            continue;
+        }
         match part_at(msg, place) {
             Ok(Part::Closing) => return first_label(rest).is_none(),
             Ok(Part::Label(len)) => {
@@ -369,4 +375,38 @@ pub(crate) fn spells(msg: &[u8], at: usize, octets: &[u8]) -> bool
             _ => return false,
         }
     }
+}
+
+/// The length of the first label of the name in these octets, and the octets behind it, where the label is short, and its very octets stand at
+/// a position; None else, and where it isn't told at once.
+#[inline(always)]
+fn same_label<'a>(msg: &[u8], at: usize, octets: &'a [u8]) -> Option<(usize, &'a [u8])>
+    requires { IsWhole octets.now }
+    ensures { IfSome result (λ parts. IsAhead msg.now at parts.0 octets.now parts.1.now) }
+{
+    let there = msg.get(at..)?;
+    let (label, behind) = first_label(octets)?;
+    if begin_alike(octets, there, label.len()) {
+        Some((label.len(), behind))
+    } else {
+        None
+    }
+}
+
+/// Whether octets begin alike: with their first, and so many behind it. Where these are more than two, it isn't told.
+#[inline(always)]
+fn begin_alike(octets: &[u8], others: &[u8], len: usize) -> bool
+    ensures { OnTrue result ((take (1 + len) octets.now ≡ take (1 + len) others.now) × (len < length others.now)) }
+{
+    if len == 1 {
+        if let (Some(own), Some(same)) = (octets.first_chunk::<2>(), others.first_chunk::<2>()) {
+            return own == same;
+        }
+    }
+    if len == 2 {
+        if let (Some(own), Some(same)) = (octets.first_chunk::<3>(), others.first_chunk::<3>()) {
+            return own == same;
+        }
+    }
+    false
 }

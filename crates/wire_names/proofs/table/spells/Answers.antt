@@ -1,6 +1,6 @@
 use Rattle.std.proofs.Common.{Ok, ap, sym, ◌∙◌}
 use Rattle.wire_names.proofs.GrammarLemmas.{IsLabelAt-part}
-use Rattle.wire_names.proofs.TableLemmas.{answers_fault, answers_up, answers_closing, answers_end, answers_other, alike_pointer, alike_label}
+use Rattle.wire_names.proofs.TableLemmas.{answers_fault, answers_up, answers_closing, answers_end, answers_other, alike_pointer, alike_label, alike_ahead}
 use Rattle.wire_names.proofs.table.spells.Goals as goal
 
 pub returns-in-Ok-Closing : goal.returns-in-Ok-Closing
@@ -17,12 +17,12 @@ returns-in_default-first_label c =
 
 pub returns-then-differ : goal.returns-then-differ
 returns-then-differ c =
-    answers_other _ _ _ _ _ _ _ _ _ _ _ c.loop-len.invariant.alike (sym c.part_at.ensures ∙ c.in-Ok-Label.is ∙ ap Ok c.in-Ok-Label.field-0-is) c.in-Some.ensures.labels c.label_at.ensures c.differ.ensures c.if-differ.true
+    answers_other _ _ _ _ _ _ _ _ _ _ _ c.loop-len.invariant.alike (sym c.part_at.ensures ∙ c.in-Ok-Label.is ∙ ap Ok c.in-Ok-Label.field-0-is) c.in-Some-first_label.ensures.labels c.label_at.ensures c.differ.ensures c.if-differ.true
 
 pub loop-len-preserved-in-Label-1 : goal.loop-len-preserved-in-Label-1
 loop-len-preserved-in-Label-1 c = record {
-  alike = alike_label _ _ _ _ _ _ _ _ _ _ _ c.loop-len.invariant.alike (sym c.part_at.ensures ∙ c.in-Ok-Label.is ∙ ap Ok c.in-Ok-Label.field-0-is) c.in-Some.ensures.labels c.label_at.ensures c.differ.ensures c.if-differ.false;
-  whole = c.in-Some.ensures.whole;
+  alike = alike_label _ _ _ _ _ _ _ _ _ _ _ c.loop-len.invariant.alike (sym c.part_at.ensures ∙ c.in-Ok-Label.is ∙ ap Ok c.in-Ok-Label.field-0-is) c.in-Some-first_label.ensures.labels c.label_at.ensures c.differ.ensures c.if-differ.false;
+  whole = c.in-Some-first_label.ensures.whole;
 }
 
 pub loop-len-preserved : goal.loop-len-preserved
@@ -31,9 +31,15 @@ loop-len-preserved c = record {
   whole = c.loop-len.invariant.whole;
 }
 
-pub returns-in_default : goal.returns-in_default
-returns-in_default c =
+pub returns-in_default-part_at : goal.returns-in_default-part_at
+returns-in_default-part_at c =
     answers_up _ _ _ _ _ _ _ c.loop-len.invariant.alike (sym c.part_at.ensures ∙ c.in-Ok-Pointer.is ∙ ap Ok c.in-Ok-Pointer.field-0-is) c.if-target-run.false
 
-pub returns-in_default-2 : goal.returns-in_default-2
-returns-in_default-2 c = answers_fault _ _ _ _ _ _ _ c.loop-len.invariant.alike (sym c.part_at.ensures ∙ c.in_default.is)
+pub returns-in_default-part_at-2 : goal.returns-in_default-part_at-2
+returns-in_default-part_at-2 c = answers_fault _ _ _ _ _ _ _ c.loop-len.invariant.alike (sym c.part_at.ensures ∙ c.in_default-part_at.is)
+
+pub loop-len-preserved-in-Some : goal.loop-len-preserved-in-Some
+loop-len-preserved-in-Some c = record {
+  alike = alike_ahead _ _ _ _ _ _ _ _ c.loop-len.invariant.alike c.in-Some.ensures;
+  whole = c.in-Some.ensures.whole;
+}
