@@ -90,10 +90,10 @@ impl Positions {
         let Ok(Part::Label(len)) = part_at(msg, at) else {
             return spells(msg, at, octets);
         };
-        if self.is_told(&known.ruled_out, index + 1, at + 1 + len, behind.len()) {
+        if differ(label, label_at(msg, at, len)) {
             return false;
         }
-        if differ(label, label_at(msg, at, len)) {
+        if self.is_told(&known.ruled_out, index + 1, at + 1 + len, behind.len()) {
             return false;
         }
         self.spells_behind(msg, octets, behind, at, len, index, known)
