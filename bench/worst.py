@@ -501,6 +501,51 @@ def aliases():
     yield "16 aliases of names of 121 labels", deep_zone, ask(*labels, b"a"), ask(*labels, b"zz")
 
 
+def key_of(labels):
+    """The key by which a name, of these labels of a few octets above the apex, is sought in a message (crates/wire_names/specs/Table.antt)."""
+    key, octets = 0, name(*labels)
+    while octets[0]:
+        front, size = octets[: octets[0] + 1], len(octets) % 256
+        own = int.from_bytes((bytes([octets[0]] * 3) + front[1:])[-4:], "big")
+        key += own * ((size * 2 + 1) * 2_654_435_761 % 2**32) % 2**32 // 256 * 256 + octets[0]
+        octets = octets[len(front) :]
+    return key % 2**32
+
+
+def tops_of_one_key(count):
+    """So many names of four labels above the apex whose keys are equal."""
+    found = {}
+    for number in range(len(LETTERS) ** 4):
+        labels = tuple(bytes([octet]) for octet in numbered(number, 4))
+        tops = found.setdefault(key_of(labels), [])
+        tops.append(".".join(octet.decode() for octet in labels))
+        if len(tops) == count:
+            return tops
+    raise ValueError("too few names of one key")
+
+
+def parents_of(count, labels, apart, keys):
+    """So many parents of so many labels, which differ at the top, by labels whose keys are equal or not, or at the bottom."""
+    letters = LETTERS.decode()
+    if apart == "bottom":
+        return [".".join([letters[n], *"a" * (labels - 1)]) for n in range(count)]
+    tops = tops_of_one_key(count) if keys == "same" else [letters[n] for n in range(1, count + 1)]
+    return [".".join([*"a" * (labels - 1 - top.count(".")), top]) for top in tops]
+
+
+def names_in_turn(parents, turns, count):
+    """So many names, as text, whose parents come in turn."""
+    for number in range(count):
+        parent = parents[(ord(turns[number % len(turns)]) - ord("A")) % len(parents)]
+        yield f"{numbered(number, 3).decode()}.{parent}"
+
+
+def zone_in_turn(parents, turns, count):
+    """The text of records whose owners and mail exchanges have parents that come in turn."""
+    names = list(names_in_turn(parents, turns, count + 1))
+    return "".join(f"{names[n]} MX 1 {names[n + 1]}\n" for n in range(count))
+
+
 class Transfer:
     """A transfer from a server: its messages until as many octets have come as it has."""
 
@@ -655,6 +700,7 @@ def measure_transfers(program, rounds):
         ("names of 112 labels of octet 1, which differ in the first", "".join(f"{numbered(n, 3).decode()}.{escaped} A 10.0.0.1\n" for n in range(2000))),
         ("mail exchanges of 112 labels, which differ in the last but one, at one owner", "".join(f"m MX 1 {deep}.{numbered(n, 3).decode()}\n" for n in range(100))),
         ("names of 92 labels, of which the last but one differs in its first octets alone", "".join(f"{'a.' * 90}{numbered(n, 3).decode()}{'x' * 17} A 10.0.0.1\n" for n in range(2000))),
+        ("names that alternate between two parents of 100 labels", zone_in_turn(parents_of(2, 100, "top", "differ"), "AB", 2000)),
         ("names whose last labels end alike", "".join(f"{letters[n % 36]}{numbered(n, 3).decode()}{'x' * 40} A 10.0.0.1\n" for n in range(2000))),
     ):
         show(f"AXFR of {what}", run(zone, (), axfr_request(), end(1)))

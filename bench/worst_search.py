@@ -17,7 +17,7 @@ import time
 
 from worst import (
     ALL, APEX, CNAME, IN, LIMIT, MX, NONE, NS, NULL, QUERY, SOA, SRV, TXT, UPDATE, A, ANY, Message, Server, Transfer,
-    axfr_request, comb_owner, ixfr_request, label, name, next_message, numbered, pointer, small_zone,
+    axfr_request, comb_owner, ixfr_request, label, name, names_in_turn, next_message, numbered, parents_of, pointer, small_zone,
 )
 
 # how many times as dear as a plain one anything may be
@@ -55,6 +55,10 @@ def drawn_names(rng, kind):
         "target": rng.choice(["same", "other", "apex"]),
         "at": rng.choice([1, 1, 2, 16, 128]),
         "records": rng.choice([100, 500, 2000, 4000]),
+        "parents": rng.choice([0, 0, 2, 3]),
+        "turns": rng.choice(["AB", "AABB", "ABC"]),
+        "apart": rng.choice(["top", "bottom"]),
+        "keys": rng.choice(["differ", "same"]),
     }
 
 
@@ -221,6 +225,9 @@ def label_of(own, rng):
 
 def names_of(own, count):
     """So many names of the grammar below the apex, as text: they differ in a label of their own."""
+    if own["parents"]:
+        yield from names_in_turn(parents_of(own["parents"], 60 + own["labels"] % 51, own["apart"], own["keys"]), own["turns"], count)
+        return
     rng = random.Random(0)
     mark = max(own["own"], 3)
     labels = [label_of(own, rng) for _ in range(own["labels"])]
