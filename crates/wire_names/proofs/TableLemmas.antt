@@ -13,7 +13,6 @@ use Rattle.std.proofs.lemmas.Slice.Eq.{bytes_eq-Decides}
 use Rattle.dns_name.specs.Labels.{labels_in, IsWhole, IsFirstLabel}
 use Rattle.dns_name.specs.Name.{wire_of}
 use Rattle.dns_name.proofs.LabelLemmas.{wire_of-labels_in}
-use Rattle.wire_names.specs.Known.{IsAhead}
 use Rattle.wire_names.specs.Parts.{part_at, label_at}
 use Rattle.wire_names.specs.Spells.{Spells, closing, label, pointer}
 use Rattle.wire_names.specs.declared.part.NameReadFault.{NameReadFault}
@@ -129,13 +128,6 @@ alike_label msg at run place n name rest after l own b alike p e o t f =
           let tail : is.rest ≡ after = cc in
           (is.next, subst (λ (x : ℕ). Spells msg run x after is.next) (sym on) (subst (λ (x : List (List ℕ)). Spells msg run (place + 1 + n) x is.next) tail is.spells));
     }
-
--- the first label stands at the place
-pub alike_ahead : (msg : List ℕ) (at run place n : ℕ) (name : List (List ℕ)) (octets behind : List ℕ) → SpellsAlike msg at run place name (labels_in octets) → IsAhead msg place n octets behind → SpellsAlike msg at run (place + (1 + n)) name (labels_in behind)
-alike_ahead msg at run place n name octets behind alike ahead =
-    let own = label_at msg place n in
-    let same : bytes_eq own own ≡ true = (bytes_eq-Decides own own).1 refl in
-    alike_label msg at run place n name (labels_in octets) (labels_in behind) own own false alike ahead.part ahead.labels refl (ap not (sym same)) refl
 
 -- what is read at a position is the name there
 pub record ReadsAt (msg : List ℕ) (at : ℕ) : Type 0 where

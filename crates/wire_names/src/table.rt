@@ -1,10 +1,9 @@
 //! The names of a message that pointers can name.
-ghost use Rattle.std.specs.Prelude.{◌≡◌, ◌≢◌, ℕ, ◌+◌, ◌/◌, ◌%◌, ◌<◌, ◌≤◌, ◌^◌, ◌↔◌, ◌++◌, [], length, take, drop, All, IsTrue, IfSome, MatchOption, get_or};
+ghost use Rattle.std.specs.Prelude.{◌≡◌, ◌≢◌, ℕ, ◌+◌, ◌-◌, ◌/◌, ◌%◌, ◌<◌, ◌≤◌, ◌^◌, ◌↔◌, ◌++◌, [], length, take, drop, All, IsTrue, IfSome, MatchOption, get_or};
 ghost use Rattle.std.specs.Bool.{OnTrue};
 ghost use Rattle.dns_name.specs.Labels.{labels_in, IsWhole};
 ghost use Rattle.wire_names.specs.Spells.{Spells};
 ghost use Rattle.wire_names.specs.Alike.{IsFirstAlike, AreLinks};
-ghost use Rattle.wire_names.specs.Known.{IsAhead};
 ghost use Rattle.wire_names.specs.Table.{IsTable, IsEarliest, Ascend, IsNowhere, IsNext, keys_of, name_key, table_of, position_in, enter, entered};
 ghost use Rattle.wire_names.specs.Written.{starts_of};
 
@@ -351,11 +350,9 @@ pub(crate) fn spells(msg: &[u8], at: usize, octets: &[u8]) -> bool
     let mut run = at;
     let mut place = at;
     loop {
-        if let Some((len, behind)) = same_label(msg, place, rest) {
-            rest = behind;
-            place += 1 + len;
-            continue;
-        }
+        let others = behind_same(msg, place, rest);
+        place += rest.len() - others.len();
+        rest = others;
         match part_at(msg, place) {
             Ok(Part::Closing) => return first_label(rest).is_none(),
             Ok(Part::Label(len)) => {
@@ -377,20 +374,27 @@ pub(crate) fn spells(msg: &[u8], at: usize, octets: &[u8]) -> bool
     }
 }
 
-/// The length of the first label of the name in these octets, and the octets behind it, where the label is short, and its very octets stand at
-/// a position; None else, and where it isn't told at once.
+/// The octets behind the first labels of the name in these octets that stand at a position, one behind the other, as far as they are short.
 #[inline(always)]
-fn same_label<'a>(msg: &[u8], at: usize, octets: &'a [u8]) -> Option<(usize, &'a [u8])>
+fn behind_same<'a>(msg: &[u8], at: usize, octets: &'a [u8]) -> &'a [u8]
     requires { IsWhole octets.now }
-    ensures { IfSome result (λ parts. IsAhead msg.now at parts.0 octets.now parts.1.now) }
+    ensures whole { IsWhole result.now }
+    ensures few { length result.now ≤ length octets.now }
+    ensures within { length octets.now - length result.now ≤ length msg.now - at }
+    ensures same { (run : ℕ) → ((next : ℕ) × Spells msg.now run at (labels_in octets.now) next) ↔ ((next : ℕ) × Spells msg.now run (at + (length octets.now - length result.now)) (labels_in result.now) next) }
 {
-    let there = msg.get(at..)?;
-    let (label, behind) = first_label(octets)?;
-    if begin_alike(octets, there, label.len()) {
-        Some((label.len(), behind))
-    } else {
-        None
+    let Some(mut there) = msg.get(at..) else {
+        return octets;
+    };
+    let mut rest = octets;
+    while let Some((label, behind)) = first_label(rest) {
+        if !begin_alike(rest, there, label.len()) {
+            return rest;
+        }
+        there = &there[1 + label.len()..];
+        rest = behind;
     }
+    rest
 }
 
 /// Whether octets begin alike: with their first, and so many behind it. Where these are more than two, it isn't told.

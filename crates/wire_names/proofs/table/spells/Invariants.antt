@@ -9,6 +9,6 @@ invariant-loop-len l = record {
   whole : IsWhole l.rest;
 }
 
--- each label takes one, and each pointer goes down
+-- each label takes some octets, and each pointer goes down
 abbrev pub decreases-loop-len : goal.decreases-loop-len
-decreases-loop-len l = l.run + length (labels_in l.rest)
+decreases-loop-len l = l.run + length l.rest
