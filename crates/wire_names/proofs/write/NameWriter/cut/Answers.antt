@@ -2,4 +2,4 @@ use Rattle.wire_names.proofs.CutLemmas.{IsCut-whole}
 use Rattle.wire_names.proofs.write.NameWriter.cut.Goals as goal
 
 pub returns-else-compress : goal.returns-else-compress
-returns-else-compress c = IsCut-whole _ _ _ _ _ c.requires.whole c.if-compress.false
+returns-else-compress c = IsCut-whole _ _ _ _ c.requires.whole c.if-compress.false
