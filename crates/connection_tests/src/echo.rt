@@ -1,9 +1,8 @@
 //! One who gives each request back.
 ghost use Rattle.std.specs.Prelude.{◌≡◌, ◌∷◌, ◌++◌, [], List, if◌then◌else◌};
 
-use connections::{Answering, Messages, Reply};
+use connections::{Answering, Messages, Reply, Unmade};
 use serve_core::{Peer, Transport};
-use snapshot_cell::Spent;
 use std::net::SocketAddr;
 use std::sync::Wait;
 
@@ -32,10 +31,11 @@ impl Messages for Both {
     }
 }
 
-/// One who gives each request back; two messages for one of two octets, none for one of none, and [`Spent`] once there were so many.
+/// One who gives each request back; two messages for one of two octets, none for one of none, and [`Unmade::Spent`] once there were so many.
 #[derive(Drop)]
 pub(crate) struct Echo {
     peer: Peer,
+    asker: usize,
     left: u32,
 }
 
@@ -48,20 +48,26 @@ impl Echo {
                 may_transfer: false,
                 transport: Transport::Tcp,
             },
+            asker: 0,
             left,
         }
     }
 }
 
 impl Answering<Both> for Echo {
-    ghost seen = { λ _. record { published = []; buried = [] } };
+    ghost seen = { λ _ _. record { published = []; buried = [] } };
 
     ghost peer = { λ echo. echo.peer };
 
+    ghost asker = { λ echo. echo.asker };
+
     ghost is_reply = { λ _ _ _ _ _. Unit {0} };
 
-    fn turn_to(&mut self, other: Peer, _from: SocketAddr) {
+    ghost is_later = { λ _ _. ⊥ };
+
+    fn turn_to(&mut self, other: Peer, _from: SocketAddr, key: usize) {
         self.peer = other;
+        self.asker = key;
     }
 
     fn reply<R: Wait>(
@@ -69,9 +75,9 @@ impl Answering<Both> for Echo {
         _rt: &R,
         request: &[u8],
         out: &mut [u8],
-    ) -> Result<Reply<Both>, Spent> {
+    ) -> Result<Reply<Both>, Unmade> {
         if self.left == 0 {
-            return Err(Spent);
+            return Err(Unmade::Spent);
         }
         self.left -= 1;
         match request.len() {

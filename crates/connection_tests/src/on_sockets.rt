@@ -2,12 +2,11 @@
 ghost use Rattle.std.specs.Prelude.{[]};
 
 use crate::echo::Both;
-use crate::made_up::{may, plan};
-use connections::{Answering, Reply};
+use crate::made_up::{SECOND, may, plan};
+use connections::{Answering, Reply, Unmade};
 use mio::net::TcpListener;
 use ready_sockets::{TcpPeer, TcpPlace, Watch};
 use serve_core::{Peer, Transport};
-use snapshot_cell::Spent;
 use std::alloc::Global;
 use std::io::{self, ErrorKind, Read, Write};
 use std::net::{Net, Shutdown, SocketAddr, TcpListener as StdListener, TcpStream};
@@ -23,17 +22,23 @@ const LARGE: usize = 65_535;
 #[derive(Drop)]
 struct Large {
     peer: Peer,
+    asker: usize,
 }
 
 impl Answering<Both> for Large {
-    ghost seen = { λ _. record { published = []; buried = [] } };
+    ghost seen = { λ _ _. record { published = []; buried = [] } };
 
     ghost peer = { λ large. large.peer };
 
+    ghost asker = { λ large. large.asker };
+
     ghost is_reply = { λ _ _ _ _ _. Unit {0} };
 
-    fn turn_to(&mut self, other: Peer, _from: SocketAddr) {
+    ghost is_later = { λ _ _. ⊥ };
+
+    fn turn_to(&mut self, other: Peer, _from: SocketAddr, key: usize) {
         self.peer = other;
+        self.asker = key;
     }
 
     fn reply<R: Wait>(
@@ -41,7 +46,7 @@ impl Answering<Both> for Large {
         _rt: &R,
         request: &[u8],
         out: &mut [u8],
-    ) -> Result<Reply<Both>, Spent> {
+    ) -> Result<Reply<Both>, Unmade> {
         out[0] = request.first().copied().unwrap_or(0);
         Ok(Reply::One(LARGE))
     }
@@ -99,6 +104,7 @@ fn started<P: Drop>(alloc: Global, poll: P, place: TcpPlace) -> io::Result<Runni
         turns: Turns::new(alloc, 8, 1)?,
         large: Large {
             peer: Peer::over(Transport::Tcp, false),
+            asker: 0,
         },
         room: vec![in alloc; 0; 4_096]?,
         out: vec![in alloc; 0; 65_535]?,
@@ -271,4 +277,21 @@ fn sockets_are_served_where_memory_is_refused(rt: HostRuntime) {
     let first = is_answered(&rt, rt.alloc()).ok();
     let second = is_answered(&rt, rt.alloc()).ok();
     assert!(rt; first == Some(true) || second == Some(true));
+}
+
+#[test]
+fn a_waker_ends_a_wait_and_tells_no_key(rt: HostRuntime) -> Result<(), Fail> {
+    let alloc = rt.alloc();
+    let (mut watch, _place, _address) = watched(&rt, alloc)?;
+    let waker = watch.waker()?;
+    let mut keys = Vec::new(alloc);
+    let Ok(before) = Readiness::<TcpPeer>::wait(&mut watch, 0, &mut keys) else {
+        return Err("no wait")?;
+    };
+    waker.wake()?;
+    let Ok(now) = Readiness::<TcpPeer>::wait(&mut watch, 20 * SECOND, &mut keys) else {
+        return Err("no wait")?;
+    };
+    assert!(rt; keys.is_empty() && now.saturating_sub(before) < 10 * SECOND);
+    Ok(())
 }

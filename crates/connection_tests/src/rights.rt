@@ -3,11 +3,10 @@ ghost use Rattle.std.specs.Prelude.{[]};
 
 use crate::echo::Both;
 use crate::pieces::{Behind, Pieces};
-use connections::{Answering, Reply};
+use connections::{Answering, Reply, Unmade};
 use links::{Ends, Link, serve_ready};
 use serve_core::{Peer, Transport};
 use slab::Slab;
-use snapshot_cell::Spent;
 use std::alloc::{AllocError, Global};
 use std::net::{Ipv4Addr, SocketAddr, SocketAddrV4};
 use std::sync::Wait;
@@ -17,6 +16,7 @@ use std::test::Fail;
 #[derive(Drop)]
 pub(crate) struct Rights {
     peer: Peer,
+    asker: usize,
 }
 
 impl Rights {
@@ -24,19 +24,25 @@ impl Rights {
     pub(crate) fn new() -> Rights {
         Rights {
             peer: Peer::over(Transport::Udp, false),
+            asker: 0,
         }
     }
 }
 
 impl Answering<Both> for Rights {
-    ghost seen = { λ _. record { published = []; buried = [] } };
+    ghost seen = { λ _ _. record { published = []; buried = [] } };
 
     ghost peer = { λ rights. rights.peer };
 
+    ghost asker = { λ rights. rights.asker };
+
     ghost is_reply = { λ _ _ _ _ _. Unit {0} };
 
-    fn turn_to(&mut self, other: Peer, _from: SocketAddr) {
+    ghost is_later = { λ _ _. ⊥ };
+
+    fn turn_to(&mut self, other: Peer, _from: SocketAddr, key: usize) {
         self.peer = other;
+        self.asker = key;
     }
 
     fn reply<R: Wait>(
@@ -44,7 +50,7 @@ impl Answering<Both> for Rights {
         _rt: &R,
         _request: &[u8],
         out: &mut [u8],
-    ) -> Result<Reply<Both>, Spent> {
+    ) -> Result<Reply<Both>, Unmade> {
         out[0] = u8::from(self.peer.may_update);
         Ok(Reply::One(1))
     }

@@ -1,9 +1,9 @@
 -- What a connection keeps, beside what its device has (own).
-use Rattle.std.specs.Prelude.{◌≡◌, ℕ, ◌+◌, ◌%◌, ◌^◌, Bool, true, false, List, [], ◌∷◌, ◌++◌, take, Option, None, option_map}
+use Rattle.std.specs.Prelude.{◌≡◌, ℕ, ◌+◌, ◌%◌, ◌^◌, Bool, true, false, List, [], ◌∷◌, ◌++◌, take, Option, None, Some, option_map}
 use Rattle.dns_message.specs.Frame.{frame_in}
 use Rattle.conversation.specs.Octets.{frames_of}
 use Rattle.connections.specs.declared.awaited.Awaited.{Awaited}
-use Rattle.connections.specs.declared.awaited.Awaited.TheVariants.{Request, Rest, Taking}
+use Rattle.connections.specs.declared.awaited.Awaited.TheVariants.{Request, Rest, Answer, Taking}
 use Rattle.connections.specs.declared.answering.Reply.{Reply}
 use Rattle.connections.specs.declared.answering.Reply.TheVariants.{Silent, One, Many}
 
@@ -30,11 +30,16 @@ abbrev pub passed_behind : List ℕ → ℕ → ℕ
 passed_behind [] passed = one_passed passed
 passed_behind (octet ∷ octets) passed = passed
 
+-- what a connection waits for that holds something, by the frame in front, if that is whole
+abbrev pub awaited_in : Option (List ℕ × List ℕ) → Awaited
+awaited_in None = Rest
+awaited_in (Some frame) = Answer
+
 -- what a connection waits for, by whether messages are being made, what is ready to be written, and what is held
 abbrev pub awaited_by : Bool → List ℕ → List ℕ → Awaited
 awaited_by true ready held = Taking
 awaited_by false (octet ∷ ready) held = Taking
-awaited_by false [] (octet ∷ held) = Rest
+awaited_by false [] (octet ∷ held) = awaited_in (frame_in (octet ∷ held))
 awaited_by false [] [] = Request
 
 abbrev pub awaited : Kept → Awaited

@@ -1,13 +1,13 @@
 //! A connection's requests and replies, with no device.
-ghost use Rattle.std.specs.Prelude.{◌≡◌, ◌≢◌, ℕ, ◌+◌, ◌≤◌, [], ◌∷◌, ◌++◌, length, take, drop, true, false, IsTrue, None, IfSome, IfOk, OnOk, OnErr, if◌then◌else◌};
+ghost use Rattle.std.specs.Prelude.{◌≡◌, ◌≢◌, ℕ, ◌+◌, ◌≤◌, [], ◌∷◌, ◌++◌, length, take, drop, true, false, IsTrue, None, IfSome, IfOk, IfErr, OnOk, OnErr, if◌then◌else◌};
 ghost use Rattle.dns_message.specs.Frame.{frame_of};
 ghost use Rattle.dns_message.specs.Message.{message_limit};
 ghost use Rattle.conversation.specs.Octets.{frames_of};
-ghost use Rattle.conversation.specs.Served.{Grows};
 ghost use Rattle.conversation.specs.Turns.{Turn};
+ghost use Rattle.connections.specs.Asked.{EachGrows, Waits};
 ghost use Rattle.connections.specs.Kept.{nothing_kept, due, IsWaiting, awaited, messages_of, one_passed, passed_behind};
 
-use crate::answering::{Answering, Messages, Reply};
+use crate::answering::{Answering, Messages, Reply, Unmade};
 use crate::awaited::Awaited;
 use crate::queue::{LENGTH, Queue};
 use conversation::Gate;
@@ -22,6 +22,8 @@ const MOST_DUE: usize = 16_384;
 /// Why a request isn't answered.
 #[derive(Clone, Copy)]
 pub enum Broken {
+    /// Its reply is made later.
+    Later,
     /// No version could be loaded.
     Spent,
     /// No memory was to be had for its reply.
@@ -102,8 +104,8 @@ impl<M: Messages> Conversation<M> {
         self.rest.is_none() && self.ready.is_empty() && take_frame(self.held.as_slice()).is_none()
     }
 
-    /// What it waits for from its peer.
-    #[tactic(auto, using(crate::proofs::PassLemmas::taking_making, crate::proofs::PassLemmas::taking_ready, crate::proofs::PassLemmas::rest_held, crate::proofs::PassLemmas::request_idle))]
+    /// What it waits for.
+    #[tactic(auto, using(crate::proofs::PassLemmas::taking_making, crate::proofs::PassLemmas::taking_ready, crate::proofs::PassLemmas::answer_held, crate::proofs::PassLemmas::rest_held, crate::proofs::PassLemmas::request_idle))]
     pub fn awaits(&self) -> Awaited
         ensures { result ≡ awaited self.now }
     {
@@ -113,10 +115,13 @@ impl<M: Messages> Conversation<M> {
         if !self.ready.is_empty() {
             return Awaited::Taking;
         }
-        if !self.held.is_empty() {
-            return Awaited::Rest;
+        if self.held.is_empty() {
+            return Awaited::Request;
         }
-        Awaited::Request
+        if take_frame(self.held.as_slice()).is_some() {
+            return Awaited::Answer;
+        }
+        Awaited::Rest
     }
 
     /// Whether octets are held.
@@ -157,7 +162,8 @@ impl<M: Messages> Conversation<M> {
     }
 
     /// Answers the first request that is held in whole, and puts the reply behind what is to be written. It goes through the gate, which is
-    /// left once the reply is made. False, and all as it was, where none is, or so much is to be written that this goes first.
+    /// left once the reply is made, or told to be made later. False where none is held, or so much is to be written that this goes first. There, and
+    /// where the request isn't answered, all is as it was.
     pub fn answer<R: Wait, A: Answering<M>, G: Gate>(
         &mut self,
         rt: &R,
@@ -167,11 +173,13 @@ impl<M: Messages> Conversation<M> {
     ) -> Result<bool, Broken>
         requires { message_limit ≤ length out.old }
         ensures peer { A.peer answering.new ≡ A.peer answering.old }
-        ensures grows { Grows (A.seen answering.new) (A.seen answering.old) }
-        ensures turn { IfOk result (λ is_made. is_made ≡ true → Turn (A.is_reply (A.peer answering.old)) (A.seen answering.old) (self.old.held, due self.old) (A.seen answering.new) (self.new.held, due self.new)) }
+        ensures asker { A.asker answering.new ≡ A.asker answering.old }
+        ensures grows { EachGrows (A.seen answering.new) (A.seen answering.old) }
+        ensures turn { IfOk result (λ is_made. is_made ≡ true → Turn (A.is_reply (A.peer answering.old)) (A.seen answering.old (A.asker answering.old)) (self.old.held, due self.old) (A.seen answering.new (A.asker answering.old)) (self.new.held, due self.new)) }
         ensures passed { IfOk result (λ is_made. is_made ≡ true → self.new.passed ≡ one_passed self.old.passed) }
         ensures none { IfOk result (λ is_made. is_made ≡ false → self.new ≡ self.old) }
         ensures broken { OnErr result (self.new ≡ self.old) }
+        ensures later { IfErr result (λ broken. broken ≡ Broken.Later → Waits (A.is_later (A.peer answering.old)) self.old.held) }
     {
         if self.is_full() {
             return Ok(false);
@@ -185,7 +193,8 @@ impl<M: Messages> Conversation<M> {
         gate.leave();
         let reply = match made {
             Ok(reply) => reply,
-            Err(_) => return Err(Broken::Spent),
+            Err(Unmade::Spent) => return Err(Broken::Spent),
+            Err(Unmade::Later) => return Err(Broken::Later),
         };
         match self.queue(reply, out) {
             Ok(()) => {}

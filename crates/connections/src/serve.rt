@@ -1,11 +1,12 @@
 //! Octets between a stream and its conversation, by shares.
-ghost use Rattle.std.specs.Prelude.{◌≡◌, ◌↔◌, ◌<◌, ◌≤◌, [], length, IsTrue, IfErr, OnOk};
+ghost use Rattle.std.specs.Prelude.{◌≡◌, ◌↔◌, ◌⊎◌, ◌<◌, ◌≤◌, [], length, IsTrue, IfErr, OnOk};
 ghost use Rattle.dns_message.specs.Message.{message_limit};
-ghost use Rattle.conversation.specs.Served.{Grows};
+ghost use Rattle.connections.specs.Asked.{EachGrows, Waits};
 ghost use Rattle.connections.specs.Kept.{IsWaiting, told_by};
 ghost use Rattle.connections.specs.Told.{Stays, Writes, EndsTold, IsCounted, EndCounted};
 ghost use Rattle.connections.specs.Going.{Keeps, Goes, Stops};
 ghost use Rattle.connections.specs.declared.blocking.Fault.{Fault as FaultOf};
+ghost use Rattle.connections.specs.declared.machine.Broken.{Broken as WhyBroken};
 
 use crate::answering::{Answering, Messages};
 use crate::blocking::{Blocking, Fault};
@@ -29,21 +30,32 @@ pub enum Flow {
     More,
     /// The stream would block.
     Blocked,
-    /// Nothing is to be written.
-    Done,
+    /// The first request that is held is answered later, and nothing else can be done before.
+    Waits,
 }
 
 impl Flow {
-    /// Whether the stream would block.
-    pub fn is_blocked(self) -> bool
-        ensures { IsTrue result ↔ (self ≡ Flow.Blocked) }
+    /// Whether it couldn't go on: the stream would block, or a request waits for its reply.
+    pub fn has_stopped(self) -> bool
+        ensures { IsTrue result ↔ ((self ≡ Flow.Blocked) ⊎ (self ≡ Flow.Waits)) }
     {
         match self {
             Flow::Blocked => true,
+            Flow::Waits => true,
             Flow::More => false,
-            Flow::Done => false,
         }
     }
+}
+
+/// How some writing has gone.
+#[derive(Clone, Copy)]
+enum Written {
+    /// It could go on.
+    More,
+    /// The stream would block.
+    Blocked,
+    /// Nothing is to be written.
+    Done,
 }
 
 /// Answers requests that are held in whole, in their order, so many at most.
@@ -56,8 +68,10 @@ fn answer_some<R: Wait, M: Messages, A: Answering<M>, G: Gate>(
 ) -> Result<(), Broken>
     requires { message_limit ≤ length out.old }
     ensures peer { A.peer answering.new ≡ A.peer answering.old }
-    ensures grows { Grows (A.seen answering.new) (A.seen answering.old) }
-    ensures keeps { Keeps (A.is_reply (A.peer answering.old)) (A.seen answering.old) conversation.old (A.seen answering.new) conversation.new }
+    ensures asker { A.asker answering.new ≡ A.asker answering.old }
+    ensures grows { EachGrows (A.seen answering.new) (A.seen answering.old) }
+    ensures keeps { Keeps (A.is_reply (A.peer answering.old)) (A.seen answering.old (A.asker answering.old)) conversation.old (A.seen answering.new (A.asker answering.old)) conversation.new }
+    ensures later { IfErr result (λ broken. broken ≡ WhyBroken.Later → Waits (A.is_later (A.peer answering.old)) conversation.new.held) }
 {
     for _answered in 0..REQUESTS {
         match conversation.answer(rt, answering, gate, out) {
@@ -79,6 +93,7 @@ fn write_ready<M: Messages, S: Blocking>(
 ) -> Result<(), Fault>
     requires { 0 < length conversation.old.ready }
     ensures stays { Stays (told_by conversation.old (S.octets stream.old)) (told_by conversation.new (S.octets stream.new)) }
+    ensures held { conversation.new.held ≡ conversation.old.held }
     ensures written { Writes (S.octets stream.old) (S.octets stream.new) }
     ensures same { OnOk result (S.faults stream.new ≡ S.faults stream.old) }
     ensures counted { IfErr result (λ fault. IsCounted fault (S.faults stream.old) (S.faults stream.new)) }
@@ -98,27 +113,28 @@ fn write_some<M: Messages, S: Blocking>(
     conversation: &mut Conversation<M>,
     stream: &mut S,
     out: &mut [u8],
-) -> Result<Flow, StreamEnd>
+) -> Result<Written, StreamEnd>
     requires { message_limit ≤ length out.old }
     ensures stays { OnOk result (Stays (told_by conversation.old (S.octets stream.old)) (told_by conversation.new (S.octets stream.new))) }
-    ensures ready { result ≡ Ok Flow.Done → conversation.new.ready ≡ [] }
-    ensures later { result ≡ Ok Flow.Done → conversation.new.later ≡ [] }
+    ensures held { OnOk result (conversation.new.held ≡ conversation.old.held) }
+    ensures ready { result ≡ Ok Written.Done → conversation.new.ready ≡ [] }
+    ensures later { result ≡ Ok Written.Done → conversation.new.later ≡ [] }
     ensures ends { IfErr result (λ end. EndsTold end (told_by conversation.old (S.octets stream.old)) (S.octets stream.new)) }
     ensures written { Writes (S.octets stream.old) (S.octets stream.new) }
     ensures same { OnOk result (S.faults stream.new ≡ S.faults stream.old) }
     ensures counted { IfErr result (λ end. EndCounted end (S.faults stream.old) (S.faults stream.new)) }
-    ensures blocked { result ≡ Ok Flow.Blocked → S.would_block stream.new }
+    ensures blocked { result ≡ Ok Written.Blocked → S.would_block stream.new }
 {
     match conversation.refill(out) {
         Ok(()) => {}
         Err(_) => return Err(StreamEnd::NoMemory),
     }
     if conversation.ready().is_empty() {
-        return Ok(Flow::Done);
+        return Ok(Written::Done);
     }
     match write_ready(conversation, stream) {
-        Ok(()) => Ok(Flow::More),
-        Err(Fault::Blocked) => Ok(Flow::Blocked),
+        Ok(()) => Ok(Written::More),
+        Err(Fault::Blocked) => Ok(Written::Blocked),
         Err(Fault::Failed) => Err(StreamEnd::Device),
     }
 }
@@ -128,26 +144,27 @@ fn flush<M: Messages, S: Blocking>(
     conversation: &mut Conversation<M>,
     stream: &mut S,
     out: &mut [u8],
-) -> Result<Flow, StreamEnd>
+) -> Result<Written, StreamEnd>
     requires { message_limit ≤ length out.old }
     ensures stays { OnOk result (Stays (told_by conversation.old (S.octets stream.old)) (told_by conversation.new (S.octets stream.new))) }
-    ensures ready { result ≡ Ok Flow.Done → conversation.new.ready ≡ [] }
-    ensures later { result ≡ Ok Flow.Done → conversation.new.later ≡ [] }
+    ensures held { OnOk result (conversation.new.held ≡ conversation.old.held) }
+    ensures ready { result ≡ Ok Written.Done → conversation.new.ready ≡ [] }
+    ensures later { result ≡ Ok Written.Done → conversation.new.later ≡ [] }
     ensures ends { IfErr result (λ end. EndsTold end (told_by conversation.old (S.octets stream.old)) (S.octets stream.new)) }
     ensures written { Writes (S.octets stream.old) (S.octets stream.new) }
     ensures same { OnOk result (S.faults stream.new ≡ S.faults stream.old) }
     ensures counted { IfErr result (λ end. EndCounted end (S.faults stream.old) (S.faults stream.new)) }
-    ensures blocked { result ≡ Ok Flow.Blocked → S.would_block stream.new }
+    ensures blocked { result ≡ Ok Written.Blocked → S.would_block stream.new }
 {
     for _written in 0..WRITES {
         match write_some(conversation, stream, out) {
-            Ok(Flow::More) => {}
-            Ok(Flow::Blocked) => return Ok(Flow::Blocked),
-            Ok(Flow::Done) => return Ok(Flow::Done),
+            Ok(Written::More) => {}
+            Ok(Written::Blocked) => return Ok(Written::Blocked),
+            Ok(Written::Done) => return Ok(Written::Done),
             Err(end) => return Err(end),
         }
     }
-    Ok(Flow::More)
+    Ok(Written::More)
 }
 
 /// Reads some octets, and holds them. The stream ends in front of a frame or inside one.
@@ -163,6 +180,7 @@ fn read_some<M: Messages, S: Blocking>(
     ensures written { Writes (S.octets stream.old) (S.octets stream.new) }
     ensures same { OnOk result (S.faults stream.new ≡ S.faults stream.old) }
     ensures counted { IfErr result (λ end. EndCounted end (S.faults stream.old) (S.faults stream.new)) }
+    ensures going { result ≡ Ok Flow.Waits → ⊥ }
     ensures blocked { result ≡ Ok Flow.Blocked → S.would_block stream.new }
 {
     let count = match stream.read(room) {
@@ -182,7 +200,63 @@ fn read_some<M: Messages, S: Blocking>(
     }
 }
 
-/// Answers requests that are held, writes what is to be written, and reads once, where nothing is left to be written.
+/// Writes what is to be written, and reads once where nothing is left of it.
+fn write_and_read<M: Messages, S: Blocking>(
+    conversation: &mut Conversation<M>,
+    stream: &mut S,
+    room: &mut [u8],
+    out: &mut [u8],
+) -> Result<Flow, StreamEnd>
+    requires room { 0 < length room.old }
+    requires out { message_limit ≤ length out.old }
+    ensures stays { OnOk result (Stays (told_by conversation.old (S.octets stream.old)) (told_by conversation.new (S.octets stream.new))) }
+    ensures ends { IfErr result (λ end. EndsTold end (told_by conversation.old (S.octets stream.old)) (S.octets stream.new)) }
+    ensures written { Writes (S.octets stream.old) (S.octets stream.new) }
+    ensures same { OnOk result (S.faults stream.new ≡ S.faults stream.old) }
+    ensures counted { IfErr result (λ end. EndCounted end (S.faults stream.old) (S.faults stream.new)) }
+    ensures going { result ≡ Ok Flow.Waits → ⊥ }
+    ensures blocked { result ≡ Ok Flow.Blocked → S.would_block stream.new }
+{
+    match flush(conversation, stream, out) {
+        Ok(Written::Done) => {}
+        Ok(Written::More) => return Ok(Flow::More),
+        Ok(Written::Blocked) => return Ok(Flow::Blocked),
+        Err(end) => return Err(end),
+    }
+    if !conversation.wants() {
+        return Ok(Flow::More);
+    }
+    match read_some(conversation, stream, room) {
+        Ok(flow) => return Ok(flow),
+        Err(end) => return Err(end),
+    }
+}
+
+/// Writes what is to be written, and nothing else, while a request waits for its reply.
+fn write_and_wait<M: Messages, S: Blocking>(
+    conversation: &mut Conversation<M>,
+    stream: &mut S,
+    out: &mut [u8],
+) -> Result<Flow, StreamEnd>
+    requires { message_limit ≤ length out.old }
+    ensures stays { OnOk result (Stays (told_by conversation.old (S.octets stream.old)) (told_by conversation.new (S.octets stream.new))) }
+    ensures held { OnOk result (conversation.new.held ≡ conversation.old.held) }
+    ensures ends { IfErr result (λ end. EndsTold end (told_by conversation.old (S.octets stream.old)) (S.octets stream.new)) }
+    ensures written { Writes (S.octets stream.old) (S.octets stream.new) }
+    ensures same { OnOk result (S.faults stream.new ≡ S.faults stream.old) }
+    ensures counted { IfErr result (λ end. EndCounted end (S.faults stream.old) (S.faults stream.new)) }
+    ensures blocked { result ≡ Ok Flow.Blocked → S.would_block stream.new }
+{
+    match flush(conversation, stream, out) {
+        Ok(Written::Done) => Ok(Flow::Waits),
+        Ok(Written::More) => Ok(Flow::More),
+        Ok(Written::Blocked) => Ok(Flow::Blocked),
+        Err(end) => Err(end),
+    }
+}
+
+/// Answers requests that are held, writes what is to be written, and reads once, where nothing is left to be written and no request waits for
+/// its reply.
 fn turn<R: Wait, M: Messages, A: Answering<M>, S: Blocking, G: Gate>(
     rt: &R,
     answering: &mut A,
@@ -195,38 +269,34 @@ fn turn<R: Wait, M: Messages, A: Answering<M>, S: Blocking, G: Gate>(
     requires room { 0 < length room.old }
     requires out { message_limit ≤ length out.old }
     ensures peer { A.peer answering.new ≡ A.peer answering.old }
-    ensures grows { Grows (A.seen answering.new) (A.seen answering.old) }
-    ensures goes { OnOk result (Goes (A.is_reply (A.peer answering.old)) (A.seen answering.old) (told_by conversation.old (S.octets stream.old)) (A.seen answering.new) (told_by conversation.new (S.octets stream.new))) }
-    ensures stops { IfErr result (λ end. Stops (A.is_reply (A.peer answering.old)) end (A.seen answering.old) (told_by conversation.old (S.octets stream.old)) (A.seen answering.new) (S.octets stream.new)) }
+    ensures asker { A.asker answering.new ≡ A.asker answering.old }
+    ensures grows { EachGrows (A.seen answering.new) (A.seen answering.old) }
+    ensures goes { OnOk result (Goes (A.is_reply (A.peer answering.old)) (A.seen answering.old (A.asker answering.old)) (told_by conversation.old (S.octets stream.old)) (A.seen answering.new (A.asker answering.old)) (told_by conversation.new (S.octets stream.new))) }
+    ensures stops { IfErr result (λ end. Stops (A.is_reply (A.peer answering.old)) end (A.seen answering.old (A.asker answering.old)) (told_by conversation.old (S.octets stream.old)) (A.seen answering.new (A.asker answering.old)) (S.octets stream.new)) }
     ensures written { Writes (S.octets stream.old) (S.octets stream.new) }
     ensures same { OnOk result (S.faults stream.new ≡ S.faults stream.old) }
     ensures counted { IfErr result (λ end. EndCounted end (S.faults stream.old) (S.faults stream.new)) }
     ensures blocked { result ≡ Ok Flow.Blocked → S.would_block stream.new }
+    ensures waits { result ≡ Ok Flow.Waits → Waits (A.is_later (A.peer answering.old)) conversation.new.held }
 {
     match answer_some(rt, answering, conversation, gate, out) {
-        Ok(()) => {}
-        Err(Broken::Spent) => return Err(StreamEnd::Spent),
-        Err(Broken::NoMemory) => return Err(StreamEnd::NoMemory),
-    }
-    match flush(conversation, stream, out) {
-        Ok(Flow::Done) => {}
-        Ok(Flow::More) => return Ok(Flow::More),
-        Ok(Flow::Blocked) => return Ok(Flow::Blocked),
-        Err(end) => return Err(end),
-    }
-    if !conversation.wants() {
-        return Ok(Flow::More);
-    }
-    match read_some(conversation, stream, room) {
-        Ok(flow) => return Ok(flow),
-        Err(end) => return Err(end),
+        Ok(()) => match write_and_read(conversation, stream, room, out) {
+            Ok(flow) => Ok(flow),
+            Err(end) => Err(end),
+        },
+        Err(Broken::Later) => match write_and_wait(conversation, stream, out) {
+            Ok(flow) => Ok(flow),
+            Err(end) => Err(end),
+        },
+        Err(Broken::Spent) => Err(StreamEnd::Spent),
+        Err(Broken::NoMemory) => Err(StreamEnd::NoMemory),
     }
 }
 
 /// Serves a connection by a share: some turns of its conversation with its stream. Over a stream that tells its octets, what is written and
 /// what is to be is the frames of the replies to the requests that are read, in their order, each by what was known then to be published;
 /// where the stream ends by itself, all of it is written, else a beginning of it (RFC 1035, 4.2.2; RFC 7766, 6.2.1.1). Each request goes
-/// through the gate, which is left once its reply is made.
+/// through the gate, which is left once its reply is made. Where that is made later, those behind it wait, and nothing more is read.
 pub fn serve_some<R: Wait, M: Messages, A: Answering<M>, S: Blocking, G: Gate>(
     rt: &R,
     answering: &mut A,
@@ -239,18 +309,20 @@ pub fn serve_some<R: Wait, M: Messages, A: Answering<M>, S: Blocking, G: Gate>(
     requires room { 0 < length room.old }
     requires out { message_limit ≤ length out.old }
     ensures peer { A.peer answering.new ≡ A.peer answering.old }
-    ensures grows { Grows (A.seen answering.new) (A.seen answering.old) }
-    ensures goes { OnOk result (Goes (A.is_reply (A.peer answering.old)) (A.seen answering.old) (told_by conversation.old (S.octets stream.old)) (A.seen answering.new) (told_by conversation.new (S.octets stream.new))) }
-    ensures stops { IfErr result (λ end. Stops (A.is_reply (A.peer answering.old)) end (A.seen answering.old) (told_by conversation.old (S.octets stream.old)) (A.seen answering.new) (S.octets stream.new)) }
+    ensures asker { A.asker answering.new ≡ A.asker answering.old }
+    ensures grows { EachGrows (A.seen answering.new) (A.seen answering.old) }
+    ensures goes { OnOk result (Goes (A.is_reply (A.peer answering.old)) (A.seen answering.old (A.asker answering.old)) (told_by conversation.old (S.octets stream.old)) (A.seen answering.new (A.asker answering.old)) (told_by conversation.new (S.octets stream.new))) }
+    ensures stops { IfErr result (λ end. Stops (A.is_reply (A.peer answering.old)) end (A.seen answering.old (A.asker answering.old)) (told_by conversation.old (S.octets stream.old)) (A.seen answering.new (A.asker answering.old)) (S.octets stream.new)) }
     ensures written { Writes (S.octets stream.old) (S.octets stream.new) }
     ensures same { OnOk result (S.faults stream.new ≡ S.faults stream.old) }
     ensures counted { IfErr result (λ end. EndCounted end (S.faults stream.old) (S.faults stream.new)) }
     ensures blocked { result ≡ Ok Flow.Blocked → S.would_block stream.new }
+    ensures waits { result ≡ Ok Flow.Waits → Waits (A.is_later (A.peer answering.old)) conversation.new.held }
 {
     for _turned in 0..TURNS {
         match turn(rt, answering, conversation, stream, gate, room, out) {
             Ok(flow) => {
-                if flow.is_blocked() {
+                if flow.has_stopped() {
                     return Ok(flow);
                 }
             }

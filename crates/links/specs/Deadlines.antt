@@ -1,21 +1,28 @@
 -- When a connection is over (RFC 7766, 6.2.3; own). Times are nanoseconds of one clock.
-use Rattle.std.specs.Prelude.{◌≡◌, ℕ, ◌-◌, ◌<◌, ◌≤◌, ◌⊎◌, Bool, nat_le, ◌==◌, Option, None, Some, if◌then◌else◌}
+use Rattle.std.specs.Prelude.{◌≡◌, ℕ, ◌-◌, ◌<◌, ◌≤◌, ◌⊎◌, Bool, false, nat_le, ◌==◌, Option, None, Some, if◌then◌else◌}
 use Rattle.connections.specs.Kept.{Kept, awaited}
 use Rattle.connections.specs.declared.awaited.Awaited.{Awaited}
-use Rattle.connections.specs.declared.awaited.Awaited.TheVariants.{Request, Rest, Taking}
+use Rattle.connections.specs.declared.awaited.Awaited.TheVariants.{Request, Rest, Answer, Taking}
 use Rattle.links.specs.declared.limits.Limits.{Limits}
 use Rattle.links.specs.declared.link.Link.{Link}
 
--- how long a peer may take: to ask again, to bring a request whole that is begun, to take what is written to it
-abbrev pub patience : Limits → Awaited → ℕ
-patience limits Request = limits.idle
-patience limits Rest = limits.message
-patience limits Taking = limits.reply
+-- how long a peer may take: to ask again, to bring a request whole that is begun, to take what is written to it; there is no limit where it waits
+-- itself, for the reply to a request that it has brought whole
+abbrev pub patience : Limits → Awaited → Option ℕ
+patience limits Request = Some limits.idle
+patience limits Rest = Some limits.message
+patience limits Answer = None
+patience limits Taking = Some limits.reply
+
+-- whether one has taken as long as it may, if there is a limit
+abbrev pub is_late : Option ℕ → ℕ → Bool
+is_late None taken = false
+is_late (Some most) taken = nat_le most taken
 
 -- whether a connection is over at a time, of which something was brought to its end last at another: what it waits for since then has
 -- taken as long as it may
 abbrev pub is_over : Limits → ℕ → ℕ → Kept → Bool
-is_over limits now begun kept = nat_le (patience limits (awaited kept)) (now - begun)
+is_over limits now begun kept = is_late (patience limits (awaited kept)) (now - begun)
 
 -- since when what a connection waits for is waited for, behind a share of its work at a time: since then where its peer has brought something
 -- to its end, be that by a request or by the taking of a reply, and else as before; octets alone change nothing
@@ -30,6 +37,7 @@ IsBegun now passed begun more later = (later ≡ now) ⊎ ((more ≡ passed) × 
 abbrev pub idle_by : Awaited → ℕ → Option ℕ
 idle_by Request begun = Some begun
 idle_by Rest begun = None
+idle_by Answer begun = None
 idle_by Taking begun = None
 
 module _ {S M : Type 0} where

@@ -1,9 +1,9 @@
 -- How connections have ended, counted (own).
-use Rattle.std.specs.Prelude.{◌≡◌, ℕ, ◌+◌, ◌-◌, ◌^◌, min}
+use Rattle.std.specs.Prelude.{◌≡◌, ◌≢◌, ℕ, ◌+◌, ◌-◌, ◌^◌, min}
 use Rattle.conversation.specs.declared.stream_end.StreamEnd.{StreamEnd}
 use Rattle.conversation.specs.declared.stream_end.StreamEnd.TheVariants.{Clean, Torn, Device, Spent, NoMemory}
 use Rattle.connections.specs.declared.awaited.Awaited.{Awaited}
-use Rattle.connections.specs.declared.awaited.Awaited.TheVariants.{Request, Rest, Taking}
+use Rattle.connections.specs.declared.awaited.Awaited.TheVariants.{Request, Rest, Answer, Taking}
 use Rattle.links.specs.declared.ends.Ends.{Ends}
 
 -- a count with one more, up to 2^64 - 1
@@ -18,10 +18,11 @@ one_more Device ends = record ends { device = one_up ends.device }
 one_more Spent ends = record ends { spent = one_up ends.spent }
 one_more NoMemory ends = record ends { no_memory = one_up ends.no_memory }
 
--- one more is over, by what it waited for
+-- one more is over, by what it waited for: never is one that waits for the answering of a request
 abbrev pub one_late : Awaited → Ends → Ends
 one_late Request ends = record ends { idle = one_up ends.idle }
 one_late Rest ends = record ends { message = one_up ends.message }
+one_late Answer ends = ends
 one_late Taking ends = record ends { reply = one_up ends.reply }
 
 -- how many are over in all, up to 2^64 - 1
@@ -36,7 +37,7 @@ all_of ends = min (ends.clean + ends.torn + ends.device + ends.spent + ends.no_m
 pub data Counts (old : Ends) : ℕ → Ends → Type 0 where
   none : Counts old 0 old
   one : {number more : ℕ} {ends new : Ends} (end : StreamEnd) → Counts old number ends → more ≡ number + 1 → new ≡ one_more end ends → Counts old more new
-  late : {number more : ℕ} {ends new : Ends} (awaited : Awaited) → Counts old number ends → more ≡ number + 1 → new ≡ one_late awaited ends → Counts old more new
+  late : {number more : ℕ} {ends new : Ends} (awaited : Awaited) → awaited ≢ Answer → Counts old number ends → more ≡ number + 1 → new ≡ one_late awaited ends → Counts old more new
 
 -- as many are counted as there were connections more before
 abbrev pub AreCounted : Ends → Ends → ℕ → ℕ → Type 0

@@ -1,8 +1,9 @@
 -- What becomes of each connection of a worker (own).
-use Rattle.std.specs.Prelude.{◌≡◌, ℕ, List, Option, None, Some, IfSome, ⊤, if◌then◌else◌}
+use Rattle.std.specs.Prelude.{◌≡◌, ◌⊎◌, ℕ, List, Option, None, Some, IfSome, ⊤, if◌then◌else◌}
 use Rattle.serve_core.specs.declared.peer.Peer.{Peer}
 use Rattle.conversation.specs.Served.{Learned, Grows}
 use Rattle.conversation.specs.declared.stream_end.StreamEnd.{StreamEnd}
+use Rattle.connections.specs.Asked.{Waits}
 use Rattle.connections.specs.Kept.{Kept, told_by, awaited}
 use Rattle.connections.specs.Told.{Writes}
 use Rattle.connections.specs.Going.{Goes, Stops}
@@ -50,9 +51,9 @@ module _ {T : Type 0} (IsReply : Peer → Learned T → Learned T → List ℕ �
   OwnServed now seen (Some old) later None = HasEnded seen old later
   OwnServed now seen (Some old) later (Some new) = HasGone now seen old later new
 
--- there is no connection under a key, or its stream would block
-abbrev pub HasStopped : {S M : Type 0} → (S → Type 0) → Option (Link S M) → Type 0
-HasStopped would_block link = IfSome link (λ l. would_block l.stream)
+-- there is no connection under a key, its stream would block, or the first of its requests is one that is answered later, and waits for its reply
+abbrev pub HasStopped : {S M : Type 0} → (S → Type 0) → (Peer → List ℕ → Type 0) → Option (Link S M) → Type 0
+HasStopped would_block is_later link = IfSome link (λ l. would_block l.stream ⊎ Waits (is_later l.peer) l.conversation.held)
 
 -- what contracts see of a connection, by how its stream tells its octets
 abbrev pub seen_of : {S M : Type 0} → (S → Option (List ℕ × List ℕ)) → Link S M → Seen

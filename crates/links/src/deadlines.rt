@@ -13,6 +13,7 @@ use connections::{Awaited, Messages};
 use slab::Slab;
 
 /// Ends the connection under a key where it is over at a time, and counts it by what it waited for.
+#[tactic(auto, using(crate::proofs::BegunLemmas::over_waits))]
 fn sweep_key<S: Drop, M: Messages>(
     links: &mut Slab<Link<S, M>>,
     limits: Limits,
@@ -60,6 +61,7 @@ fn idle_at<S: Drop, M: Messages>(links: &Slab<Link<S, M>>, key: usize) -> Option
     match link.conversation.awaits() {
         Awaited::Request => Some(link.begun),
         Awaited::Rest => None,
+        Awaited::Answer => None,
         Awaited::Taking => None,
     }
 }

@@ -1,5 +1,6 @@
 //! How connections have ended, counted.
-ghost use Rattle.std.specs.Prelude.{◌≡◌};
+ghost use Rattle.std.specs.Prelude.{◌≡◌, ◌≢◌};
+ghost use Rattle.connections.specs.declared.awaited.Awaited.{Awaited as Awaiting};
 ghost use Rattle.links.specs.Ends.{one_more, one_late, late_of, all_of};
 
 use connections::Awaited;
@@ -42,11 +43,13 @@ impl Ends {
 
     /// Counts one more, which is over, by what it waited for.
     pub(crate) fn count_late(&mut self, awaited: Awaited)
+        requires { awaited ≢ Awaiting.Answer }
         ensures { self.new ≡ one_late awaited self.old }
     {
         match awaited {
             Awaited::Request => self.idle = self.idle.saturating_add(1),
             Awaited::Rest => self.message = self.message.saturating_add(1),
+            Awaited::Answer => unreachable!(),
             Awaited::Taking => self.reply = self.reply.saturating_add(1),
         }
     }

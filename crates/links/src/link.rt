@@ -1,11 +1,11 @@
 //! A connection with who asks on it.
 ghost use Rattle.std.specs.Prelude.{◌≡◌, ◌<◌, ◌≤◌, length, IfErr, OnOk};
 ghost use Rattle.dns_message.specs.Message.{message_limit};
-ghost use Rattle.conversation.specs.Served.{Grows};
+ghost use Rattle.connections.specs.Asked.{EachGrows, Waits};
 ghost use Rattle.connections.specs.Kept.{told_by, nothing_kept};
 ghost use Rattle.connections.specs.Told.{Writes};
 ghost use Rattle.connections.specs.Going.{Goes, Stops};
-ghost use Rattle.links.specs.Deadlines.{patience, is_over, begun_behind};
+ghost use Rattle.links.specs.Deadlines.{patience, is_late, is_over, begun_behind};
 
 use crate::limits::Limits;
 use connections::{Answering, Awaited, Blocking, Conversation, Flow, Messages, serve_some};
@@ -55,18 +55,32 @@ impl<S: Drop, M: Messages> Link<S, M> {
     pub(crate) fn is_over(&self, limits: Limits, now: u64) -> bool
         ensures { result ≡ is_over limits now self.now.begun self.now.conversation }
     {
-        patience(limits, self.conversation.awaits()) <= now.saturating_sub(self.begun)
+        is_late(
+            patience(limits, self.conversation.awaits()),
+            now.saturating_sub(self.begun),
+        )
     }
 }
 
-/// How long a peer may take for what is waited for.
-fn patience(limits: Limits, awaited: Awaited) -> u64
+/// How long a peer may take for what is waited for; None where it has nothing to bring.
+fn patience(limits: Limits, awaited: Awaited) -> Option<u64>
     ensures { result ≡ patience limits awaited }
 {
     match awaited {
-        Awaited::Request => limits.idle,
-        Awaited::Rest => limits.message,
-        Awaited::Taking => limits.reply,
+        Awaited::Request => Some(limits.idle),
+        Awaited::Rest => Some(limits.message),
+        Awaited::Answer => None,
+        Awaited::Taking => Some(limits.reply),
+    }
+}
+
+/// Whether one that may take so long, if there is a limit, has taken it.
+fn is_late(most: Option<u64>, taken: u64) -> bool
+    ensures { result ≡ is_late most taken }
+{
+    match most {
+        Some(most) => most <= taken,
+        None => false,
     }
 }
 
@@ -80,11 +94,13 @@ fn begun_by(passed: u64, more: u64, begun: u64, now: u64) -> u64
     now
 }
 
-/// Serves a connection by a share, as its peer, at a time. From then on its peer is waited for anew where it has brought something to its end.
+/// Serves the connection under a key by a share, as its peer, at a time. From then on its peer is waited for anew where it has brought something to
+/// its end.
 pub(crate) fn serve_link<R: Wait, S: Blocking + Drop, M: Messages, A: Answering<M>>(
     rt: &R,
     answering: &mut A,
     link: &mut Link<S, M>,
+    key: usize,
     now: u64,
     room: &mut [u8],
     out: &mut [u8],
@@ -92,14 +108,15 @@ pub(crate) fn serve_link<R: Wait, S: Blocking + Drop, M: Messages, A: Answering<
     requires room { 0 < length room.old }
     requires out { message_limit ≤ length out.old }
     ensures peer { link.new.peer ≡ link.old.peer }
-    ensures grows { Grows (A.seen answering.new) (A.seen answering.old) }
-    ensures goes { OnOk result (Goes (A.is_reply link.old.peer) (A.seen answering.old) (told_by link.old.conversation (S.octets link.old.stream)) (A.seen answering.new) (told_by link.new.conversation (S.octets link.new.stream))) }
-    ensures stops { IfErr result (λ end. Stops (A.is_reply link.old.peer) end (A.seen answering.old) (told_by link.old.conversation (S.octets link.old.stream)) (A.seen answering.new) (S.octets link.new.stream)) }
+    ensures grows { EachGrows (A.seen answering.new) (A.seen answering.old) }
+    ensures goes { OnOk result (Goes (A.is_reply link.old.peer) (A.seen answering.old key) (told_by link.old.conversation (S.octets link.old.stream)) (A.seen answering.new key) (told_by link.new.conversation (S.octets link.new.stream))) }
+    ensures stops { IfErr result (λ end. Stops (A.is_reply link.old.peer) end (A.seen answering.old key) (told_by link.old.conversation (S.octets link.old.stream)) (A.seen answering.new key) (S.octets link.new.stream)) }
     ensures written { Writes (S.octets link.old.stream) (S.octets link.new.stream) }
     ensures begun { link.new.begun ≡ begun_behind link.old.conversation.passed link.new.conversation.passed link.old.begun now }
     ensures blocked { result ≡ Ok Flow.Blocked → S.would_block link.new.stream }
+    ensures waits { result ≡ Ok Flow.Waits → Waits (A.is_later link.new.peer) link.new.conversation.held }
 {
-    answering.turn_to(link.peer, link.from);
+    answering.turn_to(link.peer, link.from, key);
     let passed = link.conversation.passed();
     let served = serve_some(
         rt,

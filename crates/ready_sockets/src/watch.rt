@@ -5,7 +5,7 @@ use crate::news::News;
 use crate::peer::TcpPeer;
 use crate::place::TcpPlace;
 use mio::event::Event;
-use mio::{Events, Interest, Poll, Token};
+use mio::{Events, Interest, Poll, Token, Waker};
 use std::alloc::Global;
 use std::net::Net;
 use std::time::{Clock, Duration};
@@ -22,6 +22,9 @@ const MANY: usize = 16;
 
 /// How long that pause is, in nanoseconds (own).
 const PAUSE: u64 = 50_000;
+
+/// Who ends a wait: nobody's key, and no place's number (own).
+const WAKER: Token = Token(usize::MAX / 2);
 
 /// What waits until a socket may be ready, and the clock that tells the time.
 #[derive(Drop)]
@@ -84,6 +87,11 @@ impl<'a, C: Clock> Watch<'a, C> {
         }
     }
 
+    /// What ends the wait that is under way, or else the next, from another thread. Nothing is told by it. There is to be one at most.
+    pub fn waker(&self) -> io::Result<Waker> {
+        Waker::new(self.poll.registry(), WAKER)
+    }
+
     /// Watches the place of a number, from 0, where connections come in.
     pub fn watch_place(&mut self, place: &mut TcpPlace, number: usize) -> io::Result<()> {
         let token = Token(usize::MAX - number);
@@ -128,6 +136,9 @@ impl<C: Clock> Readiness<TcpPeer> for Watch<'_, C> {
             return Err(NotWatched);
         }
         for event in self.events.iter() {
+            if event.token() == WAKER {
+                continue;
+            }
             self.tell(event);
             if keys.push(event.token().0).is_err() {
                 return Err(NotWatched);

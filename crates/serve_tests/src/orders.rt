@@ -1,7 +1,7 @@
 //! The order in which a gate is entered, a request answered and the gate left.
 ghost use Rattle.std.specs.Prelude.{[]};
 
-use connections::{Messages, Reply};
+use connections::{Messages, Reply, Unmade};
 use conversation::{Allowed, Answering, Gate};
 use dns_engine::Spent;
 use played_zones::asker;
@@ -66,6 +66,7 @@ impl Messages for NoMessages {
 struct Noting<'a> {
     calls: &'a Calls,
     peer: Peer,
+    asker: usize,
 }
 
 impl Answering for Noting<'_> {
@@ -93,15 +94,20 @@ impl Answering for Noting<'_> {
 }
 
 impl connections::Answering<NoMessages> for Noting<'_> {
-    ghost seen = { λ _. record { published = []; buried = [] } };
+    ghost seen = { λ _ _. record { published = []; buried = [] } };
 
     ghost peer = { λ noting. noting.peer };
 
+    ghost asker = { λ noting. noting.asker };
+
     ghost is_reply = { λ _ _ _ _ _. Unit {0} };
 
+    ghost is_later = { λ _ _. ⊥ };
+
     #[tactic(auto, using(conversation::proofs::TurnLemmas::grows_itself))]
-    fn turn_to(&mut self, other: Peer, _from: SocketAddr) {
+    fn turn_to(&mut self, other: Peer, _from: SocketAddr, key: usize) {
         self.peer = other;
+        self.asker = key;
     }
 
     #[tactic(auto, using(conversation::proofs::TurnLemmas::grows_itself))]
@@ -110,7 +116,7 @@ impl connections::Answering<NoMessages> for Noting<'_> {
         _rt: &R,
         _request: &[u8],
         _out: &mut [u8],
-    ) -> Result<Reply<NoMessages>, Spent> {
+    ) -> Result<Reply<NoMessages>, Unmade> {
         self.calls.note(2);
         Ok(Reply::Silent)
     }
@@ -123,6 +129,7 @@ fn calls_of_stream<R: Wait>(rt: &R, alloc: Global) -> Option<u64> {
     let mut noting = Noting {
         calls: &calls,
         peer,
+        asker: 0,
     };
     let frames = b"\x00\x01a\x00\x01b".to_vec(alloc).ok()?;
     let tape = Tape::new(alloc, frames, 0, 1).ok()?;
@@ -139,6 +146,7 @@ fn calls_of_datagrams<R: Wait>(rt: &R, alloc: Global) -> Option<u64> {
     let mut noting = Noting {
         calls: &calls,
         peer,
+        asker: 0,
     };
     let mut datagrams = Vec::new(alloc);
     for port in 0..2u16 {

@@ -1,6 +1,6 @@
 //! A worker's job on connections (RFC 7766, 6.2).
 ghost use Rattle.std.specs.Prelude.{◌≡◌, ◌⊎◌, Some};
-ghost use Rattle.conversation.specs.Served.{Grows};
+ghost use Rattle.connections.specs.Asked.{EachGrows};
 ghost use Rattle.turns.specs.Steps.{Turned};
 ghost use Rattle.serve_workers.specs.Ended.{end_by};
 ghost use Rattle.serve_workers.specs.Lost.{lost_of, lost_since};
@@ -173,7 +173,7 @@ impl<
         answering: &mut A,
         log: &O,
     ) -> Option<JobEnd>
-        ensures grows { Grows (A.seen answering.new) (A.seen answering.old) }
+        ensures grows { EachGrows (A.seen answering.new) (A.seen answering.old) }
         ensures turned { Turned S.origin S.octets A.is_reply self.old.plan.allowed.addresses.now self.old.plan.limits (A.seen answering.old) self.old.turns.links (A.seen answering.new) self.new.turns.links }
         ensures number { self.new.number ≡ self.old.number }
         ensures plan { self.new.plan ≡ self.old.plan }
@@ -208,7 +208,7 @@ impl<
         answering: &mut A,
         log: &O,
     ) -> JobEnd
-        ensures grows { Grows (A.seen answering.new) (A.seen answering.old) }
+        ensures grows { EachGrows (A.seen answering.new) (A.seen answering.old) }
         ensures turned { Turned S.origin S.octets A.is_reply self.old.plan.allowed.addresses.now self.old.plan.limits (A.seen answering.old) self.old.turns.links (A.seen answering.new) self.new.turns.links }
         ensures number { self.new.number ≡ self.old.number }
         ensures plan { self.new.plan ≡ self.old.plan }

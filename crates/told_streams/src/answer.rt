@@ -3,6 +3,7 @@ ghost use Rattle.std.specs.Prelude.{◌<◌, ◌≤◌, length, Some};
 ghost use Rattle.dns_message.specs.Message.{message_limit};
 ghost use Rattle.conversation.specs.Served.{EndsAs, Grows};
 ghost use Rattle.conversation.specs.Exchanged.{EndsBy};
+ghost use Rattle.connections.specs.Asked.{EachGrows};
 ghost use Rattle.told_streams.specs.Tape.{told as tape_told};
 ghost use Rattle.told_streams.specs.Tray.{told as tray_told};
 
@@ -27,8 +28,8 @@ pub fn answer_tape<R: Wait, M: Messages, A: connections::Answering<M>, G: Gate>(
 ) -> (StreamEnd, Tape)
     requires room { 0 < length room.old }
     requires out { message_limit ≤ length out.old }
-    ensures ends { EndsAs (A.is_reply (A.peer answering.old)) result.0 (A.seen answering.old) (tape_told tape) (A.seen answering.new) (Some (tape_told result.1)) }
-    ensures grows { Grows (A.seen answering.new) (A.seen answering.old) }
+    ensures ends { EndsAs (A.is_reply (A.peer answering.old)) result.0 (A.seen answering.old (A.asker answering.old)) (tape_told tape) (A.seen answering.new (A.asker answering.old)) (Some (tape_told result.1)) }
+    ensures grows { EachGrows (A.seen answering.new) (A.seen answering.old) }
 {
     let mut stream = Counted::new(tape);
     let end = serve_stream(rt, alloc, answering, &mut stream, gate, room, out);

@@ -29,9 +29,10 @@ nothing_counted = record {
   no_room = 0;
 }
 
--- of connections under some keys, each that could go on is among the next ones: under another key there is none any more, or its stream would block
-abbrev pub GoOn : {S M : Type 0} → (S → Type 0) → Slab (Link S M) → List ℕ → List ℕ → Type 0
-GoOn would_block links keys next = All (λ key. Contains next key ⊎ HasStopped would_block (get links key)) keys
+-- of connections under some keys, each that could go on is among the next ones: under another key there is none any more, its stream would block, or its
+-- first request waits for its reply
+abbrev pub GoOn : {S M : Type 0} → (S → Type 0) → (Peer → List ℕ → Type 0) → Slab (Link S M) → List ℕ → List ℕ → Type 0
+GoOn would_block is_later links keys next = All (λ key. Contains next key ⊎ HasStopped would_block is_later (get links key)) keys
 
 -- the address that a stream comes from, and what its octets are, as far as it tells them
 module _ {S M : Type 0} (origin : S → SocketAddr) (octets : S → Option (List ℕ × List ℕ)) where
@@ -63,12 +64,12 @@ module _ {S M : Type 0} (origin : S → SocketAddr) (octets : S → Option (List
   -- reply's messages
   module _ {T : Type 0} (IsReply : Peer → Learned T → Learned T → List ℕ → List (List ℕ) → Type 0) where
     -- connections are served at a time, each by its own peer's rights and on its own stream
-    abbrev pub Serves : ℕ → Learned T → Slab (Link S M) → Learned T → Slab (Link S M) → Type 0
-    Serves now seen old later new = (key : ℕ) → OwnServed IsReply now seen (option_map (seen_of octets) (get old key)) later (option_map (seen_of octets) (get new key))
+    abbrev pub Serves : ℕ → (ℕ → Learned T) → Slab (Link S M) → (ℕ → Learned T) → Slab (Link S M) → Type 0
+    Serves now seen old later new = (key : ℕ) → OwnServed IsReply now (seen key) (option_map (seen_of octets) (get old key)) (later key) (option_map (seen_of octets) (get new key))
 
-    -- a turn at a time, by what is known to be published before it and behind it: places are taken; connections are served; and places are given
+    -- a turn at a time, by what is known on each connection to be published before it and behind it: places are taken; connections are served; and places are given
     -- back
-    pub record HasTurned (allowed : List IpAddr) (limits : Limits) (now : ℕ) (seen : Learned T) (old : Slab (Link S M)) (later : Learned T) (new : Slab (Link S M)) : Type 0 where
+    pub record HasTurned (allowed : List IpAddr) (limits : Limits) (now : ℕ) (seen : ℕ → Learned T) (old : Slab (Link S M)) (later : ℕ → Learned T) (new : Slab (Link S M)) : Type 0 where
       pub come : Slab (Link S M)
       pub served : Slab (Link S M)
       pub first : Moves allowed now old come
@@ -76,6 +77,6 @@ module _ {S M : Type 0} (origin : S → SocketAddr) (octets : S → Option (List
       pub last : Sweeps limits now served new
 
     -- turns, one behind the other
-    pub data Turned (allowed : List IpAddr) (limits : Limits) (seen : Learned T) (old : Slab (Link S M)) : Learned T → Slab (Link S M) → Type 0 where
+    pub data Turned (allowed : List IpAddr) (limits : Limits) (seen : ℕ → Learned T) (old : Slab (Link S M)) : (ℕ → Learned T) → Slab (Link S M) → Type 0 where
       unturned : Turned allowed limits seen old seen old
-      turned : {mid later : Learned T} {between new : Slab (Link S M)} (now : ℕ) → Turned allowed limits seen old mid between → HasTurned allowed limits now mid between later new → Turned allowed limits seen old later new
+      turned : {mid later : ℕ → Learned T} {between new : Slab (Link S M)} (now : ℕ) → Turned allowed limits seen old mid between → HasTurned allowed limits now mid between later new → Turned allowed limits seen old later new

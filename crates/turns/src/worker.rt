@@ -2,7 +2,7 @@
 ghost use Rattle.std.specs.Prelude.{◌≡◌, ◌<◌, ◌≤◌, ◌⊎◌, ℕ, List, length, replicate, true, None, IfOk, OnOk};
 ghost use Rattle.std.specs.declared.net.ip_addr.IpAddr.{IpAddr};
 ghost use Rattle.dns_message.specs.Message.{message_limit};
-ghost use Rattle.conversation.specs.Served.{Grows};
+ghost use Rattle.connections.specs.Asked.{EachGrows};
 ghost use Rattle.slab.specs.Slab.{get};
 ghost use Rattle.turns.specs.Steps.{scarce, nothing_counted, Moves, Sweeps, Serves, GoOn, HasTurned, Turned};
 
@@ -297,9 +297,9 @@ impl<S: Blocking + Remote + Drop, M: Messages> Turns<S, M> {
     ) -> Result<(), TurnEnd>
         requires room { 0 < length room.old }
         requires out { message_limit ≤ length out.old }
-        ensures grows { Grows (A.seen answering.new) (A.seen answering.old) }
+        ensures grows { EachGrows (A.seen answering.new) (A.seen answering.old) }
         ensures own { Serves S.origin S.octets A.is_reply now (A.seen answering.old) self.old.links (A.seen answering.new) self.new.links }
-        ensures going { OnOk result (GoOn S.would_block self.new.links self.new.served.items self.new.next.items) }
+        ensures going { OnOk result (GoOn S.would_block A.is_later self.new.links self.new.served.items self.new.next.items) }
     {
         self.served.clear();
         self.waiting.take(&mut self.served);
@@ -335,8 +335,8 @@ impl<S: Blocking + Remote + Drop, M: Messages> Turns<S, M> {
 
     /// A turn: waits until something may be ready, takes the connections that come, serves those that may go on by a share each, and ends those
     /// that are over. Who asks on each is the peer of its address; none gets another's replies, and none is dropped but by its end, for its
-    /// peer's delay, or, where all places are taken, the one that is idle longest. Of the connections that are served, each that is there still
-    /// and whose stream wouldn't block is among those that could go on.
+    /// peer's delay, or, where all places are taken, the one that is idle longest. Of the connections that are served, each that is there still,
+    /// whose stream wouldn't block, and whose first request doesn't wait for its reply, is among those that could go on.
     pub fn turn<R: Wait, P: Readiness<S>, L: Arrivals<Stream = S>, A: Answering<M>>(
         &mut self,
         rt: &R,
@@ -349,9 +349,9 @@ impl<S: Blocking + Remote + Drop, M: Messages> Turns<S, M> {
     ) -> Result<(), TurnEnd>
         requires room { 0 < length room.old }
         requires out { message_limit ≤ length out.old }
-        ensures grows { Grows (A.seen answering.new) (A.seen answering.old) }
+        ensures grows { EachGrows (A.seen answering.new) (A.seen answering.old) }
         ensures turned { HasTurned S.origin S.octets A.is_reply plan.entry.allowed.addresses.now plan.entry.limits (P.time poll.new) (A.seen answering.old) self.old.links (A.seen answering.new) self.new.links }
-        ensures going { OnOk result (GoOn S.would_block self.new.links self.new.served.items self.new.next.items) }
+        ensures going { OnOk result (GoOn S.would_block A.is_later self.new.links self.new.served.items self.new.next.items) }
     {
         let Ok(now) = poll.wait(self.patience(), &mut self.told) else {
             return Err(TurnEnd::Device);
@@ -382,7 +382,7 @@ impl<S: Blocking + Remote + Drop, M: Messages> Turns<S, M> {
     ) -> Result<(), TurnEnd>
         requires room { 0 < length room.old }
         requires out { message_limit ≤ length out.old }
-        ensures grows { Grows (A.seen answering.new) (A.seen answering.old) }
+        ensures grows { EachGrows (A.seen answering.new) (A.seen answering.old) }
         ensures turned { Turned S.origin S.octets A.is_reply plan.entry.allowed.addresses.now plan.entry.limits (A.seen answering.old) self.old.links (A.seen answering.new) self.new.links }
     {
         for _ in rt.forever() {

@@ -1,9 +1,8 @@
 //! A worker's job on connections over a poll that is made up: when it ends, and what a log is told of connections that are lost.
 ghost use Rattle.std.specs.Prelude.{None, ⊤, [], ◌-◌, ◌^◌};
 
-use connections::{Answering, Blocking, Fault, Reply};
+use connections::{Answering, Blocking, Fault, Reply, Unmade};
 use conversation::Allowed;
-use dns_engine::Spent;
 use links::Limits;
 use played_zones::{Kept, asker};
 use serve_core::{Peer, Transport};
@@ -148,18 +147,24 @@ impl Clock for Steps {
 #[derive(Drop)]
 struct Silent {
     peer: Peer,
+    asker: usize,
 }
 
 impl Answering<Transfer> for Silent {
-    ghost seen = { λ _. record { published = []; buried = [] } };
+    ghost seen = { λ _ _. record { published = []; buried = [] } };
 
     ghost peer = { λ silent. silent.peer };
 
+    ghost asker = { λ silent. silent.asker };
+
     ghost is_reply = { λ _ _ _ _ _. Unit {0} };
 
+    ghost is_later = { λ _ _. ⊥ };
+
     #[tactic(auto, using(conversation::proofs::TurnLemmas::grows_itself))]
-    fn turn_to(&mut self, other: Peer, _from: SocketAddr) {
+    fn turn_to(&mut self, other: Peer, _from: SocketAddr, key: usize) {
         self.peer = other;
+        self.asker = key;
     }
 
     #[tactic(auto, using(conversation::proofs::TurnLemmas::grows_itself))]
@@ -168,7 +173,7 @@ impl Answering<Transfer> for Silent {
         _rt: &R,
         _request: &[u8],
         _out: &mut [u8],
-    ) -> Result<Reply<Transfer>, Spent> {
+    ) -> Result<Reply<Transfer>, Unmade> {
         Ok(Reply::Silent)
     }
 }
@@ -226,6 +231,7 @@ fn end_of<R: Wait>(
     let log = Kept::new(alloc);
     let mut silent = Silent {
         peer: Peer::over(Transport::Tcp, false),
+        asker: 0,
     };
     let end = job.serve(rt, &mut silent, &log);
     if log.has(rt, told) { Some(end) } else { None }

@@ -1,5 +1,5 @@
 //! A server as one who answers connections.
-ghost use Rattle.std.specs.Prelude.{◌≡◌, ◌≤◌, ◌⊎◌, ℕ, true, length, IfOk, OnErr};
+ghost use Rattle.std.specs.Prelude.{◌≡◌, ◌≤◌, ◌⊎◌, ℕ, true, length, IfOk, IfErr, OnErr};
 ghost use Rattle.dns_message.specs.Message.{message_limit};
 ghost use Rattle.zone_tree.specs.Version.{Version};
 ghost use Rattle.serve_core.specs.Transfers.{is_permitted, messages_to};
@@ -7,13 +7,15 @@ ghost use Rattle.zone_tree.specs.Zone.{soa_of};
 ghost use Rattle.dns_engine.specs.Chain.{changes_by};
 ghost use Rattle.conversation.specs.Served.{Grows};
 ghost use Rattle.zone_service.specs.Known.{learned_by};
+ghost use Rattle.connections.specs.Asked.{EachGrows};
 ghost use Rattle.connections.specs.Kept.{messages_of};
 ghost use Rattle.connections.specs.declared.answering.Reply.{Reply as ReplyOf};
+ghost use Rattle.connections.specs.declared.answering.Unmade.{Unmade as WhyUnmade};
 ghost use Rattle.zone_service.specs.Replied.{IsReplied, IsUpdate, IsTransfer, HasNoAnswer};
 ghost use Rattle.zone_replies.specs.Going.{transfer_left};
 
 use crate::transfer::Transfer;
-use connections::{Answering, Reply};
+use connections::{Answering, Reply, Unmade};
 use dns_engine::{FirstZone, SharedVersion, VersionChain, VersionReader};
 use dns_message::Query;
 use serve_core::{Peer, Transport};
@@ -36,6 +38,8 @@ pub struct Replies<'a, 's, Z: FirstZone, N: Naming, L> {
     alloc: Global,
     peer: Peer,
     from: SocketAddr,
+    /// The key of the connection on which the peer asks.
+    asker: usize,
     query: Query,
     names: NameWriter,
 }
@@ -83,6 +87,7 @@ impl<'a, 's, Z: FirstZone, N: Naming, L: ServiceLog> Replies<'a, 's, Z, N, L> {
             alloc,
             peer,
             from,
+            asker: 0,
             query: Query::blank(),
             names: NameWriter::new(),
         }
@@ -106,6 +111,7 @@ impl<'a, 's, Z: FirstZone, N: Naming, L: ServiceLog> Replies<'a, 's, Z, N, L> {
         requires later { IsUpdate request.now ⊎ IsTransfer Z.zone self.old.peer request.now }
         requires room { message_limit ≤ length out.old }
         ensures peer { self.new.peer ≡ self.old.peer }
+        ensures asker { self.new.asker ≡ self.old.asker }
         ensures grows { Grows {T = Version} (learned_by self.new.reader) (learned_by self.old.reader) }
         ensures bound { IfOk result (λ reply. (len : ℕ) → reply ≡ ReplyOf.One len → (len ≤ message_limit) × (len ≤ length out.new)) }
         ensures replied { IfOk result (λ reply. IsReplied Z.zone self.old.peer (learned_by self.old.reader) (learned_by self.new.reader) request.now (messages_of transfer_left reply out.new)) }
@@ -136,16 +142,22 @@ impl<'a, 's, Z: FirstZone, N: Naming, L: ServiceLog> Replies<'a, 's, Z, N, L> {
 
 impl<'a, 's, Z: FirstZone, N: Naming, L: ServiceLog> Answering<Transfer>
     for Replies<'a, 's, Z, N, L> {
-    ghost seen = { λ replies. learned_by replies.reader };
+    // No request is answered later, so that what is known on each connection is what its reader has seen.
+    ghost seen = { λ replies _. learned_by replies.reader };
 
     ghost peer = { λ replies. replies.peer };
 
+    ghost asker = { λ replies. replies.asker };
+
     ghost is_reply = { λ peer known later request messages. IsReplied Z.zone peer known later request messages };
 
+    ghost is_later = { λ _ _. ⊥ };
+
     #[tactic(auto, using(conversation::proofs::TurnLemmas::grows_itself))]
-    fn turn_to(&mut self, other: Peer, from: SocketAddr) {
+    fn turn_to(&mut self, other: Peer, from: SocketAddr, key: usize) {
         self.peer = other;
         self.from = from;
+        self.asker = key;
     }
 
     #[tactic(auto, using(zone_service::proofs::ReplyLemmas::limit_most, zone_service::proofs::ReplyLemmas::room_most, zone_service::proofs::ReplyLemmas::silent_replied, conversation::proofs::TurnLemmas::grows_itself))]
@@ -154,12 +166,15 @@ impl<'a, 's, Z: FirstZone, N: Naming, L: ServiceLog> Answering<Transfer>
         rt: &R,
         request: &[u8],
         out: &mut [u8],
-    ) -> Result<Reply<Transfer>, Spent>
+    ) -> Result<Reply<Transfer>, Unmade>
         requires { message_limit ≤ length out.old }
         ensures same { self.new.peer ≡ self.old.peer }
-        ensures grows { Grows {T = Version} (learned_by self.new.reader) (learned_by self.old.reader) }
+        ensures asker { self.new.asker ≡ self.old.asker }
+        ensures grows { EachGrows {T = Version} (λ _. learned_by self.new.reader) (λ _. learned_by self.old.reader) }
         ensures bound { IfOk result (λ reply. (len : ℕ) → reply ≡ ReplyOf.One len → (len ≤ message_limit) × (len ≤ length out.new)) }
         ensures reply { IfOk result (λ reply. IsReplied Z.zone self.old.peer (learned_by self.old.reader) (learned_by self.new.reader) request.now (messages_of transfer_left reply out.new)) }
+        // None is made later.
+        ensures later { IfErr result (λ unmade. unmade ≡ WhyUnmade.Later → ⊥) }
         // What can't be read as a query is replied to, whether a version can be loaded or not.
         ensures spent { OnErr result (HasNoAnswer Z.zone self.old.peer request.now self.old.reader self.new.reader) }
     {
@@ -175,8 +190,11 @@ impl<'a, 's, Z: FirstZone, N: Naming, L: ServiceLog> Answering<Transfer>
         ) {
             Now::Bytes(len) => Ok(Reply::One(len)),
             Now::Silent => Ok(Reply::Silent),
-            Now::Later => self.reply_later(rt, request, out),
-            Now::Spent => Err(Spent),
+            Now::Later => match self.reply_later(rt, request, out) {
+                Ok(reply) => Ok(reply),
+                Err(Spent) => Err(Unmade::Spent),
+            },
+            Now::Spent => Err(Unmade::Spent),
         }
     }
 }
