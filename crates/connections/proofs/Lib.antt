@@ -3,3 +3,4 @@ pub mod FrameLemmas
 pub mod ToldLemmas
 pub mod GoingLemmas
 pub mod PassLemmas
+pub mod AskedLemmas

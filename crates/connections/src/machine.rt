@@ -118,10 +118,10 @@ impl<M: Messages> Conversation<M> {
         if self.held.is_empty() {
             return Awaited::Request;
         }
-        if take_frame(self.held.as_slice()).is_some() {
-            return Awaited::Answer;
+        match take_frame(self.held.as_slice()) {
+            Some(_) => Awaited::Answer,
+            None => Awaited::Rest,
         }
-        Awaited::Rest
     }
 
     /// Whether octets are held.

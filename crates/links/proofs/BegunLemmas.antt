@@ -1,7 +1,11 @@
 -- Since when a peer is waited for.
-use Rattle.std.proofs.Common.{◌≡◌, ◌==◌, refl, ℕ, Bool, true, false, if◌then◌else◌, ◌∙◌, inl, inr}
+use Rattle.std.proofs.Common.{◌≡◌, ◌≢◌, ◌==◌, ◌-◌, refl, ℕ, Bool, true, false, if◌then◌else◌, sym, ◌∙◌, subst, inl, inr}
 use Rattle.std.proofs.lemmas.Bool.{eqb-true}
-use Rattle.links.specs.Deadlines.{IsBegun, begun_behind}
+use Rattle.connections.specs.Kept.{Kept, awaited}
+use Rattle.connections.specs.declared.awaited.Awaited.{Awaited}
+use Rattle.connections.specs.declared.awaited.Awaited.TheVariants.{Answer}
+use Rattle.links.specs.Deadlines.{IsBegun, begun_behind, patience, is_late, is_over}
+use Rattle.links.specs.declared.limits.Limits.{Limits}
 
 -- over two shares at one time
 pub begun_more : (now p begun q mid r later : ℕ) → IsBegun now p begun q mid → IsBegun now q mid r later → IsBegun now p begun r later
@@ -16,3 +20,9 @@ by_test now passed begun more later false test is = inl is
 
 pub begun_once : (now passed begun more later : ℕ) → later ≡ begun_behind passed more begun now → IsBegun now passed begun more later
 begun_once now passed begun more later is = by_test now passed begun more later (more == passed) refl is
+
+-- who waits for the answering of a request is never over
+pub over_waits : (limits : Limits) (now begun : ℕ) (kept : Kept) (over : Bool) (waited : Awaited) → over ≡ is_over limits now begun kept → over ≡ true → waited ≡ awaited kept → waited ≢ Answer
+over_waits limits now begun kept over waited same is here = λ answer.
+    let late : is_late (patience limits Answer) (now - begun) ≡ true = subst (λ (a : Awaited). is_late (patience limits a) (now - begun) ≡ true) (sym here ∙ answer) (sym same ∙ is) in
+    cc

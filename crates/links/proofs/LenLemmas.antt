@@ -1,10 +1,11 @@
 -- How many connections there are, and how many have ended.
-use Rattle.std.proofs.Common.{◌≡◌, refl, ℕ, ◌+◌, sym, ap, subst, Option, None, Some, OnSome, is_some, cond, arith}
+use Rattle.std.proofs.Common.{◌≡◌, ◌≢◌, refl, ℕ, ◌+◌, sym, ap, subst, Option, None, Some, OnSome, is_some, cond, arith}
 use Rattle.std.proofs.lemmas.List.Sums.{sum_by-set}
 use Rattle.slab.specs.Slab.{Slab, get, with_value, ContainsKey, slab_len}
 use Rattle.slab.proofs.SlabLemmas.{ContainsKey-within}
 use Rattle.conversation.specs.declared.stream_end.StreamEnd.{StreamEnd}
 use Rattle.connections.specs.declared.awaited.Awaited.{Awaited}
+use Rattle.connections.specs.declared.awaited.Awaited.TheVariants.{Answer}
 use Rattle.links.specs.Ends.{one_more, one_late, Counts, none, one, late, AreCounted}
 use Rattle.links.specs.declared.ends.Ends.{Ends}
 
@@ -24,7 +25,7 @@ len_kept {L} s key old value found present =
 pub counts_more : (a b c : Ends) (front back both : ℕ) → Counts a front b → Counts b back c → both ≡ front + back → Counts a both c
 counts_more a b c front back both first none same = subst (λ (n : ℕ). Counts a n b) (omega (arith, same)) first
 counts_more a b c front back both first (one {number = number} {ends = ends} end before up is) same = one end (counts_more a b ends front number (front + number) first before refl) (omega (arith, same, up)) is
-counts_more a b c front back both first (late {number = number} {ends = ends} awaited before up is) same = late awaited (counts_more a b ends front number (front + number) first before refl) (omega (arith, same, up)) is
+counts_more a b c front back both first (late {number = number} {ends = ends} awaited waits before up is) same = late awaited waits (counts_more a b ends front number (front + number) first before refl) (omega (arith, same, up)) is
 
 -- connections that have ended, and more that have
 pub counted_then : (old mid new : Ends) (before between left : ℕ) → AreCounted old mid before between → AreCounted mid new between left → AreCounted old new before left
@@ -40,5 +41,5 @@ pub counted_one : (ends new : Ends) (before left : ℕ) (end : StreamEnd) → ne
 counted_one ends new before left end is same = (1, one end none refl is, same)
 
 -- one is over
-pub counted_late : (ends new : Ends) (before left : ℕ) (awaited : Awaited) → new ≡ one_late awaited ends → left + 1 ≡ before → AreCounted ends new before left
-counted_late ends new before left awaited is same = (1, late awaited none refl is, same)
+pub counted_late : (ends new : Ends) (before left : ℕ) (awaited : Awaited) → awaited ≢ Answer → new ≡ one_late awaited ends → left + 1 ≡ before → AreCounted ends new before left
+counted_late ends new before left awaited waits is same = (1, late awaited waits none refl is, same)

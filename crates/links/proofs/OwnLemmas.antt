@@ -3,6 +3,7 @@ use Rattle.std.proofs.Common.{◌≡◌, ◌≢◌, refl, ℕ, List, Option, Non
 use Rattle.std.proofs.lemmas.Bool.{cases_eq}
 use Rattle.serve_core.specs.declared.peer.Peer.{Peer}
 use Rattle.conversation.specs.Served.{Learned, Grows}
+use Rattle.connections.specs.Asked.{EachGrows}
 use Rattle.conversation.proofs.TurnLemmas.{grows_more}
 use Rattle.conversation.specs.declared.stream_end.StreamEnd.{StreamEnd}
 use Rattle.connections.specs.Going.{Goes, Stops}
@@ -90,11 +91,11 @@ module _ {T : Type 0} (IsReply : Peer → Learned T → Learned T → List ℕ �
         subst (λ (n : Option L). OwnServed IsReply now seen (option_map seen_as old) later (option_map seen_as n)) (sym is) (subst (λ (o : Option L). OwnServed IsReply now seen (option_map seen_as o) later None) was ended)
 
     -- the connection under one key more is served
-    pub own_each : (now : ℕ) (seen mid later : Learned T) (old before after : ℕ → Option L) (key : ℕ) → Grows later mid → ((k : ℕ) → OwnServed IsReply now seen (option_map seen_as (old k)) mid (option_map seen_as (before k)))
-        → OwnServed IsReply now mid (option_map seen_as (before key)) later (option_map seen_as (after key)) → ((other : ℕ) → other ≢ key → after other ≡ before other) → (k : ℕ) → OwnServed IsReply now seen (option_map seen_as (old k)) later (option_map seen_as (after k))
+    pub own_each : (now : ℕ) (seen mid later : ℕ → Learned T) (old before after : ℕ → Option L) (key : ℕ) → EachGrows later mid → ((k : ℕ) → OwnServed IsReply now (seen k) (option_map seen_as (old k)) (mid k) (option_map seen_as (before k)))
+        → OwnServed IsReply now (mid key) (option_map seen_as (before key)) (later key) (option_map seen_as (after key)) → ((other : ℕ) → other ≢ key → after other ≡ before other) → (k : ℕ) → OwnServed IsReply now (seen k) (option_map seen_as (old k)) (later k) (option_map seen_as (after k))
     own_each now seen mid later old before after key grows so_far own others = λ k.
-        let here : OwnServed IsReply now mid (option_map seen_as (before k)) later (option_map seen_as (after k)) = elim (cases_eq k key) [
-          | inl same ↦ subst (λ (j : ℕ). OwnServed IsReply now mid (option_map seen_as (before j)) later (option_map seen_as (after j))) (sym same) own
-          | inr differs ↦ subst (λ (o : Option L). OwnServed IsReply now mid (option_map seen_as (before k)) later (option_map seen_as o)) (sym (others k differs)) (own_same now mid later (option_map seen_as (before k)) grows)
+        let here : OwnServed IsReply now (mid k) (option_map seen_as (before k)) (later k) (option_map seen_as (after k)) = elim (cases_eq k key) [
+          | inl same ↦ subst (λ (j : ℕ). OwnServed IsReply now (mid j) (option_map seen_as (before j)) (later j) (option_map seen_as (after j))) (sym same) own
+          | inr differs ↦ subst (λ (o : Option L). OwnServed IsReply now (mid k) (option_map seen_as (before k)) (later k) (option_map seen_as o)) (sym (others k differs)) (own_same now (mid k) (later k) (option_map seen_as (before k)) (grows k))
         ] in
-        own_more now seen mid later (option_map seen_as (old k)) (option_map seen_as (before k)) (option_map seen_as (after k)) grows (so_far k) here
+        own_more now (seen k) (mid k) (later k) (option_map seen_as (old k)) (option_map seen_as (before k)) (option_map seen_as (after k)) (grows k) (so_far k) here

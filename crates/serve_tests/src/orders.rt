@@ -104,13 +104,13 @@ impl connections::Answering<NoMessages> for Noting<'_> {
 
     ghost is_later = { λ _ _. ⊥ };
 
-    #[tactic(auto, using(conversation::proofs::TurnLemmas::grows_itself))]
+    #[tactic(auto, using(connections::proofs::AskedLemmas::each_itself))]
     fn turn_to(&mut self, other: Peer, _from: SocketAddr, key: usize) {
         self.peer = other;
         self.asker = key;
     }
 
-    #[tactic(auto, using(conversation::proofs::TurnLemmas::grows_itself))]
+    #[tactic(auto, using(connections::proofs::AskedLemmas::each_itself))]
     fn reply<R: Wait>(
         &mut self,
         _rt: &R,

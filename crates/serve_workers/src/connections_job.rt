@@ -166,7 +166,7 @@ impl<
     }
 
     /// Takes a turn, unless the worker is over; an end where it is, or the turn is the last.
-    #[tactic(auto, using(conversation::proofs::TurnLemmas::grows_itself))]
+    #[tactic(auto, using(connections::proofs::AskedLemmas::each_itself))]
     fn turn<R: Wait, A: Answering<Transfer>, O: ServiceLog>(
         &mut self,
         rt: &R,

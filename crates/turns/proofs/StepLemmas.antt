@@ -7,7 +7,8 @@ use Rattle.std.specs.declared.net.socket_addr.SocketAddr.{SocketAddr}
 use Rattle.serve_core.specs.declared.peer.Peer.{Peer}
 use Rattle.serve_core.specs.declared.transport.Transport.TheVariants.{Tcp}
 use Rattle.conversation.specs.Allowed.{IsPeer}
-use Rattle.conversation.specs.Served.{Learned, Grows}
+use Rattle.conversation.specs.Served.{Learned}
+use Rattle.connections.specs.Asked.{EachGrows}
 use Rattle.connections.specs.Kept.{nothing_kept}
 use Rattle.slab.specs.Slab.{Slab, get, Updates}
 use Rattle.links.specs.Deadlines.{kept_at, is_over, idle_since, IsLeast}
@@ -15,7 +16,7 @@ use Rattle.links.specs.Links.{HasStopped, seen_of}
 use Rattle.links.specs.declared.limits.Limits.{Limits}
 use Rattle.links.specs.declared.link.Link.{Link}
 use Rattle.links.proofs.OwnLemmas.{own_same}
-use Rattle.conversation.proofs.TurnLemmas.{grows_itself}
+use Rattle.connections.proofs.AskedLemmas.{each_itself}
 use Rattle.turns.specs.Steps.{scarce, HasBegun, Move, begins, gives, rests, Moves, stay, move, Sweeps, Serves, GoOn, HasTurned}
 
 module _ {S M : Type 0} (origin : S → SocketAddr) (octets : S → Option (List ℕ × List ℕ)) (allowed : List IpAddr) (now : ℕ) where
@@ -66,48 +67,48 @@ module _ {S M : Type 0} (origin : S → SocketAddr) (octets : S → Option (List
   sweeps_over limits used old new (inl same) swept = inr (inl (subst (λ (l : Limits). (key : ℕ) → get new key ≡ kept_at l now (get old key)) same swept))
   sweeps_over limits used old new (inr same) swept = inr (inr (subst (λ (l : Limits). (key : ℕ) → get new key ≡ kept_at l now (get old key)) same swept))
 
-  module _ (would_block : S → Type 0) where
-    kept_if : (link : Link S M) (b : Bool) → would_block link.stream → HasStopped would_block (if b then None else Some link)
+  module _ (would_block : S → Type 0) (is_later : Peer → List ℕ → Type 0) where
+    kept_if : (link : Link S M) (b : Bool) → HasStopped would_block is_later (Some link) → HasStopped would_block is_later (if b then None else Some link)
     kept_if link true stopped = tt
     kept_if link false stopped = stopped
 
     -- what has stopped still has once those that are over are gone
-    stopped_kept : (limits : Limits) (link : Option (Link S M)) → HasStopped would_block link → HasStopped would_block (kept_at limits now link)
+    stopped_kept : (limits : Limits) (link : Option (Link S M)) → HasStopped would_block is_later link → HasStopped would_block is_later (kept_at limits now link)
     stopped_kept limits None stopped = tt
     stopped_kept limits (Some link) stopped = kept_if link (is_over limits now link.begun link.conversation) stopped
 
-    stopped_by : (limits : Limits) (old new : Slab (Link S M)) → ((key : ℕ) → get new key ≡ kept_at limits now (get old key)) → (key : ℕ) → HasStopped would_block (get old key) → HasStopped would_block (get new key)
-    stopped_by limits old new swept key stopped = subst (HasStopped would_block) (sym (swept key)) (stopped_kept limits (get old key) stopped)
+    stopped_by : (limits : Limits) (old new : Slab (Link S M)) → ((key : ℕ) → get new key ≡ kept_at limits now (get old key)) → (key : ℕ) → HasStopped would_block is_later (get old key) → HasStopped would_block is_later (get new key)
+    stopped_by limits old new swept key stopped = subst (HasStopped would_block is_later) (sym (swept key)) (stopped_kept limits (get old key) stopped)
 
-    stopped_swept : (limits : Limits) (old new : Slab (Link S M)) → Sweeps origin octets limits now old new → (key : ℕ) → HasStopped would_block (get old key) → HasStopped would_block (get new key)
-    stopped_swept limits old new (inl same) key stopped = subst (λ (s : Slab (Link S M)). HasStopped would_block (get s key)) (sym same) stopped
+    stopped_swept : (limits : Limits) (old new : Slab (Link S M)) → Sweeps origin octets limits now old new → (key : ℕ) → HasStopped would_block is_later (get old key) → HasStopped would_block is_later (get new key)
+    stopped_swept limits old new (inl same) key stopped = subst (λ (s : Slab (Link S M)). HasStopped would_block is_later (get s key)) (sym same) stopped
     stopped_swept limits old new (inr (inl swept)) key stopped = stopped_by limits old new swept key stopped
     stopped_swept limits old new (inr (inr swept)) key stopped = stopped_by (scarce limits) old new swept key stopped
 
-    going_for : (limits : Limits) (old new : Slab (Link S M)) (next : List ℕ) → Sweeps origin octets limits now old new → (key : ℕ) → Contains next key ⊎ HasStopped would_block (get old key) → Contains next key ⊎ HasStopped would_block (get new key)
+    going_for : (limits : Limits) (old new : Slab (Link S M)) (next : List ℕ) → Sweeps origin octets limits now old new → (key : ℕ) → Contains next key ⊎ HasStopped would_block is_later (get old key) → Contains next key ⊎ HasStopped would_block is_later (get new key)
     going_for limits old new next swept key (inl has) = inl has
     going_for limits old new next swept key (inr stopped) = inr (stopped_swept limits old new swept key stopped)
 
     -- each that could go on still is among the next ones
-    pub going_swept : (limits : Limits) (old new : Slab (Link S M)) (keys served next after : List ℕ) → served ≡ keys → after ≡ next → Sweeps origin octets limits now old new → GoOn would_block old keys next → GoOn would_block new served after
+    pub going_swept : (limits : Limits) (old new : Slab (Link S M)) (keys served next after : List ℕ) → served ≡ keys → after ≡ next → Sweeps origin octets limits now old new → GoOn would_block is_later old keys next → GoOn would_block is_later new served after
     going_swept limits old new keys served next after same is swept going =
-        let here : GoOn would_block new keys next = All-weaker (λ key. Contains next key ⊎ HasStopped would_block (get old key)) (λ key. Contains next key ⊎ HasStopped would_block (get new key)) (going_for limits old new next swept) keys going in
-        subst (λ (l : List ℕ). GoOn would_block new l after) (sym same) (subst (λ (l : List ℕ). GoOn would_block new keys l) (sym is) here)
+        let here : GoOn would_block is_later new keys next = All-weaker (λ key. Contains next key ⊎ HasStopped would_block is_later (get old key)) (λ key. Contains next key ⊎ HasStopped would_block is_later (get new key)) (going_for limits old new next swept) keys going in
+        subst (λ (l : List ℕ). GoOn would_block is_later new l after) (sym same) (subst (λ (l : List ℕ). GoOn would_block is_later new keys l) (sym is) here)
 
   module _ {T : Type 0} (IsReply : Peer → Learned T → Learned T → List ℕ → List (List ℕ) → Type 0) where
     -- none is served, and maybe more is known
-    pub serves_none : (seen later : Learned T) (links : Slab (Link S M)) → Grows later seen → Serves origin octets IsReply now seen links later links
-    serves_none seen later links grows = λ key. own_same IsReply now seen later (option_map (seen_of octets) (get links key)) grows
+    pub serves_none : (seen later : ℕ → Learned T) (links : Slab (Link S M)) → EachGrows later seen → Serves origin octets IsReply now seen links later links
+    serves_none seen later links grows = λ key. own_same IsReply now (seen key) (later key) (option_map (seen_of octets) (get links key)) (grows key)
 
-    pub serves_as : (seen later : Learned T) (old new same : Slab (Link S M)) → new ≡ same → Serves origin octets IsReply now seen old later same → Serves origin octets IsReply now seen old later new
+    pub serves_as : (seen later : ℕ → Learned T) (old new same : Slab (Link S M)) → new ≡ same → Serves origin octets IsReply now seen old later same → Serves origin octets IsReply now seen old later new
     serves_as seen later old new same is own = subst (λ (s : Slab (Link S M)). Serves origin octets IsReply now seen old later s) (sym is) own
 
     -- nothing is done in a turn
-    pub turned_none : (limits : Limits) (seen : Learned T) (old new : Slab (Link S M)) → new ≡ old → HasTurned origin octets IsReply allowed limits now seen old seen new
-    turned_none limits seen old new same = record { come = old; served = old; first = stay; own = serves_none seen seen old (grows_itself seen); last = inl same }
+    pub turned_none : (limits : Limits) (seen : ℕ → Learned T) (old new : Slab (Link S M)) → new ≡ old → HasTurned origin octets IsReply allowed limits now seen old seen new
+    turned_none limits seen old new same = record { come = old; served = old; first = stay; own = serves_none seen seen old (each_itself seen); last = inl same }
 
     -- a turn, at the time that was told
-    pub turned_whole : (limits : Limits) (told : ℕ) (seen later : Learned T) (old start come served new : Slab (Link S M)) → now ≡ told → start ≡ old → Moves origin octets allowed now start come → Serves origin octets IsReply now seen come later served
+    pub turned_whole : (limits : Limits) (told : ℕ) (seen later : ℕ → Learned T) (old start come served new : Slab (Link S M)) → now ≡ told → start ≡ old → Moves origin octets allowed now start come → Serves origin octets IsReply now seen come later served
         → Sweeps origin octets limits now served new → HasTurned origin octets IsReply allowed limits told seen old later new
     turned_whole limits told seen later old start come served new same still first own last =
         let moved : Moves origin octets allowed now old come = subst (λ (s : Slab (Link S M)). Moves origin octets allowed now s come) still first in

@@ -161,13 +161,13 @@ impl Answering<Transfer> for Silent {
 
     ghost is_later = { λ _ _. ⊥ };
 
-    #[tactic(auto, using(conversation::proofs::TurnLemmas::grows_itself))]
+    #[tactic(auto, using(connections::proofs::AskedLemmas::each_itself))]
     fn turn_to(&mut self, other: Peer, _from: SocketAddr, key: usize) {
         self.peer = other;
         self.asker = key;
     }
 
-    #[tactic(auto, using(conversation::proofs::TurnLemmas::grows_itself))]
+    #[tactic(auto, using(connections::proofs::AskedLemmas::each_itself))]
     fn reply<R: Wait>(
         &mut self,
         _rt: &R,

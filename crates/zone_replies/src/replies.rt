@@ -19,7 +19,7 @@ use connections::{Answering, Reply, Unmade};
 use dns_engine::{FirstZone, SharedVersion, VersionChain, VersionReader};
 use dns_message::Query;
 use serve_core::{Peer, Transport};
-use snapshot_cell::{Naming, Spent};
+use snapshot_cell::Naming;
 use std::alloc::Global;
 use std::net::SocketAddr;
 use std::sync::Wait;
@@ -107,7 +107,7 @@ impl<'a, 's, Z: FirstZone, N: Naming, L: ServiceLog> Replies<'a, 's, Z, N, L> {
         rt: &R,
         request: &[u8],
         out: &mut [u8],
-    ) -> Result<Reply<Transfer>, Spent>
+    ) -> Result<Reply<Transfer>, Unmade>
         requires later { IsUpdate request.now ⊎ IsTransfer Z.zone self.old.peer request.now }
         requires room { message_limit ≤ length out.old }
         ensures peer { self.new.peer ≡ self.old.peer }
@@ -115,6 +115,7 @@ impl<'a, 's, Z: FirstZone, N: Naming, L: ServiceLog> Replies<'a, 's, Z, N, L> {
         ensures grows { Grows {T = Version} (learned_by self.new.reader) (learned_by self.old.reader) }
         ensures bound { IfOk result (λ reply. (len : ℕ) → reply ≡ ReplyOf.One len → (len ≤ message_limit) × (len ≤ length out.new)) }
         ensures replied { IfOk result (λ reply. IsReplied Z.zone self.old.peer (learned_by self.old.reader) (learned_by self.new.reader) request.now (messages_of transfer_left reply out.new)) }
+        ensures now { IfErr result (λ unmade. unmade ≡ WhyUnmade.Later → ⊥) }
         ensures spent { OnErr result (IsTransfer Z.zone self.old.peer request.now × (self.new.reader.left ≡ 0)) }
     {
         let peer = self.peer;
@@ -135,7 +136,7 @@ impl<'a, 's, Z: FirstZone, N: Naming, L: ServiceLog> Replies<'a, 's, Z, N, L> {
             Served::Transfer(version, chain, query) => {
                 Ok(reply_transfer(version, chain, query, peer, out))
             }
-            Served::Spent => Err(Spent),
+            Served::Spent => Err(Unmade::Spent),
         }
     }
 }
@@ -153,14 +154,14 @@ impl<'a, 's, Z: FirstZone, N: Naming, L: ServiceLog> Answering<Transfer>
 
     ghost is_later = { λ _ _. ⊥ };
 
-    #[tactic(auto, using(conversation::proofs::TurnLemmas::grows_itself))]
+    #[tactic(auto, using(connections::proofs::AskedLemmas::each_itself))]
     fn turn_to(&mut self, other: Peer, from: SocketAddr, key: usize) {
         self.peer = other;
         self.from = from;
         self.asker = key;
     }
 
-    #[tactic(auto, using(zone_service::proofs::ReplyLemmas::limit_most, zone_service::proofs::ReplyLemmas::room_most, zone_service::proofs::ReplyLemmas::silent_replied, conversation::proofs::TurnLemmas::grows_itself))]
+    #[tactic(auto, using(zone_service::proofs::ReplyLemmas::limit_most, zone_service::proofs::ReplyLemmas::room_most, zone_service::proofs::ReplyLemmas::silent_replied, connections::proofs::AskedLemmas::each_itself))]
     fn reply<R: Wait>(
         &mut self,
         rt: &R,
@@ -190,10 +191,7 @@ impl<'a, 's, Z: FirstZone, N: Naming, L: ServiceLog> Answering<Transfer>
         ) {
             Now::Bytes(len) => Ok(Reply::One(len)),
             Now::Silent => Ok(Reply::Silent),
-            Now::Later => match self.reply_later(rt, request, out) {
-                Ok(reply) => Ok(reply),
-                Err(Spent) => Err(Unmade::Spent),
-            },
+            Now::Later => self.reply_later(rt, request, out),
             Now::Spent => Err(Unmade::Spent),
         }
     }

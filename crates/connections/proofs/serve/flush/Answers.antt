@@ -5,13 +5,14 @@ use Rattle.connections.proofs.ToldLemmas.{stays_itself, stays_more, writes_itsel
 use Rattle.connections.proofs.serve.flush.Goals as goal
 
 pub loop-written-init : goal.loop-written-init
-loop-written-init g c = record { stays = stays_itself _; written = writes_itself _; same = refl }
+loop-written-init g c = record { stays = stays_itself _; held = refl; written = writes_itself _; same = refl }
 
 pub loop-written-preserved : goal.loop-written-preserved
 loop-written-preserved g c =
     let so_far = c.loop-written.invariant in
     record {
       stays = stays_more _ _ _ so_far.stays c.in-Ok-More.ensures.stays;
+      held = c.in-Ok-More.ensures.held ∙ so_far.held;
       written = writes_more _ _ _ so_far.written c.in-Ok-More.ensures.written;
       same = c.in-Ok-More.ensures.same ∙ so_far.same;
     }

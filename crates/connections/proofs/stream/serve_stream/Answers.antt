@@ -1,9 +1,9 @@
 -- One share behind the other, from the stream's beginning.
-use Rattle.std.proofs.Common.{refl, ◌∙◌, subst}
+use Rattle.std.proofs.Common.{ℕ, refl, ◌∙◌, subst}
 use Rattle.serve_core.specs.declared.peer.Peer.{Peer}
-use Rattle.conversation.proofs.TurnLemmas.{grows_itself, grows_more}
 use Rattle.connections.specs.Kept.{told_by}
 use Rattle.connections.specs.Going.{Goes, Stops}
+use Rattle.connections.proofs.AskedLemmas.{each_itself, each_more}
 use Rattle.connections.proofs.ToldLemmas.{stays_fresh, writes_itself, writes_more}
 use Rattle.connections.proofs.GoingLemmas.{goes_more, goes_stays, stops_more, stream_ends}
 use Rattle.connections.proofs.stream.serve_stream.Goals as goal
@@ -13,9 +13,10 @@ loop-init g c =
     let Reply = g.A.Answering.is_reply (g.A.Answering.peer c.args.answering.now) in
     let a = g.S.Stream.octets c.args.stream.now.inner in
     record {
-      grows = grows_itself _;
+      grows = each_itself _;
       peer = refl;
-      goes = goes_stays Reply (g.A.Answering.seen c.args.answering.now) a (told_by c.new-conversation.result a) (stays_fresh c.new-conversation.result a c.new-conversation.ensures);
+      asker = refl;
+      goes = goes_stays Reply (g.A.Answering.seen c.args.answering.now (g.A.Answering.asker c.args.answering.now)) a (told_by c.new-conversation.result a) (stays_fresh c.new-conversation.result a c.new-conversation.ensures);
       written = writes_itself _;
       same = refl;
     }
@@ -24,15 +25,18 @@ pub loop-preserved : goal.loop-preserved
 loop-preserved g c =
     let so_far = c.loop.invariant in
     let Reply = g.A.Answering.is_reply (g.A.Answering.peer c.args.answering.now) in
+    let key = g.A.Answering.asker c.args.answering.now in
     let seen = g.A.Answering.seen c.loop.answering in
     let later = g.A.Answering.seen c.serve_some.new.answering in
     let b = told_by c.loop.conversation (g.S.Stream.octets c.loop.stream.inner) in
     let n = told_by c.serve_some.new.conversation (g.S.Stream.octets c.serve_some.new.stream.inner) in
-    let step = subst (λ (peer : Peer). Goes (g.A.Answering.is_reply peer) seen b later n) so_far.peer c.in-Ok.ensures.goes in
+    let keyed = subst (λ (k : ℕ). Goes (g.A.Answering.is_reply (g.A.Answering.peer c.loop.answering)) (seen k) b (later k) n) so_far.asker c.in-Ok.ensures.goes in
+    let step = subst (λ (peer : Peer). Goes (g.A.Answering.is_reply peer) (seen key) b (later key) n) so_far.peer keyed in
     record {
-      grows = grows_more _ _ _ so_far.grows c.in-Ok.ensures.grows;
+      grows = each_more _ _ _ so_far.grows c.in-Ok.ensures.grows;
       peer = c.in-Ok.ensures.peer ∙ so_far.peer;
-      goes = goes_more Reply (g.A.Answering.seen c.args.answering.now) seen later (g.S.Stream.octets c.args.stream.now.inner) b n so_far.goes step;
+      asker = c.in-Ok.ensures.asker ∙ so_far.asker;
+      goes = goes_more Reply (g.A.Answering.seen c.args.answering.now key) (seen key) (later key) (g.S.Stream.octets c.args.stream.now.inner) b n so_far.goes step;
       written = writes_more _ _ _ so_far.written c.in-Ok.ensures.written;
       same = c.in-Ok.ensures.same ∙ so_far.same;
     }
@@ -41,14 +45,16 @@ pub returns-in-Err-clause-served : goal.returns-in-Err-clause-served
 returns-in-Err-clause-served g c =
     let so_far = c.loop.invariant in
     let Reply = g.A.Answering.is_reply (g.A.Answering.peer c.args.answering.now) in
-    let start = g.A.Answering.seen c.args.answering.now in
+    let start = g.A.Answering.seen c.args.answering.now (g.A.Answering.asker c.args.answering.now) in
     let a = g.S.Stream.octets c.args.stream.now.inner in
+    let key = g.A.Answering.asker c.args.answering.now in
     let seen = g.A.Answering.seen c.loop.answering in
     let later = g.A.Answering.seen c.serve_some.new.answering in
     let b = told_by c.loop.conversation (g.S.Stream.octets c.loop.stream.inner) in
     let new = g.S.Stream.octets c.serve_some.new.stream.inner in
-    let step = subst (λ (peer : Peer). Stops (g.A.Answering.is_reply peer) c.in-Err.end seen b later new) so_far.peer c.in-Err.ensures.stops in
-    stream_ends Reply c.in-Err.end start later a new (stops_more Reply c.in-Err.end start seen later a b new so_far.goes step) (writes_more _ _ _ so_far.written c.in-Err.ensures.written)
+    let keyed = subst (λ (k : ℕ). Stops (g.A.Answering.is_reply (g.A.Answering.peer c.loop.answering)) c.in-Err.end (seen k) b (later k) new) so_far.asker c.in-Err.ensures.stops in
+    let step = subst (λ (peer : Peer). Stops (g.A.Answering.is_reply peer) c.in-Err.end (seen key) b (later key) new) so_far.peer keyed in
+    stream_ends Reply c.in-Err.end start (later key) a new (stops_more Reply c.in-Err.end start (seen key) (later key) a b new so_far.goes step) (writes_more _ _ _ so_far.written c.in-Err.ensures.written)
 
 pub returns-in-Err-clause-grows : goal.returns-in-Err-clause-grows
-returns-in-Err-clause-grows g c = grows_more _ _ _ c.loop.invariant.grows c.in-Err.ensures.grows
+returns-in-Err-clause-grows g c = each_more _ _ _ c.loop.invariant.grows c.in-Err.ensures.grows

@@ -1,6 +1,7 @@
 -- One that is over is counted.
 use Rattle.std.proofs.Common.{refl, sym, ◌∙◌}
 use Rattle.slab.specs.Slab.{slab_len}
+use Rattle.links.proofs.BegunLemmas.{over_waits}
 use Rattle.links.proofs.LenLemmas.{where_some, counted_none, counted_late}
 use Rattle.links.proofs.deadlines.sweep_key.Goals as goal
 
@@ -11,4 +12,4 @@ pub returns-then-not-is_over-clause-ended : goal.returns-then-not-is_over-clause
 returns-then-not-is_over-clause-ended g c = counted_none c.args.ends.now (slab_len c.args.links.now) (slab_len c.args.links.now) refl
 
 pub returns-clause-ended : goal.returns-clause-ended
-returns-clause-ended g c = counted_late c.args.ends.now c.count_late.new.self (slab_len c.args.links.now) (slab_len c.try_remove.new.self) c.awaits.result c.count_late.ensures (where_some c.try_remove.result c.in-Some.link.now (c.try_remove.ensures.value ∙ sym c.in-Some.ensures) c.try_remove.ensures.len)
+returns-clause-ended g c = counted_late c.args.ends.now c.count_late.new.self (slab_len c.args.links.now) (slab_len c.try_remove.new.self) c.awaits.result (over_waits c.args.limits c.args.now c.in-Some.link.now.begun c.in-Some.link.now.conversation c.is_over.result c.awaits.result c.is_over.ensures c.if-not-is_over.false c.awaits.ensures) c.count_late.ensures (where_some c.try_remove.result c.in-Some.link.now (c.try_remove.ensures.value ∙ sym c.in-Some.ensures) c.try_remove.ensures.len)

@@ -14,7 +14,7 @@ returns-in-Ok-clause-own g c =
     let links = c.args.links.now in
     let new = c.serve_link.new.link in
     let here = Updates-with_value links c.args.key new (search rules) in
-    own_gone g.A.Answering.is_reply (seen_of g.S.Blocking.octets) c.args.now (g.A.Answering.seen c.args.answering.now) (g.A.Answering.seen c.serve_link.new.answering) (get links c.args.key) (get (with_value links c.args.key new) c.args.key) c.in-Some.link.now new c.in-Some.ensures.value here.changed (record {
+    own_gone g.A.Answering.is_reply (seen_of g.S.Blocking.octets) c.args.now (g.A.Answering.seen c.args.answering.now c.args.key) (g.A.Answering.seen c.serve_link.new.answering c.args.key) (get links c.args.key) (get (with_value links c.args.key new) c.args.key) c.in-Some.link.now new c.in-Some.ensures.value here.changed (record {
       peer = c.in-Ok.ensures.peer;
       goes = c.in-Ok.ensures.goes;
       written = c.in-Ok.ensures.written;
@@ -23,9 +23,9 @@ returns-in-Ok-clause-own g c =
 
 pub returns-in-Err-clause-own : goal.returns-in-Err-clause-own
 returns-in-Err-clause-own g c =
-    own_ended g.A.Answering.is_reply (seen_of g.S.Blocking.octets) c.args.now (g.A.Answering.seen c.args.answering.now) (g.A.Answering.seen c.serve_link.new.answering) (get c.args.links.now c.args.key) (get c.try_remove.new.self c.args.key) c.in-Some.link.now c.in-Some.ensures.value c.try_remove.ensures.updates.changed (record {
+    own_ended g.A.Answering.is_reply (seen_of g.S.Blocking.octets) c.args.now (g.A.Answering.seen c.args.answering.now c.args.key) (g.A.Answering.seen c.serve_link.new.answering c.args.key) (get c.args.links.now c.args.key) (get c.try_remove.new.self c.args.key) c.in-Some.link.now c.in-Some.ensures.value c.try_remove.ensures.updates.changed (record {
       end = c.in-Err.end;
-      known = g.A.Answering.seen c.serve_link.new.answering;
+      known = g.A.Answering.seen c.serve_link.new.answering c.args.key;
       octets = g.S.Blocking.octets c.serve_link.new.link.stream;
       grown = grows_itself _;
       stops = c.in-Err.ensures.stops;

@@ -2,7 +2,8 @@
 use Rattle.std.proofs.Common.{◌≡◌, ℕ, ◌+◌, ◌≤◌, ◌⊎◌, length, take, option_map}
 use Rattle.std.specs.List.{All, Contains}
 use Rattle.std.specs.Vec.{vec_len, vec_capacity}
-use Rattle.conversation.specs.Served.{BeginsWith, Grows}
+use Rattle.conversation.specs.Served.{BeginsWith}
+use Rattle.connections.specs.Asked.{EachGrows}
 use Rattle.slab.specs.Slab.{get, slab_len}
 use Rattle.links.specs.Ends.{AreCounted}
 use Rattle.links.specs.Links.{OwnServed, HasStopped, seen_of}
@@ -10,10 +11,10 @@ use Rattle.links.proofs.serve.serve_ready.Given as goal
 
 abbrev pub invariant-loop-key : goal.invariant-loop-key
 invariant-loop-key g l = record {
-  grows : Grows (g.A.Answering.seen l.answering) (g.A.Answering.seen l.initial.answering);
-  own : (key : ℕ) → OwnServed g.A.Answering.is_reply l.now (g.A.Answering.seen l.initial.answering) (option_map (seen_of g.S.Blocking.octets) (get l.initial.links key)) (g.A.Answering.seen l.answering) (option_map (seen_of g.S.Blocking.octets) (get l.links key));
+  grows : EachGrows (g.A.Answering.seen l.answering) (g.A.Answering.seen l.initial.answering);
+  own : (key : ℕ) → OwnServed g.A.Answering.is_reply l.now (g.A.Answering.seen l.initial.answering key) (option_map (seen_of g.S.Blocking.octets) (get l.initial.links key)) (g.A.Answering.seen l.answering key) (option_map (seen_of g.S.Blocking.octets) (get l.links key));
   ended : AreCounted l.initial.ends l.ends (slab_len l.initial.links) (slab_len l.links);
   next : BeginsWith l.next.items l.initial.next.items;
-  going : All (λ key. Contains l.next.items key ⊎ HasStopped g.S.Blocking.would_block (get l.links key)) (take l.key-index l.keys);
+  going : All (λ key. Contains l.next.items key ⊎ HasStopped g.S.Blocking.would_block g.A.Answering.is_later (get l.links key)) (take l.key-index l.keys);
   room : vec_len l.next + length l.keys ≤ vec_capacity l.next + l.key-index;
 }

@@ -1,6 +1,6 @@
 -- The steps of a turn, one behind the other.
 use Rattle.std.proofs.Common.{refl, sym, ◌∙◌, inl}
-use Rattle.conversation.proofs.TurnLemmas.{grows_itself}
+use Rattle.connections.proofs.AskedLemmas.{each_itself}
 use Rattle.turns.proofs.StepLemmas.{serves_none, turned_none, turned_whole, going_swept}
 use Rattle.turns.proofs.worker.Turns.turn.Goals as goal
 
@@ -9,7 +9,7 @@ returns-in_err-take_all-clause-turned g c =
     let seen = g.A.Answering.seen c.args.answering.now in
     let come = c.take_all.new.self.links in
     turned_whole g.S.Remote.origin g.S.Blocking.octets c.args.plan.allowed.addresses.now c.in-Ok.now g.A.Answering.is_reply c.args.plan.limits (g.P.Readiness.time c.take_all.new.poll) seen seen c.args.self.now.links c.mark.new.self.links come come come (c.in-Ok.ensures ∙ sym c.take_all.ensures.time) c.mark.ensures c.take_all.ensures.moves
-    (serves_none g.S.Remote.origin g.S.Blocking.octets c.args.plan.allowed.addresses.now c.in-Ok.now g.A.Answering.is_reply seen seen come (grows_itself seen)) (inl refl)
+    (serves_none g.S.Remote.origin g.S.Blocking.octets c.args.plan.allowed.addresses.now c.in-Ok.now g.A.Answering.is_reply seen seen come (each_itself seen)) (inl refl)
 
 pub returns-in_default-clause-turned : goal.returns-in_default-clause-turned
 returns-in_default-clause-turned g c =
@@ -25,4 +25,4 @@ returns-clause-turned g c =
 
 pub returns-clause-going : goal.returns-clause-going
 returns-clause-going g c =
-    going_swept g.S.Remote.origin g.S.Blocking.octets c.args.plan.allowed.addresses.now c.in-Ok.now g.S.Blocking.would_block c.args.plan.limits c.serve.new.self.links c.sweep.new.self.links c.serve.new.self.served.items c.sweep.new.self.served.items c.serve.new.self.next.items c.sweep.new.self.next.items c.sweep.ensures.served c.sweep.ensures.next c.sweep.ensures.swept c.in_ok-serve.ensures.going
+    going_swept g.S.Remote.origin g.S.Blocking.octets c.args.plan.allowed.addresses.now c.in-Ok.now g.S.Blocking.would_block g.A.Answering.is_later c.args.plan.limits c.serve.new.self.links c.sweep.new.self.links c.serve.new.self.served.items c.sweep.new.self.served.items c.serve.new.self.next.items c.sweep.new.self.next.items c.sweep.ensures.served c.sweep.ensures.next c.sweep.ensures.swept c.in_ok-serve.ensures.going

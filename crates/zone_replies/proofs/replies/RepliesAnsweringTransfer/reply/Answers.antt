@@ -9,10 +9,10 @@ use Rattle.zone_replies.proofs.RepliedLemmas.{later_replied}
 use Rattle.zone_replies.proofs.replies.RepliesAnsweringTransfer.reply.Goals as goal
 
 pub returns-in-Bytes-clause-grows : goal.returns-in-Bytes-clause-grows
-returns-in-Bytes-clause-grows g c = now_grows g.Z.FirstZone.zone _ c.args.request.now c.args.self.now.reader c.answer_kept.new.reader c.answer_kept.new.out (Bytes c.in-Bytes.len) c.in-Bytes.ensures.now
+returns-in-Bytes-clause-grows g c = λ _. now_grows g.Z.FirstZone.zone _ c.args.request.now c.args.self.now.reader c.answer_kept.new.reader c.answer_kept.new.out (Bytes c.in-Bytes.len) c.in-Bytes.ensures.now
 
 pub returns-in-Later-clause-grows : goal.returns-in-Later-clause-grows
-returns-in-Later-clause-grows g c =
+returns-in-Later-clause-grows g c = λ _.
     grows_more _ _ _ (now_grows g.Z.FirstZone.zone _ c.args.request.now c.args.self.now.reader c.answer_kept.new.reader c.answer_kept.new.out Later c.in-Later.ensures.now) c.reply_later.ensures.grows
 
 pub returns-in-Later-clause-reply : goal.returns-in-Later-clause-reply
