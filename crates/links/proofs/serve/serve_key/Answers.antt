@@ -6,6 +6,7 @@ use Rattle.slab.proofs.SlabLemmas.{Updates-with_value}
 use Rattle.links.specs.Links.{seen_of}
 use Rattle.links.proofs.BegunLemmas.{begun_once}
 use Rattle.links.proofs.LenLemmas.{where_some, len_kept, counted_none, counted_one}
+use Rattle.links.proofs.NextLemmas.{stopped_by_flow}
 use Rattle.links.proofs.OwnLemmas.{own_gone, own_ended}
 use Rattle.links.proofs.serve.serve_key.Goals as goal
 
@@ -48,3 +49,9 @@ returns-in-Err-clause-ended g c =
     let here = Updates-with_value links c.args.key new (search rules) in
     let kept : slab_len (with_value links c.args.key new) ≡ slab_len links = len_kept links c.args.key c.in-Some.link.now new c.in-Some.ensures.value (search rules) in
     counted_one c.args.ends.now c.count.new.self (slab_len links) (slab_len c.try_remove.new.self) c.in-Err.end c.count.ensures (where_some c.try_remove.result new (c.try_remove.ensures.value ∙ here.changed) c.try_remove.ensures.len ∙ kept)
+
+pub returns-in-Ok-clause-stopped : goal.returns-in-Ok-clause-stopped
+returns-in-Ok-clause-stopped g c = λ is.
+    let new = c.serve_link.new.link in
+    let here = Updates-with_value c.args.links.now c.args.key new (search rules) in
+    stopped_by_flow g.S.Blocking.would_block g.A.Answering.is_later (get (with_value c.args.links.now c.args.key new) c.args.key) new c.in-Ok.flow here.changed (c.has_stopped.ensures.0 (search rules)) c.in-Ok.ensures.blocked c.in-Ok.ensures.waits
