@@ -164,6 +164,7 @@ impl<M: Messages> Conversation<M> {
     /// Answers the first request that is held in whole, and puts the reply behind what is to be written. It goes through the gate, which is
     /// left once the reply is made, or told to be made later. False where none is held, or so much is to be written that this goes first. There, and
     /// where the request isn't answered, all is as it was.
+    #[tactic(auto, using(crate::proofs::AskedLemmas::each_itself))]
     pub fn answer<R: Wait, A: Answering<M>, G: Gate>(
         &mut self,
         rt: &R,

@@ -16,6 +16,7 @@ use std::sync::Wait;
 
 /// Serves the connection under a key, if there is one, by a share, and tells whether it could go on: where not, there is none, its stream would
 /// block, or its first request waits for its reply. One that ends is removed, and counted by how it ended.
+#[tactic(auto, using(connections::proofs::AskedLemmas::each_itself))]
 fn serve_key<R: Wait, S: Blocking + Drop, M: Messages, A: Answering<M>>(
     rt: &R,
     answering: &mut A,
@@ -51,6 +52,7 @@ fn serve_key<R: Wait, S: Blocking + Drop, M: Messages, A: Answering<M>>(
 /// that isn't among them has no connection, one whose stream would block, or one whose first request waits for its reply. One that ends is removed,
 /// and counted by how it ended. Each is answered by its own peer's rights, on its own stream; none appears, and none is dropped that hasn't ended,
 /// whatever the keys. Where there is no memory for the keys nothing is served.
+#[tactic(auto, using(connections::proofs::AskedLemmas::each_itself))]
 pub fn serve_ready<R: Wait, S: Blocking + Drop, M: Messages, A: Answering<M>>(
     rt: &R,
     answering: &mut A,

@@ -337,6 +337,7 @@ impl<S: Blocking + Remote + Drop, M: Messages> Turns<S, M> {
     /// that are over. Who asks on each is the peer of its address; none gets another's replies, and none is dropped but by its end, for its
     /// peer's delay, or, where all places are taken, the one that is idle longest. Of the connections that are served, each that is there still,
     /// whose stream wouldn't block, and whose first request doesn't wait for its reply, is among those that could go on.
+    #[tactic(auto, using(connections::proofs::AskedLemmas::each_itself))]
     pub fn turn<R: Wait, P: Readiness<S>, L: Arrivals<Stream = S>, A: Answering<M>>(
         &mut self,
         rt: &R,
