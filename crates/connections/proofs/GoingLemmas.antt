@@ -1,5 +1,6 @@
 -- What was answered still is when a connection goes on, and where it ends.
 use Rattle.std.proofs.Common.{◌≡◌, refl, ℕ, List, [], ◌++◌, Option, None, Some, IfSome, sym, ap, ◌∙◌, subst, append_assoc}
+use Rattle.serve_core.specs.declared.peer.Peer.{Peer}
 use Rattle.dns_message.specs.Frame.{frame_of}
 use Rattle.conversation.specs.Octets.{frames_of}
 use Rattle.conversation.specs.Served.{Learned, Grows, Served, EndsAs}
@@ -9,7 +10,11 @@ use Rattle.conversation.specs.declared.stream_end.StreamEnd.{StreamEnd}
 use Rattle.conversation.specs.declared.stream_end.StreamEnd.TheVariants.{Clean, Torn, Device, Spent, NoMemory}
 use Rattle.connections.specs.Kept.{Kept, due, told_by}
 use Rattle.connections.specs.Told.{Stays, Writes, EndsTold}
-use Rattle.connections.specs.Going.{Known, Goes, Keeps, PartlyTold, Ends, Stops}
+use Rattle.connections.specs.Going.{IsHeldUp, Known, Goes, Keeps, PartlyTold, Ends, Stops}
+
+-- a connection of the same peer is held up
+pub held_up_as : (is_later : Peer → List ℕ → Type 0) (peer mine : Peer) (kept : Kept) → mine ≡ peer → IsHeldUp (is_later mine) kept → IsHeldUp (is_later peer) kept
+held_up_as is_later peer mine kept same held_up = subst (λ (p : Peer). IsHeldUp (is_later p) kept) same held_up
 
 abbrev written_of : Option (List ℕ × List ℕ) → List ℕ
 written_of None = []

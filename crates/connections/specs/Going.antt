@@ -1,9 +1,16 @@
 -- How a connection goes on, and how it ends: the replies to its requests, in their order (RFC 1035, 4.2.2; RFC 7766, 6.2.1.1).
-use Rattle.std.specs.Prelude.{◌≡◌, ℕ, List, ◌++◌, Option, Some, IfSome}
+use Rattle.std.specs.Prelude.{◌≡◌, ℕ, List, [], ◌++◌, Option, Some, IfSome}
 use Rattle.conversation.specs.Served.{Learned, Served, EndsAs}
 use Rattle.conversation.specs.declared.stream_end.StreamEnd.{StreamEnd}
 use Rattle.conversation.specs.declared.stream_end.StreamEnd.TheVariants.{Clean, Torn, Device, Spent, NoMemory}
+use Rattle.connections.specs.Asked.{Waits}
 use Rattle.connections.specs.Kept.{Kept, told_by}
+
+-- a connection is held up: nothing is to be written, and the first request that is held is one of those that are answered later
+pub record IsHeldUp (is_later : List ℕ → Type 0) (kept : Kept) : Type 0 where
+  pub waits : Waits is_later kept.held
+  pub ready : kept.ready ≡ []
+  pub later : kept.later ≡ []
 
 -- what a reply is, by the list of what is known to be published before it and that of what is when it is made, the request, and the reply's
 -- messages

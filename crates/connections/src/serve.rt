@@ -4,7 +4,7 @@ ghost use Rattle.dns_message.specs.Message.{message_limit};
 ghost use Rattle.connections.specs.Asked.{EachGrows, Waits};
 ghost use Rattle.connections.specs.Kept.{IsWaiting, told_by};
 ghost use Rattle.connections.specs.Told.{Stays, Writes, EndsTold, IsCounted, EndCounted};
-ghost use Rattle.connections.specs.Going.{Keeps, Goes, Stops};
+ghost use Rattle.connections.specs.Going.{Keeps, Goes, Stops, IsHeldUp};
 ghost use Rattle.connections.specs.declared.blocking.Fault.{Fault as FaultOf};
 ghost use Rattle.connections.specs.declared.machine.Broken.{Broken as WhyBroken};
 
@@ -245,6 +245,8 @@ fn write_and_wait<M: Messages, S: Blocking>(
     ensures written { Writes (S.octets stream.old) (S.octets stream.new) }
     ensures same { OnOk result (S.faults stream.new ≡ S.faults stream.old) }
     ensures counted { IfErr result (λ end. EndCounted end (S.faults stream.old) (S.faults stream.new)) }
+    ensures ready { result ≡ Ok Flow.Waits → conversation.new.ready ≡ [] }
+    ensures later { result ≡ Ok Flow.Waits → conversation.new.later ≡ [] }
     ensures blocked { result ≡ Ok Flow.Blocked → S.would_block stream.new }
 {
     match flush(conversation, stream, out) {
@@ -277,7 +279,7 @@ fn turn<R: Wait, M: Messages, A: Answering<M>, S: Blocking, G: Gate>(
     ensures same { OnOk result (S.faults stream.new ≡ S.faults stream.old) }
     ensures counted { IfErr result (λ end. EndCounted end (S.faults stream.old) (S.faults stream.new)) }
     ensures blocked { result ≡ Ok Flow.Blocked → S.would_block stream.new }
-    ensures waits { result ≡ Ok Flow.Waits → Waits (A.is_later (A.peer answering.old)) conversation.new.held }
+    ensures waits { result ≡ Ok Flow.Waits → IsHeldUp (A.is_later (A.peer answering.old)) conversation.new }
 {
     match answer_some(rt, answering, conversation, gate, out) {
         Ok(()) => match write_and_read(conversation, stream, room, out) {
@@ -317,7 +319,7 @@ pub fn serve_some<R: Wait, M: Messages, A: Answering<M>, S: Blocking, G: Gate>(
     ensures same { OnOk result (S.faults stream.new ≡ S.faults stream.old) }
     ensures counted { IfErr result (λ end. EndCounted end (S.faults stream.old) (S.faults stream.new)) }
     ensures blocked { result ≡ Ok Flow.Blocked → S.would_block stream.new }
-    ensures waits { result ≡ Ok Flow.Waits → Waits (A.is_later (A.peer answering.old)) conversation.new.held }
+    ensures waits { result ≡ Ok Flow.Waits → IsHeldUp (A.is_later (A.peer answering.old)) conversation.new }
 {
     for _turned in 0..TURNS {
         match turn(rt, answering, conversation, stream, gate, room, out) {

@@ -6,15 +6,15 @@ use Rattle.std.proofs.lemmas.List.Elements.{All-weaker, All-more, Contains-appen
 use Rattle.serve_core.specs.declared.peer.Peer.{Peer}
 use Rattle.conversation.specs.Served.{BeginsWith}
 use Rattle.conversation.specs.declared.stream_end.StreamEnd.{StreamEnd}
-use Rattle.connections.specs.Asked.{Waits}
+use Rattle.connections.specs.Going.{IsHeldUp}
 use Rattle.connections.specs.declared.serve.Flow.{Flow}
-use Rattle.connections.specs.declared.serve.Flow.TheVariants.{Blocked, Waits as WaitsFor}
+use Rattle.connections.specs.declared.serve.Flow.TheVariants.{Blocked, Waits}
 use Rattle.links.specs.Links.{HasStopped}
 use Rattle.links.specs.declared.link.Link.{Link}
 
 -- a connection that couldn't go on has stopped
-pub stopped_by_flow : {S M : Type 0} (would_block : S → Type 0) (is_later : Peer → List ℕ → Type 0) (link : Option (Link S M)) (new : Link S M) (flow : Flow) → link ≡ Some new → (flow ≡ Blocked) ⊎ (flow ≡ WaitsFor)
-    → (◌≡◌ {A = Result Flow StreamEnd} (Ok flow) (Ok Blocked) → would_block new.stream) → (◌≡◌ {A = Result Flow StreamEnd} (Ok flow) (Ok WaitsFor) → Waits (is_later new.peer) new.conversation.held) → HasStopped would_block is_later link
+pub stopped_by_flow : {S M : Type 0} (would_block : S → Type 0) (is_later : Peer → List ℕ → Type 0) (link : Option (Link S M)) (new : Link S M) (flow : Flow) → link ≡ Some new → (flow ≡ Blocked) ⊎ (flow ≡ Waits)
+    → (◌≡◌ {A = Result Flow StreamEnd} (Ok flow) (Ok Blocked) → would_block new.stream) → (◌≡◌ {A = Result Flow StreamEnd} (Ok flow) (Ok Waits) → IsHeldUp (is_later new.peer) new.conversation) → HasStopped would_block is_later link
 stopped_by_flow would_block is_later link new flow is (inl same) blocked waits = subst (HasStopped would_block is_later) (sym is) (inl (blocked (ap (λ (f : Flow). Ok f) same)))
 stopped_by_flow would_block is_later link new flow is (inr same) blocked waits = subst (HasStopped would_block is_later) (sym is) (inr (waits (ap (λ (f : Flow). Ok f) same)))
 

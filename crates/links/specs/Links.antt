@@ -3,10 +3,9 @@ use Rattle.std.specs.Prelude.{◌≡◌, ◌⊎◌, ℕ, List, Option, None, Som
 use Rattle.serve_core.specs.declared.peer.Peer.{Peer}
 use Rattle.conversation.specs.Served.{Learned, Grows}
 use Rattle.conversation.specs.declared.stream_end.StreamEnd.{StreamEnd}
-use Rattle.connections.specs.Asked.{Waits}
 use Rattle.connections.specs.Kept.{Kept, told_by, awaited}
 use Rattle.connections.specs.Told.{Writes}
-use Rattle.connections.specs.Going.{Goes, Stops}
+use Rattle.connections.specs.Going.{Goes, Stops, IsHeldUp}
 use Rattle.links.specs.Deadlines.{IsBegun, is_over}
 use Rattle.links.specs.Ends.{one_late}
 use Rattle.links.specs.declared.ends.Ends.{Ends}
@@ -51,9 +50,9 @@ module _ {T : Type 0} (IsReply : Peer → Learned T → Learned T → List ℕ �
   OwnServed now seen (Some old) later None = HasEnded seen old later
   OwnServed now seen (Some old) later (Some new) = HasGone now seen old later new
 
--- there is no connection under a key, its stream would block, or the first of its requests is one that is answered later, and waits for its reply
+-- there is no connection under a key, its stream would block, or it is held up by a request that is answered later
 abbrev pub HasStopped : {S M : Type 0} → (S → Type 0) → (Peer → List ℕ → Type 0) → Option (Link S M) → Type 0
-HasStopped would_block is_later link = IfSome link (λ l. would_block l.stream ⊎ Waits (is_later l.peer) l.conversation.held)
+HasStopped would_block is_later link = IfSome link (λ l. would_block l.stream ⊎ IsHeldUp (is_later l.peer) l.conversation)
 
 -- what contracts see of a connection, by how its stream tells its octets
 abbrev pub seen_of : {S M : Type 0} → (S → Option (List ℕ × List ℕ)) → Link S M → Seen

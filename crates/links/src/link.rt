@@ -1,10 +1,10 @@
 //! A connection with who asks on it.
 ghost use Rattle.std.specs.Prelude.{◌≡◌, ◌<◌, ◌≤◌, length, IfErr, OnOk};
 ghost use Rattle.dns_message.specs.Message.{message_limit};
-ghost use Rattle.connections.specs.Asked.{EachGrows, Waits};
+ghost use Rattle.connections.specs.Asked.{EachGrows};
 ghost use Rattle.connections.specs.Kept.{told_by, nothing_kept};
 ghost use Rattle.connections.specs.Told.{Writes};
-ghost use Rattle.connections.specs.Going.{Goes, Stops};
+ghost use Rattle.connections.specs.Going.{Goes, Stops, IsHeldUp};
 ghost use Rattle.links.specs.Deadlines.{patience, is_late, is_over, begun_behind};
 
 use crate::limits::Limits;
@@ -114,7 +114,7 @@ pub(crate) fn serve_link<R: Wait, S: Blocking + Drop, M: Messages, A: Answering<
     ensures written { Writes (S.octets link.old.stream) (S.octets link.new.stream) }
     ensures begun { link.new.begun ≡ begun_behind link.old.conversation.passed link.new.conversation.passed link.old.begun now }
     ensures blocked { result ≡ Ok Flow.Blocked → S.would_block link.new.stream }
-    ensures waits { result ≡ Ok Flow.Waits → Waits (A.is_later link.new.peer) link.new.conversation.held }
+    ensures waits { result ≡ Ok Flow.Waits → IsHeldUp (A.is_later link.new.peer) link.new.conversation }
 {
     answering.turn_to(link.peer, link.from, key);
     let passed = link.conversation.passed();

@@ -34,14 +34,20 @@ impl<S: Blocking, P: Readiness<S>, F: Finished> Readiness<S> for Woken<P, F> {
 
     fn wait(&mut self, most: u64, keys: &mut Vec<usize>) -> Result<u64, NotWatched> {
         let now = self.poll.wait(most, keys)?;
-        for _told in 0..u64::MAX {
-            let Some(key) = self.finished.next() else {
-                break;
-            };
-            if keys.push(key).is_err() {
-                return Err(NotWatched);
-            }
-        }
+        put_finished(&mut self.finished, keys)?;
         Ok(now)
     }
+}
+
+/// Puts the keys of connections whose replies can be had now behind `keys`.
+fn put_finished<F: Finished>(finished: &mut F, keys: &mut Vec<usize>) -> Result<(), NotWatched> {
+    for _told in 0..u64::MAX {
+        let Some(key) = finished.next() else {
+            return Ok(());
+        };
+        if keys.push(key).is_err() {
+            return Err(NotWatched);
+        }
+    }
+    Ok(())
 }

@@ -4,9 +4,9 @@ use Rattle.serve_core.specs.declared.peer.Peer.{Peer}
 use Rattle.connections.specs.Kept.{told_by}
 use Rattle.connections.specs.Told.{EndCounted}
 use Rattle.connections.specs.Going.{Goes, Stops}
-use Rattle.connections.proofs.AskedLemmas.{each_itself, each_more, waits_as}
+use Rattle.connections.proofs.AskedLemmas.{each_itself, each_more}
 use Rattle.connections.proofs.ToldLemmas.{writes_itself, writes_more}
-use Rattle.connections.proofs.GoingLemmas.{goes_itself, goes_more, stops_more}
+use Rattle.connections.proofs.GoingLemmas.{goes_itself, goes_more, stops_more, held_up_as}
 use Rattle.connections.proofs.serve.serve_some.Goals as goal
 
 pub loop-turned-init : goal.loop-turned-init
@@ -60,7 +60,7 @@ returns-then-has_stopped-clause-written g c = writes_more _ _ _ c.loop-turned.in
 
 pub returns-then-has_stopped-clause-waits : goal.returns-then-has_stopped-clause-waits
 returns-then-has_stopped-clause-waits g c = λ is.
-    waits_as g.A.Answering.is_later (g.A.Answering.peer c.args.answering.now) (g.A.Answering.peer c.loop-turned.answering) c.turn.new.conversation.held c.turn.new.conversation.held c.loop-turned.invariant.peer refl (c.in-Ok.ensures.waits is)
+    held_up_as g.A.Answering.is_later (g.A.Answering.peer c.args.answering.now) (g.A.Answering.peer c.loop-turned.answering) c.turn.new.conversation c.loop-turned.invariant.peer (c.in-Ok.ensures.waits is)
 
 pub returns-in-Err-clause-stops : goal.returns-in-Err-clause-stops
 returns-in-Err-clause-stops g c =

@@ -39,6 +39,9 @@ returns-in-Ok-write_and_read-clause-goes g c =
     let n = told_by c.write_and_read.new.conversation (g.S.Blocking.octets c.write_and_read.new.stream) in
     goes_more Reply (g.A.Answering.seen c.args.answering.now key) later later (told_by c.args.conversation.now o) b n (c.answer_some.ensures.keeps o) (goes_stays Reply later b n c.in-Ok-write_and_read.ensures.stays)
 
+pub returns-in-Ok-write_and_read-clause-waits : goal.returns-in-Ok-write_and_read-clause-waits
+returns-in-Ok-write_and_read-clause-waits g c = λ is. absurd (c.in-Ok-write_and_read.ensures.going is)
+
 pub returns-in-Err-clause-stops : goal.returns-in-Err-clause-stops
 returns-in-Err-clause-stops g c =
     let Reply = g.A.Answering.is_reply (g.A.Answering.peer c.args.answering.now) in
@@ -57,8 +60,11 @@ returns-in-Ok-write_and_wait-clause-goes g c =
     goes_more Reply (g.A.Answering.seen c.args.answering.now key) later later (told_by c.args.conversation.now o) b n (c.answer_some.ensures.keeps o) (goes_stays Reply later b n c.in-Ok-write_and_wait.ensures.stays)
 
 pub returns-in-Ok-write_and_wait-clause-waits : goal.returns-in-Ok-write_and_wait-clause-waits
-returns-in-Ok-write_and_wait-clause-waits g c = λ _.
-    subst (λ (l : List ℕ). Waits (g.A.Answering.is_later (g.A.Answering.peer c.args.answering.now)) l) (sym c.in-Ok-write_and_wait.ensures.held) (c.in-Err-Later.ensures.later refl)
+returns-in-Ok-write_and_wait-clause-waits g c = λ is. record {
+  waits = subst (λ (l : List ℕ). Waits (g.A.Answering.is_later (g.A.Answering.peer c.args.answering.now)) l) (sym c.in-Ok-write_and_wait.ensures.held) (c.in-Err-Later.ensures.later refl);
+  ready = c.in-Ok-write_and_wait.ensures.ready is;
+  later = c.in-Ok-write_and_wait.ensures.later is;
+}
 
 pub returns-in-Err-write_and_wait-clause-stops : goal.returns-in-Err-write_and_wait-clause-stops
 returns-in-Err-write_and_wait-clause-stops g c =

@@ -2,7 +2,8 @@
 use Rattle.std.proofs.Common.{ℕ, refl, subst}
 use Rattle.connections.specs.Going.{Goes, Stops}
 use Rattle.connections.specs.Kept.{told_by}
-use Rattle.connections.proofs.AskedLemmas.{each_more, waits_as}
+use Rattle.connections.proofs.AskedLemmas.{each_more}
+use Rattle.connections.proofs.GoingLemmas.{held_up_as}
 use Rattle.links.proofs.OwnLemmas.{ok_follows, err_follows, goes_as, stops_as}
 use Rattle.links.proofs.link.serve_link.Goals as goal
 
@@ -37,4 +38,4 @@ returns-clause-grows g c = each_more (g.A.Answering.seen c.args.answering.now) (
 
 pub returns-clause-waits : goal.returns-clause-waits
 returns-clause-waits g c = λ is.
-    waits_as g.A.Answering.is_later c.args.link.now.peer (g.A.Answering.peer c.turn_to.new.self) c.serve_some-served.new.conversation.held c.serve_some-served.new.conversation.held c.turn_to.ensures.other refl (c.serve_some-served.ensures.waits is)
+    held_up_as g.A.Answering.is_later c.args.link.now.peer (g.A.Answering.peer c.turn_to.new.self) c.serve_some-served.new.conversation c.turn_to.ensures.other (c.serve_some-served.ensures.waits is)
