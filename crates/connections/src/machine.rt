@@ -194,8 +194,7 @@ impl<M: Messages> Conversation<M> {
         gate.leave();
         let reply = match made {
             Ok(reply) => reply,
-            Err(Unmade::Spent) => return Err(Broken::Spent),
-            Err(Unmade::Later) => return Err(Broken::Later),
+            Err(unmade) => return Err(broken_by(unmade)),
         };
         match self.queue(reply, out) {
             Ok(()) => {}
@@ -244,6 +243,16 @@ impl<M: Messages> Conversation<M> {
         };
         self.ready.push_frame(&out[..len])?;
         Ok(())
+    }
+}
+
+/// Why a request isn't answered, by why there is no reply to it.
+fn broken_by(unmade: Unmade) -> Broken
+    ensures { result ≡ Broken.Later → unmade ≡ Unmade.Later }
+{
+    match unmade {
+        Unmade::Spent => Broken::Spent,
+        Unmade::Later => Broken::Later,
     }
 }
 

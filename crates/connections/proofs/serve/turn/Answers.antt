@@ -1,5 +1,5 @@
 -- What is answered, written and read in a turn.
-use Rattle.std.proofs.Common.{List, ℕ, refl, sym, subst}
+use Rattle.std.proofs.Common.{List, ℕ, sym, subst}
 use Rattle.conversation.specs.declared.stream_end.StreamEnd.TheVariants.{Spent, NoMemory}
 use Rattle.connections.specs.Asked.{Waits}
 use Rattle.connections.specs.Kept.{told_by}
@@ -61,7 +61,7 @@ returns-in-Ok-write_and_wait-clause-goes g c =
 
 pub returns-in-Ok-write_and_wait-clause-waits : goal.returns-in-Ok-write_and_wait-clause-waits
 returns-in-Ok-write_and_wait-clause-waits g c = λ is. record {
-  waits = subst (λ (l : List ℕ). Waits (g.A.Answering.is_later (g.A.Answering.peer c.args.answering.now)) l) (sym c.in-Ok-write_and_wait.ensures.held) (c.in-Err-Later.ensures.later refl);
+  waits = subst (λ (l : List ℕ). Waits (g.A.Answering.is_later (g.A.Answering.peer c.args.answering.now)) l) (sym c.in-Ok-write_and_wait.ensures.held) (c.in-Err-Later.ensures.later c.in-Err-Later.field-0-is);
   ready = c.in-Ok-write_and_wait.ensures.ready is;
   later = c.in-Ok-write_and_wait.ensures.later is;
 }

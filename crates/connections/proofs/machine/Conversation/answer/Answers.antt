@@ -1,5 +1,5 @@
 -- The first request that is held is answered, behind all that is to be written; or it waits.
-use Rattle.std.proofs.Common.{◌≡◌, refl, ◌+◌, ◌++◌, ◌∙◌, ap, drop, length, sym, subst}
+use Rattle.std.proofs.Common.{◌≡◌, ◌+◌, ◌++◌, ◌∙◌, ap, drop, length, sym, subst}
 use Rattle.dns_message.specs.Frame.{frame_of}
 use Rattle.connections.specs.Kept.{Kept, due}
 use Rattle.connections.proofs.FrameLemmas.{turn_made}
@@ -16,10 +16,10 @@ returns-clause-turn g c = λ made.
     turn_made (g.A.Answering.is_reply (g.A.Answering.peer c.args.answering.now)) _ _ _ _ _ _ request _ (c.in-Ok.ensures.grows (g.A.Answering.asker c.args.answering.now)) c.in-Ok.ensures.reply (whole ∙ ap (λ l. frame_of request ++ l) (sym left))
     (ap (λ (k : Kept). due k) c.self-2.view_is ∙ c.in-Ok-queue.ensures.queued)
 
-pub returns-in-Err-Later-clause-later : goal.returns-in-Err-Later-clause-later
-returns-in-Err-Later-clause-later g c = λ later.
+pub returns-in-Err-clause-later : goal.returns-in-Err-clause-later
+returns-in-Err-clause-later g c = λ later.
     let held = c.args.self.now.held in
     let request = c.in-Some.request.now in
     let read : c.as_slice.result.now ≡ held = c.as_slice.ensures ∙ ap (λ (k : Kept). k.held) c.self.view_is in
     let whole : held ≡ frame_of request ++ drop (2 + length request) held = subst (λ l. l ≡ frame_of request ++ drop (2 + length request) l) read c.in-Some.ensures.frame in
-    (request, drop (2 + length request) held, whole, c.in-Err-Later.ensures.later refl)
+    (request, drop (2 + length request) held, whole, c.in-Err.ensures.later (c.broken_by.ensures later))
