@@ -13,7 +13,6 @@ use connections::{Awaited, Messages};
 use slab::Slab;
 
 /// Ends the connection under a key where it is over at a time, and counts it by what it waited for.
-#[tactic(auto, using(crate::proofs::BegunLemmas::over_waits))]
 fn sweep_key<S: Drop, M: Messages>(
     links: &mut Slab<Link<S, M>>,
     limits: Limits,

@@ -11,5 +11,8 @@ returns-in_default-clause-ended g c = counted_none c.args.ends.now (slab_len c.a
 pub returns-then-not-is_over-clause-ended : goal.returns-then-not-is_over-clause-ended
 returns-then-not-is_over-clause-ended g c = counted_none c.args.ends.now (slab_len c.args.links.now) (slab_len c.args.links.now) refl
 
+pub count_late-requires : goal.count_late-requires
+count_late-requires g c = over_waits c.args.limits c.args.now c.in-Some.link.now.begun c.in-Some.link.now.conversation c.is_over.result c.awaits.result c.is_over.ensures c.if-not-is_over.false c.awaits.ensures
+
 pub returns-clause-ended : goal.returns-clause-ended
 returns-clause-ended g c = counted_late c.args.ends.now c.count_late.new.self (slab_len c.args.links.now) (slab_len c.try_remove.new.self) c.awaits.result (over_waits c.args.limits c.args.now c.in-Some.link.now.begun c.in-Some.link.now.conversation c.is_over.result c.awaits.result c.is_over.ensures c.if-not-is_over.false c.awaits.ensures) c.count_late.ensures (where_some c.try_remove.result c.in-Some.link.now (c.try_remove.ensures.value ∙ sym c.in-Some.ensures) c.try_remove.ensures.len)
