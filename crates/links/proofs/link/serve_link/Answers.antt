@@ -1,5 +1,5 @@
 -- The connection's peer is turned to, and its share is served by that peer's rights.
-use Rattle.std.proofs.Common.{ℕ, refl, subst}
+use Rattle.std.proofs.Common.{ℕ, subst}
 use Rattle.connections.specs.Going.{Goes, Stops}
 use Rattle.connections.specs.Kept.{told_by}
 use Rattle.connections.proofs.AskedLemmas.{each_more}
