@@ -1,5 +1,5 @@
 //! Requests that are answered later.
-ghost use Rattle.std.specs.Prelude.{◌≤◌, [], length};
+ghost use Rattle.std.specs.Prelude.{[]};
 
 use crate::echo::Both;
 use crate::made_up::{Comers, Once, take_turns};
@@ -122,14 +122,31 @@ fn answered<R: Wait>(
     slow: &mut Slow,
     conversation: &mut Conversation<Both>,
     out: &mut [u8],
-) -> Result<Option<bool>, Fail>
-    requires { 65535 ≤ length out.old }
-{
+) -> Result<Option<bool>, Fail> {
+    if out.len() < 65_535 {
+        return Err("no room")?;
+    }
     match conversation.answer(rt, slow, &OpenGate, out) {
         Ok(is_made) => Ok(Some(is_made)),
         Err(Broken::Later) => Ok(None),
         Err(_) => Err("no reply is made")?,
     }
+}
+
+/// Whether asking for replies, one after another, gives this.
+fn gives<R: Wait>(
+    rt: &R,
+    slow: &mut Slow,
+    conversation: &mut Conversation<Both>,
+    out: &mut [u8],
+    all: &[Option<bool>],
+) -> Result<bool, Fail> {
+    for wanted in all {
+        if answered(rt, slow, conversation, out)? != *wanted {
+            return Ok(false);
+        }
+    }
+    Ok(true)
 }
 
 /// All that is ready goes; how much that was.
@@ -145,43 +162,18 @@ fn a_reply_is_had_by_asking_again(rt: HostRuntime) -> Result<(), Fail> {
     let mut slow = Slow::new();
     let mut conversation: Conversation<Both> = Conversation::new(alloc);
     let mut out = vec![in alloc; 0; 65_535]?;
-    assert!(rt; conversation.wants() && out.len() >= 65_535);
+    assert!(rt; conversation.wants());
     conversation.take(&[0, 1, b'a', 0, 2, b'u', b'x', 0, 1, b'b', 0])?;
     // What is in front is answered; the next one waits, and so does the one behind it.
-    assert_eq!(rt;
-        answered(&rt, &mut slow, &mut conversation, &mut out)?,
-        Some(true)
-    );
-    assert!(rt; out.len() >= 65_535);
-    assert_eq!(rt;
-        answered(&rt, &mut slow, &mut conversation, &mut out)?,
-        None
-    );
-    assert!(rt; out.len() >= 65_535);
-    assert_eq!(rt;
-        answered(&rt, &mut slow, &mut conversation, &mut out)?,
-        None
-    );
+    let all = [Some(true), None, None];
+    assert!(rt; gives(&rt, &mut slow, &mut conversation, &mut out, &all)?);
     assert!(rt; conversation.ready() == [0, 1, b'a'].as_slice());
     assert_eq!(rt; (all_goes(&mut conversation), slow.asked), (3, 2));
     assert!(rt; conversation.awaits() == Awaited::Answer && !conversation.wants());
     // Once its reply is made, that comes first.
     slow.make(0);
-    assert!(rt; out.len() >= 65_535);
-    assert_eq!(rt;
-        answered(&rt, &mut slow, &mut conversation, &mut out)?,
-        Some(true)
-    );
-    assert!(rt; out.len() >= 65_535);
-    assert_eq!(rt;
-        answered(&rt, &mut slow, &mut conversation, &mut out)?,
-        Some(true)
-    );
-    assert!(rt; out.len() >= 65_535);
-    assert_eq!(rt;
-        answered(&rt, &mut slow, &mut conversation, &mut out)?,
-        Some(false)
-    );
+    let all = [Some(true), Some(true), Some(false)];
+    assert!(rt; gives(&rt, &mut slow, &mut conversation, &mut out, &all)?);
     assert!(rt; conversation.ready() == [0, 2, b'u', b'x', 0, 1, b'b'].as_slice());
     assert_eq!(rt; all_goes(&mut conversation), 7);
     assert!(rt; conversation.awaits() == Awaited::Rest && conversation.wants());
