@@ -1,6 +1,6 @@
 -- What the reader has seen grows, and a reply by what it saw meanwhile is one by what it had seen.
 use Rattle.conversation.proofs.TurnLemmas.{grows_more}
-use Rattle.zone_service.specs.declared.answer.Now.TheVariants.{Bytes, Later}
+use Rattle.zone_service.specs.declared.answer.Now.TheVariants.{Bytes, Silent, Later, Spent}
 use Rattle.zone_service.specs.Known.{learned_by}
 use Rattle.zone_service.proofs.NowLemmas.{now_grows}
 use Rattle.zone_service.proofs.ReplyLemmas.{spent_transfer}
@@ -10,6 +10,12 @@ use Rattle.zone_replies.proofs.replies.RepliesAnsweringTransfer.reply.Goals as g
 
 pub returns-in-Bytes-clause-grows : goal.returns-in-Bytes-clause-grows
 returns-in-Bytes-clause-grows g c = λ _. now_grows g.Z.FirstZone.zone _ c.args.request.now c.args.self.now.reader c.answer_kept.new.reader c.answer_kept.new.out (Bytes c.in-Bytes.len) c.in-Bytes.ensures.now
+
+pub returns-in-Silent-clause-grows : goal.returns-in-Silent-clause-grows
+returns-in-Silent-clause-grows g c = λ _. now_grows g.Z.FirstZone.zone _ c.args.request.now c.args.self.now.reader c.answer_kept.new.reader c.answer_kept.new.out Silent c.in-Silent.ensures.now
+
+pub returns-in-Spent-clause-grows : goal.returns-in-Spent-clause-grows
+returns-in-Spent-clause-grows g c = λ _. now_grows g.Z.FirstZone.zone _ c.args.request.now c.args.self.now.reader c.answer_kept.new.reader c.answer_kept.new.out Spent c.in-Spent.ensures.now
 
 pub returns-in-Later-clause-grows : goal.returns-in-Later-clause-grows
 returns-in-Later-clause-grows g c = λ _.
