@@ -1,4 +1,5 @@
 //! Replies that are had later.
+ghost use Rattle.std.specs.Prelude.{◌≡◌};
 
 use crate::readiness::{NotWatched, Readiness};
 use connections::Blocking;
