@@ -12,10 +12,10 @@ pub returns-in-Bytes-clause-grows : goal.returns-in-Bytes-clause-grows
 returns-in-Bytes-clause-grows g c = λ _. now_grows g.Z.FirstZone.zone _ c.args.request.now c.args.self.now.reader c.answer_kept.new.reader c.answer_kept.new.out (Bytes c.in-Bytes.len) c.in-Bytes.ensures.now
 
 pub returns-in-Silent-clause-grows : goal.returns-in-Silent-clause-grows
-returns-in-Silent-clause-grows g c = λ _. now_grows g.Z.FirstZone.zone _ c.args.request.now c.args.self.now.reader c.answer_kept.new.reader c.answer_kept.new.out Silent c.in-Silent.ensures.now
+returns-in-Silent-clause-grows g c = λ _. now_grows g.Z.FirstZone.zone c.args.self.now.peer c.args.request.now c.args.self.now.reader c.answer_kept.new.reader c.answer_kept.new.out Silent c.in-Silent.ensures.now
 
 pub returns-in-Spent-clause-grows : goal.returns-in-Spent-clause-grows
-returns-in-Spent-clause-grows g c = λ _. now_grows g.Z.FirstZone.zone _ c.args.request.now c.args.self.now.reader c.answer_kept.new.reader c.answer_kept.new.out Spent c.in-Spent.ensures.now
+returns-in-Spent-clause-grows g c = λ _. now_grows g.Z.FirstZone.zone c.args.self.now.peer c.args.request.now c.args.self.now.reader c.answer_kept.new.reader c.answer_kept.new.out Spent c.in-Spent.ensures.now
 
 pub returns-in-Later-clause-grows : goal.returns-in-Later-clause-grows
 returns-in-Later-clause-grows g c = λ _.
