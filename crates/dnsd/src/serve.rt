@@ -20,7 +20,7 @@ use std::rt::Files;
 use std::sync::Wait;
 use std::thread::Threads;
 use std::time::Clock;
-use zone_tree::{Zone, ZoneRead};
+use zone_tree::{Version, Zone, ZoneRead};
 
 /// Serves a zone, and gives the program's status: 0 where each worker has done what it may, 1 where the zone is refused, 3 at a
 /// device's fault, a thread that can't be started or want of memory.
@@ -214,7 +214,9 @@ fn serve_all<R: Net + Threads + Wait + Clock + Sync>(
             allowed: Allowed::new(serve.allowed.as_slice()),
         },
     };
-    serve_zone::<R, Brand, Log>(rt, alloc, zone, duties, plan, log)
+    let first = Version::first(zone);
+    let later = Vec::new(alloc);
+    serve_zone::<R, Brand, Log>(rt, alloc, first, later, duties, plan, log)
 }
 
 /// How many records a zone has.

@@ -3,6 +3,7 @@ ghost use Rattle.std.specs.Prelude.{◌≡◌, ◌+◌, ◌*◌, ◌%◌, ◌<�
 ghost use Rattle.std.specs.List.{All, Any};
 ghost use Rattle.std.specs.IoError.{error_kind};
 ghost use Rattle.dns_engine.specs.Held.{KEPT};
+ghost use Rattle.dns_engine.specs.Versions.{IsFirst, AreNext};
 ghost use Rattle.snapshot_cell.specs.declared.tokens.TheConstants.{READERS};
 ghost use Rattle.serve_workers.specs.declared.service.ServeFault.{ServeFault as Fault};
 ghost use Rattle.serve_workers.specs.Numbers.{number_of, takes_datagrams, are_datagrams, HasRights, end_of, fault_by};
@@ -17,7 +18,8 @@ use crate::threads::{SocketJob, TcpJob, run_threads};
 use crate::worker_socket::WorkerSocket;
 use crate::workers::NotStarted;
 use dns_engine::{
-    FirstZone, SharedVersion, VersionCell, VersionPublisher, VersionReader, ZoneVersions,
+    EngineFault, FirstZone, NoEngine, SharedVersion, VersionCell, VersionPublisher, VersionReader,
+    ZoneVersions,
 };
 use ready_sockets::{TcpPlace, Watch};
 use snapshot_cell::{
@@ -33,7 +35,7 @@ use std::time::Clock;
 use thiserror::Error;
 use turns::{Plan as ConnectionPlan, Turns};
 use zone_service::{JobEnd, Server, ServiceLog};
-use zone_tree::{Version, Zone};
+use zone_tree::Version;
 
 /// How a zone is served.
 #[derive(Clone, Copy)]
@@ -79,7 +81,7 @@ pub enum ServeFault {
     /// A socket has failed.
     #[error("a socket has failed")]
     Device,
-    /// No version could be loaded.
+    /// No version could be loaded, or those that a zone begins with couldn't be published.
     #[error("no version could be loaded")]
     Spent,
     /// A growth was refused.
@@ -107,9 +109,10 @@ impl<C: Clock> SocketJob<'_, C> {
     }
 }
 
-/// Serves a zone on sockets: its threads answer queries in the version that is published last, and updates, each of which publishes the
-/// next one (RFC 1035, 4.2; RFC 2136, 3). It ends once each worker has done what it may, or a thread has failed; then its cell is ended too.
-/// The log is told once all threads have begun, of each change, of connections that are lost, and of each end of a thread.
+/// Serves a zone on sockets, whose cell begins with a first version and with those behind it: its threads answer queries in the version that is
+/// published last, and updates, each of which publishes the next one (RFC 1035, 4.2; RFC 2136, 3). It ends once each worker has done what it may, or
+/// a thread has failed; then its cell is ended too. The log is told once all threads have begun, of each change, of connections that are lost, and of
+/// each end of a thread.
 pub fn serve_zone<
     R: Net + Threads + Wait + Clock + Sync,
     Z: FirstZone + Send + Sync,
@@ -117,18 +120,23 @@ pub fn serve_zone<
 >(
     rt: &R,
     alloc: Global,
-    zone: Zone,
+    first: Version,
+    later: Vec<Version>,
     duties: Vec<Duty<'_>>,
     plan: Plan<'_>,
     log: &L,
 ) -> Result<(), ServeFault>
-    requires first { zone ≡ Z.zone }
+    requires first { IsFirst Z.zone first }
+    requires follow { AreNext first later.items }
     requires threads { vec_len duties + 1 ≤ READERS }
     requires kept { plan.keep ≤ KEPT }
 {
     let threads = duties.len();
     let jobs = jobs_of(rt, alloc, duties, plan)?;
-    let Some(first) = SharedVersion::new(alloc, Version::first(zone)) else {
+    let Ok(later) = SharedVersion::all(alloc, later) else {
+        return Err(ServeFault::NoMemory);
+    };
+    let Some(first) = SharedVersion::new(alloc, first) else {
         return Err(ServeFault::NoMemory);
     };
     let parts = match Cell::<SharedVersion, ZoneVersions<Z>>::new(alloc, threads + 1, first) {
@@ -136,11 +144,11 @@ pub fn serve_zone<
         Err(NewFault::TooManyReaders) => unreachable!(),
         Err(NewFault::NoMemory) => return Err(ServeFault::NoMemory),
     };
-    serve_parts::<R, Z, Brand, L>(rt, alloc, parts, jobs, plan, log)
+    serve_parts::<R, Z, Brand, L>(rt, alloc, parts, later, jobs, plan, log)
 }
 
-/// Serves the versions of a cell in which the first one alone is published, by jobs, with a reader for each and one for the engine,
-/// and ends the cell.
+/// Serves the versions of a cell in which the first one alone is published, and these are to be published behind it, by jobs, with a reader for
+/// each and one for the engine, and ends the cell.
 fn serve_parts<
     R: Threads + Wait + Clock + Sync,
     Z: FirstZone + Send + Sync,
@@ -150,6 +158,7 @@ fn serve_parts<
     rt: &R,
     alloc: Global,
     parts: Parts<SharedVersion, ZoneVersions<Z>>,
+    later: Vec<SharedVersion>,
     jobs: Vec<SocketJob<'_, R>>,
     plan: Plan<'_>,
     log: &L,
@@ -159,6 +168,7 @@ fn serve_parts<
     requires notes { parts.publisher.noted ≡ 0 }
     requires readers { All (λ r. (r.cell ≡ parts.cell) × (0 < r.left)) parts.readers.items }
     requires count { vec_len parts.readers ≡ vec_len jobs + 1 }
+    requires follow { AreNext parts.publisher.value later.items }
     requires kept { plan.keep ≤ KEPT }
 {
     let Parts {
@@ -181,14 +191,14 @@ fn serve_parts<
     let (cell, publisher) = (NamedCell::of(cell), NamedPublisher::of(publisher));
     let (reader, pairs) = (NamedReader::of(reader), pairs_of(readers, jobs, pairs));
     let (served, publisher, readers) = serve_cell::<R, Z, N, L>(
-        rt, alloc, &cell, publisher, reader, pairs, back, plan, log,
+        rt, alloc, &cell, publisher, reader, later, pairs, back, plan, log,
     );
     end_named(rt, cell, publisher, readers);
     served
 }
 
-/// Serves the versions of a cell in which the first one alone is published, by workers and an engine with readers of it. The cell's
-/// tokens come back: the publisher, and the readers in `back`, which has room for them.
+/// Serves the versions of a cell in which the first one alone is published, and these are to be published behind it, by workers and an engine with
+/// readers of it. The cell's tokens come back: the publisher, and the readers in `back`, which has room for them.
 fn serve_cell<
     R: Threads + Wait + Clock + Sync,
     Z: FirstZone + Send + Sync,
@@ -200,6 +210,7 @@ fn serve_cell<
     cell: &VersionCell<Z, N>,
     publisher: VersionPublisher<Z, N>,
     reader: VersionReader<N>,
+    later: Vec<SharedVersion>,
     pairs: Vec<(VersionReader<N>, SocketJob<'_, R>)>,
     mut back: Vec<VersionReader<N>>,
     plan: Plan<'_>,
@@ -212,13 +223,33 @@ fn serve_cell<
     requires first { publisher.number ≡ 0 }
     requires notes { publisher.noted ≡ 0 }
     requires grant { 0 < reader.left }
+    requires follow { AreNext publisher.value later.items }
     requires kept { plan.keep ≤ KEPT }
     requires empty { back.items ≡ [] }
     requires room { vec_len pairs < vec_capacity back }
     ensures { vec_len result.2 ≡ vec_len pairs.entry + 1 }
 {
-    let Ok(server) = Server::new(cell, publisher, reader, plan.keep) else {
-        unreachable!()
+    let count = later.len();
+    let server = match Server::resume(cell, publisher, reader, plan.keep, later) {
+        Ok(server) => server,
+        Err(
+            NoEngine {
+                fault: EngineFault::Spent,
+                publisher,
+                reader,
+            },
+        ) => {
+            // A first version alone is always served.
+            prove!(0 < count);
+            let readers = all_readers(pairs, reader, back);
+            return (Err(ServeFault::Spent), publisher, readers);
+        }
+        Err(
+            NoEngine {
+                fault: EngineFault::TooGreat,
+                ..
+            },
+        ) => unreachable!(),
     };
     let served = serve_with(rt, alloc, &server, plan.muster, pairs, &mut back, log);
     let (publisher, reader) = server.finish();
@@ -299,6 +330,21 @@ fn put_readers<N: Naming, C: Clock>(
     for pair in pairs {
         back.push_reserved(reader_of(pair));
     }
+}
+
+/// The readers of pairs, and one more, in `back`, which has room for them.
+fn all_readers<N: Naming, C: Clock>(
+    pairs: Vec<(VersionReader<N>, SocketJob<'_, C>)>,
+    reader: VersionReader<N>,
+    mut back: Vec<VersionReader<N>>,
+) -> Vec<VersionReader<N>>
+    requires empty { back.items ≡ [] }
+    requires room { vec_len pairs < vec_capacity back }
+    ensures { vec_len result ≡ vec_len pairs.entry + 1 }
+{
+    put_readers(pairs, &mut back);
+    back.push_reserved(reader);
+    back
 }
 
 /// Where connections come in at listeners, each of them watched.

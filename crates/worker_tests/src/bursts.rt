@@ -15,6 +15,7 @@ use std::test::Fail;
 use std::thread::{self, Threads};
 use std::time::{Clock, Duration};
 use zone_service::NoLog;
+use zone_tree::Version;
 
 /// The query for the zone's SOA, behind its number.
 const QUERY: &[u8] =
@@ -88,7 +89,9 @@ fn serve<R: Net + Threads + Wait + Clock + Sync>(
     };
     let duties = Vec::from_array(alloc, [duty])?;
     let zone = zone(alloc).ok_or("a zone")?;
-    Ok(serve_zone::<R, Brand, NoLog>(rt, alloc, zone, duties, plan, &NoLog))
+    let first = Version::first(zone);
+    let later = Vec::new(alloc);
+    Ok(serve_zone::<R, Brand, NoLog>(rt, alloc, first, later, duties, plan, &NoLog))
 }
 
 // Those behind the first 32 are taken without waiting, and the last replies of these are sent when the worker ends.

@@ -18,6 +18,7 @@ use std::test::Fail;
 use std::thread::Threads;
 use std::time::Clock;
 use zone_service::{Event, JobEnd, ServiceLog};
+use zone_tree::Version;
 
 /// How often a log was told that all threads have begun, and how many of them have done what they might, and have failed.
 #[derive(Drop)]
@@ -145,7 +146,9 @@ pub(crate) fn served<R: Net + Threads + Wait + Clock + Sync>(
         },
     };
     let zone = zone(alloc)?;
-    Some(serve_zone::<R, Brand, Counted>(rt, alloc, zone, duties, plan, log))
+    let first = Version::first(zone);
+    let later = Vec::new(alloc);
+    Some(serve_zone::<R, Brand, Counted>(rt, alloc, first, later, duties, plan, log))
 }
 
 /// Serves a zone by two workers, each of which may do so much, and gives what that has come to; None where there were no sockets, or no

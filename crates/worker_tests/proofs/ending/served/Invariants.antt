@@ -2,4 +2,4 @@
 use Rattle.worker_tests.proofs.ending.served.Given as goal
 
 abbrev pub ghosts-serve_zone : goal.ghosts-serve_zone
-ghosts-serve_zone g a = record { zone = a.zone }
+ghosts-serve_zone g a = record { zone = a.first.zone }
