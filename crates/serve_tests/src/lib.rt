@@ -1,6 +1,6 @@
-//! Tests of the running server: how many versions are told of, updates that the engine of `dns_engine` publishes, streams that `connections`
-//! serves by `zone_replies`, and datagrams and logs of `conversation` and `zone_service`. Zones, requests and replies are tables. What replies
-//! and transfers hold, tables of rows show; transfers of many messages `reply_tests`, jobs and connections `worker_tests`.
+//! Tests of the running server: how many versions are told of, also behind a start of a journal, updates that the engine of `dns_engine` publishes,
+//! streams that `connections` serves by `zone_replies`, and datagrams and logs of `conversation` and `zone_service`. Zones, requests and replies are
+//! tables. What replies and transfers hold, tables of rows show; transfers of many messages `reply_tests`, jobs and connections `worker_tests`.
 #![tactic(auto)]
 
 #[cfg(test)]
@@ -19,6 +19,8 @@ mod last_versions;
 mod orders;
 #[cfg(test)]
 mod refused_engines;
+#[cfg(test)]
+mod restarts;
 #[cfg(test)]
 mod service_logs;
 #[cfg(test)]
