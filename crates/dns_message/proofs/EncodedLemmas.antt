@@ -2,11 +2,11 @@
 use Rattle.std.proofs.Common.{◌≡◌, ℕ, ◌+◌, ◌<◌, ◌≤◌, List, [], ◌∷◌, ◌++◌, length, take, drop, get_or, Option, Some, None, IfSome, refl, sym, ap, subst, ◌∙◌, arith, length-append, append_assoc}
 use Rattle.std.proofs.Math.Path.{fun_ext}
 use Rattle.std.proofs.lemmas.List.{append-nil, at_drop_more, at_drop_all, take-append-drop, take-take}
-use Rattle.wire_names.specs.Table.{Entry, Table, IsTable, table_of}
+use Rattle.wire_names.specs.Table.{Table, IsTable, table_of}
+use Rattle.wire_names.specs.declared.table.Entry.{Entry}
 use Rattle.wire_names.specs.Written.{IsOverwritten, WritesOctets}
-use Rattle.wire_names.proofs.LongerLemmas.{IsTable-longer, table_longer}
 use Rattle.wire_names.proofs.OverwrittenLemmas.{length_stays, octets_are, front_stays, IsOverwritten-then}
-use Rattle.wire_names.proofs.WrittenLemmas.{IsTableOf}
+use Rattle.wire_names.proofs.TabledLemmas.{IsTableOf, IsTable-longer, table_goes_on}
 use Rattle.dns_message.specs.Encoding.{Encoding, these, before, each}
 use Rattle.dns_message.specs.Encoded.{IsEncoded, IsStopped, WritesParts, WritesEncoding}
 use Rattle.dns_message.proofs.TrueLemmas.{IsEncoded-positions, lawful, table_is}
@@ -53,7 +53,7 @@ table_at out at positions = table_of (take at out) positions
 pub stays : (a b : List ℕ) (at n : ℕ) (positions : List Entry) (octets : List ℕ) → IsTable (take at a) positions → IsOverwritten a b at octets n → IsTableOf (take n b) positions (table_at a at positions)
 stays a b at n positions octets table p =
     subst (λ (x : List ℕ). IsTableOf x positions (table_at a at positions)) (sym (octets_are a b at octets n p))
-    (record { all = IsTable-longer (take at a) octets positions table; is = table_longer (take at a) octets positions table })
+    (record { all = IsTable-longer (take at a) octets positions table; is = table_goes_on (take at a) octets positions table })
 
 -- octets as they are
 pub WritesEncoding-these : (octets a b : List ℕ) (at : ℕ) (positions : List Entry) (r : Option ℕ) → IsTable (take at a) positions → WritesParts a b at octets r → WritesEncoding (these octets) a b at positions positions r

@@ -8,9 +8,10 @@ use Rattle.dns_rdata.specs.declared.layout.Layout.{Layout}
 use Rattle.dns_rdata.specs.declared.layout.Layout.TheVariants.{Fields, Strings, Opaque}
 use Rattle.dns_rdata.specs.Layout.{layout_of, names_in}
 use Rattle.dns_rdata.specs.Record.{Record}
-use Rattle.wire_names.specs.Table.{Entry, Table, keyed}
+use Rattle.wire_names.specs.Table.{Table, keyed}
+use Rattle.wire_names.specs.declared.table.Entry.{Entry}
 use Rattle.wire_names.specs.Written.{written, table_after}
-use Rattle.wire_names.proofs.WrittenLemmas.{IsTableOf, after_name}
+use Rattle.wire_names.proofs.TabledLemmas.{IsTableOf, after_name}
 use Rattle.dns_message.specs.declared.query.Question.{Question}
 use Rattle.dns_message.specs.Encoded.{IsTrueOf}
 use Rattle.dns_message.specs.Encoding.{Encoding, these, named, before, measured, each}

@@ -31,7 +31,7 @@ use Rattle.dns_message.proofs.TrueLemmas.{IsTrueOf-nothing}
 name_again_here : (compress : Bool) (msg rest : List ℕ) (table : Table) (name : List (List ℕ)) → IsTrueOf msg table → IsName name → name_at (msg ++ (written compress table name ++ rest)) (length msg) ≡ Ok (name, length msg + length (written compress table name))
 name_again_here compress msg rest table name h lawful =
     let P : Table → Type 0 = λ t. name_at (msg ++ (written compress t name ++ rest)) (length msg) ≡ Ok (name, length msg + length (written compress t name)) in
-    subst P h.names (computed_spelt _ _ _ name (written_spelt compress msg (keyed table) rest name h.targets lawful) lawful.short)
+    subst P h.names (computed_spelt _ _ _ name (written_spelt compress msg (keyed table) rest name h.targets.targets lawful) lawful.short)
 
 pub name_again : (compress : Bool) (msg rest whole : List ℕ) (table : Table) (n : ℕ) (name : List (List ℕ)) → n ≡ length msg → whole ≡ msg ++ (written compress table name ++ rest) → IsTrueOf msg table → IsName name → name_at whole n ≡ Ok (name, n + length (written compress table name))
 name_again compress msg rest whole table n name at is h lawful =

@@ -1,14 +1,14 @@
 -- Octets that begin alike.
-use Rattle.std.proofs.Common.{◌≡◌, ℕ, ◌+◌, ◌-◌, ◌<◌, ◌≤◌, ◌↔◌, Bool, true, false, eqb, List, ◌∷◌, ◌++◌, length, take, drop, refl, sym, ap, subst, ◌∙◌, arith}
+use Rattle.std.proofs.Common.{◌≡◌, ℕ, ◌+◌, ◌-◌, ◌<◌, ◌≤◌, ◌↔◌, Bool, true, false, eqb, List, ◌∷◌, ◌++◌, length, take, drop, Ok, refl, sym, ap, subst, ◌∙◌, arith}
 use Rattle.std.specs.Bool.{OnTrue}
 use Rattle.std.specs.Cmp.Lexicographic.{pointwise, pointwise_decides}
 use Rattle.std.proofs.lemmas.Bool.Decides.{Decides-eqb}
 use Rattle.std.proofs.lemmas.List.{length-append, length-drop, take_at, take-append-drop, drop-drop}
 use Rattle.dns_name.specs.Labels.{labels_in, IsWhole, IsFirstLabel}
 use Rattle.dns_name.specs.Name.{IsLabel}
-use Rattle.wire_names.specs.Known.{IsAhead}
 use Rattle.wire_names.specs.Spells.{Spells, label}
-use Rattle.wire_names.specs.Parts.{part_of, label_at}
+use Rattle.wire_names.specs.Parts.{part_at, part_of, label_at}
+use Rattle.wire_names.specs.declared.part.Part.TheVariants.{Label}
 use Rattle.wire_names.proofs.TableLemmas.{SpellsIn, SpellsAlike, spells_label}
 use Rattle.wire_names.proofs.WrittenLemmas.{part_of-label}
 
@@ -19,6 +19,12 @@ front_alike octets others own same n len true size many own_is same_is t =
     let all : take n octets ≡ take n others = sym own_is ∙ e ∙ same_is in
     (subst (λ (m : ℕ). take m octets ≡ take m others) (sym size) all, omega arith)
 front_alike octets others own same n len false size many own_is same_is t = tt
+
+-- a label of so many octets stands at a position, the first of the name in some octets, and these are behind it there
+pub record IsAhead (msg : List ℕ) (at len : ℕ) (octets behind : List ℕ) : Type 0 where
+  pub part : part_at msg at ≡ Ok (Label len)
+  pub labels : labels_in octets ≡ label_at msg at len ∷ labels_in behind
+  pub whole : IsWhole behind
 
 -- the label that octets begin with stands where others begin alike
 pub ahead_alike : (msg octets own behind there : List ℕ) (at : ℕ) → there ≡ drop at msg → IsFirstLabel octets own behind → (take (1 + length own) octets ≡ take (1 + length own) there) × (length own < length there) → IsAhead msg at (length own) octets behind

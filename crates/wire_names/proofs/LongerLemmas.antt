@@ -8,7 +8,7 @@ use Rattle.dns_name.specs.Name.{wire_of}
 use Rattle.wire_names.specs.NameAt.{name_at}
 use Rattle.wire_names.specs.Parts.{part_at, part_of, label_of, pointer_of, label_at}
 use Rattle.wire_names.specs.Spells.{Spells, closing, label, pointer}
-use Rattle.wire_names.specs.Table.{Entry, IsTable, IsTarget, IsEntry, spelt_at, table_of, name_key}
+use Rattle.wire_names.specs.Table.{Entry, AreEntries, IsTarget, IsEntry, spelt_at, table_of}
 use Rattle.wire_names.specs.declared.part.NameReadFault.{NameReadFault}
 use Rattle.wire_names.specs.declared.part.NameReadFault.TheVariants.{Short, BadLength}
 use Rattle.wire_names.specs.declared.part.Part.{Part}
@@ -105,14 +105,14 @@ IsTarget-longer msg more at target = record { low = target.low; read = (target_l
 IsEntry-longer : (msg more : List ℕ) (entry : Entry) → IsEntry msg entry → IsEntry (msg ++ more) entry
 IsEntry-longer msg more entry is = record {
   target = IsTarget-longer msg more entry.position is.target;
-  key = is.key ∙ sym (ap name_key (target_longer msg more entry.position is.target).spelt);
+  label = record { read = (target_longer msg more entry.position is.target).read; len = is.label.len; label = part_longer msg more entry.position (Label is.label.len) is.label.label };
 }
 
-pub IsTable-longer : (msg more : List ℕ) (entries : List Entry) → IsTable msg entries → IsTable (msg ++ more) entries
-IsTable-longer msg more entries table = λ k d h. IsEntry-longer msg more _ (table k d h)
+pub AreEntries-longer : (msg more : List ℕ) (entries : List Entry) → AreEntries msg entries → AreEntries (msg ++ more) entries
+AreEntries-longer msg more entries table = λ k d h. IsEntry-longer msg more _ (table k d h)
 
 -- and the table is the same
-pub table_longer : (msg more : List ℕ) (entries : List Entry) → IsTable msg entries → table_of (msg ++ more) entries ≡ table_of msg entries
+pub table_longer : (msg more : List ℕ) (entries : List Entry) → AreEntries msg entries → table_of (msg ++ more) entries ≡ table_of msg entries
 table_longer msg more [] table = refl
 table_longer msg more (entry ∷ entries) table =
     let at = entry.position in

@@ -1,5 +1,5 @@
 -- Names that stand in a message in full.
-use Rattle.std.proofs.Common.{◌≡◌, ℕ, ◌+◌, ◌<◌, ◌≤◌, ◌↔◌, IsTrue, Bool, true, false, List, ◌++◌, length, take, drop, get_or, eqb, Ok, refl, ap, subst, sym, ◌∙◌, arith}
+use Rattle.std.proofs.Common.{◌≡◌, ℕ, ◌+◌, ◌≤◌, ◌↔◌, IsTrue, Bool, true, false, List, ◌++◌, length, take, drop, eqb, Ok, refl, ap, subst, sym, ◌∙◌, arith}
 use Rattle.std.specs.Bool.{OnTrue}
 use Rattle.std.specs.List.{starts_with}
 use Rattle.std.proofs.lemmas.Bool.Decides.{Decides-eqb}
@@ -9,10 +9,9 @@ use Rattle.dns_name.specs.Labels.{labels_in, IsWhole}
 use Rattle.dns_name.specs.Name.{Name, IsName, wire_of}
 use Rattle.dns_name.proofs.LabelLemmas.{IsWhole_longer, IsWhole-wire_of, labels_in-wire_of}
 use Rattle.wire_names.specs.NameAt.{name_at}
-use Rattle.wire_names.specs.Table.{Entry, IsEntry, IsTable, name_key}
 use Rattle.wire_names.specs.Spells.{Spells}
 use Rattle.wire_names.proofs.GrammarLemmas.{computed_spelt}
-use Rattle.wire_names.proofs.TableLemmas.{Answers, key_there}
+use Rattle.wire_names.proofs.TableLemmas.{Answers}
 use Rattle.wire_names.proofs.WrittenLemmas.{plain_spelt}
 
 -- what holds where a test says so
@@ -37,18 +36,6 @@ plain_at msg octets at whole there =
 
 pub answers_plain : (msg octets : List ℕ) (at : ℕ) → IsWhole octets → drop at msg ≡ octets ++ drop (length octets) (drop at msg) → Answers msg at (labels_in octets) true
 answers_plain msg octets at whole there = (λ e. (at + length octets, plain_at msg octets at whole there), λ s. refl)
-
--- where a name's octets stand at an entry's position, the entry is one of the name
-pub record IsEntryOf (msg octets : List ℕ) (entry : Entry) : Type 0 where
-  pub answers : Answers msg entry.position (labels_in octets) true
-  pub key : entry.key ≡ name_key (labels_in octets)
-
-pub entry_of : (msg octets : List ℕ) (entries : List Entry) (index from : ℕ) (entry d : Entry) (b : Bool) → IsTable msg entries → index < length entries → entry ≡ get_or entries index d → from ≡ entry.position → b ≡ true → OnTrue b ((next : ℕ) × Spells msg from from (labels_in octets) next) → IsEntryOf msg octets entry
-entry_of msg octets entries index from entry d b table within here is t there =
-    let own : IsEntry msg entry = subst (IsEntry msg) (sym here) (table index d within) in
-    let spelt = on_true b _ t there in
-    let answers : Answers msg entry.position (labels_in octets) true = subst (λ (n : ℕ). Answers msg n (labels_in octets) true) is (λ e. spelt, λ s. refl) in
-    record { answers = answers; key = key_there msg entry (labels_in octets) own answers }
 
 -- what holds exactly where a test says so
 pub where_true : (b : Bool) (P : Type 0) → (IsTrue b ↔ P) → OnTrue b P

@@ -6,7 +6,7 @@ use Rattle.std.specs.List.{filter, fold, reduce}
 use Rattle.std.specs.Result.{IsOk}
 use Rattle.std.proofs.lemmas.Bool.{cases_lt}
 use Rattle.std.specs.Int.{from_be_bytes, w32}
-use Rattle.std.proofs.lemmas.List.{drop_more, length-drop, get_or-drop, get_or-take, get_or_default, get_or_append_left}
+use Rattle.std.proofs.lemmas.List.{drop_more, get_or-drop, get_or-take, get_or_append_left}
 use Rattle.std.proofs.lemmas.List.Elements.{All-nil, All-cons, All-head, All-tail, All-map, All-filter}
 use Rattle.std.specs.Str.{bytes_eq}
 use Rattle.std.proofs.lemmas.Slice.Eq.{bytes_eq-Decides}
@@ -18,7 +18,7 @@ use Rattle.wire_names.specs.Spells.{Spells, closing, label, pointer}
 use Rattle.wire_names.specs.declared.part.NameReadFault.{NameReadFault}
 use Rattle.wire_names.specs.declared.part.Part.TheVariants.{Closing, Label, Pointer}
 use Rattle.wire_names.specs.NameAt.{name_at}
-use Rattle.wire_names.specs.Table.{Entry, IsTable, IsTarget, IsEntry, Ascend, name_key, first_key, octet_before, key_up_to, table_of, spelt_at, same_spelling, Table, positions_in, position_in}
+use Rattle.wire_names.specs.Table.{Entry, AreEntries, IsTarget, IsEntry, first_key, octet_before, key_up_to, table_of, spelt_at, same_spelling, Table, positions_in, position_in}
 use Rattle.wire_names.proofs.GrammarLemmas.{once, name_at_spelt}
 
 -- some position behind it ends what a place spells
@@ -134,7 +134,7 @@ pub record ReadsAt (msg : List ℕ) (at : ℕ) : Type 0 where
   pub next : ℕ
   pub is : name_at msg at ≡ Ok (spelt_at msg at, next)
 
-reads_at : (msg : List ℕ) (at : ℕ) (r : Result (List (List ℕ) × ℕ) NameReadFault) → name_at msg at ≡ r → IsOk r → ReadsAt msg at
+pub reads_at : (msg : List ℕ) (at : ℕ) (r : Result (List (List ℕ) × ℕ) NameReadFault) → name_at msg at ≡ r → IsOk r → ReadsAt msg at
 reads_at msg at (Ok read) e is =
     let same : spelt_at msg at ≡ read.0 = ap (λ (r : Result (List (List ℕ) × ℕ) NameReadFault). elim r [ Ok x ↦ x.0 | Err fault ↦ [] ]) e in
     record { next = read.1; is = e ∙ ap (λ (x : List (List ℕ)). Ok (x, read.1)) (sym same) }
@@ -164,7 +164,7 @@ same_spelling-at msg at name b target answers =
     (λ e. let other = answers.0 e in test.1 (once msg at at own.0 other.0 (spelt_at msg at) name own.1 other.1).0)
     (λ e. answers.1 (own.0, subst (λ (x : List (List ℕ)). Spells msg at at x own.0) (test.0 e) own.1))
 
-first_at : (b : Bool) (at : ℕ) (name : List (List ℕ)) (rest : Table) → map (λ x. x.0) (cond b ((at, name) ∷ rest) rest) ≡ cond b (at ∷ map (λ x. x.0) rest) (map (λ x. x.0) rest)
+pub first_at : (b : Bool) (at : ℕ) (name : List (List ℕ)) (rest : Table) → map (λ x. x.0) (cond b ((at, name) ∷ rest) rest) ≡ cond b (at ∷ map (λ x. x.0) rest) (map (λ x. x.0) rest)
 first_at true at name rest = refl
 first_at false at name rest = refl
 
@@ -205,66 +205,12 @@ least_some P (x ∷ xs) target all e =
     subst P same (least_all P x xs (All-head P x xs all) (All-tail P x xs all))
 
 -- the same at an index of the positions
-positions_in-at : (msg : List ℕ) (entries : List Entry) (i : ℕ) (d x : Entry) (name : List (List ℕ)) (b : Bool) → IsTable msg entries → i < length entries → x ≡ get_or entries i d → Answers msg x.position name b → positions_in (table_of msg (drop i entries)) name ≡ cond b (x.position ∷ positions_in (table_of msg (drop (i + 1) entries)) name) (positions_in (table_of msg (drop (i + 1) entries)) name)
+positions_in-at : (msg : List ℕ) (entries : List Entry) (i : ℕ) (d x : Entry) (name : List (List ℕ)) (b : Bool) → AreEntries msg entries → i < length entries → x ≡ get_or entries i d → Answers msg x.position name b → positions_in (table_of msg (drop i entries)) name ≡ cond b (x.position ∷ positions_in (table_of msg (drop (i + 1) entries)) name) (positions_in (table_of msg (drop (i + 1) entries)) name)
 positions_in-at msg entries i d x name b table within here answers =
     let more = drop_more entries i d within in
     let own : IsEntry msg x = subst (IsEntry msg) (sym here) (table i d within) in
     let list : drop i entries ≡ x ∷ drop (i + 1) entries = cc in
     ap (λ (xs : List Entry). positions_in (table_of msg xs) name) list ∙ positions_in-step msg (drop (i + 1) entries) x name b own.target answers
-
--- where positions ascend, those behind an index are above the one there
-above_at : (xs : List Entry) (i : ℕ) (e x : Entry) → Ascend xs → i < length xs → x ≡ get_or xs i e → All (λ y. x.position < y.position) (drop (i + 1) xs)
-above_at xs i e x up within here k d h =
-    let len = length-drop (i + 1) xs in
-    let there = get_or-drop (i + 1) xs k d in
-    let far : i + 1 + k < length xs = omega arith in
-    let below = up i (i + 1 + k) d (omega arith) far in
-    let own : get_or xs i d ≡ x = get_or_default xs i d e within ∙ sym here in
-    subst (λ (y : Entry). x.position < y.position) (sym there) (subst (λ (y : Entry). y.position < (get_or xs (i + 1 + k) d).position) own below)
-
--- a name of another key is another name
-pub other_key : (msg : List ℕ) (entry : Entry) (key : ℕ) (name : List (List ℕ)) → IsEntry msg entry → key ≡ name_key name → (entry.key ≡ key → ⊥) → Answers msg entry.position name false
-other_key msg entry key name is e differs = (
-  λ t. cc,
-  λ s.
-      let own = target_spells msg entry.position is.target in
-      let same : spelt_at msg entry.position ≡ name = (once msg entry.position entry.position own.0 s.0 (spelt_at msg entry.position) name own.1 s.1).0 in
-      absurd (differs (is.key ∙ ap name_key same ∙ sym e)),
-)
-
--- the key of a position that spells a name is the name's
-pub key_there : (msg : List ℕ) (entry : Entry) (name : List (List ℕ)) → IsEntry msg entry → Answers msg entry.position name true → entry.key ≡ name_key name
-key_there msg entry name is answers =
-    is.key ∙ ap name_key ((same_spelling-Decides (spelt_at msg entry.position) name).0 (sym (same_spelling-at msg entry.position name true is.target answers)))
-
--- a name whose key no position has is nowhere
-nowhere : (msg : List ℕ) (entries : List Entry) (key : ℕ) (name : List (List ℕ)) → IsTable msg entries → key ≡ name_key name → All (λ entry. entry.key ≡ key → ⊥) entries → positions_in (table_of msg entries) name ≡ []
-nowhere msg [] key name table e others = refl
-nowhere msg (entry ∷ entries) key name table e others =
-    let is = All-head (IsEntry msg) entry entries table in
-    let other = All-head (λ (x : Entry). x.key ≡ key → ⊥) entry entries others in
-    positions_in-step msg entries entry name false is.target (other_key msg entry key name is e other)
-    ∙ nowhere msg entries key name (All-tail (IsEntry msg) entry entries table) e (All-tail (λ (x : Entry). x.key ≡ key → ⊥) entry entries others)
-
-pub position_nowhere : (msg : List ℕ) (entries : List Entry) (key : ℕ) (name : List (List ℕ)) → IsTable msg entries → key ≡ name_key name → All (λ entry. entry.key ≡ key → ⊥) entries → None ≡ position_in (table_of msg entries) name
-position_nowhere msg entries key name table e others = sym (ap (reduce min) (nowhere msg entries key name table e others))
-
-pub position_found : (msg : List ℕ) (own items : List Entry) (i : ℕ) (d x : Entry) (name : List (List ℕ)) (b : Bool) → IsTable msg own → Ascend own → items ≡ own → i < length items → x ≡ get_or items i d → Answers msg x.position name b → b ≡ true → position_in (table_of msg own) name ≡ position_in (table_of msg (drop i items)) name → Some x.position ≡ position_in (table_of msg own) name
-position_found msg own items i d x name b table up same within here answers is so_far =
-    let all : IsTable msg items = subst (IsTable msg) (sym same) table in
-    let rest = positions_in (table_of msg (drop (i + 1) items)) name in
-    let step = positions_in-at msg items i d x name b all within here answers in
-    let first : cond b (x.position ∷ rest) rest ≡ x.position ∷ rest = rw is in
-    let above : All (λ (y : Entry). x.position < y.position) (drop (i + 1) items) = above_at items i d x (subst Ascend (sym same) up) within here in
-    let least = least_first x.position rest (positions_in-all (λ (y : ℕ). x.position < y) msg (drop (i + 1) items) name above) in
-    sym (so_far ∙ ap (reduce min) (step ∙ first) ∙ ap Some least)
-
-pub position_passed : (msg : List ℕ) (own items : List Entry) (i : ℕ) (d x : Entry) (name : List (List ℕ)) (b : Bool) → IsTable msg own → items ≡ own → i < length items → x ≡ get_or items i d → Answers msg x.position name b → b ≡ false → position_in (table_of msg own) name ≡ position_in (table_of msg (drop i items)) name → position_in (table_of msg own) name ≡ position_in (table_of msg (drop (i + 1) items)) name
-position_passed msg own items i d x name b table same within here answers not_here so_far =
-    let all : IsTable msg items = subst (IsTable msg) (sym same) table in
-    let rest = positions_in (table_of msg (drop (i + 1) items)) name in
-    let step = positions_in-at msg items i d x name b all within here answers in
-    so_far ∙ ap (reduce min) (step ∙ ap (λ (t : Bool). cond t (x.position ∷ rest) rest) not_here)
 
 -- a position that is found spells the name
 pub record IsFound (msg : List ℕ) (at : ℕ) (name : List (List ℕ)) : Type 0 where
@@ -278,7 +224,7 @@ found_if msg at name rest true t own all =
     All-cons (λ (x : ℕ). IsFound msg x name) at rest found all
 found_if msg at name rest false t own all = all
 
-positions_in-found : (msg : List ℕ) (entries : List Entry) (name : List (List ℕ)) → IsTable msg entries → All (λ x. IsFound msg x name) (positions_in (table_of msg entries) name)
+positions_in-found : (msg : List ℕ) (entries : List Entry) (name : List (List ℕ)) → AreEntries msg entries → All (λ x. IsFound msg x name) (positions_in (table_of msg entries) name)
 positions_in-found msg [] name table = All-nil (λ (x : ℕ). IsFound msg x name)
 positions_in-found msg (entry ∷ entries) name table =
     let at = entry.position in
@@ -288,7 +234,7 @@ positions_in-found msg (entry ∷ entries) name table =
     (All-head (IsEntry msg) entry entries table).target
     (positions_in-found msg entries name (All-tail (IsEntry msg) entry entries table)))
 
-pub position_in-found : (msg : List ℕ) (entries : List Entry) (target : ℕ) (name : List (List ℕ)) → IsTable msg entries → position_in (table_of msg entries) name ≡ Some target → IsFound msg target name
+pub position_in-found : (msg : List ℕ) (entries : List Entry) (target : ℕ) (name : List (List ℕ)) → AreEntries msg entries → position_in (table_of msg entries) name ≡ Some target → IsFound msg target name
 position_in-found msg entries target name table e =
     least_some (λ (x : ℕ). IsFound msg x name) (positions_in (table_of msg entries) name) target (positions_in-found msg entries name table) e
 

@@ -1,20 +1,19 @@
 -- A name that is written is spelt at its place, and so are the suffixes that it enters.
-use Rattle.std.proofs.Common.{◌≡◌, ℕ, ◌+◌, ◌-◌, ◌*◌, ◌/◌, ◌%◌, ◌<◌, ◌≤◌, ◌==◌, ◌&&◌, Bool, true, false, nat_lt, nat_le, cond, List, [], ◌∷◌, ◌++◌, length, take, drop, map, All, Option, Some, None, Ok, refl, sym, ap, subst, ◌∙◌, arith}
+use Rattle.std.proofs.Common.{◌≡◌, ℕ, ◌+◌, ◌-◌, ◌*◌, ◌/◌, ◌%◌, ◌<◌, ◌≤◌, ◌==◌, Bool, true, false, nat_lt, nat_le, List, [], ◌∷◌, ◌++◌, length, take, drop, All, Option, Some, None, Ok, refl, sym, ap, subst, ◌∙◌, arith}
 use Rattle.std.proofs.Math.Seq.{drop-append_seam}
 use Rattle.std.proofs.lemmas.Bool.Decides.{nat_tests}
-use Rattle.std.proofs.lemmas.List.{length-append, length-take-le, append_assoc, append-nil, take_at, drop_at, length-map, map-append}
-use Rattle.std.proofs.lemmas.List.Elements.{All-nil, All-cons, All-head, All-tail, All-append}
+use Rattle.std.proofs.lemmas.List.{length-append, append_assoc, append-nil, take_at, drop_at}
+use Rattle.std.proofs.lemmas.List.Elements.{All-nil, All-cons, All-head, All-tail}
 use Rattle.dns_name.specs.Labels.{labels_in, IsWhole}
 use Rattle.dns_name.specs.Name.{wire_of, IsLabel, IsName}
 use Rattle.dns_name.proofs.LabelLemmas.{wire_of-labels_in, IsLabel_each}
 use Rattle.wire_names.specs.Parts.{part_at, part_of, label_at}
 use Rattle.wire_names.specs.Spells.{Spells, closing, label, pointer}
-use Rattle.wire_names.specs.Table.{Entry, Table, IsTable, IsEntry, keyed, name_key, spelt_at, table_of, position_in, enter, entered}
-use Rattle.wire_names.specs.Written.{pointer_to, name_octets, new_entries, written, entries_of, table_after, IsOverwritten}
+use Rattle.wire_names.specs.Table.{Entry, Table, AreEntries, IsEntry, IsLabelAt, table_of, position_in}
+use Rattle.wire_names.specs.Written.{pointer_to, name_octets, new_entries, written, entries_of}
 use Rattle.wire_names.specs.declared.part.Part.TheVariants.{Label, Pointer}
 use Rattle.wire_names.proofs.EntryLemmas.{octets_none, octets_some, entries_none, entries_some}
-use Rattle.wire_names.proofs.LongerLemmas.{spells_longer, spells_within, ReadsName, ReadsName-spells, IsTable-longer, table_longer}
-use Rattle.wire_names.proofs.OverwrittenLemmas.{octets_are}
+use Rattle.wire_names.proofs.LongerLemmas.{spells_longer, spells_within, ReadsName, ReadsName-spells}
 use Rattle.wire_names.proofs.TableLemmas.{target_spells, position_in-found}
 
 -- what stands behind a message is its next part
@@ -55,7 +54,7 @@ label_behind front own rest =
 
 -- a message with the table's message in front, which a name is written behind
 pub record IsBehind (msg : List ℕ) (positions : List Entry) (front : List ℕ) (run : ℕ) : Type 0 where
-  pub table : IsTable msg positions
+  pub table : AreEntries msg positions
   pub more : List ℕ
   pub front_is : front ≡ msg ++ more
   pub run_is : length msg ≤ run
@@ -128,13 +127,17 @@ below_short : (own : List ℕ) (name : List (List ℕ)) → length (wire_of (own
 below_short own name h = let both = length-append own (wire_of name) in omega arith
 
 -- entries of a message
-abbrev AreRead : List ℕ → Table → Type 0
-AreRead msg entries = All (λ entry. ReadsName msg entry.0 entry.1) entries
+pub record IsRead (msg : List ℕ) (at : ℕ) (name : List (List ℕ)) : Type 0 where
+  pub reads : ReadsName msg at name
+  pub label : IsLabelAt msg at
 
-entries_if : (msg : List ℕ) (positions : List Entry) (front behind own : List ℕ) (name : List (List ℕ)) (found : Option ℕ) → position_in (table_of msg positions) (own ∷ name) ≡ found → ReadsName (front ++ (name_octets (table_of msg positions) (own ∷ name) ++ behind)) (length front) (own ∷ name) → AreRead ((front ++ length own ∷ own) ++ (name_octets (table_of msg positions) name ++ behind)) (new_entries (table_of msg positions) (length (front ++ length own ∷ own)) name) → AreRead (front ++ (name_octets (table_of msg positions) (own ∷ name) ++ behind)) (new_entries (table_of msg positions) (length front) (own ∷ name))
-entries_if msg positions front behind own name (Some target) e first rest =
-    subst (AreRead (front ++ (name_octets (table_of msg positions) (own ∷ name) ++ behind))) (sym (entries_some (table_of msg positions) (length front) own name target e)) (All-nil (λ (entry : ℕ × List (List ℕ)). ReadsName (front ++ (name_octets (table_of msg positions) (own ∷ name) ++ behind)) entry.0 entry.1))
-entries_if msg positions front behind own name None e first rest =
+abbrev pub AreRead : List ℕ → Table → Type 0
+AreRead msg entries = All (λ entry. IsRead msg entry.0 entry.1) entries
+
+entries_if : (msg : List ℕ) (positions : List Entry) (front behind own : List ℕ) (name : List (List ℕ)) (found : Option ℕ) → position_in (table_of msg positions) (own ∷ name) ≡ found → IsLabel own → ReadsName (front ++ (name_octets (table_of msg positions) (own ∷ name) ++ behind)) (length front) (own ∷ name) → AreRead ((front ++ length own ∷ own) ++ (name_octets (table_of msg positions) name ++ behind)) (new_entries (table_of msg positions) (length (front ++ length own ∷ own)) name) → AreRead (front ++ (name_octets (table_of msg positions) (own ∷ name) ++ behind)) (new_entries (table_of msg positions) (length front) (own ∷ name))
+entries_if msg positions front behind own name (Some target) e lawful first rest =
+    subst (AreRead (front ++ (name_octets (table_of msg positions) (own ∷ name) ++ behind))) (sym (entries_some (table_of msg positions) (length front) own name target e)) (All-nil (λ (entry : ℕ × List (List ℕ)). IsRead (front ++ (name_octets (table_of msg positions) (own ∷ name) ++ behind)) entry.0 entry.1))
+entries_if msg positions front behind own name None e lawful first rest =
     let table = table_of msg positions in
     let text = octets_none table own name e in
     let same : (front ++ length own ∷ own) ++ (name_octets table name ++ behind) ≡ front ++ (name_octets table (own ∷ name) ++ behind) =
@@ -143,100 +146,32 @@ entries_if msg positions front behind own name None e first rest =
     let place : length (front ++ length own ∷ own) ≡ length front + 1 + length own = omega arith in
     let more = subst (λ (x : ℕ). AreRead (front ++ (name_octets table (own ∷ name) ++ behind)) (new_entries table x name)) place
     (subst (λ (x : List ℕ). AreRead x (new_entries table (length (front ++ length own ∷ own)) name)) same rest) in
+    let joined : (length own ∷ own ++ name_octets table name) ++ behind ≡ length own ∷ own ++ (name_octets table name ++ behind) = ap (λ (x : List ℕ). length own ∷ x) (append_assoc own (name_octets table name) behind) in
+    let part = ap (λ (x : List ℕ). part_at (front ++ (x ++ behind)) (length front)) text ∙ ap (λ (x : List ℕ). part_at (front ++ x) (length front)) joined
+    ∙ part_behind front (length own ∷ own ++ (name_octets table name ++ behind)) ∙ part_of-label own (name_octets table name ++ behind) lawful in
+    let read : IsRead (front ++ (name_octets table (own ∷ name) ++ behind)) (length front) (own ∷ name) = record { reads = first; label = record { read = first.read; len = length own; label = part } } in
     subst (AreRead (front ++ (name_octets table (own ∷ name) ++ behind))) (sym (entries_none table (length front) own name e))
-    (All-cons (λ (entry : ℕ × List (List ℕ)). ReadsName (front ++ (name_octets table (own ∷ name) ++ behind)) entry.0 entry.1) (length front, own ∷ name) (new_entries table (length front + 1 + length own) name) first more)
+    (All-cons (λ (entry : ℕ × List (List ℕ)). IsRead (front ++ (name_octets table (own ∷ name) ++ behind)) entry.0 entry.1) (length front, own ∷ name) (new_entries table (length front + 1 + length own) name) read more)
 
 -- the suffixes that a name enters are spelt at their positions
 entries_read : (msg : List ℕ) (positions : List Entry) (front behind : List ℕ) (name : List (List ℕ)) → IsBehind msg positions front (length front) → All IsLabel name → length (wire_of name) ≤ 255 → AreRead (front ++ (name_octets (table_of msg positions) name ++ behind)) (new_entries (table_of msg positions) (length front) name)
-entries_read msg positions front behind [] is lawful short = All-nil (λ (entry : ℕ × List (List ℕ)). ReadsName (front ++ (0 ∷ behind)) entry.0 entry.1)
+entries_read msg positions front behind [] is lawful short = All-nil (λ (entry : ℕ × List (List ℕ)). IsRead (front ++ (0 ∷ behind)) entry.0 entry.1)
 entries_read msg positions front behind (own ∷ name) is lawful short =
     let whole = name_spelt msg positions front behind (length front) (own ∷ name) is lawful in
     let first = ReadsName-spells (front ++ (name_octets (table_of msg positions) (own ∷ name) ++ behind)) (length front) _ (own ∷ name) whole short in
     let len = length-append front (length own ∷ own) in
     let next = IsBehind-label msg positions front own (length front) (length (front ++ length own ∷ own)) is (omega arith) in
     let rest = entries_read msg positions (front ++ length own ∷ own) behind name next (All-tail IsLabel own name lawful) (below_short own name short) in
-    entries_if msg positions front behind own name (position_in (table_of msg positions) (own ∷ name)) refl first rest
+    entries_if msg positions front behind own name (position_in (table_of msg positions) (own ∷ name)) refl (All-head IsLabel own name lawful) first rest
 
--- positions, each with a name
-abbrev paired : (ℕ → List (List ℕ)) → List Entry → Table
-paired g xs = map (λ e. (e.position, g e.position)) xs
-
--- the table is entered as its positions are
-enter_if : (g : ℕ → List (List ℕ)) (xs : List Entry) (x : Entry) (b : Bool) → paired g (cond b (xs ++ x ∷ []) xs) ≡ cond b (paired g xs ++ (x.position, g x.position) ∷ []) (paired g xs)
-enter_if g xs x true = map-append {B = ℕ × List (List ℕ)} (λ (e : Entry). (e.position, g e.position)) xs (x ∷ [])
-enter_if g xs x false = refl
-
-enter_paired : (g : ℕ → List (List ℕ)) (xs : List Entry) (x : Entry) → paired g (enter (λ e. e.position) xs x) ≡ enter (λ entry. entry.0) (paired g xs) (x.position, g x.position)
-enter_paired g xs x =
-    let len : length (paired g xs) ≡ length xs = length-map xs (λ (e : Entry). (e.position, g e.position)) in
-    enter_if g xs x (nat_lt (length xs) 256 && nat_le x.position 16383)
-    ∙ ap (λ (n : ℕ). cond (nat_lt n 256 && nat_le x.position 16383) (paired g xs ++ (x.position, g x.position) ∷ []) (paired g xs)) (sym len)
-
-entered_paired : (g : ℕ → List (List ℕ)) (xs ys : List Entry) → paired g (entered (λ e. e.position) xs ys) ≡ entered (λ entry. entry.0) (paired g xs) (paired g ys)
-entered_paired g xs [] = refl
-entered_paired g xs (y ∷ ys) =
-    entered_paired g (enter (λ e. e.position) xs y) ys
-    ∙ ap (λ (t : Table). entered (λ entry. entry.0) t (paired g ys)) (enter_paired g xs y)
-
-enter_all_if : (P : Entry → Type 0) (xs : List Entry) (y : Entry) (a b : Bool) → nat_le y.position 16383 ≡ b → All P xs → (y.position < 16384 → P y) → All P (cond (a && b) (xs ++ y ∷ []) xs)
-enter_all_if P xs y true true t all one =
-    let low : y.position < 16384 = grind (arith, nat_tests) in
-    All-append P xs (y ∷ []) all (All-cons P y [] (one low) (All-nil P))
-enter_all_if P xs y true false t all one = all
-enter_all_if P xs y false true t all one = all
-enter_all_if P xs y false false t all one = all
-
-entered_all : (P : Entry → Type 0) (xs ys : List Entry) → All P xs → All (λ y. y.position < 16384 → P y) ys → All P (entered (λ e. e.position) xs ys)
-entered_all P xs [] all more = all
-entered_all P xs (y ∷ ys) all more =
-    let one = All-head (λ (x : Entry). x.position < 16384 → P x) y ys more in
-    entered_all P (enter (λ e. e.position) xs y) ys (enter_all_if P xs y (nat_lt (length xs) 256) (nat_le y.position 16383) refl all one) (All-tail (λ (x : Entry). x.position < 16384 → P x) y ys more)
-
--- positions where suffixes are spelt stand for these entries
-entries_same : (msg : List ℕ) (entries : Table) → AreRead msg entries → table_of msg (keyed entries) ≡ entries
-entries_same msg [] all = refl
-entries_same msg (entry ∷ entries) all =
-    let first = All-head (λ (e : ℕ × List (List ℕ)). ReadsName msg e.0 e.1) entry entries all in
-    let rest = entries_same msg entries (All-tail (λ (e : ℕ × List (List ℕ)). ReadsName msg e.0 e.1) entry entries all) in
-    ap (λ (n : List (List ℕ)). (entry.0, n) ∷ table_of msg (keyed entries)) first.spelt ∙ ap (λ (t : Table). entry ∷ t) rest
-
-entries_targets : (msg : List ℕ) (entries : Table) → AreRead msg entries → All (λ y. y.position < 16384 → IsEntry msg y) (keyed entries)
-entries_targets msg [] all = All-nil (λ (y : Entry). y.position < 16384 → IsEntry msg y)
-entries_targets msg (entry ∷ entries) all =
-    let first = All-head (λ (e : ℕ × List (List ℕ)). ReadsName msg e.0 e.1) entry entries all in
-    All-cons (λ (y : Entry). y.position < 16384 → IsEntry msg y) (record { position = entry.0; key = name_key entry.1 }) (keyed entries)
-    (λ low. record { target = record { low = low; read = first.read }; key = ap name_key (sym first.spelt) })
-    (entries_targets msg entries (All-tail (λ (e : ℕ × List (List ℕ)). ReadsName msg e.0 e.1) entry entries all))
-
--- positions of a message that stand for this table
-pub record IsTableOf (msg : List ℕ) (positions : List Entry) (table : Table) : Type 0 where
-  pub all : IsTable msg positions
-  pub is : table_of msg positions ≡ table
-
-after_entries : (msg more : List ℕ) (positions : List Entry) (entries : Table) → IsTable msg positions → AreRead (msg ++ more) entries → IsTableOf (msg ++ more) (entered (λ e. e.position) positions (keyed entries)) (entered (λ entry. entry.0) (table_of msg positions) entries)
-after_entries msg more positions entries table all =
-    let old = table_longer msg more positions table in
-    let new = entries_same (msg ++ more) entries all in
-    record {
-      all = entered_all (IsEntry (msg ++ more)) positions (keyed entries) (IsTable-longer msg more positions table) (entries_targets (msg ++ more) entries all);
-      is = entered_paired (spelt_at (msg ++ more)) positions (keyed entries)
-          ∙ ap (λ (t : Table). entered (λ entry. entry.0) t (table_of (msg ++ more) (keyed entries))) old
-          ∙ ap (λ (t : Table). entered (λ entry. entry.0) (table_of msg positions) t) new;
-    }
-
-IsBehind-none : (msg : List ℕ) (positions : List Entry) → IsTable msg positions → IsBehind msg positions msg (length msg)
+IsBehind-none : (msg : List ℕ) (positions : List Entry) → AreEntries msg positions → IsBehind msg positions msg (length msg)
 IsBehind-none msg positions table = record { table = table; more = []; front_is = sym (append-nil msg); run_is = omega arith }
 
-written_read : (compress : Bool) (msg : List ℕ) (positions : List Entry) (name : List (List ℕ)) → IsTable msg positions → IsName name → AreRead (msg ++ written compress (table_of msg positions) name) (entries_of compress (table_of msg positions) (length msg) name)
+pub written_read : (compress : Bool) (msg : List ℕ) (positions : List Entry) (name : List (List ℕ)) → AreEntries msg positions → IsName name → AreRead (msg ++ written compress (table_of msg positions) name) (entries_of compress (table_of msg positions) (length msg) name)
 written_read true msg positions name table lawful =
     let all = entries_read msg positions msg [] name (IsBehind-none msg positions table) lawful.labels lawful.short in
     subst (λ (x : List ℕ). AreRead (msg ++ x) (new_entries (table_of msg positions) (length msg) name)) (append-nil (name_octets (table_of msg positions) name)) all
-written_read false msg positions name table lawful = All-nil (λ (entry : ℕ × List (List ℕ)). ReadsName (msg ++ wire_of name) entry.0 entry.1)
-
--- what a name that is written leaves of the table
-pub after_name : (compress : Bool) (msg : List ℕ) (positions : List Entry) (name : List (List ℕ)) → IsTable msg positions → IsName name → IsTableOf (msg ++ written compress (table_of msg positions) name) (entered (λ e. e.position) positions (keyed (entries_of compress (table_of msg positions) (length msg) name))) (table_after compress (table_of msg positions) (length msg) name)
-after_name compress msg positions name table lawful =
-    after_entries msg (written compress (table_of msg positions) name) positions (entries_of compress (table_of msg positions) (length msg) name) table (written_read compress msg positions name table lawful)
+written_read false msg positions name table lawful = All-nil (λ (entry : ℕ × List (List ℕ)). IsRead (msg ++ wire_of name) entry.0 entry.1)
 
 -- a name in full is one under an empty table
 wire_text : (name : List (List ℕ)) → name_octets [] name ≡ wire_of name
@@ -244,7 +179,7 @@ wire_text [] = refl
 wire_text (own ∷ name) = ap (λ (x : List ℕ). length own ∷ own ++ x) (wire_text name)
 
 -- what is written is spelt at its place, whatever follows
-pub written_spelt : (compress : Bool) (msg : List ℕ) (positions : List Entry) (behind : List ℕ) (name : List (List ℕ)) → IsTable msg positions → IsName name → Spells (msg ++ (written compress (table_of msg positions) name ++ behind)) (length msg) (length msg) name (length msg + length (written compress (table_of msg positions) name))
+pub written_spelt : (compress : Bool) (msg : List ℕ) (positions : List Entry) (behind : List ℕ) (name : List (List ℕ)) → AreEntries msg positions → IsName name → Spells (msg ++ (written compress (table_of msg positions) name ++ behind)) (length msg) (length msg) name (length msg + length (written compress (table_of msg positions) name))
 written_spelt true msg positions behind name table lawful = name_spelt msg positions msg behind (length msg) name (IsBehind-none msg positions table) lawful.labels
 written_spelt false msg positions behind name table lawful =
     let whole = name_spelt msg [] msg behind (length msg) name (IsBehind-none msg [] (All-nil (IsEntry msg))) lawful.labels in
@@ -257,16 +192,3 @@ plain_spelt front octets behind whole =
     let is : name_octets [] name ≡ octets = wire_text name ∙ wire_of-labels_in octets whole in
     let spelt = name_spelt front [] front behind (length front) name (IsBehind-none front [] (All-nil (IsEntry front))) (IsLabel_each octets whole) in
     subst (λ (x : List ℕ). Spells (front ++ (x ++ behind)) (length front) (length front) name (length front + length x)) is spelt
-
--- what a write into a buffer leaves
-pub after_put : (compress : Bool) (out new : List ℕ) (positions inside : List Entry) (octets : List ℕ) (own : List Entry) (at next : ℕ) (name : List (List ℕ)) → at ≤ length out → IsTable (take at out) positions → inside ≡ positions → IsName name → IsOverwritten out new at octets next → written compress (table_of (take at out) positions) name ≡ octets → own ≡ entered (λ e. e.position) inside (keyed (entries_of compress (table_of (take at out) positions) at name)) → IsTableOf (take next new) own (table_after compress (table_of (take at out) positions) at name)
-after_put compress out new positions inside octets own at next name within table same lawful put text e =
-    let msg = take at out in
-    let len : length msg ≡ at = length-take-le at out within in
-    let whole : take next new ≡ msg ++ written compress (table_of msg positions) name = octets_are out new at octets next put ∙ ap (λ (x : List ℕ). msg ++ x) (sym text) in
-    let own_is : own ≡ entered (λ e. e.position) positions (keyed (entries_of compress (table_of msg positions) at name)) =
-    e ∙ ap (λ (x : List Entry). entered (λ e. e.position) x (keyed (entries_of compress (table_of msg positions) at name))) same in
-    let after = after_name compress msg positions name table lawful in
-    let there = subst (λ (n : ℕ). IsTableOf (msg ++ written compress (table_of msg positions) name) (entered (λ e. e.position) positions (keyed (entries_of compress (table_of msg positions) n name))) (table_after compress (table_of msg positions) n name)) len after in
-    subst (λ (x : List ℕ). IsTableOf x own (table_after compress (table_of msg positions) at name)) (sym whole)
-    (subst (λ (x : List Entry). IsTableOf (msg ++ written compress (table_of msg positions) name) x (table_after compress (table_of msg positions) at name)) (sym own_is) there)

@@ -1,11 +1,12 @@
-pub mod Alike
+pub mod Chains
 pub mod Cut
 pub mod Examples
-pub mod Known
 pub mod Leads
 pub mod NameAt
 pub mod Parts
+pub mod Place
 pub mod Sizes
 pub mod Spells
+pub mod Starts
 pub mod Table
 pub mod Written

@@ -1,10 +1,14 @@
 -- The table of a message's names that pointers can name (RFC 1035, 4.1.4).
-use Rattle.std.specs.Prelude.{◌≡◌, true, false, ℕ, ◌+◌, ◌-◌, ◌*◌, ◌/◌, ◌%◌, ◌^◌, ◌<◌, ◌≤◌, Bool, ◌&&◌, List, [], ◌∷◌, ◌++◌, length, map, min, All, AllPairs, slice_index_or, nat_lt, nat_le, if◌then◌else◌, Option, Some, Ok, Err, bytes_eq}
+use Rattle.std.specs.Prelude.{◌≢◌, ◌⊎◌, drop, take, ◌≡◌, true, false, ℕ, ◌+◌, ◌-◌, ◌*◌, ◌/◌, ◌%◌, ◌^◌, ◌<◌, ◌≤◌, Bool, ◌&&◌, List, [], ◌∷◌, ◌++◌, length, map, min, All, AllPairs, slice_index_or, nat_lt, nat_le, if◌then◌else◌, Option, Ok, Err, bytes_eq}
 use Rattle.std.specs.List.{filter, reduce}
 use Rattle.std.specs.Cmp.Lexicographic.{pointwise}
 use Rattle.std.specs.Result.{IsOk}
 use Rattle.dns_name.specs.Name.{Name, wire_of}
 use Rattle.wire_names.specs.NameAt.{name_at}
+use Rattle.wire_names.specs.Parts.{part_at}
+use Rattle.wire_names.specs.declared.part.Part.TheVariants.{Label}
+pub use Rattle.wire_names.specs.declared.table.Entry.{Entry}
+use Rattle.wire_names.specs.Chains.{parent_at}
 
 -- the table: positions of a message, each with the name that is spelt there, in the order in which they were entered
 abbrev pub Table : Type 0
@@ -54,51 +58,32 @@ abbrev pub first_key : Name → ℕ
 first_key [] = 0
 first_key (label ∷ name) = label_key label
 
--- what the first label adds to the key of a name: its low octet is the label's length, and the others are mixed of the label's
--- key and of the octets that the name takes, by an odd number (own)
-abbrev pub key_part : Name → ℕ
-key_part name =
-    first_key name * ((length (wire_of name) % 256 * 2 + 1) * 2654435761 % 2 ^ 32) % 2 ^ 32 / 256 * 256
-    + slice_index_or (wire_of name) 0 0
+-- the index of the first entry that spells a name, where the first of these has this index; where none does, 258 and how many octets
+-- the name takes (own)
+abbrev pub index_from : ℕ → Table → Name → ℕ
+index_from i [] name = 258 + length (wire_of name)
+index_from i (entry ∷ table) name = if same_spelling entry.1 name then i else index_from (i + 1) table name
 
--- the key of a name: the sum of what each of its labels adds, in 32 bits; the root's is 0 (own)
-abbrev pub name_key : Name → ℕ
-name_key [] = 0
-name_key (label ∷ name) = (key_part (label ∷ name) + name_key name) % 2 ^ 32
+-- the parent of what stands in front of a name: the index of the first entry that spells the name; 257 for the root (own)
+abbrev pub parent_of : Table → Name → ℕ
+parent_of table [] = 257
+parent_of table (label ∷ name) = index_from 0 table (label ∷ name)
 
--- a position of a message, and the key of the name that is spelt there
-pub record Entry : Type 0 where
-  pub position : ℕ
-  pub key : ℕ
+-- the entry of a position with its name: the key of its first label, and the parent behind that label (own)
+abbrev pub entry_of : Table → ℕ × Name → Entry
+entry_of table named = record {
+  key = first_key named.1;
+  position = named.0;
+  parent = parent_of table (drop 1 named.1);
+}
 
--- positions with their keys, each key at its position's index
-abbrev pub with_keys : List ℕ → List ℕ → List Entry
-with_keys [] keys = []
-with_keys (at ∷ positions) [] = []
-with_keys (at ∷ positions) (key ∷ keys) = record { position = at; key = key } ∷ with_keys positions keys
-
--- the keys of entries
-abbrev pub keys_of : List Entry → List ℕ
-keys_of entries = map (λ entry. entry.key) entries
-
--- a key stands at no index from one up to another
-abbrev pub IsNowhere : List ℕ → ℕ → ℕ → ℕ → Type 0
-IsNowhere keys key from end = (i : ℕ) → from ≤ i → i < end → slice_index_or keys i 0 ≡ key → ⊥
-
--- a key stands at an index, the first from one on
-pub record IsNext (keys : List ℕ) (key from index : ℕ) : Type 0 where
-  pub up : from ≤ index
-  pub within : index < length keys
-  pub is : slice_index_or keys index 0 ≡ key
-  pub others : IsNowhere keys key from index
-
--- each key has its mark: one of 2048, by its highest 11 bits (own)
-abbrev pub AreMarked : List ℕ → List Bool → Type 0
-AreMarked keys marks = All (λ key. slice_index_or marks (key / 2097152) false ≡ true) keys
-
--- the positions of a table, each with the key of the name that is spelt there
+-- the entries of a table
 abbrev pub keyed : Table → List Entry
-keyed table = map (λ entry. record { position = entry.0; key = name_key entry.1 }) table
+keyed table = map (entry_of table) table
+
+-- each key has its mark: one of 8192, by the highest 13 bits of its product with an odd number (own)
+abbrev pub AreMarked : List Entry → List Bool → Type 0
+AreMarked entries marks = All (λ entry. slice_index_or marks (entry.key * 2654435761 % 2 ^ 32 / 524288) false ≡ true) entries
 
 -- the table that positions of a message stand for, whatever their keys
 abbrev pub table_of : List ℕ → List Entry → Table
@@ -109,21 +94,52 @@ pub record IsTarget (msg : List ℕ) (at : ℕ) : Type 0 where
   pub low : at < 16384
   pub read : IsOk (name_at msg at)
 
--- a position that a pointer can name, with the key of the name that is spelt there
+-- a name that begins with a label stands at a position of the message
+pub record IsLabelAt (msg : List ℕ) (at : ℕ) : Type 0 where
+  pub read : IsOk (name_at msg at)
+  pub len : ℕ
+  pub label : part_at msg at ≡ Ok (Label len)
+
+-- a pointer can name a position of the message, and a name that begins with a label is spelt there
 pub record IsEntry (msg : List ℕ) (entry : Entry) : Type 0 where
   pub target : IsTarget msg entry.position
-  pub key : entry.key ≡ name_key (spelt_at msg entry.position)
+  pub label : IsLabelAt msg entry.position
 
--- positions of a message that make a table, each with its key
-abbrev pub IsTable : List ℕ → List Entry → Type 0
-IsTable msg entries = All (IsEntry msg) entries
+-- each entry is at a position that a pointer can name, where a name begins with a label
+abbrev pub AreEntries : List ℕ → List Entry → Type 0
+AreEntries msg entries = All (IsEntry msg) entries
 
--- a name is spelt at the position at an index of a table, and at none in front of it; the key there is the name's
-pub record IsEarliest (msg : List ℕ) (entries : List Entry) (name : Name) (index : ℕ) : Type 0 where
+-- an entry whose parent no entry spells is the last one, and no more is entered behind it: the table is full, or the message has gone past
+-- what a pointer can name (own)
+abbrev pub IsClosed : List ℕ → List Entry → Type 0
+IsClosed msg entries = (i : ℕ) → i < length entries → 258 ≤ parent_at entries i → (i + 1 ≡ length entries) × ((length entries ≡ 256) ⊎ (16383 < length msg))
+
+-- positions of a message that make a table: each name is spelt at one of them alone, and each entry is the one of its position
+pub record IsTable (msg : List ℕ) (entries : List Entry) : Type 0 where
+  pub few : length entries ≤ 256
+  pub targets : AreEntries msg entries
+  pub apart : AllPairs (λ named other. named.1 ≢ other.1) (table_of msg entries)
+  pub entries_are : entries ≡ keyed (table_of msg entries)
+  pub closed : IsClosed msg entries
+
+-- the position of the entry at an index
+abbrev pub place_at : List Entry → ℕ → ℕ
+place_at entries i = (slice_index_or entries i (record { key = 0; position = 0; parent = 0 })).position
+
+-- a name is spelt at the position at an index of a table
+pub record IsSpelt (msg : List ℕ) (entries : List Entry) (name : Name) (index : ℕ) : Type 0 where
   pub within : index < length entries
-  pub key : (slice_index_or entries index (record { position = 0; key = 0 })).key ≡ name_key name
-  pub first : position_in (table_of msg entries) name ≡ Some (slice_index_or entries index (record { position = 0; key = 0 })).position
+  pub is : spelt_at msg (place_at entries index) ≡ name
 
--- each position is above those before it
-abbrev pub Ascend : List Entry → Type 0
-Ascend entries = AllPairs (λ entry other. entry.position < other.position) entries
+-- an entry has a parent, and its name begins with the first label of a name
+abbrev pub BeginsAlike : List ℕ → List Entry → ℕ → Name → ℕ → Type 0
+BeginsAlike msg entries parent name index = (parent_at entries index ≡ parent) × (take 1 (spelt_at msg (place_at entries index)) ≡ take 1 name)
+
+-- no entry that has a parent begins with the first label of a name
+abbrev pub HasNoChild : List ℕ → List Entry → ℕ → Name → Type 0
+HasNoChild msg entries parent name = (i : ℕ) → i < length entries → BeginsAlike msg entries parent name i → ⊥
+
+-- the entry at an index has a parent, and begins with the first label of a name
+pub record IsChild (msg : List ℕ) (entries : List Entry) (parent : ℕ) (name : Name) (index : ℕ) : Type 0 where
+  pub within : index < length entries
+  pub alike : BeginsAlike msg entries parent name index

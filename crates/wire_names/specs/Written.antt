@@ -1,7 +1,8 @@
 -- How a name is written into a message, with pointers to names in front of it (RFC 1035, 4.1.4).
-use Rattle.std.specs.Prelude.{◌≡◌, ℕ, ◌+◌, ◌/◌, ◌%◌, ◌<◌, ◌≤◌, Bool, List, [], ◌∷◌, ◌++◌, length, take, drop, if◌then◌else◌, Option, Some, None}
+use Rattle.std.specs.Prelude.{◌⊎◌, drop, ◌≡◌, ℕ, ◌+◌, ◌/◌, ◌%◌, ◌<◌, ◌≤◌, Bool, List, [], ◌∷◌, ◌++◌, length, take, drop, if◌then◌else◌, Option, Some, None}
 use Rattle.dns_name.specs.Name.{Name, wire_of}
-use Rattle.wire_names.specs.Table.{Entry, Table, position_in, entered, name_key}
+use Rattle.wire_names.specs.Table.{Entry, Table, position_in, entered, keyed, parent_of}
+use Rattle.wire_names.specs.Chains.{parent_at}
 
 -- the two octets of a pointer to a position below 16384 (RFC 1035, 4.1.4)
 abbrev pub pointer_to : ℕ → List ℕ
@@ -26,11 +27,19 @@ new_entries table at (label ∷ name) =
       | None ↦ (at, label ∷ name) ∷ new_entries table (at + 1 + length label) name
     ]
 
--- the positions of a name's labels that stand one behind another, each behind its length, from a position on, each with the key
--- of the suffix that begins there
-abbrev pub starts_of : ℕ → Name → List Entry
+-- the positions of a name's labels that stand one behind another, each behind its length, from a position on, each with the suffix that
+-- begins there
+abbrev pub starts_of : ℕ → Name → Table
 starts_of at [] = []
-starts_of at (label ∷ name) = record { position = at; key = name_key (label ∷ name) } ∷ starts_of (at + 1 + length label) name
+starts_of at (label ∷ name) = (at, label ∷ name) ∷ starts_of (at + 1 + length label) name
+
+-- the first labels of a name, so many, can be entered at a position behind a table: none of the names that begin there is in it, and this is
+-- the parent of the last of them (own)
+pub record CanEnter (entries : List Entry) (table : Table) (at : ℕ) (name : Name) (count last : ℕ) : Type 0 where
+  pub entries_are : entries ≡ keyed table
+  pub new : (i : ℕ) → i < count → position_in table (drop i name) ≡ None
+  pub parent : 0 < count → last ≡ parent_of table (drop count name)
+  pub closed : (i : ℕ) → i < length entries → 258 ≤ parent_at entries i → (length entries ≡ 256) ⊎ (16383 < at)
 
 -- a name's octets, compressed or in full: a name in the data of an SRV record is never compressed (RFC 2782)
 abbrev pub written : Bool → Table → Name → List ℕ

@@ -3,15 +3,16 @@
 //! Contracts see a message as the list of its octets and a name as the list of its labels. No call takes memory.
 #![tactic(auto)]
 
-mod alike;
+mod chains;
 mod key;
-mod known;
 mod laws;
 mod message;
 mod part;
 mod pass;
 mod read;
 mod read_into;
+mod recent;
+mod starts;
 mod table;
 mod write;
 

@@ -1,14 +1,15 @@
 //! The names of a message that pointers can name.
-ghost use Rattle.std.specs.Prelude.{◌≡◌, ◌≢◌, ℕ, ◌+◌, ◌-◌, ◌/◌, ◌%◌, ◌<◌, ◌≤◌, ◌^◌, ◌↔◌, ◌++◌, [], length, take, drop, All, IsTrue, IfSome, MatchOption, get_or};
+ghost use Rattle.std.specs.Prelude.{◌≡◌, ℕ, ◌+◌, ◌-◌, ◌*◌, ◌/◌, ◌%◌, ◌<◌, ◌≤◌, ◌^◌, ◌↔◌, ◌⊎◌, ◌++◌, ◌∷◌, ◌&&◌, [], nat_lt, nat_le, length, take, drop, IsTrue, IfSome, IsNone, MatchOption, slice_index_or};
 ghost use Rattle.std.specs.Bool.{OnTrue};
 ghost use Rattle.dns_name.specs.Labels.{labels_in, IsWhole};
+ghost use Rattle.wire_names.specs.Chains.{parent_at};
+ghost use Rattle.wire_names.specs.Place.{IsKnown};
 ghost use Rattle.wire_names.specs.Spells.{Spells};
-ghost use Rattle.wire_names.specs.Alike.{IsFirstAlike, AreLinks};
-ghost use Rattle.wire_names.specs.Table.{IsTable, IsEarliest, Ascend, IsNowhere, IsNext, keys_of, name_key, table_of, position_in, enter, entered};
-ghost use Rattle.wire_names.specs.Written.{starts_of};
+ghost use Rattle.wire_names.specs.Table.{Entry, Table, IsTable, IsLabelAt, IsSpelt, HasNoChild, IsChild, spelt_at, keyed, entered};
+ghost use Rattle.wire_names.specs.Written.{starts_of, CanEnter};
 
-use crate::alike::{Links, links_of, next_linked};
-use crate::key::key_behind;
+use crate::chains::{Chains, ROOT, UNKNOWN};
+use crate::key::first_key;
 use crate::part::{Part, differ, label_at, part_at};
 use arrayvec::ArrayVec;
 use dns_name::first_label;
@@ -20,267 +21,270 @@ pub(crate) const MAX_POSITIONS: usize = 256;
 /// The highest position that a pointer can name, of 14 bits (RFC 1035, 4.1.4).
 const MAX_TARGET: usize = 16383;
 
-/// Up to how many positions are looked at one by one at once; of more, the keys alone are searched first.
+/// Up to how many entries no mark is looked at.
 const FEW: usize = 24;
 
-/// For how many octets of a name one more position that has its key is compared with it at once: to seek all its suffixes is the dearer, the
-/// longer it is (own).
-const OCTETS_OF_A_TRY: usize = 8;
-
 /// How many marks there are for keys (own).
-const MARKS: usize = 2048;
+const MARKS: usize = 8192;
 
-/// How many keys in a row have one mark: the high bits of a key tell names apart best.
-const KEYS_OF_A_MARK: u32 = 2_097_152;
+/// An odd number, near 2 ^ 32 over the golden ratio: the high bits of what is multiplied by it depend on all of its bits.
+const SPREAD: u32 = 2_654_435_761;
 
-/// The positions of names in a message, and the key of each name, in the order in which they were entered. Contracts see a list
-/// of entries, each a position with its key, a number of all labels of the name (own). A key stands at its position's index, so
-/// that one search of the keys alone tells that a name is nowhere; and each key is marked, so that most often one mark tells it.
+/// How many keys in a row have one mark.
+const KEYS_OF_A_MARK: u32 = 524_288;
+
+/// A position of a message where a name begins, the key of the name's first label, and its parent: the index of the entry that spells the
+/// name behind that label, or the root, or what no entry spells.
+#[derive(Clone, Copy, Default)]
+pub(crate) struct Entry {
+    pub(crate) key: u32,
+    pub(crate) position: u16,
+    pub(crate) parent: u16,
+}
+
+/// The entries of a table, in the order in which they were entered, chained by their parents. Contracts see the list of them. The key of each
+/// is marked, so that most often one mark tells that no entry has a label.
 #[derive(Drop)]
 pub(crate) struct Positions {
-    positions: ArrayVec<u16, MAX_POSITIONS>,
-    keys: ArrayVec<u32, MAX_POSITIONS>,
+    entries: ArrayVec<Entry, MAX_POSITIONS>,
+    chains: Chains,
     marks: [bool; MARKS],
 }
 
 impl Model for Positions {
-    ghost use Rattle.std.specs.Prelude.{◌≡◌, List, length};
-    ghost use Rattle.wire_names.specs.Table.{Entry, AreMarked, with_keys};
+    ghost use Rattle.std.specs.Prelude.{List};
+    ghost use Rattle.wire_names.specs.declared.table.Entry.{Entry};
+    ghost use Rattle.wire_names.specs.Chains.{AreChained};
+    ghost use Rattle.wire_names.specs.Table.{AreMarked};
 
     ghost Value = { List Entry };
 
-    ghost view = { λ a. with_keys a.positions.items a.keys.items };
+    ghost view = { λ a. a.entries.items };
 
-    ghost invariant = { λ a. (length a.positions.items ≡ length a.keys.items) × AreMarked a.keys.items a.marks };
+    ghost invariant = { λ a. AreChained a.entries.items a.chains.newest a.chains.older × AreMarked a.entries.items a.marks };
 }
 
 impl Positions {
-    /// No position.
+    /// No entry.
     pub(crate) fn new() -> Positions
         ensures { result ≡ [] }
     {
         Positions {
-            positions: ArrayVec::new(),
-            keys: ArrayVec::new(),
+            entries: ArrayVec::new(),
+            chains: Chains::new(),
             marks: [false; MARKS],
         }
     }
 
-    /// Forgets all positions. The marks of few keys stay: they are looked at among many keys alone, where a mark too many costs a search.
+    /// Forgets all entries. The marks of few stay: they are looked at among many alone, where a mark too many costs a search.
     pub(crate) fn clear(&mut self)
         ensures { self.new ≡ [] }
     {
-        if self.keys.len() > FEW {
+        if self.entries.len() > FEW {
             unmark(&mut self.marks);
         }
-        self.positions.clear();
-        self.keys.clear();
+        self.entries.clear();
+        self.chains.clear();
     }
 
-    /// The earliest position at which the name in these octets, of this key, is spelt, case included: the first in a table that
-    /// ascends.
-    pub(crate) fn position_of(&self, msg: &[u8], octets: &[u8], key: u32) -> Option<u16>
-        requires table { IsTable msg.now self.now }
-        requires ascending { Ascend self.now }
-        requires whole { IsWhole octets.now }
-        requires key { key ≡ name_key (labels_in octets.now) }
-        ensures { result ≡ position_in (table_of msg.now self.now) (labels_in octets.now) }
-    {
-        if self.has_no_key(key) {
-            return None;
-        }
-        let mut from = 0;
-        while let Some(i) = self.next_of(key, from) {
-            let (position, _key) = self.entry(i);
-            if is_spelt(msg, usize::from(position), octets) {
-                return Some(position);
-            }
-            from = i + 1;
-        }
-        None
-    }
-
-    /// What [`position_of`](Self::position_of) tells, where the first few positions that have the key tell it: None where those spell other
-    /// names.
-    pub(crate) fn position_at_once(
-        &self,
-        msg: &[u8],
-        octets: &[u8],
-        key: u32,
-    ) -> Option<Option<u16>>
-        requires table { IsTable msg.now self.now }
-        requires ascending { Ascend self.now }
-        requires whole { IsWhole octets.now }
-        requires key { key ≡ name_key (labels_in octets.now) }
-        ensures { IfSome result (λ position. position ≡ position_in (table_of msg.now self.now) (labels_in octets.now)) }
-    {
-        if self.has_no_key(key) {
-            return Some(None);
-        }
-        let mut from = 0;
-        for _try in 0..1 + octets.len() / OCTETS_OF_A_TRY {
-            let Some(i) = self.next_of(key, from) else {
-                if from > 0 {
-                    return None;
-                }
-                return Some(None);
-            };
-            let (tried, _key) = self.entry(i);
-            if is_spelt(msg, usize::from(tried), octets) {
-                return Some(Some(tried));
-            }
-            from = i + 1;
-        }
-        None
-    }
-
-    /// Whether these very octets stand at the position at an index, or, where pointers are followed, the name in them is spelt there, and
-    /// that is the earliest at which it is: no position in front of it has its key.
-    pub(crate) fn stands(&self, msg: &[u8], octets: &[u8], index: usize, follows: bool) -> bool
-        requires table { IsTable msg.now self.now }
-        requires ascending { Ascend self.now }
-        requires whole { IsWhole octets.now }
-        ensures { OnTrue result (IsEarliest msg.now self.now (labels_in octets.now) index) }
-    {
-        if index >= self.keys.len() {
-            return false;
-        }
-        let (position, key) = self.entry(index);
-        if !is_there(msg, usize::from(position), octets, follows) {
-            return false;
-        }
-        for i in 0..index {
-            let (_, own) = self.entry(i);
-            if own == key {
-                return false;
-            }
-        }
-        true
-    }
-
-    /// Whether there is no position.
-    pub(crate) fn is_empty(&self) -> bool
-        ensures { OnTrue result (self.now ≡ []) }
-    {
-        self.keys.is_empty()
-    }
-
-    /// How many positions there are.
+    /// How many entries there are.
     pub(crate) fn count(&self) -> usize
         ensures is { result ≡ length self.now }
         ensures few { result ≤ MAX_POSITIONS }
     {
-        self.keys.len()
+        self.entries.len()
     }
 
-    /// Whether there are so many positions that the keys alone are searched first.
-    pub(crate) fn are_many(&self) -> bool {
-        self.keys.len() > FEW
-    }
-
-    /// Whether there are many positions, and none has this key.
-    pub(crate) fn has_no_key(&self, key: u32) -> bool
-        ensures { OnTrue result (All (λ entry. entry.key ≢ key) self.now) }
+    /// The entry at an index.
+    pub(crate) fn entry(&self, i: usize) -> Entry
+        requires { i < length self.now }
+        ensures { (d : Entry) → result ≡ slice_index_or self.now i d }
     {
-        if self.keys.len() <= FEW {
+        self.entries[i]
+    }
+
+    /// How many octets the name takes behind the first label of the last entry, where no entry spells it.
+    pub(crate) fn part(&self) -> Option<usize>
+        ensures none { IsNone result → 0 < length self.now → parent_at self.now (length self.now - 1) < 258 }
+        ensures some { IfSome result (λ size. (0 < length self.now) × (parent_at self.now (length self.now - 1) ≡ 258 + size)) }
+    {
+        let index = self.entries.len().checked_sub(1)?;
+        usize::from(self.entry(index).parent).checked_sub(UNKNOWN)
+    }
+
+    /// The index of the newest entry that has this parent, where it begins with the first label of the name in these octets.
+    pub(crate) fn newest_child(&self, msg: &[u8], octets: &[u8], parent: usize) -> Option<usize>
+        requires table { IsTable msg.now self.now }
+        requires whole { IsWhole octets.now }
+        requires some { 1 < length octets.now }
+        requires parent { (parent < length self.now) ⊎ (parent ≡ 257) }
+        ensures { IfSome result (IsChild msg.now self.now parent (labels_in octets.now)) }
+    {
+        let i = self.chains.newest_of(parent);
+        if i < self.entries.len() && begins_with(msg, usize::from(self.entry(i).position), octets) {
+            return Some(i);
+        }
+        None
+    }
+
+    /// The index of the entry that has this parent, and begins with the first label of the name in these octets.
+    pub(crate) fn child(&self, msg: &[u8], octets: &[u8], parent: usize) -> Option<usize>
+        requires table { IsTable msg.now self.now }
+        requires whole { IsWhole octets.now }
+        requires some { 1 < length octets.now }
+        requires parent { (parent < length self.now) ⊎ (parent ≡ 257) }
+        ensures { MatchOption result (HasNoChild msg.now self.now parent (labels_in octets.now)) (IsChild msg.now self.now parent (labels_in octets.now)) }
+    {
+        let key = first_key(octets);
+        if self.entries.len() > FEW && !self.marks[mark_of(key)] {
+            return None;
+        }
+        let mut i = self.chains.newest_of(parent);
+        while i < self.entries.len() {
+            let entry = self.entry(i);
+            if entry.key == key && begins_with(msg, usize::from(entry.position), octets) {
+                return Some(i);
+            }
+            i = self.chains.older_than(i);
+        }
+        None
+    }
+
+    /// The index of the last entry, where it spells the name in these octets.
+    pub(crate) fn last_spells(&self, msg: &[u8], octets: &[u8]) -> Option<usize>
+        requires table { IsTable msg.now self.now }
+        requires whole { IsWhole octets.now }
+        ensures some { IfSome result (IsSpelt msg.now self.now (labels_in octets.now)) }
+        ensures none { IsNone result → IsSpelt msg.now self.now (labels_in octets.now) (length self.now - 1) → ⊥ }
+    {
+        let index = self.entries.len().checked_sub(1)?;
+        if spells(msg, usize::from(self.entry(index).position), octets) {
+            return Some(index);
+        }
+        None
+    }
+
+    /// Whether these very octets stand at the position at an index, or, where pointers are followed, the name in them is spelt there.
+    pub(crate) fn stands(&self, msg: &[u8], octets: &[u8], index: usize, follows: bool) -> bool
+        requires table { IsTable msg.now self.now }
+        requires whole { IsWhole octets.now }
+        ensures { OnTrue result (IsSpelt msg.now self.now (labels_in octets.now) index) }
+    {
+        if index >= self.entries.len() {
             return false;
         }
-        !self.marks[mark_of(key)] || !self.keys.as_slice().contains(&key)
+        is_there(
+            msg,
+            usize::from(self.entry(index).position),
+            octets,
+            follows,
+        )
     }
 
-    /// The first index from one on whose position has this key.
-    pub(crate) fn next_of(&self, key: u32, from: usize) -> Option<usize>
-        ensures next { MatchOption result (IsNowhere (keys_of self.now) key from (length (keys_of self.now))) (IsNext (keys_of self.now) key from) }
-        ensures few { IfSome result (λ index. index < MAX_POSITIONS) }
+    /// The parent of the entry at an index; where there is no such entry, one that is none either.
+    pub(crate) fn parent_of(&self, index: usize) -> usize {
+        if index < self.entries.len() {
+            return usize::from(self.entry(index).parent);
+        }
+        UNKNOWN
+    }
+
+    /// Whether this is the number, as a parent, of the name in these octets: its labels are compared with those of the entries, from the
+    /// first on.
+    pub(crate) fn is_parent(&self, msg: &[u8], octets: &[u8], index: usize) -> bool
+        requires table { IsTable msg.now self.now }
+        requires whole { IsWhole octets.now }
+        ensures { OnTrue result (IsKnown msg.now self.now (labels_in octets.now) index) }
     {
-        next_in(self.keys.as_slice(), key, from)
+        let mut rest = octets;
+        let mut i = index;
+        while rest.len() > 1 {
+            if i >= self.entries.len() {
+                return false;
+            }
+            let entry = self.entry(i);
+            if !begins_with(msg, usize::from(entry.position), rest) {
+                return false;
+            }
+            let len = usize::from(rest[0]);
+            rest = &rest[1 + len..];
+            i = usize::from(entry.parent);
+        }
+        i == ROOT
     }
 
-    /// The links between the keys.
-    pub(crate) fn links(&self) -> Links
-        ensures { AreLinks (keys_of self.now) result.first result.next }
-    {
-        links_of(self.keys.as_slice())
-    }
-
-    /// As [`next_of`](Self::next_of), by links, where the second index is that of the first key from the first index on that is alike.
-    pub(crate) fn next_by(
-        &self,
-        key: u32,
-        from: usize,
-        alike: usize,
-        links: &Links,
-    ) -> Option<usize>
-        requires links { AreLinks (keys_of self.now) links.now.first links.now.next }
-        requires alike { IsFirstAlike (keys_of self.now) (key % 256) from alike }
-        ensures next { MatchOption result (IsNowhere (keys_of self.now) key from (length (keys_of self.now))) (IsNext (keys_of self.now) key from) }
-        ensures few { IfSome result (λ index. index < MAX_POSITIONS) }
-    {
-        next_linked(self.keys.as_slice(), key, from, alike, links)
-    }
-
-    /// The position at an index, and its key.
-    pub(crate) fn entry(&self, i: usize) -> (u16, u32)
-        requires { i < length self.now }
-        ensures { record { position = result.0; key = result.1 } ≡ get_or self.now i (record { position = 0; key = 0 }) }
-    {
-        (self.positions[i], self.keys[i])
-    }
-
-    /// Enters the positions of so many labels of a name whose octets stand at a position, with the keys of the names that begin
-    /// there, the first of which is this one: as long as there is room, and none that a pointer can't name (RFC 1035, 4.1.4).
-    pub(crate) fn enter(&mut self, at: usize, octets: &[u8], key: u32, count: usize)
+    /// Enters the positions of so many labels of a name whose octets stand at a position: as long as there is room, and none that a
+    /// pointer can't name (RFC 1035, 4.1.4). This is the parent of the last of these labels.
+    pub(crate) fn enter(&mut self, at: usize, octets: &[u8], count: usize, last: usize)
         requires whole { IsWhole octets.now }
         requires within { at + length octets.now < 2 ^ 64 }
-        requires key { 0 < count → key ≡ name_key (labels_in octets.now) }
-        ensures { self.new ≡ entered (λ entry. entry.position) self.old (take count (starts_of at (labels_in octets.now))) }
+        requires few { count ≤ length (labels_in octets.now) }
+        requires short { length octets.now ≤ 255 }
+        requires parent { 0 < count → (last < length self.old) ⊎ (last ≡ 257) }
+        ensures { (table : Table) → CanEnter self.old table at (labels_in octets.now) count last → self.new ≡ keyed (entered (λ named. named.0) table (take count (starts_of at (labels_in octets.now)))) }
     {
         let mut rest = octets;
         let mut place = at;
-        let mut own = key;
-        for _i in 0..count {
+        for i in 0..count {
             let Some((label, behind)) = first_label(rest) else {
                 return;
             };
-            self.enter_one(place, own);
-            place += 1 + label.len();
-            own = key_behind(own, rest);
+            let next = place + 1 + label.len();
+            if !self.has_room(0, place) {
+                return;
+            }
+            let parent = if i + 1 == count {
+                last
+            } else if self.has_room(1, next) {
+                self.count() + 1
+            } else {
+                UNKNOWN + behind.len()
+            };
+            self.push(place, first_key(rest), parent);
+            place = next;
             rest = behind;
         }
     }
 
-    /// Enters a position with its key where there is room, and where a pointer can name it (RFC 1035, 4.1.4).
-    fn enter_one(&mut self, position: usize, key: u32)
-        ensures { self.new ≡ enter (λ entry. entry.position) self.old (record { position = position; key = key }) }
-    {
-        if self.keys.len() < MAX_POSITIONS && position <= MAX_TARGET {
-            self.positions.push(position as u16);
-            self.keys.push(key);
-            self.marks[mark_of(key)] = true;
-        }
+    /// Whether there is room for so many labels of a name of so many octets at a position, and pointers can name them.
+    pub(crate) fn has_room_for(&self, at: usize, size: usize, labels: usize) -> bool {
+        labels <= MAX_POSITIONS - self.entries.len()
+            && size <= MAX_TARGET
+            && at <= MAX_TARGET - size
     }
-}
 
-/// The first index from one on at which this key stands.
-fn next_in(keys: &[u32], key: u32, from: usize) -> Option<usize>
-    ensures { MatchOption result (IsNowhere keys.now key from (length keys.now)) (IsNext keys.now key from) }
-{
-    let mut i = from;
-    while i < keys.len() {
-        if keys[i] == key {
-            return Some(i);
-        }
-        i += 1;
+    /// Whether there is room for one more position, behind so many that are yet to be entered, and a pointer can name it.
+    fn has_room(&self, more: usize, position: usize) -> bool
+        requires { more < 2 }
+        ensures { result ≡ (nat_lt (length self.now + more) 256 && nat_le position 16383) }
+    {
+        self.entries.len() + more < MAX_POSITIONS && position <= MAX_TARGET
     }
-    None
+
+    /// Enters a position behind all others.
+    fn push(&mut self, position: usize, key: u32, parent: usize)
+        requires room { length self.old < 256 }
+        requires low { position ≤ 16383 }
+        requires parent { (parent ≤ length self.old + 1) ⊎ ((257 ≤ parent) × (parent < 2 ^ 16)) }
+        ensures { self.new ≡ self.old ++ record { key = key; position = position; parent = parent } ∷ [] }
+    {
+        let index = self.entries.len();
+        self.entries.push(Entry {
+            key,
+            position: position as u16,
+            parent: parent as u16,
+        });
+        self.chains.push(index, parent);
+        self.marks[mark_of(key)] = true;
+    }
 }
 
 /// The index of a key's mark.
 fn mark_of(key: u32) -> usize
-    ensures is { result ≡ key / 2097152 }
+    ensures is { result ≡ key * 2654435761 % 2 ^ 32 / 524288 }
     ensures within { result < MARKS }
 {
-    (key / KEYS_OF_A_MARK) as usize
+    (key.wrapping_mul(SPREAD) / KEYS_OF_A_MARK) as usize
 }
 
 /// Takes all marks away. It is a function of its own, since it is seldom called.
@@ -289,6 +293,34 @@ fn unmark(marks: &mut [bool; MARKS]) {
     for i in 0..MARKS {
         marks[i] = false;
     }
+}
+
+/// Whether the name at a position begins with the first label of the name in these octets. Its length and its first two octets are
+/// compared in front of the others: most labels are short, or differ there.
+#[inline(always)]
+fn begins_with(msg: &[u8], at: usize, octets: &[u8]) -> bool
+    requires label { IsLabelAt msg.now at }
+    requires whole { IsWhole octets.now }
+    requires some { 1 < length octets.now }
+    ensures { IsTrue result ↔ (take 1 (spelt_at msg.now at) ≡ take 1 (labels_in octets.now)) }
+{
+    let len = usize::from(octets[0]);
+    if usize::from(msg[at]) != len {
+        return false;
+    }
+    if msg[at + 1] != octets[1] {
+        return false;
+    }
+    if len == 1 {
+        return true;
+    }
+    if msg[at + 2] != octets[2] {
+        return false;
+    }
+    if len == 2 {
+        return true;
+    }
+    !differ(label_at(octets, 0, len), label_at(msg, at, len))
 }
 
 /// Whether these very octets stand at a position. The first is compared in front of the others: most names differ there.
@@ -313,31 +345,6 @@ fn is_there(msg: &[u8], place: usize, octets: &[u8], follows: bool) -> bool
         return false;
     }
     spells(msg, place, octets)
-}
-
-/// Whether the octets at a position spell the name in these octets. The first label is compared in front of all else: most names differ
-/// there, and that is told in the caller itself.
-#[inline(always)]
-fn is_spelt(msg: &[u8], at: usize, octets: &[u8]) -> bool
-    requires { IsWhole octets.now }
-    ensures { IsTrue result ↔ ((next : ℕ) × Spells msg.now at at (labels_in octets.now) next) }
-{
-    !has_other_label(msg, at, octets) && spells(msg, at, octets)
-}
-
-/// Whether another label stands at a position than the first of the name in these octets.
-#[inline(always)]
-fn has_other_label(msg: &[u8], at: usize, octets: &[u8]) -> bool
-    requires { IsWhole octets.now }
-    ensures { OnTrue result ((next : ℕ) → Spells msg.now at at (labels_in octets.now) next → ⊥) }
-{
-    let Ok(Part::Label(len)) = part_at(msg, at) else {
-        return false;
-    };
-    let Some((label, _behind)) = first_label(octets) else {
-        return false;
-    };
-    differ(label, label_at(msg, at, len))
 }
 
 /// Whether the octets at a position spell the name in these octets, label by label.

@@ -1,28 +1,30 @@
 //! Writing a name into a message, with pointers to names in front of it (RFC 1035, 4.1.4).
-ghost use Rattle.std.specs.Prelude.{◌≡◌, true, ◌<◌, ◌≤◌, ◌++◌, [], length, take, IfSome, IsNone};
-ghost use Rattle.dns_name.specs.Labels.{labels_in, IsWhole};
+ghost use Rattle.std.specs.Prelude.{◌≡◌, true, ℕ, ◌+◌, ◌-◌, ◌<◌, ◌≤◌, List, ◌++◌, [], length, take, Some, IfSome, IsNone};
+ghost use Rattle.dns_name.specs.Labels.{labels_in, IsWhole, IsFirstLabel};
+ghost use Rattle.wire_names.specs.Chains.{parent_at};
+ghost use Rattle.wire_names.specs.Place.{IsPlace, IsEnd, IsLongest};
+ghost use Rattle.wire_names.specs.Starts.{AreStarts};
 ghost use Rattle.dns_name.specs.Name.{IsName};
 ghost use Rattle.wire_names.specs.Cut.{cut_octets, IsCut};
-ghost use Rattle.wire_names.specs.Alike.{AreLinks};
-ghost use Rattle.wire_names.specs.Known.{AreKnown, IsRest};
-ghost use Rattle.wire_names.specs.Table.{IsTable, IsEarliest, keys_of, table_of, name_key};
+ghost use Rattle.wire_names.specs.Table.{IsTable, IsSpelt, table_of, place_at};
 ghost use Rattle.wire_names.specs.Written.{pointer_to, written, table_after, WritesOctets};
 
-use crate::alike::Links;
-use crate::key::{key_before, key_behind, key_of};
-use crate::known::Known;
+use crate::chains::ROOT;
 use crate::part::POINTER;
-use crate::table::{MAX_POSITIONS, Positions};
+use crate::recent::{Recents, Suffix};
+use crate::starts::{Starts, starts_of};
+use crate::table::Positions;
 use dns_name::{Name, first_label};
 use std::marker::Model;
 
 /// Writes names into one message, and keeps the positions of those that pointers can name (RFC 1035, 4.1.4). Contracts
-/// see it as the list of the positions, each with the key of its name, in the order in which they were entered: each
-/// is above those before it. It takes no memory.
+/// see it as the list of the positions, each with the key of its first label and its parent, in the order in which they were
+/// entered. It takes no memory.
 #[derive(Drop)]
 pub struct NameWriter {
     positions: Positions,
     likely: Likely,
+    recents: Recents,
 }
 
 /// The index of the name written first: most often that of the question.
@@ -38,27 +40,38 @@ struct Likely {
 
 impl Model for NameWriter {
     ghost use Rattle.std.specs.Prelude.{List};
-    ghost use Rattle.wire_names.specs.Table.{Ascend};
     ghost use Rattle.wire_names.specs.Table.{Entry};
 
     ghost Value = { List Entry };
 
     ghost view = { λ a. a.positions };
-
-    ghost invariant = { λ a. Ascend a.positions };
 }
 
 /// How a name is written behind a message: so many labels from the front of its octets, which end behind so many of them, and
-/// then a pointer, where there is one. The key is the name's where labels are written; the index is likely that of what the pointer
-/// names.
+/// then a pointer, where there is one. The parent is that of the last of these labels: the index of what the pointer names, or the root.
 #[derive(Clone, Copy)]
 struct Cut {
     labels: usize,
     len: usize,
     target: Option<u16>,
-    key: u32,
+    parent: usize,
+}
+
+/// A suffix of a name that the table has: that behind so many of the name's labels, and its index; the root's is a number of its own.
+#[derive(Clone, Copy)]
+struct Place {
+    labels: usize,
     index: usize,
 }
+
+/// How many octets a name takes at most that is looked for through pointers where it is likely to be.
+const FEW_OCTETS: usize = 32;
+
+/// How many octets of a name are found by their labels without it being kept.
+const FEW_OCTETS_MORE: usize = 8;
+
+/// How many labels of a name are entered without it being kept.
+const FEW_LABELS: usize = 4;
 
 impl NameWriter {
     /// For a message that has no name.
@@ -71,6 +84,7 @@ impl NameWriter {
                 last: FIRST,
                 parent: FIRST,
             },
+            recents: Recents::new(),
         }
     }
 
@@ -79,6 +93,7 @@ impl NameWriter {
         ensures { self.new ≡ [] }
     {
         self.positions.clear();
+        self.recents.clear();
     }
 
     /// Writes the name behind the message, which is the first `at` octets of `out`, and gives the position behind the
@@ -121,15 +136,17 @@ impl NameWriter {
         let cut = self.cut(&out[..at], octets, compress);
         let next = put_cut(out, at, octets, cut)?;
         self.likely = self.likely.after(self.positions.count(), cut);
-        self.positions.enter(at, octets, cut.key, cut.labels);
+        self.positions.enter(at, octets, cut.labels, cut.parent);
         Some(next)
     }
 
     /// How the name in these octets is written behind the message.
-    fn cut(&self, msg: &[u8], octets: &[u8], compress: bool) -> Cut
-        requires table { IsTable msg.now self.now }
+    fn cut(&mut self, msg: &[u8], octets: &[u8], compress: bool) -> Cut
+        requires table { IsTable msg.now self.old }
         requires whole { IsWhole octets.now }
-        ensures { IsCut compress (table_of msg.now self.now) octets.now result }
+        requires short { length octets.now ≤ 255 }
+        ensures cut { IsCut compress (table_of msg.now self.old) octets.now result }
+        ensures unchanged { self.new ≡ self.old }
     {
         if compress {
             self.compressed(msg, octets)
@@ -138,261 +155,235 @@ impl NameWriter {
                 labels: 0,
                 len: octets.len(),
                 target: None,
-                key: 0,
-                index: self.likely.last,
+                parent: self.likely.last,
             }
         }
     }
 
-    /// How the name in these octets is written behind the message with compression: in full where the table is empty. It, and the
-    /// name behind its first label, are looked for first where they are likely to be.
-    fn compressed(&self, msg: &[u8], octets: &[u8]) -> Cut
-        requires table { IsTable msg.now self.now }
+    /// How the name in these octets is written behind the message with compression. It, and the name behind its first label, are looked for
+    /// first where they are likely to be.
+    fn compressed(&mut self, msg: &[u8], octets: &[u8]) -> Cut
+        requires table { IsTable msg.now self.old }
         requires whole { IsWhole octets.now }
-        ensures { IsCut true (table_of msg.now self.now) octets.now result }
+        requires short { length octets.now ≤ 255 }
+        ensures cut { IsCut true (table_of msg.now self.old) octets.now result }
+        ensures unchanged { self.new ≡ self.old }
     {
-        if self.positions.is_empty() {
-            return Cut {
-                labels: octets.len(),
-                len: octets.len(),
-                target: None,
-                key: key_of(octets),
-                index: FIRST,
-            };
+        match self.likely_cut(msg, octets) {
+            Some(cut) => cut,
+            None => self.sought(msg, octets),
         }
-        if let Some(cut) = self.new_cut(msg, octets) {
-            return cut;
-        }
-        if let Some(cut) = self.likely_cut(msg, octets) {
-            return cut;
-        }
-        self.sought(msg, octets, key_of(octets))
     }
 
-    /// How the name in these octets is written behind the message with compression, where there are many positions, none of them has its
-    /// key, and the name behind its first label is where it is likely to be.
-    fn new_cut(&self, msg: &[u8], octets: &[u8]) -> Option<Cut>
-        requires table { IsTable msg.now self.now }
-        requires whole { IsWhole octets.now }
-        ensures { IfSome result (λ cut. IsCut true (table_of msg.now self.now) octets.now cut) }
-    {
-        if !self.positions.are_many() {
-            return None;
-        }
-        let (label, behind) = first_label(octets)?;
-        let (_first, _rest) = first_label(behind)?;
-        let Likely { parent: index, .. } = self.likely;
-        if !self.positions.stands(msg, behind, index, true) {
-            return None;
-        }
-        let (parent, parents_key) = self.positions.entry(index);
-        let key = key_before(parents_key, octets);
-        if !self.positions.has_no_key(key) {
-            return None;
-        }
-        Some(Cut {
-            labels: 1,
-            len: 1 + label.len(),
-            target: Some(parent),
-            key,
-            index,
-        })
-    }
-
-    /// How the name in these octets is written behind the message with compression, where it or the name behind its first label is
-    /// where it is likely to be.
+    /// How the name in these octets, of two labels or more and of few octets, is written behind the message with compression, where it or the
+    /// name behind its first label is where it is likely to be.
     fn likely_cut(&self, msg: &[u8], octets: &[u8]) -> Option<Cut>
         requires table { IsTable msg.now self.now }
         requires whole { IsWhole octets.now }
         ensures { IfSome result (λ cut. IsCut true (table_of msg.now self.now) octets.now cut) }
     {
-        let (label, behind) = first_label(octets)?;
-        if let Some(index) = self.likely_index(msg, octets) {
-            let (target, key) = self.positions.entry(index);
-            return Some(Cut {
-                labels: 0,
-                len: 0,
-                target: Some(target),
-                key,
-                index,
-            });
-        }
-        let (_, _) = first_label(behind)?;
-        let index = self.parent_index(msg, behind)?;
-        let (parent, own) = self.positions.entry(index);
-        let key = key_before(own, octets);
-        if let Some(target) = self.positions.position_of(msg, octets, key) {
-            return Some(Cut {
-                labels: 0,
-                len: 0,
-                target: Some(target),
-                key,
-                index: self.likely.last,
-            });
-        }
-        Some(Cut {
-            labels: 1,
-            len: 1 + label.len(),
-            target: Some(parent),
-            key,
-            index,
-        })
-    }
-
-    /// The likely index of the name in these octets, where it is there: that of the name written first is one, too.
-    fn likely_index(&self, msg: &[u8], octets: &[u8]) -> Option<usize>
-        requires table { IsTable msg.now self.now }
-        requires whole { IsWhole octets.now }
-        ensures { IfSome result (λ index. IsEarliest msg.now self.now (labels_in octets.now) index) }
-    {
-        let Likely { last, parent } = self.likely;
-        if self.positions.stands(msg, octets, last, false) {
-            return Some(last);
-        }
-        if self.positions.stands(msg, octets, parent, false) {
-            return Some(parent);
-        }
-        if last != FIRST && self.positions.stands(msg, octets, FIRST, false) {
-            return Some(FIRST);
-        }
-        None
-    }
-
-    /// The likely index of the name in these octets, which are those behind a first label: also of one that ends in a pointer, which was
-    /// looked for before where there are many positions.
-    fn parent_index(&self, msg: &[u8], behind: &[u8]) -> Option<usize>
-        requires table { IsTable msg.now self.now }
-        requires whole { IsWhole behind.now }
-        ensures { IfSome result (λ index. IsEarliest msg.now self.now (labels_in behind.now) index) }
-    {
-        if let Some(index) = self.likely_index(msg, behind) {
-            return Some(index);
-        }
-        if self.positions.are_many() {
+        let (_label, behind) = first_label(octets)?;
+        let (_first, _rest) = first_label(behind)?;
+        if octets.len() > FEW_OCTETS {
             return None;
         }
-        let Likely { parent, .. } = self.likely;
+        let Likely { last, parent } = self.likely;
         if self.positions.stands(msg, behind, parent, true) {
-            return Some(parent);
+            return Some(self.cut_behind(msg, octets, behind, parent));
+        }
+        if self.positions.stands(msg, octets, last, false) {
+            return Some(self.cut_at(0, 0, last));
+        }
+        if self.positions.stands(msg, octets, FIRST, false) {
+            return Some(self.cut_at(0, 0, FIRST));
+        }
+        if self.positions.stands(msg, behind, last, false) {
+            return Some(self.cut_behind(msg, octets, behind, last));
         }
         None
     }
 
-    /// How the name in these octets, of this key, is written behind the message with compression: each of its labels is sought.
-    #[inline(never)]
-    fn sought(&self, msg: &[u8], octets: &[u8], key: u32) -> Cut
+    /// How the name in these octets is written behind the message with compression, where these are the octets behind its first label, and
+    /// the name in them has this index in the table.
+    fn cut_behind(&self, msg: &[u8], octets: &[u8], behind: &[u8], parent: usize) -> Cut
         requires table { IsTable msg.now self.now }
         requires whole { IsWhole octets.now }
-        requires key { key ≡ name_key (labels_in octets.now) }
+        requires first { (label : List ℕ) × IsFirstLabel octets.now label behind.now }
+        requires some { 1 < length behind.now }
+        requires parent { IsSpelt msg.now self.now (labels_in behind.now) parent }
         ensures { IsCut true (table_of msg.now self.now) octets.now result }
     {
-        match self.sought_at_once(msg, octets, key) {
-            Some(cut) => cut,
-            None => self.sought_among(msg, octets, key),
+        match self.positions.child(msg, octets, parent) {
+            Some(index) => self.cut_at(0, 0, index),
+            None => self.cut_at(1, octets.len() - behind.len(), parent),
         }
     }
 
-    /// As [`sought`](Self::sought), where no position that has the key of a suffix first spells another name; None where one does.
-    fn sought_at_once(&self, msg: &[u8], octets: &[u8], key: u32) -> Option<Cut>
+    /// So many labels, which take so many octets, and a pointer to the position at an index.
+    fn cut_at(&self, labels: usize, len: usize, index: usize) -> Cut
+        requires { index < length self.now }
+        ensures { result ≡ record { labels = labels; len = len; target = Some (place_at self.now index); parent = index } }
+    {
+        Cut {
+            labels,
+            len,
+            target: Some(self.positions.entry(index).position),
+            parent: index,
+        }
+    }
+
+    /// How the name in these octets is written behind the message with compression: its labels are sought from the last on, or from those on
+    /// that a name which was sought lately has as well.
+    fn sought(&mut self, msg: &[u8], octets: &[u8]) -> Cut
+        requires table { IsTable msg.now self.old }
+        requires whole { IsWhole octets.now }
+        requires short { length octets.now ≤ 255 }
+        ensures cut { IsCut true (table_of msg.now self.old) octets.now result }
+        ensures unchanged { self.new ≡ self.old }
+    {
+        let suffix = self.recents.suffix_of(&self.positions, octets);
+        let cut = self.sought_behind(msg, octets, suffix);
+        self.remember(msg.len(), octets, suffix, cut);
+        cut
+    }
+
+    /// How the name in these octets is written behind the message with compression: its labels in front of this suffix, which it seems to
+    /// have, are sought from the last on.
+    fn sought_behind(&self, msg: &[u8], octets: &[u8], suffix: Suffix) -> Cut
         requires table { IsTable msg.now self.now }
         requires whole { IsWhole octets.now }
-        requires key { key ≡ name_key (labels_in octets.now) }
-        ensures { IfSome result (λ cut. IsCut true (table_of msg.now self.now) octets.now cut) }
+        requires short { length octets.now ≤ 255 }
+        ensures { IsCut true (table_of msg.now self.now) octets.now result }
     {
-        let Some((label, behind)) = first_label(octets) else {
-            return Some(Cut {
-                labels: 0,
-                len: 1,
+        let (starts, found) = self.front(msg, octets, suffix);
+        let place = self.climb(msg, octets, &starts, found);
+        let place = match self.positions.part() {
+            Some(size) => self.climb_in_part(msg, octets, &starts, place, size),
+            None => place,
+        };
+        if place.index == ROOT {
+            return Cut {
+                labels: place.labels,
+                len: octets.len(),
                 target: None,
-                key,
-                index: self.likely.parent,
-            });
-        };
-        if let Some(target) = self.positions.position_at_once(msg, octets, key)? {
-            return Some(Cut {
-                labels: 0,
-                len: 0,
-                target: Some(target),
-                key,
-                index: self.likely.parent,
-            });
+                parent: ROOT,
+            };
         }
-        let cut = self.sought_at_once(msg, behind, key_behind(key, octets))?;
-        Some(Cut {
-            labels: cut.labels + 1,
-            len: cut.len + 1 + label.len(),
-            target: cut.target,
-            key,
-            index: cut.index,
-        })
+        self.cut_at(place.labels, starts.start(place.labels), place.index)
     }
 
-    /// As [`sought`](Self::sought), where positions that have the key of a suffix spell other names. It is a function of its own, since it
-    /// is seldom called.
-    #[inline(never)]
-    fn sought_among(&self, msg: &[u8], octets: &[u8], key: u32) -> Cut
+    /// Where the labels of the name in these octets begin that are in front of this suffix, and its place, where the table has it there; else
+    /// where all begin, and the place of the root.
+    fn front(&self, msg: &[u8], octets: &[u8], suffix: Suffix) -> (Starts, Place)
         requires table { IsTable msg.now self.now }
         requires whole { IsWhole octets.now }
-        requires key { key ≡ name_key (labels_in octets.now) }
-        ensures { IsCut true (table_of msg.now self.now) octets.now result }
+        requires short { length octets.now ≤ 255 }
+        ensures starts { AreStarts octets.now result.0.starts result.0.count }
+        ensures few { result.0.count < 128 }
+        ensures all { result.1.labels ≡ result.0.count }
+        ensures place { IsPlace msg.now self.now (labels_in octets.now) result.1 }
     {
-        let links = self.positions.links();
-        let mut known = Known {
-            ruled_out: [0; MAX_POSITIONS],
-            found: [0; MAX_POSITIONS],
-        };
-        self.sought_rest(msg, octets, octets, key, &links, &mut known)
+        let starts = starts_of(octets, suffix.size.max(1));
+        let labels = starts.count;
+        let rest = starts.rest(octets, labels);
+        if self.positions.is_parent(msg, rest, suffix.index) {
+            let index = suffix.index;
+            return (starts, Place { labels, index });
+        }
+        let starts = starts_of(octets, 1);
+        let labels = starts.count;
+        (
+            starts,
+            Place {
+                labels,
+                index: ROOT,
+            },
+        )
     }
 
-    /// As [`sought`](Self::sought), where these octets are a rest of a name and positions are known for its rests: the shortest is sought
-    /// first.
-    fn sought_rest(
+    /// Keeps the suffix of a name that was found far in front of the one from which it was sought, and a name of which many labels are
+    /// entered at a position.
+    fn remember(&mut self, at: usize, octets: &[u8], from: Suffix, cut: Cut)
+        ensures { self.new ≡ self.old }
+    {
+        let known = octets.len().saturating_sub(cut.len);
+        if known.saturating_sub(from.size) > FEW_OCTETS_MORE {
+            self.recents.keep(octets, cut.len, cut.parent);
+        }
+        if cut.labels > FEW_LABELS && self.positions.has_room_for(at, cut.len, cut.labels) {
+            self.recents.keep(octets, 0, self.positions.count());
+        }
+    }
+
+    /// The place of the longest name that is found from a place on, each label being sought in front of the last one found.
+    fn climb(&self, msg: &[u8], octets: &[u8], starts: &Starts, found: Place) -> Place
+        requires table { IsTable msg.now self.now }
+        requires whole { IsWhole octets.now }
+        requires starts { AreStarts octets.now starts.now.starts starts.now.count }
+        requires few { starts.now.count < 128 }
+        requires front { found.labels ≤ starts.now.count }
+        requires place { IsPlace msg.now self.now (labels_in octets.now) found }
+        ensures place { IsPlace msg.now self.now (labels_in octets.now) result }
+        ensures end { IsEnd msg.now self.now (labels_in octets.now) result.labels }
+        ensures up { result.labels ≤ found.labels }
+    {
+        let mut k = found.labels;
+        let mut index = found.index;
+        while k > 0 {
+            let rest = starts.rest(octets, k - 1);
+            index = match self.positions.newest_child(msg, rest, index) {
+                Some(child) => child,
+                None => match self.positions.child(msg, rest, index) {
+                    Some(child) => child,
+                    None => return Place { labels: k, index },
+                },
+            };
+            k -= 1;
+        }
+        Place { labels: k, index }
+    }
+
+    /// The place of the longest name that the table has, where the last entry is of a name that was entered in part, and this is how many
+    /// octets are behind its first label: the name that the last entry spells may be longer than the place that was found.
+    fn climb_in_part(
         &self,
         msg: &[u8],
-        name: &[u8],
         octets: &[u8],
-        key: u32,
-        links: &Links,
-        known: &mut Known,
-    ) -> Cut
+        starts: &Starts,
+        found: Place,
+        size: usize,
+    ) -> Place
         requires table { IsTable msg.now self.now }
         requires whole { IsWhole octets.now }
-        requires rest { IsRest name.now octets.now }
-        requires key { key ≡ name_key (labels_in octets.now) }
-        requires links { AreLinks (keys_of self.now) links.now.first links.now.next }
-        requires known { AreKnown msg.now self.now name.now known.old.ruled_out known.old.found }
-        ensures cut { IsCut true (table_of msg.now self.now) octets.now result }
-        ensures known { AreKnown msg.now self.now name.now known.new.ruled_out known.new.found }
+        requires starts { AreStarts octets.now starts.now.starts starts.now.count }
+        requires few { starts.now.count < 128 }
+        requires front { found.labels ≤ starts.now.count }
+        requires place { IsPlace msg.now self.now (labels_in octets.now) found }
+        requires end { IsEnd msg.now self.now (labels_in octets.now) found.labels }
+        requires part { (0 < length self.now) × (parent_at self.now (length self.now - 1) ≡ 258 + size) }
+        ensures place { IsPlace msg.now self.now (labels_in octets.now) result }
+        ensures longest { IsLongest msg.now self.now (labels_in octets.now) result.labels }
+        ensures up { result.labels ≤ found.labels }
     {
-        let Some((label, behind)) = first_label(octets) else {
-            return Cut {
-                labels: 0,
-                len: 1,
-                target: None,
-                key,
-                index: self.likely.parent,
-            };
-        };
-        let rest = self.sought_rest(msg, name, behind, key_behind(key, octets), links, known);
-        if let Some(target) = self
-            .positions
-            .position_of_rest(msg, name, octets, label, behind, key, links, known)
-        {
-            return Cut {
-                labels: 0,
-                len: 0,
-                target: Some(target),
-                key,
-                index: self.likely.parent,
-            };
+        let mut k = found.labels;
+        while k > 1 {
+            k -= 1;
+            if octets.len() - starts.start(k) == size {
+                let rest = starts.rest(octets, k - 1);
+                if let Some(index) = self.positions.last_spells(msg, rest) {
+                    return self.climb(
+                        msg,
+                        octets,
+                        starts,
+                        Place {
+                            labels: k - 1,
+                            index,
+                        },
+                    );
+                }
+            }
         }
-        Cut {
-            labels: rest.labels + 1,
-            len: rest.len + 1 + label.len(),
-            target: rest.target,
-            key,
-            index: rest.index,
-        }
+        found
     }
 }
 
@@ -401,12 +392,12 @@ impl Likely {
     fn after(self, count: usize, cut: Cut) -> Likely {
         match cut.labels {
             0 => Likely {
-                last: cut.index,
+                last: cut.parent,
                 parent: self.parent,
             },
             1 => Likely {
                 last: count,
-                parent: cut.index,
+                parent: cut.parent,
             },
             _ => Likely {
                 last: count,

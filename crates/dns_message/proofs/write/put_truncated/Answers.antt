@@ -1,6 +1,6 @@
 use Rattle.std.proofs.Common.{List, ℕ, Option, Some, rules, subst}
 use Rattle.wire_names.specs.Written.{IsOverwritten}
-use Rattle.wire_names.specs.Table.{Entry}
+use Rattle.wire_names.specs.declared.table.Entry.{Entry}
 use Rattle.dns_message.specs.Message.{message_of}
 use Rattle.dns_message.specs.Encoding.{each}
 use Rattle.dns_message.specs.Encoded.{WritesParts, WritesEncoding}

@@ -1,14 +1,17 @@
-use Rattle.std.proofs.Common.{◌≡◌, ◌+◌, ◌-◌, ◌<◌, ◌^◌, length, take}
+use Rattle.std.proofs.Common.{◌<◌, ◌+◌, ◌-◌, ◌^◌, ◌≤◌, length, take}
 use Rattle.dns_name.specs.Labels.{labels_in, IsWhole}
-use Rattle.wire_names.specs.Table.{name_key, entered}
-use Rattle.wire_names.specs.Written.{starts_of}
+use Rattle.wire_names.specs.Table.{Table, entered}
+use Rattle.wire_names.specs.Written.{starts_of, CanEnter}
+use Rattle.wire_names.proofs.EnterLemmas.{Entering}
 use Rattle.wire_names.proofs.table.Positions.enter.Given as goal
 
--- what is left completes what is entered
+-- what is left of the name completes the table
 abbrev pub invariant-loop-i : goal.invariant-loop-i
 invariant-loop-i l = record {
   whole : IsWhole l.rest;
   within : l.place + length l.rest < 2 ^ 64;
-  key_is : l._i < l.count → l.own ≡ name_key (labels_in l.rest);
-  same : entered (λ e. e.position) l.self (take (l.count - l._i) (starts_of l.place (labels_in l.rest))) ≡ entered (λ e. e.position) l.initial.self (take l.count (starts_of l.at (labels_in l.octets)));
+  short : length l.rest ≤ 255;
+  few : l.fn.count - l.i ≤ length (labels_in l.rest);
+  grown : length l.initial.self ≤ length l.self;
+  entering : (table : Table) → CanEnter l.initial.self table l.fn.at (labels_in l.fn.octets) l.fn.count l.fn.last → Entering l.self (entered (λ named. named.0) table (take l.fn.count (starts_of l.fn.at (labels_in l.fn.octets)))) l.place (labels_in l.rest) (l.fn.count - l.i) l.fn.last;
 }

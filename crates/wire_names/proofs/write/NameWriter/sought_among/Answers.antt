@@ -1,6 +1,0 @@
-use Rattle.std.proofs.Common.{refl}
-use Rattle.wire_names.proofs.KnownLemmas.{none_known}
-use Rattle.wire_names.proofs.write.NameWriter.sought_among.Goals as goal
-
-pub sought_rest-requires-clause-known : goal.sought_rest-requires-clause-known
-sought_rest-requires-clause-known c = none_known c.args.msg.now c.args.self.now c.args.octets.now _ _ 256 256 refl refl
