@@ -147,7 +147,7 @@ module _ (msg octets : List ℕ) (at : ℕ) (is : IsLabelAt msg at) (whole : IsW
       begins_yes (same_by text own.label (omega arith) (omega arith) (at_octet 0 (omega arith) ∙ first ∙ sym (own_at 0 (omega arith)))
       (at_octet 1 (omega arith) ∙ second ∙ sym (own_at 1 (omega arith))) (both_empty (drop 2 text) (drop 2 own.label) (omega arith) (omega arith)))
 
-  own_text : (len : ℕ) → len ≡ get_or octets 0 0 → label_at octets 0 len ≡ own.label
+  pub own_text : (len : ℕ) → len ≡ get_or octets 0 0 → label_at octets 0 len ≡ own.label
   own_text len b =
       ap (label_at octets 0) (b ∙ own_length) ∙ ap (λ (xs : List ℕ). take (length own.label) (drop 1 xs)) own.octets_are ∙ take_at own.label (wire_of own.name) (length own.label) refl
 

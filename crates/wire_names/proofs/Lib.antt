@@ -16,6 +16,7 @@ pub mod PassLemmas
 pub mod PlaceLemmas
 pub mod PlainLemmas
 pub mod ReadLemmas
+pub mod RunLemmas
 pub mod StartLemmas
 pub mod TableLemmas
 pub mod TabledLemmas

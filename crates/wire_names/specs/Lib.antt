@@ -5,6 +5,7 @@ pub mod Leads
 pub mod NameAt
 pub mod Parts
 pub mod Place
+pub mod Runs
 pub mod Sizes
 pub mod Spells
 pub mod Starts

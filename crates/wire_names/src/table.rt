@@ -4,6 +4,7 @@ ghost use Rattle.std.specs.Bool.{OnTrue};
 ghost use Rattle.dns_name.specs.Labels.{labels_in, IsWhole};
 ghost use Rattle.wire_names.specs.Chains.{parent_at};
 ghost use Rattle.wire_names.specs.Place.{IsKnown};
+ghost use Rattle.wire_names.specs.Runs.{IsRun, IsBehind};
 ghost use Rattle.wire_names.specs.Spells.{Spells};
 ghost use Rattle.wire_names.specs.Table.{Entry, Table, IsTable, IsLabelAt, IsSpelt, HasNoChild, IsChild, spelt_at, keyed, entered};
 ghost use Rattle.wire_names.specs.Written.{starts_of, CanEnter};
@@ -191,6 +192,7 @@ impl Positions {
 
     /// Whether this is the number, as a parent, of the name in these octets: its labels are compared with those of the entries, from the
     /// first on.
+    #[inline(never)]
     pub(crate) fn is_parent(&self, msg: &[u8], octets: &[u8], index: usize) -> bool
         requires table { IsTable msg.now self.now }
         requires whole { IsWhole octets.now }
@@ -202,15 +204,70 @@ impl Positions {
             if i >= self.entries.len() {
                 return false;
             }
-            let entry = self.entry(i);
-            if !begins_with(msg, usize::from(entry.position), rest) {
+            let Some((here, last)) = self.behind_run(msg, rest, i) else {
+                return false;
+            };
+            let entry = self.entry(last);
+            if !begins_with(msg, usize::from(entry.position), here) {
                 return false;
             }
-            let len = usize::from(rest[0]);
-            rest = &rest[1 + len..];
+            let len = usize::from(here[0]);
+            rest = &here[1 + len..];
             i = usize::from(entry.parent);
         }
         i == ROOT
+    }
+
+    /// The octets from the last label on of those that stand one behind the other from the entry at an index on, and the index of its
+    /// entry; None where the octets in front of it are others.
+    #[inline(always)]
+    fn behind_run<'a>(
+        &self,
+        msg: &[u8],
+        octets: &'a [u8],
+        index: usize,
+    ) -> Option<(&'a [u8], usize)>
+        requires table { IsTable msg.now self.now }
+        requires whole { IsWhole octets.now }
+        requires some { 1 < length octets.now }
+        requires within { index < length self.now }
+        ensures { IfSome result (λ r. IsBehind msg.now self.now octets.now index r.0.now r.1) }
+    {
+        let entry = self.entry(index);
+        if usize::from(entry.parent) != index + 1 {
+            return Some((octets, index));
+        }
+        let last = self.run_end(msg, index);
+        let at = usize::from(entry.position);
+        let size = usize::from(self.entry(last).position) - at;
+        if size + 1 >= octets.len() || differ(&octets[..size], &msg[at..at + size]) {
+            return None;
+        }
+        Some((&octets[size..], last))
+    }
+
+    /// The index of the last of those entries from one on that stand one behind the other, each being the parent of the one in front.
+    #[inline(never)]
+    fn run_end(&self, msg: &[u8], index: usize) -> usize
+        requires table { IsTable msg.now self.now }
+        requires within { index < length self.now }
+        ensures within { result < length self.now }
+        ensures up { index ≤ result }
+        ensures run { IsRun msg.now self.now index result }
+    {
+        let mut i = index;
+        while i + 1 < self.entries.len() {
+            let entry = self.entry(i);
+            let place = usize::from(entry.position);
+            let next = place + 1 + usize::from(msg[place]);
+            if usize::from(entry.parent) != i + 1
+                || usize::from(self.entry(i + 1).position) != next
+            {
+                return i;
+            }
+            i += 1;
+        }
+        i
     }
 
     /// Enters the positions of so many labels of a name whose octets stand at a position: as long as there is room, and none that a
