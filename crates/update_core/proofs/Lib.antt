@@ -1,5 +1,6 @@
 pub mod ListLemmas
 pub mod VerdictLemmas
+pub mod WireLemmas
 pub mod SearchLemmas
 pub mod LeadLemmas
 pub mod OrderedLemmas

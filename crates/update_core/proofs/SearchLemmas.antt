@@ -14,18 +14,19 @@ use Rattle.std.proofs.lemmas.List.Folds.{list_any_at, list_any_none}
 use Rattle.std.proofs.lemmas.List.Sorted.{ranks_by, searchable_from_sorted}
 use Rattle.std.proofs.lemmas.Map.Text.{is_eq-slice_cmp}
 use Rattle.std.proofs.lemmas.Slice.Eq.{bytes_eq-Decides}
-use Rattle.dns_name.specs.Name.{Name, canonical_cmp}
-use Rattle.dns_name.specs.Order.{is_same_tied, canonical_total}
+use Rattle.dns_name.specs.Name.{Name, wire_of, fold_name, is_same}
+use Rattle.dns_name.specs.Order.{is_same_Decides}
+use Rattle.update_core.proofs.WireLemmas.{wire_of_once}
 use Rattle.dns_rdata.specs.Data.{Data}
 use Rattle.dns_rdata.specs.Record.{IsBefore}
 use Rattle.dns_rdata.specs.Raw.{RawRecord}
-use Rattle.update_core.specs.Ordered.{sought_cmp, record_of, is_sought}
+use Rattle.update_core.specs.Ordered.{wire_cmp, sought_cmp, record_of, is_sought}
 
 -- the order of prerequisites is total
 pub sought_total : IsTotalOrder sought_cmp
 sought_total =
     then_total (on_total (λ (r : RawRecord). r.rtype) nat_cmp_total)
-    (then_total (on_total (λ (r : RawRecord). r.octets) nat_list_cmp_total) (on_total (λ (r : RawRecord). r.owner) canonical_total))
+    (then_total (on_total (λ (r : RawRecord). r.octets) nat_list_cmp_total) (on_total (λ (r : RawRecord). wire_of (fold_name r.owner)) nat_list_cmp_total))
 
 three : (a b c : Ordering) → is_eq (ordering_then a (ordering_then b c)) ≡ (is_eq a && is_eq b && is_eq c)
 three Less b c = refl
@@ -35,13 +36,21 @@ three Greater b c = refl
 is_eq-nat_cmp : (x y : ℕ) → is_eq (nat_cmp x y) ≡ (x == y)
 is_eq-nat_cmp x y = grind (arith)
 
+-- names tie by their octets where they are the same
+wire_tied : (name other : Name) → is_eq (wire_cmp name other) ≡ is_same name other
+wire_tied name other =
+    let own = bytes_eq-Decides (wire_of (fold_name name)) (wire_of (fold_name other)) in
+    is_eq-slice_cmp (wire_of (fold_name name)) (wire_of (fold_name other))
+    ∙ same_from_decides (bytes_eq (wire_of (fold_name name)) (wire_of (fold_name other))) (is_same name other) own
+    (λ e. ap wire_of ((is_same_Decides name other).0 e), λ e. (is_same_Decides name other).1 (wire_of_once (fold_name name) (fold_name other) e))
+
 -- it ties records of one type, owner and data
 pub sought_tied : (r : RawRecord) (owner : Name) (rtype : ℕ) (octets : List ℕ) → is_eq (sought_cmp r (record_of owner rtype octets)) ≡ is_sought owner rtype octets r
 sought_tied r owner rtype octets =
-    three (nat_cmp r.rtype rtype) (slice_cmp nat_cmp r.octets octets) (canonical_cmp r.owner owner)
-    ∙ ap (λ b. b && is_eq (slice_cmp nat_cmp r.octets octets) && is_eq (canonical_cmp r.owner owner)) (is_eq-nat_cmp r.rtype rtype)
-    ∙ ap (λ b. r.rtype == rtype && b && is_eq (canonical_cmp r.owner owner)) (is_eq-slice_cmp r.octets octets)
-    ∙ ap (λ b. r.rtype == rtype && bytes_eq r.octets octets && b) (sym (is_same_tied r.owner owner))
+    three (nat_cmp r.rtype rtype) (slice_cmp nat_cmp r.octets octets) (wire_cmp r.owner owner)
+    ∙ ap (λ b. b && is_eq (slice_cmp nat_cmp r.octets octets) && is_eq (wire_cmp r.owner owner)) (is_eq-nat_cmp r.rtype rtype)
+    ∙ ap (λ b. r.rtype == rtype && b && is_eq (wire_cmp r.owner owner)) (is_eq-slice_cmp r.octets octets)
+    ∙ ap (λ b. r.rtype == rtype && bytes_eq r.octets octets && b) (wire_tied r.owner owner)
 
 -- a search by halves finds an element exactly where one passes
 is_less : (o : Ordering) → o ≡ Less → is_eq o ≡ false

@@ -5,7 +5,7 @@ use Rattle.std.specs.List.{AllPairs, list_any, list_all}
 use Rattle.std.specs.Ordering.{nat_cmp, ordering_then, is_lt}
 use Rattle.std.specs.declared.cmp.Ordering.{Ordering}
 use Rattle.std.specs.Cmp.Lexicographic.{slice_cmp}
-use Rattle.dns_name.specs.Name.{Name, is_same, canonical_cmp}
+use Rattle.dns_name.specs.Name.{Name, is_same, wire_of, fold_name}
 use Rattle.dns_rdata.specs.Numbers.{class_IN}
 use Rattle.dns_rdata.specs.Record.{Record, has_data}
 use Rattle.dns_rdata.specs.Raw.{RawRecord}
@@ -14,9 +14,13 @@ use Rattle.dns_rdata.specs.Raw.{RawRecord}
 abbrev pub of_class_IN : List RawRecord → List RawRecord
 of_class_IN sent = filter (λ r. r.class == class_IN) sent
 
+-- names by their octets on the wire in lower case, from the first one on
+abbrev pub wire_cmp : Name → Name → Ordering
+wire_cmp name other = slice_cmp nat_cmp (wire_of (fold_name name)) (wire_of (fold_name other))
+
 -- by type number, then by data octets, then by owner, without regard to case; neither class nor TTL counts
 abbrev pub sought_cmp : RawRecord → RawRecord → Ordering
-sought_cmp r s = ordering_then (nat_cmp r.rtype s.rtype) (ordering_then (slice_cmp nat_cmp r.octets s.octets) (canonical_cmp r.owner s.owner))
+sought_cmp r s = ordering_then (nat_cmp r.rtype s.rtype) (ordering_then (slice_cmp nat_cmp r.octets s.octets) (wire_cmp r.owner s.owner))
 
 -- a record of this owner, type and data
 abbrev pub record_of : Name → ℕ → List ℕ → RawRecord

@@ -1,7 +1,10 @@
 //! The sets of the prerequisites of class IN, compared with the zone's through an order of the prerequisites (RFC 2136, 3.2.3).
-ghost use Rattle.std.specs.Prelude.{◌≡◌, ◌≤◌, ◌<◌, false, [], All, Any, bytes_eq, length, slice_index_or, MatchBool, MatchOption};
+ghost use Rattle.std.specs.Prelude.{◌≡◌, ◌≤◌, ◌<◌, false, [], All, Any, bytes_eq, length, map, slice_index_or, MatchBool, MatchOption};
+ghost use Rattle.std.specs.Char.{to_ascii_lowercase};
+ghost use Rattle.std.specs.Cmp.Lexicographic.{slice_cmp};
 ghost use Rattle.std.specs.List.{AllPairs, list_any};
 ghost use Rattle.std.specs.List.Sorted.{IsPermutation, IsSorted};
+ghost use Rattle.std.specs.Ordering.{nat_cmp};
 ghost use Rattle.dns_rdata.specs.Data.{Data};
 ghost use Rattle.dns_rdata.specs.Record.{IsBefore, has_data};
 ghost use Rattle.zone_tree.specs.Zone.{rrset_of};
@@ -19,6 +22,9 @@ use zone_tree::ZoneRead;
 /// The most prerequisites that are put in order. A message has no more: of its 65,535 octets 12 are its head, and each
 /// record takes 11 or more (RFC 1035, 4.1.1, 4.1.3 and 4.2.2).
 pub(crate) const MOST: usize = 5_956;
+
+/// How many octets of two names are compared at a time.
+const AT_ONCE: usize = 8;
 
 /// A prerequisite among others in order. Contracts see the record.
 #[derive(Drop)]
@@ -90,15 +96,43 @@ fn sort(list: &mut [Sought<'_>])
 fn order(raw: &RawRecord, owner: &Name, rtype: RType, octets: &[u8]) -> Ordering
     ensures { result ≡ sought_cmp raw.now (record_of owner.now rtype.0 octets.now) }
 {
-    // The owner comes last: to compare names costs most.
+    // The owner comes last, by its octets: names of many labels, most of which are the same, are often compared.
     match raw.rtype.cmp(&rtype) {
         Ordering::Equal => {}
         unequal => return unequal,
     }
     match raw.octets.as_slice().cmp(octets) {
-        Ordering::Equal => raw.owner.order(owner),
+        Ordering::Equal => lower_order(raw.owner.wire(), owner.wire()),
         unequal => unequal,
     }
+}
+
+/// The order of octets in lower case. Those in front that are the same are passed over, some at a time.
+fn lower_order(own: &[u8], other: &[u8]) -> Ordering
+    ensures { result ≡ slice_cmp nat_cmp (map to_ascii_lowercase own.now) (map to_ascii_lowercase other.now) }
+{
+    let mut rest = own;
+    let mut others = other;
+    while let (Some((some, behind)), Some((same, after))) = (
+        rest.split_first_chunk::<AT_ONCE>(),
+        others.split_first_chunk::<AT_ONCE>(),
+    ) {
+        if some != same {
+            return lower_order_singly(rest, others);
+        }
+        rest = behind;
+        others = after;
+    }
+    lower_order_singly(rest, others)
+}
+
+/// The order of octets in lower case, one by one.
+fn lower_order_singly(own: &[u8], other: &[u8]) -> Ordering
+    ensures { result ≡ slice_cmp nat_cmp (map to_ascii_lowercase own.now) (map to_ascii_lowercase other.now) }
+{
+    own.iter()
+        .map(|octet| octet.to_ascii_lowercase())
+        .cmp(other.iter().map(|octet| octet.to_ascii_lowercase()))
 }
 
 /// Whether each of these leads to the next of its set: round the set, then, all of it was sent.
