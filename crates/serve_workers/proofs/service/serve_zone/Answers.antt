@@ -8,4 +8,4 @@ use Rattle.serve_workers.proofs.service.serve_zone.Goals as goal
 pub serve_parts-requires-clause-follow : goal.serve_parts-requires-clause-follow
 serve_parts-requires-clause-follow g c =
     let first : c.in-Ok-new.parts.publisher.value ≡ c.args.first = ap (λ (p : PublisherState Version). p.value) c.in-Ok-new.ensures.publisher ∙ c.in-Some.ensures in
-    subst (λ (v : Version). AreNext v c.in-Ok.later.items) (sym first) (subst (λ (l : List Version). AreNext c.args.first l) (sym c.in-Ok.ensures) c.requires.follow)
+    λ _ _. subst (λ (v : Version). AreNext v c.in-Ok.later.items) (sym first) (subst (λ (l : List Version). AreNext c.args.first l) (sym c.in-Ok.ensures) c.requires.follow)
