@@ -7,6 +7,7 @@ pub mod EntryLemmas
 pub mod FrontLemmas
 pub mod GrammarLemmas
 pub mod IndexLemmas
+pub mod KeyLemmas
 pub mod LeadsLemmas
 pub mod LongerLemmas
 pub mod LongestLemmas

@@ -18,7 +18,7 @@ use Rattle.wire_names.specs.Spells.{Spells, closing, label, pointer}
 use Rattle.wire_names.specs.declared.part.NameReadFault.{NameReadFault}
 use Rattle.wire_names.specs.declared.part.Part.TheVariants.{Closing, Label, Pointer}
 use Rattle.wire_names.specs.NameAt.{name_at}
-use Rattle.wire_names.specs.Table.{Entry, AreEntries, IsTarget, IsEntry, first_key, octet_before, key_up_to, table_of, spelt_at, same_spelling, Table, positions_in, position_in}
+use Rattle.wire_names.specs.Table.{Entry, AreEntries, IsTarget, IsEntry, first_end, octet_before, key_up_to, table_of, spelt_at, same_spelling, Table, positions_in, position_in}
 use Rattle.wire_names.proofs.GrammarLemmas.{once, name_at_spelt}
 
 -- some position behind it ends what a place spells
@@ -249,15 +249,15 @@ octet_in-wire own name at back e =
 pub four_octets : (a b c d w x y z : ℕ) → a ≡ w → b ≡ x → c ≡ y → d ≡ z → (a * 256 + b) * 65536 + (c * 256 + d) ≡ (w * 256 + x) * 65536 + (y * 256 + z)
 four_octets a b c d w x y z p q r s = omega arith
 
-key_in-wire : (name : List (List ℕ)) (n : ℕ) → n ≡ get_or (wire_of name) 0 0 → key_up_to (wire_of name) n ≡ first_key name
+key_in-wire : (name : List (List ℕ)) (n : ℕ) → n ≡ get_or (wire_of name) 0 0 → key_up_to (wire_of name) n ≡ first_end name
 key_in-wire [] n e = ap (key_up_to (0 ∷ [])) e
 key_in-wire (own ∷ name) n e =
     four_octets _ _ _ _ _ _ _ _ (octet_in-wire own name (n - 3) 3 (omega arith)) (octet_in-wire own name (n - 2) 2 (omega arith))
     (octet_in-wire own name (n - 1) 1 (omega arith)) (octet_in-wire own name n 0 (omega arith))
 
-pub key_is : (octets : List ℕ) (n : ℕ) → IsWhole octets → n ≡ get_or octets 0 0 → key_up_to octets n ≡ first_key (labels_in octets)
+pub key_is : (octets : List ℕ) (n : ℕ) → IsWhole octets → n ≡ get_or octets 0 0 → key_up_to octets n ≡ first_end (labels_in octets)
 key_is octets n whole =
-    subst (λ (x : List ℕ). n ≡ get_or x 0 0 → key_up_to x n ≡ first_key (labels_in octets)) (wire_of-labels_in octets whole)
+    subst (λ (x : List ℕ). n ≡ get_or x 0 0 → key_up_to x n ≡ first_end (labels_in octets)) (wire_of-labels_in octets whole)
     (key_in-wire (labels_in octets) n)
 
 -- four octets, as the number of them

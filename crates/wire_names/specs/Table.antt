@@ -1,6 +1,6 @@
 -- The table of a message's names that pointers can name (RFC 1035, 4.1.4).
 use Rattle.std.specs.Prelude.{◌≢◌, ◌⊎◌, drop, take, ◌≡◌, true, false, ℕ, ◌+◌, ◌-◌, ◌*◌, ◌/◌, ◌%◌, ◌^◌, ◌<◌, ◌≤◌, Bool, ◌&&◌, List, [], ◌∷◌, ◌++◌, length, map, min, All, AllPairs, slice_index_or, nat_lt, nat_le, if◌then◌else◌, Option, Ok, Err, bytes_eq}
-use Rattle.std.specs.List.{filter, reduce}
+use Rattle.std.specs.List.{filter, fold, reduce}
 use Rattle.std.specs.Cmp.Lexicographic.{pointwise}
 use Rattle.std.specs.Result.{IsOk}
 use Rattle.dns_name.specs.Name.{Name, wire_of}
@@ -43,15 +43,28 @@ spelt_at msg at = elim (name_at msg at) [ Ok read ↦ read.0 | Err fault ↦ [] 
 abbrev pub octet_before : ℕ → List ℕ → ℕ
 octet_before back label = slice_index_or (length label ∷ label) (length label - back) 0
 
--- the key of a label, its length octet in front of it: its last four octets (own)
+-- the last four octets of a label as a number, its length octet in front of it (own)
+abbrev pub end_key : List ℕ → ℕ
+end_key label = (octet_before 3 label * 256 + octet_before 2 label) * 65536 + (octet_before 1 label * 256 + octet_before 0 label)
+
+-- the number of the octets of a label in front of its last four (own)
+abbrev pub front_key : List ℕ → ℕ
+front_key octets = fold (λ key octet. (key + octet) % 2 ^ 32 * 2654435761 % 2 ^ 32) 0 octets
+
+-- the key of a label: a number of all its octets (own)
 abbrev pub label_key : List ℕ → ℕ
-label_key label = (octet_before 3 label * 256 + octet_before 2 label) * 65536 + (octet_before 1 label * 256 + octet_before 0 label)
+label_key label = (front_key (take (length label - 4) label) + end_key label) % 2 ^ 32
 
 -- the four octets up to one at an index, as a number; the first octet stands for those that would be in front of it (own)
 abbrev pub key_up_to : List ℕ → ℕ → ℕ
 key_up_to octets n =
     (slice_index_or octets (n - 3) 0 * 256 + slice_index_or octets (n - 2) 0) * 65536
     + (slice_index_or octets (n - 1) 0 * 256 + slice_index_or octets n 0)
+
+-- the last four octets of a name's first label; 0 where it has none (own)
+abbrev pub first_end : Name → ℕ
+first_end [] = 0
+first_end (label ∷ name) = end_key label
 
 -- the key of a name's first label; 0 where it has none (own)
 abbrev pub first_key : Name → ℕ

@@ -3,19 +3,45 @@
 //! Nothing here is secret, so labels can be chosen whose keys are equal: a key rules labels out, and the labels themselves are compared then.
 ghost use Rattle.std.specs.Prelude.{◌≡◌, ◌<◌, IfSome, slice_index_or};
 ghost use Rattle.dns_name.specs.Labels.{labels_in, IsWhole};
-ghost use Rattle.wire_names.specs.Table.{first_key, key_up_to};
+ghost use Rattle.wire_names.specs.Table.{first_key, first_end, front_key, key_up_to};
 
-/// The octets of a label's key.
+/// How many of a label's octets are a part of its key as they are.
 const KEY: usize = 4;
 
 /// The key of a label of one octet, but for that octet: its length octet three times.
 const ONE_OCTET: u32 = 16_843_008;
 
-/// The key of the first label of the name in these octets: its last four octets, with its length octet in front of it; the
-/// length octet stands for those that a short label lacks (own).
+/// An odd number, by which each octet in front of the last four changes all higher bits of a key.
+const FACTOR: u32 = 2_654_435_761;
+
+/// The key of the first label of the name in these octets: of its last four octets, and of those in front of them (own).
 pub(crate) fn first_key(octets: &[u8]) -> u32
     requires whole { IsWhole octets.now }
     ensures { result ≡ first_key (labels_in octets.now) }
+{
+    let end = end_key(octets);
+    let len = octet_at(octets, 0) as usize;
+    if len <= KEY {
+        return end;
+    }
+    front_key(&octets[1..len - 3]).wrapping_add(end)
+}
+
+/// The number of the octets of a label in front of its last four.
+fn front_key(octets: &[u8]) -> u32
+    ensures { result ≡ front_key octets.now }
+{
+    octets.iter().fold(
+        0u32,
+        |key, octet| key.wrapping_add(u32::from(*octet)).wrapping_mul(FACTOR),
+    )
+}
+
+/// The last four octets of the first label of the name in these octets, as a number, with its length octet in front of it; the length octet
+/// stands for those that a short label lacks.
+fn end_key(octets: &[u8]) -> u32
+    requires whole { IsWhole octets.now }
+    ensures { result ≡ first_end (labels_in octets.now) }
 {
     if let [1, octet, ..] = octets {
         return ONE_OCTET + u32::from(*octet);

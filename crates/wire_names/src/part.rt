@@ -1,5 +1,5 @@
 //! What stands at one place of a name: its end, a label or a pointer (RFC 1035, 4.1.4).
-ghost use Rattle.std.specs.Prelude.{◌≡◌, ◌+◌, ◌<◌, ◌≤◌, not, length, bytes_eq};
+ghost use Rattle.std.specs.Prelude.{◌≡◌, ◌+◌, ◌<◌, ◌≤◌, ◌↔◌, not, length, bytes_eq, IsTrue};
 ghost use Rattle.wire_names.specs.Parts.{part_at, part_of, label_of, pointer_of, label_at};
 
 use dns_name::MAX_LABEL;
@@ -10,9 +10,6 @@ pub(crate) const POINTER: usize = 192;
 
 /// How many places the second octet of a pointer tells apart.
 const SECOND_OCTET: usize = 256;
-
-/// How many octets of two labels are compared at a time.
-const AT_ONCE: usize = 4;
 
 /// Why octets spell no name. The first fault in reading order is told.
 #[derive(Clone, Copy, Debug, PartialEq, Eq, Error)]
@@ -103,7 +100,7 @@ pub(crate) fn label_at(msg: &[u8], at: usize, len: usize) -> &[u8]
     &msg[at + 1..at + 1 + len]
 }
 
-/// Whether two labels differ, case included. Some octets are compared at a time, in the caller itself: most labels are short, and differ in
+/// Whether two labels differ, case included. Eight octets are compared at a time, in the caller itself: most labels are short, and differ in
 /// their first octets.
 #[inline(always)]
 pub(crate) fn differ(label: &[u8], other: &[u8]) -> bool
@@ -112,22 +109,53 @@ pub(crate) fn differ(label: &[u8], other: &[u8]) -> bool
     if label.len() != other.len() {
         return true;
     }
-    if label.len() < AT_ONCE {
-        return differ_singly(label, other);
-    }
     let mut rest = label;
     let mut others = other;
-    while let (Some((four, behind)), Some((same, after))) = (
-        rest.split_first_chunk::<AT_ONCE>(),
-        others.split_first_chunk::<AT_ONCE>(),
+    while let (Some((eight, behind)), Some((same, after))) = (
+        rest.split_first_chunk::<8>(),
+        others.split_first_chunk::<8>(),
     ) {
-        if four != same {
+        if !are_eight_same(eight, same) {
             return true;
         }
         rest = behind;
         others = after;
     }
-    differ_singly(rest, others)
+    differ_few(rest, others)
+}
+
+/// Whether two labels of one length differ, of which few octets are left: four at a time, and then each.
+#[inline(always)]
+fn differ_few(label: &[u8], other: &[u8]) -> bool
+    requires { length label.now ≡ length other.now }
+    ensures { result ≡ not (bytes_eq label.now other.now) }
+{
+    if let (Some((four, behind)), Some((same, after))) = (
+        label.split_first_chunk::<4>(),
+        other.split_first_chunk::<4>(),
+    ) {
+        if !are_four_same(four, same) {
+            return true;
+        }
+        return differ_singly(behind, after);
+    }
+    differ_singly(label, other)
+}
+
+/// Whether eight octets are the same, as numbers.
+#[inline(always)]
+fn are_eight_same(octets: &[u8; 8], others: &[u8; 8]) -> bool
+    ensures { IsTrue result ↔ (octets.now ≡ others.now) }
+{
+    u64::from_be_bytes(*octets) == u64::from_be_bytes(*others)
+}
+
+/// Whether four octets are the same, as numbers.
+#[inline(always)]
+fn are_four_same(octets: &[u8; 4], others: &[u8; 4]) -> bool
+    ensures { IsTrue result ↔ (octets.now ≡ others.now) }
+{
+    u32::from_be_bytes(*octets) == u32::from_be_bytes(*others)
 }
 
 /// Whether two labels of one length differ, octet by octet.
