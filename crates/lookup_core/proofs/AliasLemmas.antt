@@ -1,10 +1,10 @@
 -- Steps along a chain of aliases.
-use Rattle.std.proofs.Common.{Bor, ◌≡◌, ℕ, suc, Bool, true, false, ◌||◌, not, ◌==◌, List, [], ◌∷◌, ◌++◌, length, map, reverse, bytes_eq, eqb, refl, sym, ap, subst, ◌∙◌, arith, append_assoc, append-nil}
+use Rattle.std.proofs.Common.{IsTrue, ◌↔◌, Bor, ◌≡◌, ℕ, suc, Bool, true, false, ◌||◌, not, ◌==◌, List, [], ◌∷◌, ◌++◌, length, map, reverse, bytes_eq, refl, sym, ap, subst, ◌∙◌, arith, append_assoc, append-nil}
 use Rattle.std.specs.List.{list_any, flat_map}
 use Rattle.std.proofs.lemmas.List.{reverse-append, map-append}
-use Rattle.std.proofs.lemmas.Bool.Decides.{Decides-eqb, same_from_decides}
+use Rattle.std.proofs.lemmas.Bool.Decides.{same_from_decides}
 use Rattle.std.proofs.lemmas.Grind.{flat_map-append}
-use Rattle.std.proofs.lemmas.Slice.Eq.{bytes_eq-Decides, slice_eq-Decides}
+use Rattle.std.proofs.lemmas.Slice.Eq.{bytes_eq-Decides}
 use Rattle.std.specs.Cmp.Lexicographic.{pointwise, pointwise_decides}
 use Rattle.dns_name.specs.Name.{IsName, wire_of, fold_name, is_same}
 use Rattle.dns_name.proofs.SameLemmas.{wire_of_injective}
@@ -183,11 +183,11 @@ pub ends_there : (zone : List Record) (name : List (List ℕ)) (rtype : ℕ) (al
 ends_there zone name rtype aliases more at found end way seen other told = ends zone name rtype aliases more at found end way (sym seen) other (told ∙ found_end found other)
 
 -- names are spelt the same where they have the same octets
-pub spelt_test : (name other : List (List ℕ)) (octets others : List ℕ) (r : Bool) → IsName name → IsName other → octets ≡ wire_of name → others ≡ wire_of other → r ≡ pointwise eqb octets others
+pub spelt_test : (name other : List (List ℕ)) (octets others : List ℕ) (r : Bool) → IsName name → IsName other → octets ≡ wire_of name → others ≡ wire_of other → (IsTrue r ↔ (octets ≡ others))
     → r ≡ pointwise bytes_eq name other
 spelt_test name other octets others r h k own theirs test =
     let names = pointwise_decides bytes_eq-Decides name other in
-    same_from_decides r (pointwise bytes_eq name other) (slice_eq-Decides Decides-eqb octets others r test)
+    same_from_decides r (pointwise bytes_eq name other) test
     (λ e. own ∙ ap wire_of (names.0 e) ∙ sym theirs, λ e. names.1 (wire_of_injective name other h.labels k.labels (sym own ∙ e ∙ theirs)))
 
 -- one alias more, whose owner is kept in lower case

@@ -1,5 +1,5 @@
 //! Aliases followed, and where a chain of them ends (RFC 1034, 3.6.2 and 4.3.2, step 3a).
-ghost use Rattle.std.specs.Prelude.{◌≡◌, ◌≤◌, ◌==◌, ◌-◌, List, [], ◌∷◌, length, map, bytes_eq};
+ghost use Rattle.std.specs.Prelude.{◌≡◌, ◌≤◌, ◌==◌, ◌↔◌, ◌-◌, List, [], ◌∷◌, length, map, bytes_eq, IsTrue};
 ghost use Rattle.std.specs.Cmp.Lexicographic.{pointwise};
 ghost use Rattle.std.specs.List.{flat_map, list_any};
 ghost use Rattle.dns_name.specs.Name.{fold_name, is_same};
@@ -195,5 +195,35 @@ fn is_among(names: &[Name], name: &Name) -> bool
 fn is_spelt_as(name: &Name, other: &Name) -> bool
     ensures { result ≡ pointwise bytes_eq name.now other.now }
 {
-    name.wire() == other.wire()
+    are_same(name.wire(), other.wire())
+}
+
+/// Whether octets are the same: eight of them are compared at a time, as numbers.
+fn are_same(octets: &[u8], others: &[u8]) -> bool
+    ensures { IsTrue result ↔ (octets.now ≡ others.now) }
+{
+    if octets.len() != others.len() {
+        return false;
+    }
+    let mut rest = octets;
+    let mut there = others;
+    while let (Some((eight, behind)), Some((same, after))) = (
+        rest.split_first_chunk::<8>(),
+        there.split_first_chunk::<8>(),
+    ) {
+        if !are_eight_same(eight, same) {
+            return false;
+        }
+        rest = behind;
+        there = after;
+    }
+    rest == there
+}
+
+/// Whether eight octets are the same, as numbers.
+#[inline(always)]
+fn are_eight_same(octets: &[u8; 8], others: &[u8; 8]) -> bool
+    ensures { IsTrue result ↔ (octets.now ≡ others.now) }
+{
+    u64::from_be_bytes(*octets) == u64::from_be_bytes(*others)
 }
