@@ -328,6 +328,12 @@ def comb_owner():
     return owner
 
 
+def deep_owners(at=12 + len(APEX) + 4):
+    """Owners of 125 labels: the first, at a place, in full, the others a label and a pointer behind that one's own."""
+    labels, behind = depth() - 2, at + 4
+    return lambda number, message: name(numbered(number), *[b"a"] * labels) if number == 0 else label(numbered(number)) + pointer(behind)
+
+
 def address(number):
     return struct.pack(">I", 0x0A000000 + number)
 
@@ -465,8 +471,11 @@ def fitting():
     sets = lambda owner, count: "".join(f"{owner} TYPE{types(n)} \\# 4 {address(n).hex()}\n" for n in range(count))
     plain_sets = "".join(f"{numbered(n).decode()} TYPE{types(n)} \\# 4 {address(n).hex()}\n" for n in range(4500))
     anything = lambda n: ANY
+    few = lambda n: address(n % 256)
+    same = lambda n: address(1)
     combs, one, below = ("at owners of up to 126 labels, a label and a pointer each, and then pointers to the last", comb_owner), ("at one owner", lambda: one_owner), (
         "at one owner of 126 labels", lambda: owner_of(*[b"a"] * depth()))
+    apart = ("at owners that differ in the first of 125 labels", deep_owners)
     for (where, owner), what, rtype, rclass, ttl, data, section, zone in (
         (one, "adds of differing types", types, IN, 60, address, 1, ("", "")),
         (below, "adds of differing types", types, IN, 60, address, 1, ("", "")),
@@ -481,6 +490,9 @@ def fitting():
         (combs, "prerequisites that a set isn't there", types, NONE, 0, zero, 0, ("", "")),
         (below, "prerequisites that a name isn't in use", anything, NONE, 0, zero, 0, ("", "")),
         (combs, "prerequisites that a name isn't in use", anything, NONE, 0, zero, 0, ("", "")),
+        (apart, "prerequisites that a name isn't in use", anything, NONE, 0, zero, 0, ("", "")),
+        (combs, "prerequisites of class IN and type ANY, of 256 addresses", anything, IN, 0, few, 0, ("", "")),
+        (apart, "prerequisites of class IN and type ANY, of one address", anything, IN, 0, same, 0, ("", "")),
         (below, "prerequisites that sets are there", types, ALL, 0, zero, 0, (sets(deep, 5458), plain_sets)),
         (below, "prerequisites of class IN that hold", types, IN, 0, address, 0, (sets(deep, 5458), plain_sets)),
     ):

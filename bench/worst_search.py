@@ -8,8 +8,8 @@ long, combs, or of octets that stand for others. Dearness is the processor time 
 - of 17 plain queries of such names, whose replies have together as many octets as the one of 16 aliases;
 - of a transfer of plain names with as many octets of reply.
 
-Usage: bench/worst_search.py PROGRAM SECONDS SEED. A draw is told by its seed and its place, and prints its whole description. At the end stands the dearest
-of each kind; status 1 where one is dearer than ten times."""
+Usage: bench/worst_search.py PROGRAM SECONDS SEED [KIND ..], of query, check, act, aliases, axfr and ixfr; by default all. A draw is told by its seed, the kinds
+and its place, and prints its whole description. At the end stands the dearest of each kind; status 1 where one is dearer than ten times."""
 import random
 import struct
 import sys
@@ -17,7 +17,7 @@ import time
 
 from worst import (
     ALL, APEX, CNAME, IN, LIMIT, MX, NONE, NS, NULL, QUERY, SOA, SRV, TXT, UPDATE, A, ANY, Message, Server, Transfer,
-    axfr_request, comb_owner, ixfr_request, label, name, names_in_turn, next_message, numbered, parents_of, pointer, small_zone,
+    axfr_request, comb_owner, deep_owners, ixfr_request, label, name, names_in_turn, next_message, numbered, parents_of, pointer, small_zone,
 )
 
 # how many times as dear as a plain one anything may be
@@ -70,7 +70,7 @@ def drawn_message(rng, kind):
         "front_size": rng.choice([100, 1000, 4000, 16000, rng.randrange(20, 16300)]),
         "tooth": rng.choice([1, 1, 1, 2, 5, 30, 63]),
         "hops": rng.choice([0, 1, 4, 60]),
-        "owner": rng.choice(["end", "end", "label end", "comb", "any place", "one", "one", "full", "deep below", "deepest", "whole comb"]),
+        "owner": rng.choice(["end", "end", "label end", "comb", "any place", "one", "one", "full", "deep below", "deepest", "whole comb", "first differs"]),
         "one": rng.randrange(4),
         "section": rng.choice([0, 1, 2]) if kind == "query" else 0 if kind == "check" else 1,
         "types": rng.choice([[A], [NULL], [1000], [MX], [NS], [CNAME], [SRV], [SOA], [TXT], [A, MX], [ANY], "differ"]),
@@ -147,7 +147,7 @@ def made(own, count, is_plain):
     places = put_front(message, own) if not is_plain else None
     last = places[-1] if places else 12
     owner_at = None
-    comb, whole_comb = list(places or [12]), comb_owner()
+    comb, whole_comb, first_differs = list(places or [12]), comb_owner(), deep_owners(message.at())
     for number in range(count):
         types = own["types"]
         rtype = 1000 + number if types == "differ" else types[number % len(types)]
@@ -172,6 +172,8 @@ def made(own, count, is_plain):
             owner_at = owner_at or (message.at() if message.at() < 0x3FFF else None)
         elif own["owner"] == "whole comb":
             owner = whole_comb(number, message)
+        elif own["owner"] == "first differs":
+            owner = first_differs(number, message)
         elif own["owner"] in ("deep below", "deepest"):
             owner = pointer(owner_at) if owner_at else b"\1a" * 100 + name(numbered(1)) if own["owner"] == "deep below" else b"\1a" * 125 + APEX
             owner_at = owner_at or (message.at() if message.at() < 0x3FFF else None)
@@ -382,11 +384,11 @@ def cost_of_aliases(program, own):
 class Search:
     """The dearest of each kind so far, and a server that stays for what changes nothing."""
 
-    def __init__(self, program, seed):
-        self.program, self.rng = program, random.Random(seed)
+    def __init__(self, program, seed, kinds=KINDS):
+        self.program, self.rng, self.kinds = program, random.Random(seed), kinds
         self.server = Server(program, ZONE)
-        self.best = {kind: [] for kind in KINDS}
-        self.tried = {kind: 0 for kind in KINDS}
+        self.best = {kind: [] for kind in kinds}
+        self.tried = {kind: 0 for kind in kinds}
 
     def cost(self, own):
         """What a draw costs, the plain one, and what is told of it; nothing of one that can't be compared."""
@@ -405,7 +407,7 @@ class Search:
         return cost, plain_cost * count / fitting, f"code {code}; {count} records, plain {fitting}; {len(dear)} octets"
 
     def step(self, turn):
-        kind = KINDS[turn % len(KINDS)]
+        kind = self.kinds[turn % len(self.kinds)]
         known = self.best[kind]
         own = changed(self.rng, self.rng.choice(known)[1]) if known and self.rng.random() < 0.6 else drawn(self.rng, kind)
         try:
@@ -435,15 +437,17 @@ class Search:
 
 
 def main():
-    program, seconds, seed = sys.argv[1], float(sys.argv[2]), int(sys.argv[3])
+    program, seconds, seed, kinds = sys.argv[1], float(sys.argv[2]), int(sys.argv[3]), tuple(sys.argv[4:]) or KINDS
+    if any(kind not in KINDS for kind in kinds):
+        sys.exit(f"bench: the kinds are {', '.join(KINDS)}")
     print(f"seed {seed}, {seconds:.0f} s; microseconds of the server's processor time: dear, plain, ratio, what", flush=True)
-    search, end, turn = Search(program, seed), time.time() + seconds, 0
+    search, end, turn = Search(program, seed, kinds), time.time() + seconds, 0
     while time.time() < end:
         search.step(turn)
         turn += 1
     search.server.end()
     dearest = {kind: own[0] for kind, own in search.best.items() if own}
-    for kind in KINDS:
+    for kind in kinds:
         print(f"{kind}: {search.tried[kind]} tried; the dearest: {dearest[kind][2] if kind in dearest else 'none that costs enough to be told'}")
     return 1 if any(ratio > BOUND for ratio, _, _ in dearest.values()) else 0
 

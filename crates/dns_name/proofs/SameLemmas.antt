@@ -1,14 +1,14 @@
 -- Names that are the same but for case, and names under one another.
-use Rattle.std.proofs.Common.{◌≡◌, ℕ, ◌<◌, ◌≤◌, Bool, true, false, ◌||◌, IsTrue, ◌↔◌, List, [], ◌∷◌, length, map, All, Decides, refl, sym, ap, ◌∙◌, arith}
+use Rattle.std.proofs.Common.{◌≡◌, ℕ, ◌<◌, ◌≤◌, Bool, true, false, ◌||◌, IsTrue, ◌↔◌, suc, ◌+◌, ◌++◌, List, [], ◌∷◌, length, map, take, drop, get_or, All, Decides, refl, sym, ap, subst, ◌∙◌, arith}
 use Rattle.std.specs.Char.{to_ascii_lowercase}
-use Rattle.std.proofs.lemmas.List.{length-map, length-append}
+use Rattle.std.proofs.lemmas.List.{length-map, length-append, length-take-le, take-append-drop}
 use Rattle.std.proofs.lemmas.List.Elements.{All-tail}
 use Rattle.std.proofs.lemmas.Bool.Decides.{same_from_decides}
 use Rattle.dns_name.specs.Labels.{labels_in, IsWhole, IsFirstLabel}
 use Rattle.dns_name.specs.Name.{wire_of, IsLabel, IsName, is_same, is_under}
 use Rattle.dns_name.specs.Order.{is_same_Decides}
 pub use Rattle.dns_name.proofs.LabelLemmas.{wire_of-fold, fold_labels}
-use Rattle.dns_name.proofs.LabelLemmas.{labels_in-wire_of, wire_of-labels_in, IsWhole_longer, IsLabel_each, alone_root}
+use Rattle.dns_name.proofs.LabelLemmas.{labels_in-wire_of, wire_of-labels_in, IsWhole_longer, IsLabel_each, alone_root, HasFirst-at}
 
 -- names have the same octets only where they are equal
 pub wire_of_injective : (name other : List (List ℕ)) → All IsLabel name → All IsLabel other → wire_of name ≡ wire_of other → name ≡ other
@@ -93,3 +93,31 @@ ends_root rest other h k e lt =
     let alone = alone_root rest h e in
     let some = IsWhole_longer other k in
     omega arith
+
+-- where more octets are left than another name has, a label stands there, of as many octets as the first one says
+pub record IsStep (n : ℕ) (rest : List ℕ) : Type 0 where
+  pub within : n + 1 ≤ length rest
+  pub label : List ℕ
+  pub first : IsFirstLabel rest label (drop (n + 1) rest)
+
+pub step_at : (n : ℕ) (rest other : List ℕ) → IsWhole rest → IsWhole other → length other < length rest → n ≡ get_or rest 0 0 → IsStep n rest
+step_at n [] other h k lt e = absurd (omega (arith, lt))
+step_at n (m ∷ octets) other h k lt e =
+    let same : n ≡ m = e in
+    let ne : m ≡ 0 → ⊥ = λ z. ends_root (m ∷ octets) other h k (subst (λ (x : ℕ). labels_in (x ∷ octets) ≡ []) (sym z) refl) lt in
+    let first = HasFirst-at m octets ne h in
+    let len : length (take m octets) ≡ m = length-take-le m octets (omega (arith, first.within)) in
+    let more : n + 1 ≡ suc m = omega (arith, same) in
+    let behind : drop (n + 1) (m ∷ octets) ≡ drop m octets = ap (λ (j : ℕ). drop j (m ∷ octets)) more in
+    let join = take-append-drop m octets in
+    record {
+      within = omega (arith, first.within, same);
+      label = take m octets;
+      first = record {
+        labels = first.labels ∙ ap (λ (xs : List ℕ). take m octets ∷ labels_in xs) (sym behind);
+        whole = subst IsWhole (sym behind) first.behind;
+        some = omega arith;
+        short = omega (arith, len, first.short);
+        octets_are = cc;
+      };
+    }

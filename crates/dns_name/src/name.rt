@@ -60,8 +60,8 @@ impl Name {
         self.octets.as_slice()
     }
 
-    /// The name whose octets these are.
-    pub(crate) fn from_octets(octets: ArrayVec<u8, MAX_NAME>) -> Name
+    /// The name whose octets these are, written in full with the closing zero octet (RFC 1035, 3.1). It takes no memory.
+    pub fn from_octets(octets: ArrayVec<u8, MAX_NAME>) -> Name
         requires whole { IsWhole octets.items }
         requires short { length octets.items ≤ MAX_NAME }
         ensures { result ≡ labels_in octets.items }

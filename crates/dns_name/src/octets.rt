@@ -55,10 +55,8 @@ pub(crate) fn ends_in(octets: &[u8], other: &[u8]) -> bool
 {
     let mut rest = octets;
     while rest.len() > other.len() {
-        match first_label(rest) {
-            Some((_, behind)) => rest = behind,
-            None => return false,
-        }
+        let len = usize::from(rest[0]);
+        (_, rest) = rest.split_at(len + 1);
     }
     rest.eq_ignore_ascii_case(other)
 }

@@ -24,14 +24,18 @@ fn put_folded(to: &mut SoughtRoom, label: &[u8])
     ensures octets { to.new.items ≡ to.old.items ++ stored_label (map to_ascii_lowercase label.now) }
     ensures len { length to.new.items ≤ length to.old.items + 2 * length label.now + 1 }
 {
-    for octet in label {
+    if let [octet] = label {
         put_octet(to, octet.to_ascii_lowercase());
+    } else {
+        for octet in label {
+            put_octet(to, octet.to_ascii_lowercase());
+        }
     }
     to.push(CLOSING);
 }
 
 /// What stands for labels in lower case behind the others, from the rightmost label on.
-fn put_all_folded(to: &mut SoughtRoom, octets: &[u8])
+pub(crate) fn put_all_folded(to: &mut SoughtRoom, octets: &[u8])
     requires whole { IsWhole octets.now }
     requires room { length to.old.items + 2 * length octets.now ≤ MAX_STORED }
     ensures octets { to.new.items ≡ to.old.items ++ flat_map stored_label (reverse (fold_name (labels_in octets.now))) }

@@ -9,6 +9,7 @@ ghost use Rattle.dns_name.specs.Text.{text_of};
 use crate::kept::KeptOctets;
 use crate::name::{MAX_LABEL, MAX_NAME, Name};
 use crate::octets::{append, first_label};
+use crate::sought::put_all_folded;
 use arrayvec::ArrayVec;
 use std::alloc::{AllocError, Global};
 use std::cmp::Ordering;
@@ -35,31 +36,6 @@ pub(crate) fn put_octet(to: &mut ArrayVec<u8, MAX_STORED>, octet: u8)
     } else {
         to.push(ESCAPE);
         to.push(octet + 1);
-    }
-}
-
-/// What stands for a label, behind the others.
-fn put_label(to: &mut ArrayVec<u8, MAX_STORED>, label: &[u8])
-    requires { length to.old.items + 2 * length label.now + 1 ≤ MAX_STORED }
-    ensures octets { to.new.items ≡ to.old.items ++ stored_label label.now }
-    ensures len { length to.new.items ≤ length to.old.items + 2 * length label.now + 1 }
-{
-    for octet in label {
-        put_octet(to, *octet);
-    }
-    to.push(CLOSING);
-}
-
-/// What stands for labels behind the others, from the rightmost label on.
-fn put_labels(to: &mut ArrayVec<u8, MAX_STORED>, octets: &[u8])
-    requires whole { IsWhole octets.now }
-    requires room { length to.old.items + 2 * length octets.now ≤ MAX_STORED }
-    ensures octets { to.new.items ≡ to.old.items ++ flat_map stored_label (reverse (labels_in octets.now)) }
-    ensures len { length to.new.items ≤ length to.old.items + 2 * length octets.now }
-{
-    if let Some((label, behind)) = first_label(octets) {
-        put_labels(to, behind);
-        put_label(to, label);
     }
 }
 
@@ -248,9 +224,8 @@ impl SoughtName {
         ensures order { (other : Name) → canonical_cmp result other ≡ canonical_cmp name.now other }
         ensures above { (other : Name) → is_under other result ≡ is_under other name.now }
     {
-        let folded = name.fold();
         let mut octets = ArrayVec::new();
-        put_labels(&mut octets, folded.octets());
+        put_all_folded(&mut octets, name.wire());
         SoughtName { octets }
     }
 

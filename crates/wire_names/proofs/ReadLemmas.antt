@@ -5,8 +5,10 @@ use Rattle.std.specs.Option.{unwrap_or, IsSome}
 use Rattle.std.proofs.lemmas.List.{length-append, append_assoc, append-nil}
 use Rattle.std.proofs.lemmas.List.Elements.{All-nil, All-cons, All-append}
 use Rattle.dns_name.specs.Gather.{front_of}
+use Rattle.dns_name.specs.Labels.{labels_in, IsWhole}
 use Rattle.dns_name.specs.Name.{wire_of, IsLabel, IsName, name_in}
 use Rattle.dns_name.proofs.GatherLemmas.{front_of-append, wire_of-front}
+use Rattle.dns_name.proofs.LabelLemmas.{IsWhole-wire_of, labels_in-wire_of}
 use Rattle.dns_name.proofs.LawLemmas.{name_in-wire_of}
 use Rattle.wire_names.specs.NameAt.{name_at}
 use Rattle.wire_names.specs.Parts.{part_at, label_at}
@@ -120,12 +122,15 @@ IsClosed-way msg at run place next behind octets all name way p e is n =
 pub computed_closed : (msg : List ℕ) (at next : ℕ) (name : List (List ℕ)) → IsClosed msg at name next → Ok (name, next) ≡ name_at msg at
 computed_closed msg at next name is = sym (computed_spelt msg at next name is.spells is.lawful.short)
 
-pub some_name : (o : Option (List (List ℕ) × ℕ)) (all : List ℕ) (name : List (List ℕ)) → option_map (λ r. r.0) o ≡ name_in all → name_in all ≡ Some name → IsSome o
-some_name None all name e f = cc
-some_name (Some r) all name e f = refl
+-- the octets of a name that is closed, and the name
+pub whole_way : (msg : List ℕ) (at run place : ℕ) (behind : Option ℕ) (octets all : List ℕ) (way : IsUnderWay msg at run place behind octets) → all ≡ octets ++ 0 ∷ [] → IsWhole all
+whole_way msg at run place behind octets all way e =
+    subst IsWhole (sym (e ∙ labels_closed msg at run place behind octets way)) (IsWhole-wire_of way.labels way.lawful)
 
-pub named : (o : Option (List (List ℕ) × ℕ)) (r : List (List ℕ) × ℕ) (all : List ℕ) → o ≡ Some r → option_map (λ x. x.0) o ≡ name_in all → Some (r.0) ≡ name_in all
-named o r all e f = sym (ap (option_map (λ (x : List (List ℕ) × ℕ). x.0)) e) ∙ f
+pub named_way : (msg : List ℕ) (at run place : ℕ) (behind : Option ℕ) (octets all : List ℕ) (name : List (List ℕ)) (way : IsUnderWay msg at run place behind octets) → all ≡ octets ++ 0 ∷ [] → name ≡ labels_in all → Some name ≡ name_in all
+named_way msg at run place behind octets all name way e is =
+    let labels = ap labels_in (e ∙ labels_closed msg at run place behind octets way) ∙ labels_in-wire_of way.labels way.lawful in
+    ap Some (is ∙ labels) ∙ sym (name_in-way msg at run place behind octets all way e)
 
 no_room : (b : Bool) (x : ℕ) → b ≡ false → (x ≤ 255 → IsTrue b) → 255 < x
 no_room true x e h = cc

@@ -43,7 +43,7 @@ pub(crate) fn name_in(msg: &[u8], ends: &[u16], at: usize) -> Result<(Name, usiz
         match part_at(msg, place)? {
             Part::Closing => {
                 octets.push(0);
-                let (name, _) = Name::from_wire(octets.as_slice()).unwrap();
+                let name = Name::from_octets(octets);
                 return Ok((name, behind.unwrap_or(place + 1)));
             }
             Part::Label(len) => {
@@ -70,10 +70,28 @@ fn put_label(octets: &mut ArrayVec<u8, MAX_NAME>, label: &[u8]) -> bool
     ensures put { OnTrue result (octets.new.items ≡ octets.old.items ++ length label.now ∷ label.now) }
 {
     let len = label.len();
-    if octets.len() + 2 > MAX_NAME || len > MAX_NAME - 2 - octets.len() {
+    if octets.len() + (len + 2) > MAX_NAME {
         return false;
     }
     octets.push(len as u8);
-    let _ = octets.try_extend_from_slice(label);
+    put_octets(octets, label);
     true
+}
+
+/// Puts octets behind the others: one or two, as many labels of a long name have, without a call.
+#[inline(always)]
+fn put_octets(octets: &mut ArrayVec<u8, MAX_NAME>, own: &[u8])
+    requires { length octets.old.items + length own.now ≤ MAX_NAME }
+    ensures { octets.new.items ≡ octets.old.items ++ own.now }
+{
+    match own {
+        [octet] => octets.push(*octet),
+        [octet, behind] => {
+            octets.push(*octet);
+            octets.push(*behind);
+        }
+        _ => {
+            let _ = octets.try_extend_from_slice(own);
+        }
+    }
 }

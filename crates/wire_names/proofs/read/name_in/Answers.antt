@@ -3,7 +3,7 @@ use Rattle.std.proofs.lemmas.Result.{err_from_is_err_and}
 use Rattle.wire_names.specs.Spells.{Refuses, no_part}
 use Rattle.wire_names.specs.declared.part.NameReadFault.TheVariants.{BadPointer, TooLong}
 use Rattle.wire_names.proofs.GrammarLemmas.{IsLabelAt-part, computed_fault}
-use Rattle.wire_names.proofs.ReadLemmas.{IsClosed, UnderWay-put, IsClosed-way, computed_closed, refused_label, Refused-pointer, name_in-way, some_name, named}
+use Rattle.wire_names.proofs.ReadLemmas.{IsClosed, UnderWay-put, IsClosed-way, computed_closed, refused_label, Refused-pointer, name_in-way, whole_way, named_way}
 use Rattle.wire_names.proofs.LeadsLemmas.{UnderWay-led, leads_down}
 use Rattle.wire_names.proofs.read.name_in.Goals as goal
 
@@ -17,13 +17,12 @@ returns-in_err-part_at-clause-computed c =
     let p = err_from_is_err_and c.from_residual.result c.from_residual.ensures.1 in
     rw (p.1, p.2) (sym (computed_fault _ _ _ (c.loop-octets.invariant.refused _ (no_part (sym c.part_at.ensures ∙ c.in_err-part_at.was)))))
 
-pub unwrap-name-requires : goal.unwrap-name-requires
-unwrap-name-requires c =
-    some_name c.from_wire.result c.as_slice.result.now _ c.from_wire.ensures.name (name_in-way _ _ _ _ _ _ _ c.loop-octets.invariant (c.as_slice.ensures.value ∙ c.push.ensures.items))
+pub from_octets-name-requires-clause-whole : goal.from_octets-name-requires-clause-whole
+from_octets-name-requires-clause-whole c = whole_way _ _ _ _ _ _ _ c.loop-octets.invariant c.push.ensures.items
 
-closed : (c : goal.After-unwrap_or) → IsClosed c.args.msg.now c.args.at c.unwrap-name.result.0 c.unwrap_or.result
+closed : (c : goal.After-unwrap_or) → IsClosed c.args.msg.now c.args.at c.from_octets-name.result c.unwrap_or.result
 closed c =
-    IsClosed-way _ _ _ _ _ _ _ c.as_slice.result.now _ c.loop-octets.invariant (sym c.part_at.ensures ∙ c.in_ok-part_at.was ∙ ap Ok c.in-Closing.is) (c.as_slice.ensures.value ∙ c.push.ensures.items) (named c.from_wire.result c.unwrap-name.result c.as_slice.result.now c.unwrap-name.ensures c.from_wire.ensures.name) c.unwrap_or.ensures
+    IsClosed-way _ _ _ _ _ _ _ _ _ c.loop-octets.invariant (sym c.part_at.ensures ∙ c.in_ok-part_at.was ∙ ap Ok c.in-Closing.is) c.push.ensures.items (named_way _ _ _ _ _ _ _ _ c.loop-octets.invariant c.push.ensures.items c.from_octets-name.ensures) c.unwrap_or.ensures
 
 pub returns-in-Closing-clause-found : goal.returns-in-Closing-clause-found
 returns-in-Closing-clause-found c = (closed c).spells

@@ -1,19 +1,39 @@
-use Rattle.std.proofs.Common.{◌∙◌, ap}
-use Rattle.dns_name.specs.Name.{canonical_cmp, is_under}
-use Rattle.dns_name.specs.Stored.{name_stored}
-use Rattle.dns_name.proofs.StoredLemmas.{made, name_back, IsStored-of, cmp_folded, under_folded}
+use Rattle.std.proofs.Common.{◌≡◌, ◌∙◌, List, ℕ, [], ◌++◌, ap, length, reverse, sym, subst, arith}
+use Rattle.std.specs.List.{flat_map}
+use Rattle.dns_name.specs.Labels.{labels_in, IsWhole}
+use Rattle.dns_name.specs.Name.{Name, IsName, wire_of, canonical_cmp, fold_name, is_under}
+use Rattle.dns_name.specs.Stored.{stored_label, stored_of, name_stored}
+use Rattle.dns_name.proofs.LabelLemmas.{IsWhole-wire_of, labels_in-wire_of, AreOctets-fold}
+use Rattle.dns_name.proofs.LawLemmas.{fold-IsName}
+use Rattle.dns_name.proofs.StoredLemmas.{name_back, IsStored-of, cmp_folded, under_folded}
 use Rattle.dns_name.proofs.stored.SoughtName.new.Goals as goal
+
+-- what the labels of a name's octets make
+made_of : (octets before wire : List ℕ) (name : Name) → IsName name → before ≡ [] → wire ≡ wire_of name → octets ≡ before ++ flat_map stored_label (reverse (fold_name (labels_in wire))) → octets ≡ stored_of name
+made_of octets before wire name lawful none is e =
+    let own : octets ≡ flat_map stored_label (reverse (fold_name (labels_in wire))) = rw none at e in
+    own ∙ ap (λ (n : Name). flat_map stored_label (reverse (fold_name n))) (ap labels_in is ∙ labels_in-wire_of name lawful.labels)
+
+pub put_all_folded-requires-clause-whole : goal.put_all_folded-requires-clause-whole
+put_all_folded-requires-clause-whole c = subst IsWhole (sym c.wire.ensures.octets) (IsWhole-wire_of c.args.name.now c.wire.ensures.lawful.labels)
+
+pub put_all_folded-requires-clause-room : goal.put_all_folded-requires-clause-room
+put_all_folded-requires-clause-room c =
+    let none = ap length c.new-octets.ensures in
+    let size = ap length c.wire.ensures.octets in
+    omega (arith, c.wire.ensures.lawful.short)
 
 pub invariant_of-result : goal.invariant_of-result
 invariant_of-result c =
-    let fold = c.fold-folded.ensures in
-    let is = made _ _ c.octets.result.now _ c.args.name.now c.new-octets.ensures c.put_labels.ensures.octets c.octets.ensures.labels fold.folded in
-    rw is (IsStored-of c.args.name.now (rw fold.folded at fold.lawful) (rw fold.folded at fold.bytes))
+    let name = c.args.name.now in
+    let is = made_of _ _ _ name c.wire.ensures.lawful c.new-octets.ensures c.wire.ensures.octets c.put_all_folded.ensures.octets in
+    rw is (IsStored-of name (fold-IsName name c.wire.ensures.lawful).0 (AreOctets-fold name c.wire.ensures.bytes))
 
 pub returns-clause-folded : goal.returns-clause-folded
 returns-clause-folded c =
-    let is = made _ _ c.octets.result.now _ c.args.name.now c.new-octets.ensures c.put_labels.ensures.octets c.octets.ensures.labels c.fold-folded.ensures.folded in
-    ap name_stored is ∙ name_back c.args.name.now
+    let name = c.args.name.now in
+    let is = made_of _ _ _ name c.wire.ensures.lawful c.new-octets.ensures c.wire.ensures.octets c.put_all_folded.ensures.octets in
+    ap name_stored is ∙ name_back name
 
 pub returns-clause-order : goal.returns-clause-order
 returns-clause-order c = λ other. ap (λ n. canonical_cmp n other) (returns-clause-folded c) ∙ cmp_folded c.args.name.now other
