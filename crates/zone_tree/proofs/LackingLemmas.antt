@@ -1,19 +1,20 @@
 -- What a set has that another set, or a zone, hasn't.
-use Rattle.std.proofs.Common.{◌≡◌, refl, sym, ap, ◌∙◌, subst, ℕ, zero, suc, ◌+◌, ◌<◌, ◌≤◌, Bool, true, false, ◌&&◌, ◌||◌, cond, List, [], ◌∷◌, length, get_or, drop, arith, true≢false, eqb-true, eq-eqb}
+use Rattle.std.proofs.Common.{◌≡◌, refl, sym, ap, ◌∙◌, subst, ℕ, zero, suc, ◌+◌, ◌<◌, ◌≤◌, Bool, true, false, ◌&&◌, ◌||◌, cond, List, [], ◌∷◌, length, get_or, drop, map, arith, true≢false, eqb-true, eq-eqb}
 use Rattle.std.specs.Prelude.{◌==◌, not, bytes_eq}
 use Rattle.std.specs.declared.cmp.Ordering.{Ordering}
 use Rattle.std.specs.declared.cmp.Ordering.TheVariants.{Less, Equal, Greater}
 use Rattle.std.specs.List.{filter, list_any, dedup, dedup_from, All, AllByRecursion}
 use Rattle.std.specs.Ordering.{nat_cmp, is_eq, ordering_then}
 use Rattle.std.specs.Cmp.{first_so, second_so}
-use Rattle.std.specs.Cmp.Lexicographic.{slice_cmp}
+use Rattle.std.specs.Cmp.Lexicographic.{slice_cmp, pointwise}
 use Rattle.std.proofs.lemmas.Cmp.{tied_itself, nat_cmp_total}
 use Rattle.std.proofs.lemmas.Map.Text.{is_eq-slice_cmp}
 use Rattle.std.proofs.lemmas.Map.Views.{any-filter_same}
 use Rattle.std.proofs.lemmas.Slice.Eq.{bytes_eq-Decides}
 use Rattle.std.proofs.lemmas.List.Folds.{list_any_none}
 use Rattle.std.proofs.lemmas.List.Elements.{recursion_from_All}
-use Rattle.dns_name.specs.Name.{is_same, canonical_cmp}
+use Rattle.dns_name.specs.Name.{is_same, canonical_cmp, fold_name}
+use Rattle.dns_name.proofs.StoredLemmas.{fold_name-fold_name}
 use Rattle.dns_name.specs.Order.{is_same_equiv}
 use Rattle.dns_rdata.specs.Data.{Data}
 use Rattle.dns_rdata.specs.Numbers.{type_SOA}
@@ -46,6 +47,11 @@ kept_from name k (x ∷ xs) = by (is_same x k) refl (kept_from name k xs) (kept_
 pub kept_once : (name : List (List ℕ)) (xs : List (List (List ℕ))) → list_any (is_same name) (dedup is_same xs) ≡ list_any (is_same name) xs
 kept_once name [] = refl
 kept_once name (x ∷ xs) = kept_from name x xs
+
+-- a name is among others where it is among them in lower case
+pub any_folded : (name : List (List ℕ)) (names : List (List (List ℕ))) → list_any (is_same name) (map fold_name names) ≡ list_any (is_same name) names
+any_folded name [] = refl
+any_folded name (other ∷ names) = λ i. pointwise bytes_eq (fold_name name) (fold_name-fold_name other i) || any_folded name names i
 
 -- whether data are told, and records without those told
 abbrev pub told : List Data → Record → Bool

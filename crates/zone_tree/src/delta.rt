@@ -47,7 +47,7 @@ impl Delta {
         requires { DifferOnlyAt owners.items before.now after.now }
         ensures { IfOk result (λ delta. AreChanges delta before.now after.now) }
     {
-        let owners = in_order(owners);
+        let owners = in_order(alloc, &owners)?;
         Ok(Delta {
             old_soa: before.soa().copy(alloc)?,
             deletions: left_out_sets(alloc, before, after, &owners)?,

@@ -1,9 +1,9 @@
 //! What a zone has that another hasn't, found at the owners where they differ (RFC 1995, 4).
-ghost use Rattle.std.specs.Prelude.{◌≡◌, ◌++◌, true, not, filter, bytes_eq, All, IfOk, OnOk};
+ghost use Rattle.std.specs.Prelude.{◌≡◌, ◌++◌, true, not, map, filter, bytes_eq, All, IfOk, OnOk};
 ghost use Rattle.std.specs.List.{list_any};
 ghost use Rattle.std.specs.List.Sorted.{IsStrictlySortedBy};
 ghost use Rattle.std.specs.Option.{option_to_list};
-ghost use Rattle.dns_name.specs.Name.{Name, canonical_cmp, is_same};
+ghost use Rattle.dns_name.specs.Name.{Name, canonical_cmp, is_same, fold_name};
 ghost use Rattle.dns_rdata.specs.Record.{owner_of, rtype_of};
 ghost use Rattle.zone_tree.specs.Sets.{records_in, IsRRset, AreAscending};
 ghost use Rattle.zone_tree.specs.Change.{left_out};
@@ -11,18 +11,31 @@ ghost use Rattle.zone_tree.specs.Delta.{DifferOnlyAt, lacking, some_set, sets_le
 
 use crate::read::ZoneRead;
 use crate::zone::Zone;
-use dns_name::Name;
+use dns_name::{Name, StoredName};
 use dns_rdata::{RData, RRset, RType};
 use std::alloc::{AllocError, Global};
 
-/// Names in canonical order, those that are the same once.
-pub(crate) fn in_order(mut names: Vec<Name>) -> Vec<Name>
-    ensures ascending { IsStrictlySortedBy canonical_cmp result.items }
-    ensures same { (name : Name) → list_any (is_same name) result.items ≡ list_any (is_same name) names.items }
+/// Names in canonical order, those that are the same once: as a zone keeps them, in which form names of many labels are compared at
+/// once. `AllocError` where a growth was refused.
+pub(crate) fn in_order(alloc: Global, names: &[Name]) -> Result<Vec<StoredName>, AllocError>
+    ensures ascending { IfOk result (λ owners. IsStrictlySortedBy canonical_cmp owners.items) }
+    ensures same { IfOk result (λ owners. (name : Name) → list_any (is_same name) owners.items ≡ list_any (is_same name) names.now) }
 {
-    names.sort_unstable();
-    names.dedup();
-    names
+    let mut owners = all_stored(alloc, names)?;
+    owners.sort_unstable();
+    owners.dedup();
+    Ok(owners)
+}
+
+// Names as a zone keeps them, in their order.
+fn all_stored(alloc: Global, names: &[Name]) -> Result<Vec<StoredName>, AllocError>
+    ensures { IfOk result (λ owners. owners.items ≡ map fold_name names.now) }
+{
+    let mut owners = Vec::with_capacity(alloc, names.len())?;
+    for name in names {
+        owners.push(StoredName::new(alloc, name)?)?;
+    }
+    Ok(owners)
 }
 
 // A set without the records of these data; None where no other is left.
@@ -89,7 +102,7 @@ pub(crate) fn left_out_sets(
     alloc: Global,
     zone: &Zone,
     other: &Zone,
-    owners: &[Name],
+    owners: &[StoredName],
 ) -> Result<Vec<RRset>, AllocError>
     requires ascending { IsStrictlySortedBy canonical_cmp owners.now }
     requires apart { DifferOnlyAt owners.now zone.now other.now }
@@ -100,7 +113,7 @@ pub(crate) fn left_out_sets(
     let _soa = zone.soa();
     let mut sets = Vec::new(alloc);
     for owner in owners {
-        put_left_out(alloc, &mut sets, zone.rrsets_at(owner), other)?;
+        put_left_out(alloc, &mut sets, zone.stored_sets(owner), other)?;
     }
     Ok(sets)
 }

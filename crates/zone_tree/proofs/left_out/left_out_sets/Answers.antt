@@ -8,7 +8,7 @@ use Rattle.zone_tree.proofs.DeltaLemmas.{whole_lawful, out_more, whole_more, lef
 use Rattle.zone_tree.proofs.left_out.left_out_sets.Goals as goal
 
 pub put_left_out-requires : goal.put_left_out-requires
-put_left_out-requires c = All-from_recursion IsRRset c.rrsets_at.result.now (whole_lawful c.args.zone.now c.soa-soa.ensures.lawful c.rrsets_at.result.now c.rrsets_at.ensures.whole)
+put_left_out-requires c = All-from_recursion IsRRset c.stored_sets.result.now (whole_lawful c.args.zone.now c.soa-soa.ensures.lawful c.stored_sets.result.now c.stored_sets.ensures.whole)
 
 pub loop-owner-preserved : goal.loop-owner-preserved
 loop-owner-preserved c =
@@ -18,9 +18,9 @@ loop-owner-preserved c =
     let o = c.owner-item.result in
     let h = c.loop-owner.invariant in
     record {
-      sets = c.in_ok-put_left_out.ensures ∙ ap (λ l. l ++ sets_left_out c.rrsets_at.result.now c.args.other.now) h.sets
-          ∙ out_more zone c.args.other.now owners i o c.loop-owner-test.true c.owner-item.is c.rrsets_at.result.now c.rrsets_at.ensures.records c.rrsets_at.ensures.whole;
-      whole = whole_more zone c.args.other.now owners i o c.loop-owner-test.true c.owner-item.is c.rrsets_at.result.now c.rrsets_at.ensures.records c.rrsets_at.ensures.whole h.whole;
+      sets = c.in_ok-put_left_out.ensures ∙ ap (λ l. l ++ sets_left_out c.stored_sets.result.now c.args.other.now) h.sets
+          ∙ out_more zone c.args.other.now owners i o c.loop-owner-test.true c.owner-item.is c.stored_sets.result.now c.stored_sets.ensures.records c.stored_sets.ensures.whole;
+      whole = whole_more zone c.args.other.now owners i o c.loop-owner-test.true c.owner-item.is c.stored_sets.result.now c.stored_sets.ensures.records c.stored_sets.ensures.whole h.whole;
     }
 
 pub returns-clause-ascending : goal.returns-clause-ascending
