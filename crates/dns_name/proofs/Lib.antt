@@ -16,3 +16,4 @@ pub mod StoredLemmas
 pub mod TextLemmas
 pub mod NamedLemmas
 pub mod SoughtLemmas
+pub mod WriteLemmas

@@ -66,7 +66,7 @@ impl Name {
         requires short { length octets.items ≤ MAX_NAME }
         ensures { result ≡ labels_in octets.items }
     {
-        Name { octets }
+        Self { octets }
     }
 
     /// The name's octets on the wire, written in full with the closing zero octet (RFC 1035, 3.1).

@@ -1,5 +1,6 @@
 //! Names that are sought, lent from the room in which they are put in lower case.
 ghost use Rattle.std.specs.Prelude.{true, ◌≡◌, ◌≢◌, ◌⊎◌, ◌+◌, ◌-◌, ◌*◌, ◌<◌, ◌≤◌, ◌||◌, ℕ, [], ◌∷◌, ◌++◌, length, map, take, reverse, find, unwrap_or, slice_index};
+ghost use Rattle.std.specs.Bool.{OnTrue};
 ghost use Rattle.std.specs.Char.{to_ascii_lowercase};
 ghost use Rattle.std.specs.List.{flat_map};
 ghost use Rattle.std.specs.Option.{option_copied};
@@ -10,7 +11,7 @@ ghost use Rattle.dns_name.specs.Stored.{stored_label, stored_of, name_stored, Is
 
 use crate::name::{MAX_BELOW_ASTERISK, MAX_NAME, Name};
 use crate::octets::first_label;
-use crate::stored::{CLOSING, MAX_STORED, StoredName, put_octet};
+use crate::stored::{CLOSING, ESCAPE, MAX_STORED, StoredName, put_octet};
 use arrayvec::ArrayVec;
 use std::cmp::Ordering;
 use std::marker::Model;
@@ -24,18 +25,14 @@ fn put_folded(to: &mut SoughtRoom, label: &[u8])
     ensures octets { to.new.items ≡ to.old.items ++ stored_label (map to_ascii_lowercase label.now) }
     ensures len { length to.new.items ≤ length to.old.items + 2 * length label.now + 1 }
 {
-    if let [octet] = label {
+    for octet in label {
         put_octet(to, octet.to_ascii_lowercase());
-    } else {
-        for octet in label {
-            put_octet(to, octet.to_ascii_lowercase());
-        }
     }
     to.push(CLOSING);
 }
 
 /// What stands for labels in lower case behind the others, from the rightmost label on.
-pub(crate) fn put_all_folded(to: &mut SoughtRoom, octets: &[u8])
+fn put_all_folded(to: &mut SoughtRoom, octets: &[u8])
     requires whole { IsWhole octets.now }
     requires room { length to.old.items + 2 * length octets.now ≤ MAX_STORED }
     ensures octets { to.new.items ≡ to.old.items ++ flat_map stored_label (reverse (fold_name (labels_in octets.now))) }
@@ -44,6 +41,54 @@ pub(crate) fn put_all_folded(to: &mut SoughtRoom, octets: &[u8])
     if let Some((label, behind)) = first_label(octets) {
         put_all_folded(to, behind);
         put_folded(to, label);
+    }
+}
+
+/// Writes what stands for a label in lower case over as many octets; false where one of its octets has two that stand for it.
+fn write_folded(out: &mut [u8], label: &[u8]) -> bool
+    requires { length out.old ≡ length label.now + 1 }
+    ensures { OnTrue result (out.new ≡ stored_label (map to_ascii_lowercase label.now)) }
+{
+    out[label.len()] = CLOSING;
+    for (at, octet) in label.iter().enumerate() {
+        let lower = octet.to_ascii_lowercase();
+        if lower <= ESCAPE {
+            return false;
+        }
+        out[at] = lower;
+    }
+    true
+}
+
+/// Writes what stands for labels in lower case, from the rightmost label on, over as many octets; false where an octet has two that stand
+/// for it.
+fn write_all_folded(out: &mut [u8], octets: &[u8]) -> bool
+    requires whole { IsWhole octets.now }
+    requires room { length out.old + 1 ≡ length octets.now }
+    ensures { OnTrue result (out.new ≡ flat_map stored_label (reverse (fold_name (labels_in octets.now)))) }
+{
+    let Some((label, behind)) = first_label(octets) else {
+        return true;
+    };
+    let (front, own) = out.split_at_mut(behind.len() - 1);
+    if !write_folded(own, label) {
+        return false;
+    }
+    write_all_folded(front, behind)
+}
+
+/// What stands for a name in lower case, where nothing is yet. Where no octet has two that stand for it, which is so of most names, they
+/// are written over as many as the name has, from the last one on.
+pub(crate) fn put_name(to: &mut SoughtRoom, octets: &[u8])
+    requires whole { IsWhole octets.now }
+    requires short { length octets.now ≤ MAX_NAME }
+    requires empty { to.old.items ≡ [] }
+    ensures { to.new.items ≡ flat_map stored_label (reverse (fold_name (labels_in octets.now))) }
+{
+    let _ = to.try_extend_from_slice(&octets[1..]);
+    if !write_all_folded(to.as_mut_slice(), octets) {
+        to.clear();
+        put_all_folded(to, octets);
     }
 }
 
@@ -151,7 +196,7 @@ impl<'r> Sought<'r> {
         ensures { result ≡ fold_name (labels_in octets.now) }
     {
         room.clear();
-        put_all_folded(room, octets);
+        put_name(room, octets);
         Sought {
             octets: room.as_slice(),
         }

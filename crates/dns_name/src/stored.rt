@@ -9,7 +9,7 @@ ghost use Rattle.dns_name.specs.Text.{text_of};
 use crate::kept::KeptOctets;
 use crate::name::{MAX_LABEL, MAX_NAME, Name};
 use crate::octets::{append, first_label};
-use crate::sought::put_all_folded;
+use crate::sought::put_name;
 use arrayvec::ArrayVec;
 use std::alloc::{AllocError, Global};
 use std::cmp::Ordering;
@@ -225,7 +225,7 @@ impl SoughtName {
         ensures above { (other : Name) → is_under other result ≡ is_under other name.now }
     {
         let mut octets = ArrayVec::new();
-        put_all_folded(&mut octets, name.wire());
+        put_name(&mut octets, name.wire());
         SoughtName { octets }
     }
 
