@@ -15,7 +15,7 @@ some_none : {A : Type 0} (x : A) (o : Option A) → o ≡ Some x → o ≡ None 
 some_none x o e f = cc
 
 -- what the table doesn't have is no known parent
-absent_if : (msg : List ℕ) (xs : List Entry) (name : Name) → IsTable msg xs → 0 < length name → position_in (table_of msg xs) name ≡ None → parent_of (table_of msg xs) name ≡ 258 + length (wire_of name)
+pub absent_if : (msg : List ℕ) (xs : List Entry) (name : Name) → IsTable msg xs → 0 < length name → position_in (table_of msg xs) name ≡ None → parent_of (table_of msg xs) name ≡ 258 + length (wire_of name)
 absent_if msg xs [] table some none = absurd (omega arith)
 absent_if msg xs (label ∷ name) table some none =
     let many = table_many msg xs in

@@ -1,19 +1,48 @@
 -- Names that begin with labels of a table's entries which stand one behind the other.
-use Rattle.std.proofs.Common.{◌≡◌, ℕ, zero, suc, ◌+◌, ◌-◌, ◌<◌, ◌≤◌, List, length, take, drop, get_or, refl, sym, ap, subst, ◌∙◌, arith}
+use Rattle.std.proofs.Common.{◌≡◌, ℕ, zero, suc, ◌+◌, ◌-◌, ◌<◌, ◌≤◌, List, [], length, take, drop, get_or, refl, sym, ap, subst, ◌∙◌, arith}
 use Rattle.std.proofs.lemmas.List.{length-drop, get_or-drop, get_or-take, drop-drop, drop-take, take-take}
 use Rattle.dns_name.specs.Labels.{labels_in, IsWhole}
 use Rattle.wire_names.specs.Parts.{label_at}
 use Rattle.wire_names.specs.Place.{IsKnown}
 use Rattle.wire_names.specs.Runs.{IsRun}
-use Rattle.wire_names.specs.Table.{Entry, IsTable, IsChild, IsLabelAt, place_at, spelt_at}
+use Rattle.dns_name.specs.Name.{Name}
+use Rattle.wire_names.specs.Chains.{parent_at}
+use Rattle.wire_names.specs.Table.{Entry, IsTable, IsChild, IsLabelAt, IsSpelt, Follows, first_length, place_at, spelt_at, table_of}
 use Rattle.wire_names.proofs.BeginsLemmas.{BeginsAt-label, own_text, begins_yes}
-use Rattle.wire_names.proofs.IndexLemmas.{no_entry, is_entry}
-use Rattle.wire_names.proofs.PlaceLemmas.{known_child}
+use Rattle.wire_names.proofs.IndexLemmas.{no_entry, is_entry, parent_is}
+use Rattle.wire_names.proofs.ParentLemmas.{table_many, named_at, parent_known}
+use Rattle.wire_names.proofs.PlaceLemmas.{known_child, place_if}
 use Rattle.wire_names.proofs.StartLemmas.{IsNextStart, start_behind}
 
 -- the entry at an index stands at a label
 pub label_of : (msg : List ℕ) (xs : List Entry) (i : ℕ) → IsTable msg xs → i < length xs → IsLabelAt msg (place_at xs i)
 label_of msg xs i table h = (is_entry msg xs i (get_or xs i no_entry) table h refl).label
+
+-- an entry whose parent is the next one stands in front of it
+pub next_place : (msg : List ℕ) (xs : List Entry) (i : ℕ) → IsTable msg xs → i + 1 < length xs → parent_at xs i ≡ i + 1 → place_at xs (i + 1) ≡ place_at xs i + 1 + get_or msg (place_at xs i) 0
+next_place msg xs i table within parent =
+    let few = table.few in
+    let many = table_many msg xs in
+    let here : i < length xs = omega arith in
+    let own = spelt_at msg (place_at xs i) in
+    let other = spelt_at msg (place_at xs (i + 1)) in
+    let there = BeginsAt-label msg (place_at xs (i + 1)) (label_of msg xs (i + 1) table within) in
+    let some : 0 < length other = let size = ap length there.spelt in omega arith in
+    let spelt : IsSpelt msg xs other (i + 1) = record { within = within; is = refl } in
+    let index = place_if msg xs other (i + 1) table some spelt in
+    let is = parent_is msg xs i table here in
+    let behind : drop 1 own ≡ other = parent_known (table_of msg xs) (drop 1 own) other (omega arith) (omega arith) (sym is ∙ parent ∙ index) in
+    let a = named_at msg xs i (0, []) here in
+    let b = named_at msg xs (i + 1) (0, []) within in
+    let follows = table.runs i (0, []) (omega arith) in
+    let next : Follows (place_at xs i, own) (place_at xs (i + 1), other) =
+    subst (λ (z : ℕ × Name). Follows z (place_at xs (i + 1), other)) a (subst (Follows (get_or (table_of msg xs) i (0, []))) b follows) in
+    let first = BeginsAt-label msg (place_at xs i) (label_of msg xs i table here) in
+    let octet = first.first in
+    let size = first.size in
+    let long = ap first_length first.spelt in
+    let far = next behind in
+    omega arith
 
 -- entries of a run don't go down
 pub run_up : (msg : List ℕ) (xs : List Entry) (n i j : ℕ) → j ≡ i + n → IsRun msg xs i j → place_at xs i ≤ place_at xs j

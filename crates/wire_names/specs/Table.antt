@@ -127,6 +127,19 @@ AreEntries msg entries = All (IsEntry msg) entries
 abbrev pub IsClosed : List ℕ → List Entry → Type 0
 IsClosed msg entries = (i : ℕ) → i < length entries → 258 ≤ parent_at entries i → (i + 1 ≡ length entries) × ((length entries ≡ 256) ⊎ (16383 < length msg))
 
+-- how many octets the first label of a name has; 0 where it has none
+abbrev pub first_length : Name → ℕ
+first_length [] = 0
+first_length (label ∷ name) = length label
+
+-- a name that is spelt behind the first label of another one, the next in a table, stands behind that label (own)
+abbrev pub Follows : ℕ × Name → ℕ × Name → Type 0
+Follows named next = drop 1 named.1 ≡ next.1 → next.0 ≡ named.0 + 1 + first_length named.1
+
+-- so does each that is the next one (own)
+abbrev pub AreInRuns : Table → Type 0
+AreInRuns table = (i : ℕ) (d : ℕ × Name) → i + 1 < length table → Follows (slice_index_or table i d) (slice_index_or table (i + 1) d)
+
 -- positions of a message that make a table: each name is spelt at one of them alone, and each entry is the one of its position
 pub record IsTable (msg : List ℕ) (entries : List Entry) : Type 0 where
   pub few : length entries ≤ 256
@@ -134,6 +147,7 @@ pub record IsTable (msg : List ℕ) (entries : List Entry) : Type 0 where
   pub apart : AllPairs (λ named other. named.1 ≢ other.1) (table_of msg entries)
   pub entries_are : entries ≡ keyed (table_of msg entries)
   pub closed : IsClosed msg entries
+  pub runs : AreInRuns (table_of msg entries)
 
 -- the position of the entry at an index
 abbrev pub place_at : List Entry → ℕ → ℕ

@@ -257,12 +257,7 @@ impl Positions {
     {
         let mut i = index;
         while i + 1 < self.entries.len() {
-            let entry = self.entry(i);
-            let place = usize::from(entry.position);
-            let next = place + 1 + usize::from(msg[place]);
-            if usize::from(entry.parent) != i + 1
-                || usize::from(self.entry(i + 1).position) != next
-            {
+            if usize::from(self.entry(i).parent) != i + 1 {
                 return i;
             }
             i += 1;

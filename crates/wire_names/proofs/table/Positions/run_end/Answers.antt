@@ -1,8 +1,9 @@
-use Rattle.std.proofs.Common.{◌≡◌, ◌+◌, inl, inr, ℕ, List, length, get_or, sym, ap, subst, ◌∙◌, arith}
+use Rattle.std.proofs.Common.{◌≡◌, ◌<◌, ◌+◌, inl, inr, ℕ, List, length, get_or, sym, ap, subst, ◌∙◌, arith}
 use Rattle.std.proofs.lemmas.Bool.{cases_lt}
 use Rattle.wire_names.specs.Chains.{parent_at}
 use Rattle.wire_names.specs.Table.{Entry, place_at}
 use Rattle.wire_names.proofs.IndexLemmas.{no_entry}
+use Rattle.wire_names.proofs.RunLemmas.{next_place}
 use Rattle.wire_names.proofs.table.Positions.run_end.Goals as goal
 
 -- the next entry is the parent, and stands behind the label
@@ -14,19 +15,16 @@ loop-i-preserved c =
     let len = c.len.ensures.value in
     let test = c.loop-i-test.true in
     let up = c.loop-i.invariant.up in
-    let own = c.entry-entry.ensures no_entry in
-    let other = c.entry.ensures no_entry in
-    let place : c.from-place.result ≡ place_at xs at = c.from-place.ensures ∙ ap (λ (x : Entry). x.position) own in
-    let parent : parent_at xs at ≡ at + 1 = sym (c.from-in-loop-i.ensures ∙ ap (λ (x : Entry). x.parent) own) ∙ c.if-from-i.false in
-    let next : place_at xs (at + 1) ≡ c.from-place.result + 1 + c.from.result = sym (c.from-else-from-i.ensures ∙ ap (λ (x : Entry). x.position) other) ∙ c.if-from-next.false in
-    let octet : c.from.result ≡ get_or c.args.msg.now (place_at xs at) 0 = c.from.ensures ∙ ap (λ (n : ℕ). get_or c.args.msg.now n 0) place in
+    let within : at + 1 < length xs = omega arith in
+    let parent : parent_at xs at ≡ at + 1 = sym (c.from.ensures ∙ ap (λ (x : Entry). x.parent) (c.entry.ensures no_entry)) ∙ c.if-from-i.false in
+    let next = next_place c.args.msg.now xs at c.requires.table within parent in
     record {
-      within = omega arith;
+      within = within;
       up = omega arith;
       run = λ k low high. elim (cases_lt k at) [
         | inl less ↦ c.loop-i.invariant.run k low less
         | inr more ↦ (let same : at ≡ k = omega arith in
-            let both : (parent_at xs at ≡ at + 1) × (place_at xs (at + 1) ≡ place_at xs at + 1 + get_or c.args.msg.now (place_at xs at) 0) = (parent, omega arith) in
+            let both : (parent_at xs at ≡ at + 1) × (place_at xs (at + 1) ≡ place_at xs at + 1 + get_or c.args.msg.now (place_at xs at) 0) = (parent, next) in
             subst (λ (n : ℕ). (parent_at xs n ≡ n + 1) × (place_at xs (n + 1) ≡ place_at xs n + 1 + get_or c.args.msg.now (place_at xs n) 0)) same both)
       ];
     }
