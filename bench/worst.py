@@ -537,8 +537,12 @@ def tops_of_one_key(count):
 
 
 def parents_of(count, labels, apart, keys):
-    """So many parents of so many labels, which differ at the top, by labels whose keys are equal or not, or at the bottom."""
+    """So many parents of so many labels, which differ at the top, by labels whose keys are equal or not, at the bottom, or in between, so that
+    all of their labels are as many as a message knows."""
     letters = LETTERS.decode()
+    if apart == "middle":
+        above = max(0, (count * labels - 250) // max(count - 1, 1))
+        return [".".join([*"b" * (labels - above - 1), letters[n], *"a" * above]) for n in range(count)]
     if apart == "bottom":
         return [".".join([letters[n], *"a" * (labels - 1)]) for n in range(count)]
     tops = tops_of_one_key(count) if keys == "same" else [letters[n] for n in range(1, count + 1)]

@@ -49,15 +49,16 @@ def drawn_names(rng, kind):
         "labels": rng.choice([0, 1, 3, 20, 60, 110, 117, rng.randrange(118)]),
         "length": rng.choice([1, 1, 1, 2, 3, 8, 30, 60]),
         "octet": rng.choice(["a", "a", "\\001", "\\000", "\\255", "\\.", "A", "aA", "\\001a", "any"]),
-        "differs": rng.choice(["first", "last", "middle", "each", "comb", "tail"]),
-        "own": rng.choice([1, 2, 3, 8, 40]),
+        "differs": rng.choice(["first", "last", "middle", "each", "comb", "tail", "inside"]),
+        "own": rng.choice([1, 2, 3, 8, 11, 16, 40]),
         "type": rng.choice(["A", "MX", "NS", "SRV", "TXT", "CNAME", "TYPE999"]),
         "target": rng.choice(["same", "other", "apex"]),
         "at": rng.choice([1, 1, 2, 16, 128]),
         "records": rng.choice([100, 500, 2000, 4000]),
-        "parents": rng.choice([0, 0, 2, 3]),
-        "turns": rng.choice(["AB", "AABB", "ABC"]),
-        "apart": rng.choice(["top", "bottom"]),
+        "parents": rng.choice([0, 0, 1, 2, 3, 4, 5, 8, 16]),
+        "turns": rng.choice(["AB", "AABB", "ABC", "ABCD", "ABCDE", "ABCDEFGH", "ABCDEFGHIJKLMNOP", "ABACADAE"]),
+        "apart": rng.choice(["top", "bottom", "middle"]),
+        "combs": rng.choice([False, False, True]),
         "keys": rng.choice(["differ", "same"]),
     }
 
@@ -228,7 +229,14 @@ def label_of(own, rng):
 def names_of(own, count):
     """So many names of the grammar below the apex, as text: they differ in a label of their own."""
     if own["parents"]:
-        yield from names_in_turn(parents_of(own["parents"], 60 + own["labels"] % 51, own["apart"], own["keys"]), own["turns"], count)
+        parents = parents_of(own["parents"], 20 + own["labels"] % 104, own["apart"], own["keys"])
+        if own["combs"]:
+            # each parent, of one label more each time, so that each is written as a label and a pointer
+            teeth = [".".join(labels[-k:]) for labels in (parent.split(".") for parent in parents) for k in range(1, len(labels) + 1)]
+            teeth = list(dict.fromkeys(teeth))[:count]
+            yield from teeth
+            count -= len(teeth)
+        yield from names_in_turn(parents, own["turns"], count)
         return
     rng = random.Random(0)
     mark = max(own["own"], 3)
@@ -241,6 +249,8 @@ def names_of(own, count):
         own_label = numbered(number, 3).decode() + "x" * (mark - 3)
         if own["differs"] == "tail":
             own_label = "x" * (mark - 3) + numbered(number, 3).decode()
+        if own["differs"] == "inside":
+            own_label = "x" * ((mark - 3) // 2) + numbered(number, 3).decode() + "x" * ((mark - 2) // 2)
         if own["differs"] == "each":
             step = number % (most + 1)
             yield ".".join([*labels[:step], own_label, *labels[step:]])
