@@ -1,0 +1,97 @@
+//! Queues that are full, that are ended, and that threads share.
+use std::alloc::Global;
+use std::sync::{Mutex, Wait};
+use std::test::Fail;
+use std::thread::{self, Threads};
+use update_queue::Queue;
+
+/// How many wait at most.
+const MOST: usize = 4;
+
+/// How many are put.
+const PUT: u64 = 100;
+
+/// Whether these were taken, in this order.
+fn is_taken(taken: &[u64], first: u64, count: usize) -> bool {
+    taken.len() == count && taken.iter().zip(first..PUT).all(|(item, n)| *item == n)
+}
+
+// What finds no room comes back; what waits is taken in its order, as much of it as there is room for.
+#[test]
+fn a_full_queue(rt: HostRuntime) -> Result<(), Fail> {
+    let alloc: Global = rt.alloc();
+    let queue: Queue<u64> = Queue::new(alloc, MOST)?;
+    for item in 0u64..4 {
+        assert!(rt; queue.put(&rt, item).is_ok());
+    }
+    assert!(rt; queue.put(&rt, 4) == Err(4));
+    let mut taken: Vec<u64> = Vec::with_capacity(alloc, 3)?;
+    assert!(rt; queue.take(&rt, &mut taken) && is_taken(&taken, 0, 3));
+    assert!(rt; queue.put(&rt, 4).is_ok() && queue.put(&rt, 5).is_ok());
+    assert!(rt; queue.try_take(&rt) == Some(3));
+    taken.clear();
+    assert!(rt; queue.take(&rt, &mut taken) && is_taken(&taken, 4, 2));
+    assert!(rt; queue.try_take(&rt).is_none());
+    Ok(())
+}
+
+// Nothing is put into a queue that is ended; what waits is still taken, and then who takes is told.
+#[test]
+fn an_ended_queue(rt: HostRuntime) -> Result<(), Fail> {
+    let alloc: Global = rt.alloc();
+    let queue: Queue<u64> = Queue::new(alloc, MOST)?;
+    assert!(rt; queue.put(&rt, 0).is_ok());
+    queue.end(&rt);
+    assert!(rt; queue.put(&rt, 1) == Err(1));
+    let mut taken: Vec<u64> = Vec::with_capacity(alloc, 3)?;
+    assert!(rt; queue.take(&rt, &mut taken) && is_taken(&taken, 0, 1));
+    assert!(rt; !queue.take(&rt, &mut taken) && is_taken(&taken, 0, 1));
+    Ok(())
+}
+
+/// Puts numbers in their order, each once there is room for it, and ends the queue.
+fn put_all<R: Wait>(rt: &R, queue: &Queue<u64>) {
+    for item in 0..PUT {
+        for _ in rt.forever() {
+            if queue.put(rt, item).is_ok() {
+                break;
+            }
+        }
+    }
+    queue.end(rt);
+}
+
+/// How many are taken until the queue is ended, where they come in their order; None else.
+fn take_all<R: Wait>(rt: &R, alloc: Global, queue: &Queue<u64>) -> Option<u64> {
+    let mut taken: Vec<u64> = Vec::with_capacity(alloc, 3).ok()?;
+    let mut next = 0u64;
+    for _ in rt.forever() {
+        if !queue.take(rt, &mut taken) {
+            break;
+        }
+        for item in taken.iter() {
+            if *item != next {
+                return None;
+            }
+            next = next.saturating_add(1);
+        }
+        taken.clear();
+    }
+    Some(next)
+}
+
+// Who takes waits until something is put, and gets all that is put, in its order.
+#[test]
+fn a_queue_of_two_threads(rt: HostRuntime) -> Result<(), Fail> {
+    let alloc: Global = rt.alloc();
+    let queue: Queue<u64> = Queue::new(alloc, MOST)?;
+    let queue = &queue;
+    let handle = &rt;
+    let (taken, _) = thread::join(
+        handle,
+        || take_all(handle, alloc, queue),
+        || put_all(handle, queue),
+    );
+    assert!(rt; taken == Some(PUT));
+    Ok(())
+}
