@@ -1,0 +1,3 @@
+mod DoneLemmas
+mod ToldLemmas
+mod StoreLemmas
