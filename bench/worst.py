@@ -503,14 +503,13 @@ def fitting():
 
 
 def aliases():
-    """A query that leads through 16 aliases, beside 17 plain ones."""
-    zone = "".join(f"c{n} CNAME c{n + 1}\n" for n in range(16)) + "c16 A 10.0.0.1\nh A 10.0.0.1\n"
-    deep = "a." * 120
-    deep_zone = "".join(f"{deep}{LETTERS.decode()[n]} CNAME {deep}{LETTERS.decode()[n + 1]}\n" for n in range(16)) + f"{deep}{LETTERS.decode()[16]} A 10.0.0.1\n{deep}zz A 10.0.0.1\n"
-    ask = lambda *labels: Message(question=name(*labels)).octets()
-    yield "16 aliases", zone, ask(b"c0"), ask(b"h")
-    labels = [b"a"] * 120
-    yield "16 aliases of names of 121 labels", deep_zone, ask(*labels, b"a"), ask(*labels, b"zz")
+    """A query that leads through 16 aliases, beside 17 plain ones of names that differ as theirs do."""
+    letters = LETTERS.decode()[:17]
+    for what, deep, labels in (("16 aliases", "", []), ("16 aliases of names of 121 labels", "a." * 120, [b"a"] * 120)):
+        zone = "".join(f"{deep}{own} CNAME {deep}{other}\n" for own, other in zip(letters, letters[1:])) + f"{deep}{letters[16]} A 10.0.0.1\n"
+        zone += "".join(f"{deep}z{own} A 10.0.0.1\n" for own in letters)
+        ask = lambda label: Message(question=name(*labels, label.encode())).octets()
+        yield what, zone, ask(letters[0]), [ask("z" + own) for own in letters]
 
 
 def key_of(labels):
@@ -656,19 +655,18 @@ def measure_cases(program, cases, rounds):
 def measure_aliases(program, rounds):
     for what, zone, dear, plain in aliases():
         server = Server(program, small_zone(zone))
-        for _ in range(3):
-            server.ask(dear), server.ask(plain)
-        # a hundred at once, since one is too short
+        # some of each at once, since one is too short
         many = []
-        for message in (dear, plain):
-            framed = (struct.pack(">H", len(message)) + message) * 100
+        for messages in ([dear] * 102, plain * 6):
+            framed = b"".join(struct.pack(">H", len(message)) + message for message in messages)
             own = []
-            for _ in range(rounds):
+            for _ in range(rounds + 1):
+                server.connected()
                 before = server.spent()
                 server.stream.sendall(framed)
-                for _ in range(100):
+                for _ in messages:
                     next_message(server.stream)
-                own.append((server.spent() - before) / 1e5)
+                own.append((server.spent() - before) / 1000 / len(messages))
             many.append(min(own))
         server.end()
         told(f"{what}, beside 17 plain queries (of one: {many[0]:.2f} and {many[1]:.2f})", many[0], 17 * many[1])
