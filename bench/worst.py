@@ -483,6 +483,8 @@ def fitting():
         (one, "deletions of sets that aren't there", types, ALL, 0, zero, 1, ("", "")),
         (combs, "deletions of sets that aren't there", types, ALL, 0, zero, 1, ("", "")),
         (combs, "deletions of all", anything, ALL, 0, zero, 1, ("", "")),
+        (apart, "adds of differing types", types, IN, 60, address, 1, ("", "")),
+        (apart, "deletions of sets that aren't there", types, ALL, 0, zero, 1, ("", "")),
         (one, "deletions of sets that are there", types, ALL, 0, zero, 1, (sets("one", 5458), plain_sets)),
         (below, "deletions of sets that are there", types, ALL, 0, zero, 1, (sets(deep, 5458), plain_sets)),
         (combs, "deletions of sets of which most are there", types, ALL, 0, zero, 1, (sets(deep, 5458), plain_sets)),

@@ -156,8 +156,9 @@ def made(own, count, is_plain):
         if own["turns"] and own["kind"] == "act" and number % 2:
             rclass = ALL
         if is_plain:
-            # names of four octets aren't in the zone, so that a prerequisite that something isn't there holds
-            owner = name(numbered(number, 4 if own["kind"] == "check" and rclass == NONE else 3))
+            # names of four octets aren't in the zone, so that a prerequisite that something isn't there holds, and an alias is added
+            is_new = own["kind"] == "check" and rclass == NONE or own["kind"] == "act" and rtype == CNAME and rclass == IN
+            owner = name(numbered(number, 4 if is_new else 3))
         elif own["owner"] == "end":
             owner = pointer(last)
         elif own["owner"] == "label end":
