@@ -4,11 +4,11 @@ use Rattle.zone_tree.specs.Version.{Version}
 use Rattle.dnsd.proofs.serve.serve_all.Goals as goal
 
 pub serve_zone-requires-clause-first : goal.serve_zone-requires-clause-first
-serve_zone-requires-clause-first g c = record {
+serve_zone-requires-clause-first g c = λ _ _. record {
   number = ap (λ (v : Version). v.number) c.first-first.ensures;
   zone = refl;
   changes = ap (λ (v : Version). v.changes) c.first-first.ensures;
 }
 
 pub serve_zone-requires-clause-follow : goal.serve_zone-requires-clause-follow
-serve_zone-requires-clause-follow g c = rw c.new-later.ensures.items tt
+serve_zone-requires-clause-follow g c = λ _ _. rw c.new-later.ensures.items tt
