@@ -16,4 +16,3 @@ pub mod StoredLemmas
 pub mod TextLemmas
 pub mod NamedLemmas
 pub mod SoughtLemmas
-pub mod WriteLemmas

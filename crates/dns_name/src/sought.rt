@@ -1,13 +1,12 @@
 //! Names that are sought, lent from the room in which they are put in lower case.
-ghost use Rattle.std.specs.Prelude.{true, ◌≡◌, ◌≢◌, ◌⊎◌, ◌+◌, ◌-◌, ◌*◌, ◌<◌, ◌≤◌, ◌||◌, ℕ, [], ◌∷◌, ◌++◌, length, map, take, reverse, find, unwrap_or, slice_index};
-ghost use Rattle.std.specs.Bool.{OnTrue};
+ghost use Rattle.std.specs.Prelude.{true, ◌≡◌, ◌≢◌, ◌⊎◌, ◌+◌, ◌-◌, ◌*◌, ◌<◌, ◌≤◌, ◌||◌, ℕ, [], ◌∷◌, ◌++◌, length, map, take, drop, reverse, find, unwrap_or, slice_index};
 ghost use Rattle.std.specs.Char.{to_ascii_lowercase};
 ghost use Rattle.std.specs.List.{flat_map};
 ghost use Rattle.std.specs.Option.{option_copied};
 ghost use Rattle.dns_name.specs.Labels.{labels_in, IsWhole};
 ghost use Rattle.dns_name.specs.Name.{IsName, wire_of, fold_name, is_one_under, is_same, is_under, canonical_cmp, parent_of, self_and_ancestors, asterisk};
 ghost use Rattle.dns_name.specs.Sought.{IsCommonWith};
-ghost use Rattle.dns_name.specs.Stored.{stored_label, stored_of, name_stored, IsStored};
+ghost use Rattle.dns_name.specs.Stored.{stored_octet, stored_label, stored_of, name_stored, IsStored};
 
 use crate::name::{MAX_BELOW_ASTERISK, MAX_NAME, Name};
 use crate::octets::first_label;
@@ -31,65 +30,59 @@ fn put_folded(to: &mut SoughtRoom, label: &[u8])
     to.push(CLOSING);
 }
 
-/// What stands for labels in lower case behind the others, from the rightmost label on.
-fn put_all_folded(to: &mut SoughtRoom, octets: &[u8])
-    requires whole { IsWhole octets.now }
-    requires room { length to.old.items + 2 * length octets.now ≤ MAX_STORED }
-    ensures octets { to.new.items ≡ to.old.items ++ flat_map stored_label (reverse (fold_name (labels_in octets.now))) }
-    ensures len { length to.new.items ≤ length to.old.items + 2 * length octets.now }
+/// Writes what stands for an octet in front of a place, and gives the place where that begins.
+fn write_octet(out: &mut [u8], at: usize, octet: u8) -> usize
+    requires room { 2 ≤ at }
+    requires within { at ≤ length out.old }
+    ensures octets { drop result out.new ≡ stored_octet octet ++ drop at out.old }
+    ensures len { length out.new ≡ length out.old }
+    ensures most { at ≤ result + 2 }
+    ensures within { result ≤ at }
 {
-    if let Some((label, behind)) = first_label(octets) {
-        put_all_folded(to, behind);
-        put_folded(to, label);
+    if octet > ESCAPE {
+        out[at - 1] = octet;
+        return at - 1;
     }
+    out[at - 1] = octet + 1;
+    out[at - 2] = ESCAPE;
+    at - 2
 }
 
-/// Writes what stands for a label in lower case over as many octets; false where one of its octets has two that stand for it.
-fn write_folded(out: &mut [u8], label: &[u8]) -> bool
-    requires { length out.old ≡ length label.now + 1 }
-    ensures { OnTrue result (out.new ≡ stored_label (map to_ascii_lowercase label.now)) }
+/// Writes what stands for a label in lower case in front of a place, and gives the place where that begins.
+fn write_label(out: &mut [u8], end: usize, label: &[u8]) -> usize
+    requires room { 2 * length label.now + 1 ≤ end }
+    requires within { end ≤ length out.old }
+    ensures octets { drop result out.new ≡ stored_label (map to_ascii_lowercase label.now) ++ drop end out.old }
+    ensures len { length out.new ≡ length out.old }
+    ensures most { end ≤ result + 2 * length label.now + 1 }
+    ensures within { result ≤ end }
 {
-    out[label.len()] = CLOSING;
-    for (at, octet) in label.iter().enumerate() {
-        let lower = octet.to_ascii_lowercase();
-        if lower <= ESCAPE {
-            return false;
-        }
-        out[at] = lower;
+    out[end - 1] = CLOSING;
+    let mut at = end - 1;
+    let mut left = label.len();
+    while left > 0 {
+        left -= 1;
+        at = write_octet(out, at, label[left].to_ascii_lowercase());
     }
-    true
+    at
 }
 
-/// Writes what stands for labels in lower case, from the rightmost label on, over as many octets; false where an octet has two that stand
-/// for it.
-fn write_all_folded(out: &mut [u8], octets: &[u8]) -> bool
-    requires whole { IsWhole octets.now }
-    requires room { length out.old + 1 ≡ length octets.now }
-    ensures { OnTrue result (out.new ≡ flat_map stored_label (reverse (fold_name (labels_in octets.now)))) }
-{
-    let Some((label, behind)) = first_label(octets) else {
-        return true;
-    };
-    let (front, own) = out.split_at_mut(behind.len() - 1);
-    if !write_folded(own, label) {
-        return false;
-    }
-    write_all_folded(front, behind)
-}
-
-/// What stands for a name in lower case, where nothing is yet. Where no octet has two that stand for it, which is so of most names, they
-/// are written over as many as the name has, from the last one on.
+/// What stands for a name in lower case, where nothing is yet. It is written from the leftmost label on, each in front of those before it.
 pub(crate) fn put_name(to: &mut SoughtRoom, octets: &[u8])
     requires whole { IsWhole octets.now }
     requires short { length octets.now ≤ MAX_NAME }
     requires empty { to.old.items ≡ [] }
     ensures { to.new.items ≡ flat_map stored_label (reverse (fold_name (labels_in octets.now))) }
 {
-    let _ = to.try_extend_from_slice(&octets[1..]);
-    if !write_all_folded(to.as_mut_slice(), octets) {
-        to.clear();
-        put_all_folded(to, octets);
+    let mut out = [0_u8; MAX_STORED];
+    let mut start = MAX_STORED;
+    let mut rest = octets;
+    while let Some((label, behind)) = first_label(rest) {
+        start = write_label(&mut out, start, label);
+        rest = behind;
     }
+    let (_, own) = out.split_at(start);
+    let _ = to.try_extend_from_slice(own);
 }
 
 /// How many octets both begin with.
