@@ -153,6 +153,7 @@ fn spell_owner(
         return false;
     };
     match before {
+        Some(stored) if stored.octets() == record.owner().octets() => {}
         Some(stored) => owner.set_stored_behind(stored, record.owner()),
         None => owner.set_stored(record.owner()),
     }
