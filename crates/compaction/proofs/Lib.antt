@@ -1,0 +1,5 @@
+pub mod TrailLemmas
+pub mod MadeLemmas
+pub mod MarkedLemmas
+pub mod EndLemmas
+pub mod JudgedLemmas

@@ -1,0 +1,4 @@
+pub mod Trail
+pub mod Marked
+pub mod End
+pub mod Writer
