@@ -3,3 +3,5 @@ pub mod MadeLemmas
 pub mod MarkedLemmas
 pub mod EndLemmas
 pub mod JudgedLemmas
+pub mod ZonesLemmas
+pub mod CrashLemmas

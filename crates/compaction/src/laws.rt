@@ -1,9 +1,13 @@
 //! Laws of compactions: each is the contract of a function that does nothing.
-ghost use Rattle.std.specs.Prelude.{◌≡◌, ◌+◌, ◌≤◌, ◌<◌, ◌^◌, ◌++◌, ℕ, List, [], ◌∷◌, length, take, drop, map};
+ghost use Rattle.std.specs.Prelude.{◌≡◌, ◌+◌, ◌≤◌, ◌<◌, ◌^◌, ◌++◌, ℕ, List, [], ◌∷◌, Option, length, take, drop, map};
+ghost use Rattle.dns_name.specs.Name.{Name};
 ghost use Rattle.dns_rdata.specs.Record.{Record};
 ghost use Rattle.dns_message.specs.declared.update.Update.{Update};
-ghost use Rattle.zone_tree.specs.Version.{Version};
+ghost use Rattle.zone_tree.specs.Version.{Version, zone_serial};
 ghost use Rattle.update_core.specs.Act.{replay};
+ghost use Rattle.transfer_core.specs.Chain.{zones_of};
+ghost use Rattle.dns_engine.specs.Held.{KEPT, newest};
+ghost use Rattle.dns_engine.specs.Replayed.{EachChanges};
 ghost use Rattle.update_group.specs.Group.{newest_of};
 ghost use Rattle.lasting_engine.specs.Journal.{AreMadeBy};
 ghost use Rattle.journal.specs.declared.heads.Head.{Head};
@@ -13,8 +17,12 @@ ghost use Rattle.journal.specs.Recovered.{journal_of};
 ghost use Rattle.recovery.specs.declared.start.Start.{Start};
 ghost use Rattle.recovery.specs.Start.{IsStarted};
 ghost use Rattle.recovery.specs.Store.{IsStore};
+ghost use Rattle.stores.specs.declared.choices.Choice.{Choice};
+ghost use Rattle.stores.specs.declared.choices.Take.{Take};
 ghost use Rattle.stores.specs.Begun.{IsBegun};
 ghost use Rattle.stores.specs.Behind.{AreBehind};
+ghost use Rattle.stores.specs.Choice.{IsChoice};
+ghost use Rattle.stores.specs.Folder.{Folder, Means, HasPair, with_journal};
 ghost use Rattle.compaction.specs.declared.marked.Compaction.{Compaction};
 ghost use Rattle.compaction.specs.declared.step.Step.{Step};
 ghost use Rattle.compaction.specs.Trail.{TrailState, versions_in, updates_of, IsTrail, last_in, followed};
@@ -53,4 +61,31 @@ pub fn compactions_keep_the_versions()
     ensures trail { (text written : List ℕ) (head next : Head) (batches rest : List (List (List ℕ))) (zone : List Record) (updates : List Update) (trail : TrailState) (k m : ℕ)
         → IsEndOf text head batches zone updates trail (k + m) → IsStore written next [] (replay zone (take k updates)) [] → AreBehind k batches rest
         → IsEndOf written next rest (replay zone (take k updates)) (drop k updates) trail m }
+{}
+
+/// A start of a store has each version of a trail that is its end, with the zone that it has there; so has a start of the store that a compaction leaves, since the trail
+/// is the end of that one too ([`compactions_keep_the_versions`]). So who is no more versions back than are kept is told what changed (RFC 1995, 4).
+pub fn starts_have_their_trails()
+    ensures { (text : List ℕ) (head : Head) (batches : List (List (List ℕ))) (zone : List Record) (updates : List Update) (trail : TrailState) (k : ℕ) (start : Start)
+        → IsEndOf text head batches zone updates trail k → length trail.steps ≤ KEPT → IsStarted text (journal_of head batches) start
+        → newest (length trail.steps + 1) (zones_of (start.newest.older.items ++ start.newest.last ∷ [])) ≡ zones_of (trail.oldest ∷ versions_in trail.steps) }
+{}
+
+/// Which is served at a start, a store or the zone text that the operator names, is the same behind a compaction: the text that all began from is kept, and the serial of
+/// the last version.
+pub fn compactions_keep_the_choice()
+    ensures { (text written : List ℕ) (head next : Head) (batches rest : List (List (List ℕ))) (zone : List Record) (updates : List Update) (k number : ℕ)
+        (random : List ℕ) (start later : Start) (origin : Name) (given : List ℕ) (taken : Option Take) (choice : Choice)
+        → IsStore text head batches zone updates → k ≤ length updates → IsBegun (replay zone (take k updates)) number random head.origin written next → AreBehind k batches rest
+        → IsStarted text (journal_of head batches) start → IsStarted written (journal_of next rest) later
+        → IsChoice start.head.origin (zone_serial start.newest.last.zone) origin given taken choice
+        → IsChoice later.head.origin (zone_serial later.newest.last.zone) origin given taken choice }
+{}
+
+/// Whatever octets a crash leaves behind the batches of a folder that means a store, at each step of a compaction, a start has all of the store's updates first.
+pub fn what_a_crash_leaves_is_started()
+    ensures { (folder : Folder) (head : Head) (batches : List (List (List ℕ))) (zone : List Record) (updates : List Update) (left octets text : List ℕ) (start : Start)
+        → Means folder head batches zone updates → HasPair (with_journal folder (journal_of head batches ++ left)) octets text → IsStarted text octets start
+        → (start.head ≡ head) × ((more : List Update) × EachChanges zone (updates ++ more) × (start.newest.last.zone ≡ replay zone (updates ++ more))
+        × (start.newest.last.number ≡ length (updates ++ more))) }
 {}

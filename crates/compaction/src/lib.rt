@@ -6,8 +6,9 @@
 //! is given up for another, so that no two are written to one file; and only the text of the compaction that is under way gets a journal: one that ends late comes
 //! to nothing. Its [`NextJournal`] belongs to that text, and has them all
 //! under a head of its own; once it is the store's journal, the log goes on with it, also one that is stuck. Both stores have the same versions
-//! ([`compactions_keep_the_versions`]), so a crash leaves a start of the same zone whichever of them it leaves; and a start of the later one has the versions that
-//! the trail has. No file is here: `store_files` writes the text and puts the journal in place.
+//! ([`compactions_keep_the_versions`]), so a crash leaves a start of the same zone whichever of them it leaves, and of which the same is served
+//! ([`compactions_keep_the_choice`], [`what_a_crash_leaves_is_started`]); and a start of the later one has the versions that the trail has
+//! ([`starts_have_their_trails`]). No file is here: `store_files` writes the text and puts the journal in place.
 #![tactic(auto)]
 
 mod body;
@@ -22,7 +23,10 @@ mod together;
 mod trail;
 mod writer;
 
-pub use laws::{compactions_keep_the_versions, trails_end_their_stores};
+pub use laws::{
+    compactions_keep_the_choice, compactions_keep_the_versions, starts_have_their_trails,
+    trails_end_their_stores, what_a_crash_leaves_is_started,
+};
 pub use marked::{Compaction, next_text};
 pub use next::{NextJournal, NextText};
 pub use start::updates_behind;
