@@ -1,5 +1,5 @@
 -- Keys in ascending order, with one more in its place.
-use Rattle.std.proofs.Common.{◌≡◌, refl, sym, ap, ◌∙◌, ◌+◌, ◌<◌, Bool, true, false, not, ◌&&◌, ◌||◌, List, [], ◌∷◌, length, arith, true≢false}
+use Rattle.std.proofs.Common.{◌≡◌, refl, sym, ap, ◌∙◌, ◌+◌, ◌<◌, Bool, true, false, cond, not, ◌&&◌, ◌||◌, List, [], ◌∷◌, length, arith, true≢false}
 use Rattle.std.specs.declared.cmp.Ordering.{Ordering}
 use Rattle.std.specs.declared.cmp.Ordering.TheVariants.{Less, Equal, Greater}
 use Rattle.std.specs.Cmp.{IsTotalOrder}
@@ -78,3 +78,41 @@ module _ {X : Type 0} {cmp : X → X → Ordering} (total : IsTotalOrder cmp) wh
   pub some_tied : (p : X → Bool) → ((k x : X) → cmp k x ≡ Equal → p k ≡ p x) → (k : X) (xs : List X) → p k ≡ true → list_any (is_at (cmp k)) xs ≡ true → 0 < length (filter p xs)
   some_tied p same k [] shows any = absurd (true≢false (sym any))
   some_tied p same k (x ∷ xs) shows any = some_first p k x xs (cmp k x) refl (same k x) shows any (some_tied p same k xs shows)
+
+  in_front : (k : X) (xs : List X) → AllByRecursion (Below k) xs → insert_key cmp xs k ≡ k ∷ xs
+  in_front k [] h = refl
+  in_front k (x ∷ xs) h = ap (λ (o : Ordering). match_ordering o (k ∷ x ∷ xs) (x ∷ xs) (x ∷ insert_key cmp xs k)) (less (cmp k x) h.0)
+
+  each_filtered : (P : X → Type 0) (p : X → Bool) (xs : List X) → AllByRecursion P xs → AllByRecursion P (filter p xs)
+  each_filtered P p [] h = tt
+  each_filtered P p (x ∷ xs) h = by (p x) (each_filtered P p xs h.1)
+    where
+      by : (b : Bool) → AllByRecursion P (filter p xs) → AllByRecursion P (cond b (x ∷ filter p xs) (filter p xs))
+      by true more = (h.0, more)
+      by false more = more
+
+  filter_placed : (k x : X) (b c : Bool) (xs more : List X) (o : Ordering) → cmp k x ≡ o → (o ≡ Equal → b ≡ c) → (o ≡ Less → AllByRecursion (Below k) xs) → more ≡ cond b (insert_key cmp xs k) xs
+      → match_ordering o (cond b (k ∷ cond c (x ∷ xs) xs) (cond c (x ∷ xs) xs)) (cond c (x ∷ xs) xs) (cond c (x ∷ more) more) ≡ cond b (insert_key cmp (cond c (x ∷ xs) xs) k) (cond c (x ∷ xs) xs)
+  filter_placed k x true true xs more o e tied above so = by o e so
+    where
+      by : (o : Ordering) → cmp k x ≡ o → more ≡ insert_key cmp xs k → match_ordering o (k ∷ x ∷ xs) (x ∷ xs) (x ∷ more) ≡ insert_key cmp (x ∷ xs) k
+      by o e so = ap (λ (ys : List X). match_ordering o (k ∷ x ∷ xs) (x ∷ xs) (x ∷ ys)) so ∙ ap (λ (o : Ordering). match_ordering o (k ∷ x ∷ xs) (x ∷ xs) (x ∷ insert_key cmp xs k)) (sym e)
+  filter_placed k x true false xs more Less e tied above so = sym (in_front k xs (above refl))
+  filter_placed k x true false xs more Equal e tied above so = absurd (true≢false (tied refl))
+  filter_placed k x true false xs more Greater e tied above so = so
+  filter_placed k x false c xs more Less e tied above so = refl
+  filter_placed k x false c xs more Equal e tied above so = refl
+  filter_placed k x false c xs more Greater e tied above so = ap (λ (ys : List X). cond c (x ∷ ys) ys) so
+
+  filter_chosen : (p : X → Bool) (o : Ordering) (xs ys zs : List X) → filter p (match_ordering o xs ys zs) ≡ match_ordering o (filter p xs) (filter p ys) (filter p zs)
+  filter_chosen p Less xs ys zs = refl
+  filter_chosen p Equal xs ys zs = refl
+  filter_chosen p Greater xs ys zs = refl
+
+  -- what a test that tied keys pass alike shows of keys with one more
+  pub filter_inserted : (p : X → Bool) → ((k x : X) → cmp k x ≡ Equal → p k ≡ p x) → (k : X) (xs : List X) → Rises Below xs → filter p (insert_key cmp xs k) ≡ cond (p k) (insert_key cmp (filter p xs) k) (filter p xs)
+  filter_inserted p same k [] h = refl
+  filter_inserted p same k (x ∷ xs) h =
+      filter_chosen p (cmp k x) (k ∷ x ∷ xs) (x ∷ xs) (x ∷ insert_key cmp xs k)
+      ∙ filter_placed k x (p k) (p x) (filter p xs) (filter p (insert_key cmp xs k)) (cmp k x) refl (same k x)
+      (λ e. each_filtered (Below k) p xs (each_weaker (Below x) (Below k) (λ y b. chains k x y (ap is_lt e) b) xs h.0)) (filter_inserted p same k xs h.1)

@@ -160,6 +160,35 @@ pub not_nil : (rs : List Record) → rs ≢ [] → 0 < length rs
 not_nil [] h = absurd (h refl)
 not_nil (r ∷ rs) h = omega arith
 
+-- where aliases stand alone and no cut at `*`, they are apart
+alone_of : (zone : List Record) (owner : List (List ℕ)) → All (λ r. is_alone zone r ≡ true) zone → 0 < length (rrset_of zone owner type_CNAME) → length (rrsets_of zone owner) ≤ 1
+alone_of zone owner each some =
+    from_counted (λ (r : Record). is_alone zone r ≡ true) (is_of owner type_CNAME) (length (rrsets_of zone owner) ≤ 1)
+    (λ r alone same.
+    let parts = both_true (is_same r.owner owner) (r.rtype == type_CNAME) same in
+    let n : (length (rrsets_of zone r.owner) == 1) ≡ true = alias_alone (r.rtype == type_CNAME) (length (rrsets_of zone r.owner) == 1) parts.1 alone in
+    let a = same_at zone r.owner owner parts.0 in
+    let b = (Decides-eqb (length (rrsets_of zone r.owner)) 1).0 n in
+    omega arith)
+    zone (recursion_from_All (λ (r : Record). is_alone zone r ≡ true) zone each) some
+
+pub apart_of : (zone : List Record) → All (λ r. is_alone zone r ≡ true) zone → All (λ r. is_wild r.owner && r.rtype == type_NS ≡ false) zone → AreApart zone
+apart_of zone each cuts = record {
+  alone = λ owner some. alone_of zone owner each some;
+  cuts = each_none is_wild_cut zone (recursion_from_All (λ (r : Record). is_wild r.owner && r.rtype == type_NS ≡ false) zone cuts);
+}
+
+-- and so are those that are shown so
+pub apart_shown_so : (ps : List RecordEntry) (kept : List Record) → AreApart (map (shown ps) kept) → AreApart kept
+apart_shown_so ps kept apart = record {
+  alone = λ owner some.
+      let a = count_map (is_of owner type_CNAME) (shown ps) (shown_of ps owner type_CNAME) kept in
+      let b = count_map (stands_at owner) (shown ps) (shown_at ps owner) kept in
+      let c = apart.alone owner (omega arith) in
+      omega arith;
+  cuts = let a = count_map is_wild_cut (shown ps) (shown_cut ps) kept in let b = apart.cuts in omega arith;
+}
+
 module _ (ps : List RecordEntry) where
   -- the zone's records
   abbrev zone : List Record
@@ -252,17 +281,6 @@ module _ (ps : List RecordEntry) where
           (λ r few same. let a = same_set zone r.owner owner r.rtype rtype same in omega arith) zone (recursion_from_All (λ (r : Record). length (rrset_of zone r.owner r.rtype) ≤ 256) zone small) (grind (arith, nat_tests))
       by false e = let none : length (rrset_of zone owner rtype) ≡ 0 = grind (arith, nat_tests) in omega arith
 
-  alone_of : (owner : List (List ℕ)) → All (λ r. is_alone zone r ≡ true) zone → 0 < length (rrset_of zone owner type_CNAME) → length (rrsets_of zone owner) ≤ 1
-  alone_of owner each some =
-      from_counted (λ (r : Record). is_alone zone r ≡ true) (is_of owner type_CNAME) (length (rrsets_of zone owner) ≤ 1)
-      (λ r alone same.
-      let parts = both_true (is_same r.owner owner) (r.rtype == type_CNAME) same in
-      let n : (length (rrsets_of zone r.owner) == 1) ≡ true = alias_alone (r.rtype == type_CNAME) (length (rrsets_of zone r.owner) == 1) parts.1 alone in
-      let a = same_at zone r.owner owner parts.0 in
-      let b = (Decides-eqb (length (rrsets_of zone r.owner)) 1).0 n in
-      omega arith)
-      zone (recursion_from_All (λ (r : Record). is_alone zone r ≡ true) zone each) some
-
   -- and what the records kept hold by it
   pub are_few : length zone ≤ 1000000 → All (λ r. length (rrset_of zone r.owner r.rtype) ≤ 256) zone → AreFew (with_all [] ps)
   are_few few small = record {
@@ -271,10 +289,7 @@ module _ (ps : List RecordEntry) where
   }
 
   pub are_apart : All (λ r. is_alone zone r ≡ true) zone → All (λ r. is_wild r.owner && r.rtype == type_NS ≡ false) zone → AreApart (with_all [] ps)
-  are_apart each cuts = record {
-    alone = λ owner some. let a = set_count owner type_CNAME in let b = at_count owner in let c = alone_of owner each (omega arith) in omega arith;
-    cuts = let a = cut_count in let b = each_none is_wild_cut zone (recursion_from_All (λ (r : Record). is_wild r.owner && r.rtype == type_NS ≡ false) zone cuts) in omega arith;
-  }
+  are_apart each cuts = apart_shown_so ps (with_all [] ps) (apart_of zone each cuts)
 
   -- what the records kept hold of a zone
   pub of_is_zone : IsZone (zone_records ps) → AreOfZone (with_all [] ps)

@@ -1,4 +1,5 @@
 pub mod AgainLemmas
+pub mod CrowdedLemmas
 pub mod FaultyLemmas
 pub mod InsertLemmas
 pub mod IsZoneLemmas

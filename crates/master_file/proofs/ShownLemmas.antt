@@ -171,7 +171,7 @@ owner_of_shown : (ps : List RecordEntry) (rs : List Record) → owner_of (map (s
 owner_of_shown ps [] = refl
 owner_of_shown ps (r ∷ rs) = shown_owner ps r
 
-filter_shown : (q : Record → Bool) (f : Record → Record) → ((r : Record) → q (f r) ≡ q r) → (rs : List Record) → filter q (map f rs) ≡ map f (filter q rs)
+pub filter_shown : (q : Record → Bool) (f : Record → Record) → ((r : Record) → q (f r) ≡ q r) → (rs : List Record) → filter q (map f rs) ≡ map f (filter q rs)
 filter_shown q f same [] = refl
 filter_shown q f same (r ∷ rs) = by (q (f r)) (q r) (same r) (filter_shown q f same rs)
   where

@@ -11,8 +11,9 @@ ghost use Rattle.zone_tree.specs.Zone.{soa_of, is_alone, is_wild};
 ghost use Rattle.master_file.specs.declared.record_entry.RecordEntry.{RecordEntry};
 ghost use Rattle.master_file.specs.FaultyLine.{shows};
 ghost use Rattle.master_file.specs.Records.{records_of};
-ghost use Rattle.master_file.specs.ZoneText.{first_line, is_too_many, outside_line, zone_of_read, zone_of_text, zone_records};
+ghost use Rattle.master_file.specs.ZoneText.{first_line, is_conflict, is_too_many, outside_line, zone_of_read, zone_of_text, zone_records};
 
+use crate::crowded::{keep_others, likely_owners, records_at};
 use crate::fault::FileFault;
 use crate::kept::KeptRecord;
 use crate::likely::Likely;
@@ -190,6 +191,31 @@ fn first_shown(
     Ok(line_at(records, low))
 }
 
+/// The line of the first of records that is in conflict. It is sought among those whose owners are in conflict in the whole, where
+/// the sets at all other owners have none.
+fn first_conflict(
+    alloc: Global,
+    records: &[KeptRecord],
+    mut sets: Vec<RRset>,
+    likely: &Likely,
+) -> Result<u64, AllocError>
+    requires few { first_line is_too_many [] records.now ≡ None }
+    requires sets { records_in sets.items ≡ zone_records records.now }
+    requires rising { AreAscending sets.items }
+    requires shown { first_line is_conflict [] records.now ≡ None → ⊥ }
+    ensures { IfOk result (λ line. first_line is_conflict [] records.now ≡ Some line) }
+{
+    let owners = likely_owners(alloc, &sets)?;
+    keep_others(&mut sets, &owners);
+    let Ok(false) = has_conflict(&sets) else {
+        drop(sets);
+        return first_shown(alloc, records, Sought::Conflict, likely);
+    };
+    drop(sets);
+    let crowded = records_at(alloc, records, &owners)?;
+    first_shown(alloc, &crowded, Sought::Conflict, likely)
+}
+
 /// The line of the first of records that isn't at or below the apex.
 fn first_outside(records: &[KeptRecord], apex: &Name) -> Option<u64>
     ensures { result ≡ outside_line apex.now records.now }
@@ -244,14 +270,13 @@ fn judge(
         Ok(apex) => apex,
         Err(_) => return Ok(told(0, Cause::Apex)),
     };
-    drop(sets);
     if !apex.has_name_server {
         return Ok(told(0, Cause::Apex));
     }
     if let Some(line) = first_outside(records, &apex.name) {
         return Ok(told(line, Cause::Outside));
     }
-    let line = first_shown(alloc, records, Sought::Conflict, likely)?;
+    let line = first_conflict(alloc, records, sets, likely)?;
     Ok(told(line, Cause::Conflict))
 }
 

@@ -5,6 +5,7 @@ ghost use Rattle.std.specs.Prelude.{◌≡◌, ◌<◌, ◌^◌, IfOk, true, ref
 ghost use Rattle.dns_name.specs.Name.{fold_name, is_same, is_under};
 ghost use Rattle.dns_rdata.specs.Record.{owner_of};
 ghost use Rattle.master_file.specs.SetOrder.{is_set_of, set_order, set_order_total, set_order_equiv};
+ghost use Rattle.master_file.specs.FaultyLine.{is_among};
 ghost use Rattle.master_file.specs.ZoneText.{record_in};
 ghost use Rattle.zone_tree.specs.Zone.{is_wild};
 
@@ -13,6 +14,7 @@ use dns_name::{Name, StoredName};
 use dns_rdata::{RData, RRset, RType, Ttl};
 use std::alloc::{AllocError, Global};
 use std::cmp::Ordering;
+use std::collections::BTreeSet;
 use std::marker::Model;
 use zone_tree::has_asterisk;
 
@@ -88,6 +90,13 @@ impl KeptRecord {
         ensures { result ≡ is_wild self.now.owner }
     {
         has_asterisk(&self.owner.to_name())
+    }
+
+    /// Whether its owner is among others.
+    pub(crate) fn is_at(&self, owners: &BTreeSet<StoredName>) -> bool
+        ensures { result ≡ is_among owners.now.keys self.now.owner }
+    {
+        owners.contains(&self.owner)
     }
 
     /// Whether another record has its owner.

@@ -5,6 +5,7 @@
 #![tactic(auto)]
 
 mod context;
+mod crowded;
 mod examples;
 mod fault;
 mod faulty;

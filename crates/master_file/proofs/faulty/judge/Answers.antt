@@ -34,8 +34,8 @@ returns-in-Some c =
     told_outside read c.deref-2.result.now is refl c.requires.few c.in-Ok.ensures.one (rw c.if-not-apex.false at c.in-Ok.ensures.served) c.in-Ok.apex.name c.in-Ok.ensures.apex c.in-Some.line (sym c.in-Some.is ∙ c.first_outside.ensures)
     ∙ ap Err (sym c.told-in-Some.ensures)
 
-pub first_shown-requires-2-clause-shown : goal.first_shown-requires-2-clause-shown
-first_shown-requires-2-clause-shown c = λ none.
+pub first_conflict-requires-clause-shown : goal.first_conflict-requires-clause-shown
+first_conflict-requires-clause-shown c = λ none.
     let read : Read = record { rrs = c.args.records.now; fault = None } in
     let is : records_in c.deref-2.result.now ≡ zone_records c.args.records.now = ap records_in c.deref-2.ensures.value ∙ c.requires.sets in
     c.requires.refused (zone_records read.rrs)
