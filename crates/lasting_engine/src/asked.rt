@@ -1,5 +1,5 @@
 //! An update that is asked for (RFC 2136, 2).
-ghost use Rattle.std.specs.Prelude.{◌≡◌, ◌<◌, ◌^◌, length, IfSome};
+ghost use Rattle.std.specs.Prelude.{◌≡◌, ◌<◌, ◌≤◌, ◌^◌, length, IfSome, MatchOption};
 ghost use Rattle.dns_message.specs.Request.{reads};
 ghost use Rattle.dns_message.specs.declared.query.Parsed.TheVariants.{Update as Says};
 
@@ -29,16 +29,47 @@ impl Asked {
         ensures octets { IfSome result (λ asked. asked.octets ≡ octets) }
         ensures may { IfSome result (λ asked. asked.may ≡ may) }
     {
+        match parse(alloc, &octets) {
+            Parsed::Update(update) => Asked::of(update, octets, may),
+            _ => None,
+        }
+    }
+
+    /// An update that was read of these octets, sent by a peer that may update, or may not. None where they are more than 65,535.
+    pub fn of(update: Update, octets: Vec<u8>, may: bool) -> Option<Asked>
+        requires { reads octets.items ≡ Says update }
+        ensures { MatchOption result (2 ^ 16 ≤ length octets.items) (λ asked. (asked.update ≡ update) × (asked.octets ≡ octets) × (asked.may ≡ may)) }
+    {
         if octets.len() > MOST {
             return None;
         }
-        match parse(alloc, &octets) {
-            Parsed::Update(update) => Some(Asked {
-                update,
-                octets,
-                may,
-            }),
-            _ => None,
-        }
+        Some(Asked {
+            update,
+            octets,
+            may,
+        })
+    }
+
+    /// The update.
+    pub fn update(&self) -> &Update
+        ensures update { result.now ≡ self.now.update }
+        ensures read { reads self.now.octets.items ≡ Says result.now }
+    {
+        &self.update
+    }
+
+    /// Its octets, as they were received.
+    pub fn octets(&self) -> &[u8]
+        ensures octets { result.now ≡ self.now.octets.items }
+        ensures short { length result.now < 2 ^ 16 }
+    {
+        &self.octets
+    }
+
+    /// Whether its peer may update.
+    pub fn may(&self) -> bool
+        ensures { result ≡ self.now.may }
+    {
+        self.may
     }
 }

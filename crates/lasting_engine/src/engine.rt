@@ -8,7 +8,8 @@ ghost use Rattle.lasting_engine.specs.Journal.{IsJournal};
 ghost use Rattle.lasting_engine.specs.Lasting.{IsKept, IsRefused};
 
 use crate::asked::Asked;
-use dns_engine::{Engine, FirstZone, Judged, SharedVersion, VersionCell, judge};
+use crate::judge::judge_asked;
+use dns_engine::{Engine, FirstZone, SharedVersion, VersionCell};
 use journal_store::{Disk, Log, LogFault};
 use snapshot_cell::Naming;
 use std::alloc::{AllocError, Global};
@@ -56,15 +57,11 @@ impl<'a, Z: FirstZone, N: Naming> Judging for LastingEngine<'a, Z, N> {
         version: &SharedVersion,
         asked: &Asked,
     ) -> Judgement<SharedVersion> {
-        match judge(alloc, version, &asked.update, asked.may) {
-            Judged::Told(code) => Judgement::Told(code.number()),
-            Judged::Made(next) => Judgement::Made(next),
-            Judged::Starved => Judgement::Starved,
-        }
+        judge_asked(alloc, version, asked)
     }
 
     fn octets_of<'b>(&self, asked: &'b Asked) -> &'b [u8] {
-        &asked.octets
+        asked.octets()
     }
 }
 

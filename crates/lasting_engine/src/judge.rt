@@ -1,0 +1,23 @@
+//! Judging updates in versions that are given, with no engine (RFC 2136, 3).
+ghost use Rattle.lasting_engine.specs.Asked.{passes, tells, makes};
+ghost use Rattle.update_group.specs.Engine.{IsJudged};
+
+use crate::asked::Asked;
+use dns_engine::{Judged, SharedVersion, judge};
+use std::alloc::Global;
+use update_group::Judgement;
+
+/// What an update does in a version. It takes memory.
+pub fn judge_asked(
+    alloc: Global,
+    version: &SharedVersion,
+    asked: &Asked,
+) -> Judgement<SharedVersion>
+    ensures { IsJudged passes tells makes version.now asked.now result }
+{
+    match judge(alloc, version, &asked.update, asked.may) {
+        Judged::Told(code) => Judgement::Told(code.number()),
+        Judged::Made(next) => Judgement::Made(next),
+        Judged::Starved => Judgement::Starved,
+    }
+}
