@@ -252,7 +252,7 @@ same_replied first peer known later version request out octets said len replayed
     messages : take len out ∷ [] ≡ option_to_list (got_of peer.transport peer.may_update ForNothing version.zone said).reply
     messages = ap (λ (o : List ℕ). o ∷ []) written ∙ sym (ap (λ (g : Got). option_to_list g.reply) gets)
 
-no_code : (zone after : List Record) (update : Update) (may : Bool) → verdict zone update may ≡ None → act zone update ≡ Some after → code_of zone update may ≡ None
+pub no_code : (zone after : List Record) (update : Update) (may : Bool) → verdict zone update may ≡ None → act zone update ≡ Some after → code_of zone update may ≡ None
 no_code zone after update may taken acts =
     ap (λ v. option_or v (if is_some (act zone update) then None else Some ServFail)) taken ∙ ap (λ (o : Option (List Record)). if is_some o then None else Some ServFail) acts
 
