@@ -1,3 +1,4 @@
 pub mod DeskLemmas
 pub mod JudgedLemmas
+pub mod MetLemmas
 pub mod SendLemmas
