@@ -657,21 +657,19 @@ def measure_cases(program, cases, rounds):
 def measure_aliases(program, rounds):
     for what, zone, dear, plain in aliases():
         server = Server(program, small_zone(zone))
-        # some of each at once, since one is too short
-        many = []
-        for messages in ([dear] * 102, plain * 6):
-            framed = b"".join(struct.pack(">H", len(message)) + message for message in messages)
+        # each is asked once the reply to the one before has come, five times over, since once is too short
+        costs = []
+        for messages in ([dear], plain):
             own = []
             for _ in range(rounds + 1):
                 server.connected()
                 before = server.spent()
-                server.stream.sendall(framed)
-                for _ in messages:
-                    next_message(server.stream)
-                own.append((server.spent() - before) / 1000 / len(messages))
-            many.append(min(own))
+                for message in messages * 5:
+                    server.ask(message)
+                own.append((server.spent() - before) / 5000)
+            costs.append(min(own))
         server.end()
-        told(f"{what}, beside 17 plain queries (of one: {many[0]:.2f} and {many[1]:.2f})", many[0], 17 * many[1])
+        told(f"{what}, beside 17 plain queries", costs[0], costs[1])
 
 
 def measure_transfers(program, rounds):
