@@ -1,8 +1,9 @@
 #!/usr/bin/env bash
 # Makes zones of so many records, in canonical order and shuffled, and prints what reading and writing them costs: processor time,
 # records a second, peak memory, and octets of memory a record, in whole and beside the text's own; of `dnsd check` (read and written), of
-# `dnsd answer` without a query (read alone), of `dnsd check` over the same text whose last line is refused for a conflict, with how many
-# times an accepted one's time that is, and of kzonecheck, nsd-checkzone and named-compilezone where these are installed.
+# `dnsd answer` without a query (read alone), of `dnsd check` over the same text whose last line is refused, for a conflict, a second SOA, the
+# 257th record of a set, and the 1,000,001st of the zone, with how many times an accepted one's time each is, and of kzonecheck, nsd-checkzone
+# and named-compilezone where these are installed.
 # Usage: [DNSD=PROGRAM] bench/load.sh [RECORDS ..], by default 10000 100000 1000000. `make dnsd` builds the program.
 set -euo pipefail
 cd "$(dirname "$0")/.."
@@ -80,15 +81,28 @@ else:
 PY
 }
 
+# Prints the zone with a fault on its last line: a conflict, a second SOA, the 257th record of a set, or a record more than a zone may have.
+refused() {
+    case $1 in
+        conflict) head -n -1 "$work/zone"; echo "example.test. 3600 IN CNAME host.example.test." ;;
+        soa) head -n -1 "$work/zone"; echo "example.test. 3600 IN SOA ns1.example.test. admin.example.test. 2 7200 900 1209600 300" ;;
+        set) head -n -257 "$work/zone"; for n in {0..256}; do echo "crowd.example.test. 60 IN A 10.0.$((n / 256)).$((n % 256))"; done ;;
+        limit) cat "$work/zone"; echo "one.more.example.test. 60 IN A 10.0.0.1" ;;
+    esac
+}
+
 for records in ${@:-10000 100000 1000000}; do for order in sorted shuffled; do
     zone "$records" "$order" > "$work/zone"
     echo "$records records, $order, $(stat -c %s "$work/zone") octets of text"
     measure "dnsd check" "$records" 0 "$program" check "$work/zone"
     measure "dnsd answer" "$records" 0 "$program" answer "$work/zone"
-    # the last record is a conflict with the first
-    { head -n -1 "$work/zone" && echo "example.test. 3600 IN CNAME host.example.test."; } > "$work/refused"
-    measure "dnsd refused" "$records" 1 "$program" check "$work/refused"
-    paste "$work"/cost.dnsd_{refused,check,answer} | awk 'NF == 3 { printf "  %-18s %8.2f times an accepted text'"'"'s time that is printed, %.2f that is read alone\n", "refused", $1 / $2, $1 / $3 }'
+    for fault in conflict soa set limit; do
+        if [ "$fault" = limit ] && [ "$records" -ne 1000000 ]; then continue; fi
+        refused "$fault" > "$work/refused"
+        measure "refused for $fault" "$records" 1 "$program" check "$work/refused"
+        paste "$work/cost.refused_for_$fault" "$work"/cost.dnsd_{check,answer} |
+            awk 'NF == 3 { printf "  %-18s %8.2f times an accepted text'"'"'s time that is printed, %.2f that is read alone\n", "", $1 / $2, $1 / $3 }'
+    done
     if command -v kzonecheck > /dev/null; then measure kzonecheck "$records" 0 kzonecheck -o example.test. "$work/zone"; fi
     if command -v nsd-checkzone > /dev/null; then measure nsd-checkzone "$records" 0 nsd-checkzone example.test. "$work/zone"; fi
     if command -v named-compilezone > /dev/null; then

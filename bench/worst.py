@@ -654,20 +654,22 @@ def measure_cases(program, cases, rounds):
         told(case.what, dear, plain, base, f" (codes {codes[0]}, {codes[1]})")
 
 
+def asked_in_turn(server, messages, rounds):
+    """What these messages cost together, in microseconds, the least of so many rounds, and their replies: each is asked once the reply to the one before has come,
+    five times over, since once is too short."""
+    costs = []
+    for _ in range(rounds):
+        server.connected()
+        before = server.spent()
+        replies = [server.ask(message)[0] for message in messages * 5]
+        costs.append((server.spent() - before) / 5000)
+    return min(costs), replies[: len(messages)]
+
+
 def measure_aliases(program, rounds):
     for what, zone, dear, plain in aliases():
         server = Server(program, small_zone(zone))
-        # each is asked once the reply to the one before has come, five times over, since once is too short
-        costs = []
-        for messages in ([dear], plain):
-            own = []
-            for _ in range(rounds + 1):
-                server.connected()
-                before = server.spent()
-                for message in messages * 5:
-                    server.ask(message)
-                own.append((server.spent() - before) / 5000)
-            costs.append(min(own))
+        costs = [asked_in_turn(server, messages, rounds + 1)[0] for messages in ([dear], plain)]
         server.end()
         told(f"{what}, beside 17 plain queries", costs[0], costs[1])
 
