@@ -1,0 +1,174 @@
+//! A board on which versions are published, and which keeps what is told. A version is a number, and an update the octet that is added to it.
+ghost use Rattle.std.specs.Prelude.{◌++◌, ◌∷◌, [], ◌-◌, vec_len, vec_capacity, length, ◌<◌, ◌^◌};
+
+use journal_store::LogFault;
+use std::alloc::{AllocError, Global};
+use std::mem;
+use std::sync::Wait;
+use told_disks::DiskFault;
+use update_group::{Engine, Group, Judgement, Judging, publish_group};
+use update_job::{Faults, Publishing};
+
+/// How many versions the board has room for.
+const ROOM: usize = 16;
+
+/// A version.
+#[derive(Clone, Copy)]
+pub(crate) struct Sum(pub(crate) u64);
+
+/// An update: an octet that is added. None is out of form, 0 changes nothing, and for 255 there is no memory.
+#[derive(Drop)]
+pub(crate) struct Added {
+    octets: Vec<u8>,
+    ghost short: { length octets.items < 2 ^ 16 },
+}
+
+impl Added {
+    /// One that adds an octet.
+    pub fn of(alloc: Global, octet: u8) -> Result<Added, AllocError> {
+        let mut octets = Vec::new(alloc);
+        octets.push(octet)?;
+        Ok(Added { octets })
+    }
+
+    /// One that is out of form.
+    pub fn none(alloc: Global) -> Added {
+        Added {
+            octets: Vec::new(alloc),
+        }
+    }
+}
+
+/// The versions that are published, and what was told of updates.
+#[derive(Drop)]
+pub(crate) struct Board {
+    before: Vec<Sum>,
+    pub(crate) last: Sum,
+    begun: usize,
+    pub(crate) told: Vec<(Option<u8>, u8)>,
+    /// Whether another one publishes when a batch is judged.
+    pub(crate) overtaken: bool,
+}
+
+impl Board {
+    /// A board with one version, the number 0.
+    pub fn new(alloc: Global, overtaken: bool) -> Result<Board, AllocError> {
+        Ok(Board {
+            before: Vec::with_capacity(alloc, ROOM)?,
+            last: Sum(0),
+            begun: 0,
+            told: Vec::with_capacity(alloc, ROOM)?,
+            overtaken,
+        })
+    }
+
+    /// How many versions are published.
+    pub fn published(&self) -> usize {
+        self.before.len().saturating_add(1)
+    }
+}
+
+impl Judging for Board {
+    type Version = Sum;
+
+    type Asked = Added;
+
+    ghost octets = { λ added. added.octets.items };
+
+    ghost passes = { λ _ _. Unit {0} };
+
+    ghost tells = { λ _ _ _. Unit {0} };
+
+    ghost makes = { λ _ _ _. Unit {0} };
+
+    fn judge(&self, _alloc: Global, version: &Sum, asked: &Added) -> Judgement<Sum> {
+        match asked.octets.first() {
+            None => Judgement::Told(1),
+            Some(0) => Judgement::Told(0),
+            Some(255) => Judgement::Starved,
+            Some(octet) => Judgement::Made(Sum(version.0.saturating_add(u64::from(*octet)))),
+        }
+    }
+
+    fn octets_of<'a>(&self, asked: &'a Added) -> &'a [u8] {
+        &asked.octets
+    }
+}
+
+impl Engine for Board {
+    ghost published = { λ board. board.before.items ++ board.last ∷ [] };
+
+    ghost free = { λ board. vec_capacity board.before - vec_len board.before };
+
+    fn last(&self) -> &Sum {
+        &self.last
+    }
+
+    fn count(&mut self) -> usize {
+        self.before.capacity() - self.before.len()
+    }
+
+    fn publish(&mut self, version: Sum) {
+        let before = mem::replace(&mut self.last, version);
+        self.before.push_reserved(before);
+    }
+}
+
+impl Publishing for Board {
+    ghost use Rattle.std.specs.Prelude.{◌≡◌, ◌++◌, ◌∷◌, [], None, IfOk, IfErr};
+    ghost use Rattle.update_group.specs.Engine.{IsLast, AreMade};
+    ghost use Rattle.update_group.specs.Group.{codes_of, versions_of};
+    ghost use Rattle.update_job.specs.Done.{BeginsWith};
+    ghost use Rattle.job_tests.specs.declared.board.Added.{Added};
+    ghost use Rattle.job_tests.specs.declared.board.Sum.{Sum};
+
+    ghost seen = { λ board. board.before.items ++ board.last ∷ [] };
+
+    ghost begun = { λ board. board.begun };
+
+    ghost told = { λ _. None };
+
+    fn begin<R: Wait>(&mut self, _rt: &R) -> (Sum, usize) {
+        self.begun = self.before.len() + 1;
+        (self.last, self.count())
+    }
+
+    fn publish<R: Wait>(&mut self, _rt: &R, group: Group<Sum>) -> Result<Vec<u8>, Group<Sum>>
+        requires { (first : Sum) × IsLast (self.old.before.items ++ self.old.last ∷ []) first × AreMade {V = Sum} {A = Added} (λ _ _ _. Unit {0}) first (versions_of group) }
+        ensures published { IfOk result (λ codes. (codes.items ≡ codes_of group)
+            × (self.new.before.items ++ self.new.last ∷ [] ≡ (self.old.before.items ++ self.old.last ∷ []) ++ versions_of group)) }
+        ensures given_back { IfErr result (λ back. (back ≡ group) × BeginsWith (self.new.before.items ++ self.new.last ∷ []) (self.old.before.items ++ self.old.last ∷ [])) }
+        ensures begun { self.new.begun ≡ self.old.begun }
+    {
+        if self.overtaken || self.count() < group.versions().len() {
+            return Err(group);
+        }
+        let begun = self.begun;
+        let codes = publish_group(self, group);
+        self.begun = begun;
+        Ok(codes)
+    }
+
+    fn tell<R: Wait>(&mut self, _rt: &R, asked: Added, code: u8) {
+        if self.told.len() < self.told.capacity() {
+            self.told
+                .push_reserved((asked.octets.first().copied(), code));
+        }
+    }
+}
+
+/// The faults that are noted: how many batches were on the disk, and how many not.
+#[derive(Clone, Copy)]
+pub(crate) struct Noted {
+    pub(crate) lasting: u64,
+    pub(crate) failed: u64,
+}
+
+impl Faults<DiskFault> for Noted {
+    fn note<R: Wait>(&mut self, _rt: &R, fault: Option<LogFault<DiskFault>>) {
+        match fault {
+            None => self.lasting = self.lasting.saturating_add(1),
+            Some(_) => self.failed = self.failed.saturating_add(1),
+        }
+    }
+}

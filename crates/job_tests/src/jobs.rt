@@ -1,0 +1,165 @@
+//! Batches that last, that fail, and that are overtaken.
+use crate::board::{Added, Board, Noted};
+use journal::{Head, TextSum, recover};
+use journal_store::{Log, LogFault};
+use std::alloc::{AllocError, Global};
+use std::sync::Wait;
+use std::test::Fail;
+use told_disks::{DiskFault, ToldDisk};
+use update_job::{Ended, Store, UpdateJob};
+use update_queue::Queue;
+
+/// A zone text.
+const ZONE: &[u8] = b"example. 3600 IN SOA ns.example. host.example. 7 1 1 1 1\n";
+
+/// The head of its journal.
+fn head_of_zone() -> Head {
+    Head {
+        number: 0,
+        random: *b"sixteen octets..",
+        text: TextSum::of(ZONE),
+        serial: 7,
+        origin: TextSum::of(ZONE),
+    }
+}
+
+/// A journal on a disk whose calls do what a plan says, behind those that begin the journal.
+fn journal_on(alloc: Global, plan: &[u8]) -> Result<Store<ToldDisk>, Fail> {
+    let mut calls = plan.to_vec(alloc)?;
+    calls.push(0)?;
+    calls.push(0)?;
+    let Ok(log) = Log::begin(alloc, ToldDisk::new(alloc, calls), &head_of_zone()) else {
+        return Err(Fail::from("the journal doesn't begin"));
+    };
+    Ok(Store::Journal(log))
+}
+
+/// Updates that wait: those that add these octets, and one that is out of form.
+fn put_all<R: Wait>(
+    rt: &R,
+    alloc: Global,
+    queue: &Queue<Added>,
+    octets: &[u8],
+) -> Result<bool, AllocError> {
+    let mut all = true;
+    for octet in octets {
+        all = queue.put(rt, Added::of(alloc, *octet)?).is_ok() && all;
+    }
+    Ok(queue.put(rt, Added::none(alloc)).is_ok() && all)
+}
+
+/// The first octets of the updates that a start finds in a journal.
+fn found_in(alloc: Global, store: &Store<ToldDisk>) -> Result<Vec<u8>, Fail> {
+    let mut found = Vec::new(alloc);
+    if let Store::Journal(log) = store {
+        let image = log.disk().crashed(alloc, &[])?;
+        let Ok(recovered) = recover(alloc, ZONE, &image) else {
+            return Err(Fail::from("nothing is recovered"));
+        };
+        for update in &recovered.updates {
+            found.push(update.first().copied().unwrap_or(0))?;
+        }
+    }
+    Ok(found)
+}
+
+// Each update of a batch is told what it gets behind those before it, and those that make a version are on the disk in their order.
+#[test]
+fn a_batch_lasts(rt: HostRuntime) -> Result<(), Fail> {
+    let alloc: Global = rt.alloc();
+    let queue: Queue<Added> = Queue::new(alloc, 8)?;
+    assert!(rt; put_all(&rt, alloc, &queue, &[5, 0, 7, 255])?);
+    let store = journal_on(alloc, &[])?;
+    let mut job = UpdateJob::new(alloc, Board::new(alloc, false)?, store, &queue)?;
+    assert!(rt; matches!(job.turn(&rt), Ok(None)));
+    let (board, store) = job.into_parts();
+    let told = [
+        (Some(5), 0),
+        (Some(0), 0),
+        (Some(7), 0),
+        (Some(255), 2),
+        (None, 1),
+    ];
+    assert_eq!(rt; board.told.as_slice(), told.as_slice());
+    assert!(rt; board.published() == 3 && board.last.0 == 12);
+    assert_eq!(rt; found_in(alloc, &store)?.as_slice(), [5, 7].as_slice());
+    Ok(())
+}
+
+// Where the disk fails each is told SERVFAIL, and nothing is published; and so behind it, where the sync failed.
+#[test]
+fn a_batch_fails(rt: HostRuntime) -> Result<(), Fail> {
+    let alloc: Global = rt.alloc();
+    let queue: Queue<Added> = Queue::new(alloc, 8)?;
+    // The append works, and the sync fails; what it left is cut off.
+    let store = journal_on(alloc, &[1, 0])?;
+    let mut job = UpdateJob::new(alloc, Board::new(alloc, false)?, store, &queue)?;
+    assert!(rt; put_all(&rt, alloc, &queue, &[5, 0])?);
+    assert!(rt; matches!(job.turn(&rt), Ok(Some(LogFault::Disk(DiskFault::Planned)))));
+    assert!(rt; put_all(&rt, alloc, &queue, &[6])?);
+    assert!(rt; matches!(job.turn(&rt), Ok(Some(LogFault::Stuck))));
+    let (board, store) = job.into_parts();
+    let told = [
+        (Some(5), 2),
+        (Some(0), 2),
+        (None, 2),
+        (Some(6), 2),
+        (None, 2),
+    ];
+    assert_eq!(rt; board.told.as_slice(), told.as_slice());
+    assert!(rt; board.published() == 1 && board.last.0 == 0);
+    assert!(rt; found_in(alloc, &store)?.is_empty());
+    Ok(())
+}
+
+// Where another one publishes meanwhile each is told SERVFAIL, and the journal takes nothing more; what changes nothing is told its code.
+#[test]
+fn a_batch_is_overtaken(rt: HostRuntime) -> Result<(), Fail> {
+    let alloc: Global = rt.alloc();
+    let queue: Queue<Added> = Queue::new(alloc, 8)?;
+    let store = journal_on(alloc, &[])?;
+    let mut job = UpdateJob::new(alloc, Board::new(alloc, true)?, store, &queue)?;
+    assert!(rt; put_all(&rt, alloc, &queue, &[5])?);
+    assert!(rt; matches!(job.turn(&rt), Ok(None)));
+    let (mut board, store) = job.into_parts();
+    assert!(rt; matches!(store, Store::Closed));
+    board.overtaken = false;
+    let mut job = UpdateJob::new(alloc, board, store, &queue)?;
+    assert!(rt; put_all(&rt, alloc, &queue, &[6])?);
+    assert!(rt; matches!(job.turn(&rt), Ok(Some(LogFault::Stuck))));
+    assert!(rt; put_all(&rt, alloc, &queue, &[0])?);
+    assert!(rt; matches!(job.turn(&rt), Ok(None)));
+    let (board, _) = job.into_parts();
+    let told = [
+        (Some(5), 2),
+        (None, 2),
+        (Some(6), 2),
+        (None, 2),
+        (Some(0), 0),
+        (None, 1),
+    ];
+    assert_eq!(rt; board.told.as_slice(), told.as_slice());
+    assert!(rt; board.published() == 1);
+    Ok(())
+}
+
+// Without a journal updates are lost at the end, and told as they are judged. What waits when the queue is ended is still judged.
+#[test]
+fn a_queue_is_served_to_its_end(rt: HostRuntime) -> Result<(), Fail> {
+    let alloc: Global = rt.alloc();
+    let queue: Queue<Added> = Queue::new(alloc, 8)?;
+    let store: Store<ToldDisk> = Store::Nowhere;
+    let mut job = UpdateJob::new(alloc, Board::new(alloc, false)?, store, &queue)?;
+    assert!(rt; put_all(&rt, alloc, &queue, &[5, 7])?);
+    queue.end(&rt);
+    let mut noted = Noted {
+        lasting: 0,
+        failed: 0,
+    };
+    job.serve(&rt, &mut noted);
+    assert!(rt; matches!(job.turn(&rt), Err(Ended)));
+    let (board, _) = job.into_parts();
+    assert!(rt; noted.lasting == 1 && noted.failed == 0);
+    assert!(rt; board.told.len() == 3 && board.published() == 3 && board.last.0 == 12);
+    Ok(())
+}
