@@ -115,7 +115,7 @@ impl Engine for Board {
 }
 
 impl Publishing for Board {
-    ghost use Rattle.std.specs.Prelude.{◌≡◌, ◌++◌, ◌∷◌, [], None, IfOk, IfErr};
+    ghost use Rattle.std.specs.Prelude.{◌≡◌, ℕ, List, Option, ◌++◌, ◌∷◌, [], None, IfOk, IfErr};
     ghost use Rattle.update_group.specs.Engine.{IsLast, AreMade};
     ghost use Rattle.update_group.specs.Group.{codes_of, versions_of};
     ghost use Rattle.update_job.specs.Done.{BeginsWith};
@@ -129,8 +129,9 @@ impl Publishing for Board {
     ghost told = { λ _. None };
 
     fn begin<R: Wait>(&mut self, _rt: &R) -> (Sum, usize) {
+        let room = self.before.capacity() - self.before.len();
         self.begun = self.before.len() + 1;
-        (self.last, self.count())
+        (self.last, room)
     }
 
     fn publish<R: Wait>(&mut self, _rt: &R, group: Group<Sum>) -> Result<Vec<u8>, Group<Sum>>
@@ -139,8 +140,10 @@ impl Publishing for Board {
             × (self.new.before.items ++ self.new.last ∷ [] ≡ (self.old.before.items ++ self.old.last ∷ []) ++ versions_of group)) }
         ensures given_back { IfErr result (λ back. (back ≡ group) × BeginsWith (self.new.before.items ++ self.new.last ∷ []) (self.old.before.items ++ self.old.last ∷ [])) }
         ensures begun { self.new.begun ≡ self.old.begun }
+        ensures told { let told : Option (List (Added × ℕ)) = None in told ≡ told }
     {
-        if self.overtaken || self.count() < group.versions().len() {
+        let room = self.before.capacity() - self.before.len();
+        if self.overtaken || room < group.versions().len() {
             return Err(group);
         }
         let begun = self.begun;
