@@ -3,6 +3,7 @@ use std::alloc::Global;
 use std::sync::{Mutex, Wait};
 use std::test::Fail;
 use std::thread::{self, Threads};
+use std::time::{Clock, Duration};
 use update_queue::Queue;
 
 /// How many wait at most.
@@ -49,8 +50,8 @@ fn an_ended_queue(rt: HostRuntime) -> Result<(), Fail> {
     Ok(())
 }
 
-/// Puts numbers in their order, each once there is room for it, and ends the queue.
-fn put_all<R: Wait>(rt: &R, queue: &Queue<u64>) {
+/// Puts numbers in their order, each once there is room for it, and ends the queue when who takes waits for more.
+fn put_all<R: Wait + Clock>(rt: &R, queue: &Queue<u64>) {
     for item in 0..PUT {
         for _ in rt.forever() {
             if queue.put(rt, item).is_ok() {
@@ -58,6 +59,7 @@ fn put_all<R: Wait>(rt: &R, queue: &Queue<u64>) {
             }
         }
     }
+    thread::sleep(rt, Duration::from_millis(100));
     queue.end(rt);
 }
 
@@ -80,7 +82,7 @@ fn take_all<R: Wait>(rt: &R, alloc: Global, queue: &Queue<u64>) -> Option<u64> {
     Some(next)
 }
 
-// Who takes waits until something is put, and gets all that is put, in its order.
+// Who takes waits until something is put, or the queue is ended, and gets all that is put, in its order.
 #[test]
 fn a_queue_of_two_threads(rt: HostRuntime) -> Result<(), Fail> {
     let alloc: Global = rt.alloc();
