@@ -1,5 +1,5 @@
 -- What is told of an update that waited is its reply.
-use Rattle.std.proofs.Common.{◌≡◌, refl, ◌++◌, ℕ, ◌+◌, ◌≤◌, Bool, List, [], ◌∷◌, length, Option, None, Some, inl, inr, sym, ap, ◌∙◌, subst, arith}
+use Rattle.std.proofs.Common.{◌≡◌, refl, ◌++◌, ℕ, ◌+◌, ◌≤◌, Bool, true, List, [], ◌∷◌, length, Option, None, Some, inl, inr, sym, ap, ◌∙◌, subst, arith}
 use Rattle.std.specs.Prelude.{take, unwrap_or}
 use Rattle.dns_rdata.specs.Record.{Record}
 use Rattle.dns_rdata.specs.declared.numbers.Rcode.{Rcode}
