@@ -1,7 +1,8 @@
-//! Two workers, of which one waits in the gate for the other.
+//! Two workers, of which one waits in the gate for the other: each on a datagram here, and on a stream in `streams`.
 ghost use Rattle.std.specs.Prelude.{◌≡◌};
 ghost use Rattle.std.specs.List.{All};
 
+use crate::streams::serve_streams;
 use conversation::{Allowed, Answering, Gate};
 use dns_engine::{FirstZone, Naming, SharedVersion, VersionReader, ZoneVersions};
 use played_zones::{NamedParts, asker, end, named_parts, parts_of, server_of, zone};
@@ -27,9 +28,28 @@ pub(crate) const REPLY: &[u8] =
 /// After how many turns the first call gives up.
 const TURNS: u64 = 10_000_000;
 
+/// How the queries of two workers come.
+#[derive(Clone, Copy)]
+pub(crate) enum Way {
+    /// Each by a datagram.
+    Datagrams,
+    /// Each on a stream.
+    Streams,
+}
+
+impl Way {
+    /// How many readers are needed: the server's, one for each worker, and one more for each worker's stream.
+    fn readers(self) -> usize {
+        match self {
+            Way::Datagrams => 3,
+            Way::Streams => 5,
+        }
+    }
+}
+
 /// A gate that holds the call that enters first until another one leaves.
 #[derive(Drop)]
-struct HoldingGate {
+pub(crate) struct HoldingGate {
     entered: AtomicU64,
     left: AtomicU64,
     gave_up: AtomicU64,
@@ -56,7 +76,7 @@ impl Gate for HoldingGate {
 
 impl HoldingGate {
     /// A gate that nobody has entered.
-    fn new() -> HoldingGate {
+    pub(crate) fn new() -> HoldingGate {
         HoldingGate {
             entered: AtomicU64::new(0),
             left: AtomicU64::new(0),
@@ -65,7 +85,7 @@ impl HoldingGate {
     }
 
     /// Whether nobody gave up.
-    fn is_well(&self) -> bool {
+    pub(crate) fn is_well(&self) -> bool {
         self.gave_up.load(Ordering::SeqCst) == 0
     }
 }
@@ -158,40 +178,57 @@ fn are_replied<N: Naming>(pairs: &[(VersionReader<N>, TrayJob)]) -> bool {
     pairs.len() == 2
 }
 
-/// The readers of jobs that are done, and one more.
+/// The readers of jobs that are done.
 fn readers_of<N: Naming>(
     alloc: Global,
     pairs: Vec<(VersionReader<N>, TrayJob)>,
-    last: VersionReader<N>,
 ) -> Option<Vec<VersionReader<N>>> {
     let mut readers = Vec::new(alloc);
     for (reader, _) in pairs {
         readers.push(reader).ok()?;
     }
-    readers.push(last).ok()?;
     Some(readers)
 }
 
-/// Two datagrams are answered by two workers, of which the first to be asked waits for the other: their jobs, with their readers.
-fn serve<R: Wait + Threads + Sync + Abort, Z: FirstZone + Send + Sync, N: Naming + Send + Sync>(
+/// Two datagrams are answered by two workers, of which the first to be asked waits for the other: their readers.
+fn serve_datagrams<
+    R: Wait + Threads + Sync + Abort,
+    Z: FirstZone + Send + Sync,
+    N: Naming + Send + Sync,
+>(
     rt: &R,
     alloc: Global,
     server: &Server<'_, Z, N>,
     readers: Vec<VersionReader<N>>,
-) -> Vec<(VersionReader<N>, TrayJob)> {
+) -> Vec<VersionReader<N>> {
     let pairs = jobs_of(alloc, readers).expect(rt, "memory");
     let gate = HoldingGate::new();
     let Ok(pairs) = run_workers(rt, alloc, server, pairs, &gate, &NoLog) else {
         panic!(rt; "a thread is refused");
     };
     assert!(rt; gate.is_well() && are_replied(&pairs));
-    pairs
+    readers_of(alloc, pairs).expect(rt, "memory")
+}
+
+/// Two queries that come this way are answered by two workers, of which the first to be asked waits for the other: their readers.
+fn serve<R: Wait + Threads + Sync + Abort, Z: FirstZone + Send + Sync, N: Naming + Send + Sync>(
+    rt: &R,
+    alloc: Global,
+    way: Way,
+    server: &Server<'_, Z, N>,
+    readers: Vec<VersionReader<N>>,
+) -> Vec<VersionReader<N>> {
+    match way {
+        Way::Datagrams => serve_datagrams(rt, alloc, server, readers),
+        Way::Streams => serve_streams(rt, alloc, server, readers),
+    }
 }
 
 /// They are answered over a cell in which a zone's first version alone is published, which is then ended.
 fn serve_in<R: Wait + Threads + Sync + Abort, Z: FirstZone + Send + Sync, N: Naming + Send + Sync>(
     rt: &R,
     alloc: Global,
+    way: Way,
     parts: Parts<SharedVersion, ZoneVersions<Z>>,
 )
     requires cell { (parts.cell ≡ N.cell) × (parts.publisher.cell ≡ N.cell) }
@@ -212,9 +249,9 @@ fn serve_in<R: Wait + Threads + Sync + Abort, Z: FirstZone + Send + Sync, N: Nam
     let Ok(server) = server_of(alloc, &cell, publisher, reader) else {
         panic!(rt; "there is no server");
     };
-    let pairs = serve(rt, alloc, &server, readers);
+    let mut readers = serve(rt, alloc, way, &server, readers);
     let (publisher, reader) = server.finish();
-    let readers = readers_of(alloc, pairs, reader).expect(rt, "memory");
+    readers.push(reader).ok().expect(rt, "memory");
     end(
         rt,
         NamedParts {
@@ -226,15 +263,16 @@ fn serve_in<R: Wait + Threads + Sync + Abort, Z: FirstZone + Send + Sync, N: Nam
 }
 
 /// They are answered over a cell that begins with the zone.
-fn serve_from<R: Wait + Threads + Sync + Abort, Z: FirstZone + Send + Sync>(
+pub(crate) fn serve_from<R: Wait + Threads + Sync + Abort, Z: FirstZone + Send + Sync>(
     rt: &R,
     alloc: Global,
+    way: Way,
     zone: Zone,
 )
     requires { zone ≡ Z.zone }
 {
-    match parts_of::<Z>(alloc, zone, 3) {
-        Some(parts) => serve_in::<R, Z, Brand>(rt, alloc, parts),
+    match parts_of::<Z>(alloc, zone, way.readers()) {
+        Some(parts) => serve_in::<R, Z, Brand>(rt, alloc, way, parts),
         None => panic!(rt; "there is no memory"),
     }
 }
@@ -243,5 +281,5 @@ fn serve_from<R: Wait + Threads + Sync + Abort, Z: FirstZone + Send + Sync>(
 #[test]
 fn gate_two_workers(rt: HostRuntime) {
     let zone = zone(rt.alloc()).expect(&rt, "a zone");
-    serve_from::<HostRuntime, Brand>(&rt, rt.alloc(), zone);
+    serve_from::<HostRuntime, Brand>(&rt, rt.alloc(), Way::Datagrams, zone);
 }

@@ -13,4 +13,6 @@ mod gates;
 #[cfg(test)]
 mod refused;
 #[cfg(test)]
+mod streams;
+#[cfg(test)]
 mod turning;
