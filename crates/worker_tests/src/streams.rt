@@ -145,9 +145,11 @@ fn readers_of<Z: FirstZone, N: Naming>(
     pairs: Vec<(VersionReader<N>, TapeJob<'_, '_, Z, N>)>,
 ) -> Option<Vec<VersionReader<N>>> {
     let mut readers = Vec::new(alloc);
-    for (reader, TapeJob { reader: own, .. }) in pairs {
+    for (reader, job) in pairs {
+        let mut job = job;
+        let own = job.reader.take()?;
         readers.push(reader).ok()?;
-        readers.push(own?).ok()?;
+        readers.push(own).ok()?;
     }
     Some(readers)
 }
