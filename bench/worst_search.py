@@ -288,19 +288,21 @@ def transfer_cost(server, request, closing):
 
 CLOSING = lambda serial: struct.pack(">5I", serial, 7200, 900, 1209600, 300)
 plain_costs = {}
+# how many seconds a plain transfer's cost is taken for that of others: a machine is at times twice as slow as at others
+LASTS = 10
 
 
 def plain_transfer(program, octets):
     """What a transfer of plain names with as many octets of reply costs: of 20 octets a record."""
     step = 250 if octets > 5000 else 25
     count = max(3, round(octets / 20 / step) * step)
-    if count not in plain_costs:
+    if count not in plain_costs or plain_costs[count][2] < time.time() - LASTS:
         server = Server(program, small_zone("".join(f"{numbered(n).decode()} A 10.0.{n >> 8 & 255}.{n & 255}\n" for n in range(count))))
         try:
-            plain_costs[count] = transfer_cost(server, axfr_request(), CLOSING(1))
+            plain_costs[count] = (*transfer_cost(server, axfr_request(), CLOSING(1)), time.time())
         finally:
             server.end()
-    cost, got = plain_costs[count]
+    cost, got, _ = plain_costs[count]
     return cost * octets / got
 
 
@@ -385,8 +387,8 @@ def cost_of_aliases(program, own):
 
 
 def least(measured):
-    """The least cost of a draw that was measured several times, and the least of the plain one beside it."""
-    return min(cost for cost, _ in measured), min(plain for _, plain in measured)
+    """The least cost of a draw that was measured several times, and the least of the plain one beside it, as far as the kernel has told it."""
+    return min(cost for cost, _ in measured), min((plain for _, plain in measured if plain > 0), default=0)
 
 
 def is_near(measured, kind):
@@ -443,6 +445,8 @@ class Search:
                 self.tried[kind] += 1
                 return
             # once more, since what else the machine does can only add to it
+            if plain == 0:
+                raise ValueError("the plain one's time isn't told yet")
             again = [(cost, plain), self.cost(own)[:2]]
             if is_near(again, kind):
                 again += [self.cost(own)[:2] for _ in range(MORE)]
