@@ -15,31 +15,63 @@ const MAX_SHOWN: usize = 400;
 /// The fault is a growth that was refused.
 pub fn shown(alloc: Global, fault: FileFault, text: &[u8]) -> Result<Vec<u8>, AllocError> {
     let mut shown = Vec::new(alloc);
-    let Some(line) = line_at(text, fault.line) else {
+    let rest = from_line(text, fault.line);
+    let Some(line) = lines_of(rest).next() else {
         return Ok(shown);
     };
     shown.extend_from_slice(b": ")?;
-    if let Some(word) = word_at(alloc, fault, text)? {
+    if let Some(word) = word_at(alloc, fault, text, rest)? {
         push_quoted(&mut shown, word)?;
         shown.extend_from_slice(b", in ")?;
     }
-    push_quoted(&mut shown, line)?;
+    push_quoted(&mut shown, line.octets)?;
     Ok(shown)
 }
 
-/// A text's line, by its number; None where the text hasn't the line.
-fn line_at(text: &[u8], number: u64) -> Option<&[u8]> {
-    for line in lines_of(text) {
-        if line.number == number {
-            return Some(line.octets);
+/// A text from one of its lines on, by its number; nothing where the text hasn't the line.
+fn from_line(text: &[u8], number: u64) -> &[u8] {
+    if number == 0 {
+        return b"";
+    }
+    let mut rest = text;
+    for _ in 1..number {
+        match rest.iter().position(|octet| *octet == b'\n') {
+            Some(end) => rest = &rest[end + 1..],
+            None => return b"",
         }
     }
-    None
+    rest
 }
 
 /// The word that is at fault in the entry on whose line a fault is told, or the owner of its record; None where no one word
-/// is, and where no entry begins on the line.
-fn word_at(alloc: Global, fault: FileFault, text: &[u8]) -> Result<Option<&[u8]>, AllocError> {
+/// is, and where no entry begins on the line. An entry's words are read from its own line on; what stands before is read for an owner that it
+/// takes from there.
+fn word_at<'a>(
+    alloc: Global,
+    fault: FileFault,
+    text: &'a [u8],
+    rest: &'a [u8],
+) -> Result<Option<&'a [u8]>, AllocError> {
+    let mut words = Vec::new(alloc);
+    let Some(head) = Entries::new(rest).next(&mut words)? else {
+        return Ok(None);
+    };
+    if head.line != 1 {
+        return Ok(None);
+    }
+    let owner = match words.first() {
+        _ if head.indented => last_owner(alloc, fault, text)?,
+        Some(Word::Plain(own)) => Some(*own),
+        _ => None,
+    };
+    Ok(word_of(fault.cause, head.indented, owner, &words))
+}
+
+/// The owner that an entry takes which begins on the line of a fault, for one that is told with it.
+fn last_owner(alloc: Global, fault: FileFault, text: &[u8]) -> Result<Option<&[u8]>, AllocError> {
+    if !matches!(fault.cause, Cause::Outside | Cause::Apex | Cause::Conflict) {
+        return Ok(None);
+    }
     let mut entries = Entries::new(text);
     let mut words = Vec::new(alloc);
     let mut owner = None;
@@ -47,13 +79,13 @@ fn word_at(alloc: Global, fault: FileFault, text: &[u8]) -> Result<Option<&[u8]>
         let Some(head) = entries.next(&mut words)? else {
             return Ok(None);
         };
+        if head.line >= fault.line {
+            return Ok(owner);
+        }
         owner = match words.first() {
             Some(Word::Plain(text)) if !head.indented && !text.starts_with(b"$") => Some(*text),
             _ => owner,
         };
-        if head.line == fault.line {
-            return Ok(word_of(fault.cause, head.indented, owner, &words));
-        }
     }
     Ok(None)
 }
