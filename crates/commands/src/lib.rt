@@ -13,6 +13,7 @@ mod run;
 mod shown;
 mod told;
 
+pub use check::run_check;
 pub use command::{Command, Source};
 pub use fault::{DONE, FAILED, Fault, REFUSED};
 pub use run::{run_text, run_with_zone};

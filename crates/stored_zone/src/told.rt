@@ -1,0 +1,71 @@
+//! What is told of a store that gives no start (own).
+use journal::{HeadFault, Refused};
+use recovery::{StartFault, UpdateFault};
+use std::fmt;
+
+/// Why a store gives no start, told with its folder: what is wrong, where, and what can be done.
+#[derive(Debug, Drop)]
+pub struct ToldFault<'a> {
+    /// The store's folder.
+    pub dir: &'a str,
+    /// What is wrong.
+    pub fault: StartFault,
+}
+
+impl fmt::Display for ToldFault<'_> {
+    fn fmt<W: fmt::Write>(&self, f: &mut fmt::Formatter<W>) -> fmt::Result {
+        let dir = self.dir;
+        match &self.fault {
+            StartFault::Journal(refused) => tell_journal(f, dir, refused),
+            StartFault::Text(fault) => write!(f, "the zone text of '{dir}' is no zone: {fault}"),
+            StartFault::OtherSerial => write!(
+                f,
+                "the zone text of '{dir}' has another serial than '{dir}/journal' says"
+            ),
+            StartFault::Update(place, fault) => {
+                write!(f, "'{dir}/journal': update {place}, counted from 0, ")?;
+                tell_update(f, fault)
+            }
+            StartFault::NoMemory => write!(f, "out of memory"),
+        }
+    }
+}
+
+/// Tells why a journal is refused.
+fn tell_journal<W: fmt::Write>(
+    f: &mut fmt::Formatter<W>,
+    dir: &str,
+    refused: &Refused,
+) -> fmt::Result {
+    match refused {
+        Refused::BadHead(HeadFault::Short) => {
+            write!(f, "'{dir}/journal' is too short to be a journal")
+        }
+        Refused::BadHead(HeadFault::Foreign) => {
+            write!(f, "'{dir}/journal' is no journal of this format")
+        }
+        Refused::BadHead(HeadFault::WrongSum) => write!(f, "'{dir}/journal' has a damaged head"),
+        Refused::OtherText => write!(
+            f,
+            "the zone text of '{dir}' isn't the one that '{dir}/journal' belongs to"
+        ),
+        Refused::Damaged(at) => write!(
+            f,
+            "'{dir}/journal': updates that were answered are damaged in front of octet {at}; dnsd zone --before-fault '{dir}' prints the zone in front of them"
+        ),
+        Refused::NoBatch(number) => write!(
+            f,
+            "'{dir}/journal': batch {number}, counted from 0, has no updates"
+        ),
+        Refused::NoMemory => write!(f, "out of memory"),
+    }
+}
+
+/// Tells why an update isn't taken again.
+fn tell_update<W: fmt::Write>(f: &mut fmt::Formatter<W>, fault: &UpdateFault) -> fmt::Result {
+    match fault {
+        UpdateFault::NotAnUpdate => write!(f, "is none"),
+        UpdateFault::Refused(code) => write!(f, "isn't taken again, but told {}", code.number()),
+        UpdateFault::ChangesNothing => write!(f, "changes nothing"),
+    }
+}
