@@ -9,3 +9,5 @@ mod damage;
 mod formats;
 #[cfg(test)]
 mod journals;
+#[cfg(test)]
+mod switched;
