@@ -9,6 +9,7 @@ use dns_name::{Name, NameFault};
 use serve_core::Transport;
 use std::alloc::{AllocError, Global};
 use std::convert::AsStr;
+use stored_zone::Part;
 
 /// The status of a command line that was refused.
 pub const BAD_COMMAND: u8 = 2;
@@ -20,6 +21,17 @@ pub enum Task<'a> {
     Lines(Command<'a>),
     /// A zone served on sockets.
     Serve(Serve<'a>),
+    /// The zone of a store, printed.
+    Stored(Stored<'a>),
+}
+
+/// A store whose zone is printed.
+#[derive(Clone, Copy, Debug, PartialEq, Eq)]
+pub struct Stored<'a> {
+    /// The store's folder.
+    pub dir: &'a str,
+    /// How much of its journal is taken.
+    pub part: Part,
 }
 
 /// Why a command line is refused.
@@ -84,6 +96,9 @@ fn task_of<'a>(
     name: &str,
     found: &ArgMatches<'a>,
 ) -> Result<Task<'a>, CommandFault<'a>> {
+    if name == "zone" {
+        return Ok(Task::Stored(stored_of(found)));
+    }
     let text = found.get_str("origin").unwrap_or(".");
     let origin = Name::from_text(text.as_bytes(), &Name::root()).map_err(
         |fault| CommandFault::Origin(text, fault),
@@ -96,6 +111,19 @@ fn task_of<'a>(
         return Ok(Task::Serve(serve_of(alloc, found, zone, origin)?));
     }
     Ok(Task::Lines(command_of(name, found, zone, origin)?))
+}
+
+/// The store whose zone is printed.
+fn stored_of<'a>(found: &ArgMatches<'a>) -> Stored<'a> {
+    let part = if found.get_flag(BEFORE_FAULT) {
+        Part::BeforeFault
+    } else {
+        Part::Whole
+    };
+    Stored {
+        dir: found.get_str("dir").unwrap_or("."),
+        part,
+    }
 }
 
 /// The command of a name.
@@ -131,6 +159,9 @@ fn command_of<'a>(
         transport,
     })
 }
+
+/// The option for what stands in front of damage.
+const BEFORE_FAULT: &str = "before-fault";
 
 /// The option for how many older versions are kept beside the newest.
 pub const KEEP: &str = "keep";
@@ -187,6 +218,7 @@ fn program<'a>(alloc: Global) -> Result<Parser<'a>, AllocError> {
     let parser = with_check(alloc, parser)?;
     let parser = with_apply(alloc, parser)?;
     let parser = with_steps(alloc, parser)?;
+    let parser = with_zone(alloc, parser)?;
     with_serve(alloc, parser)
 }
 
@@ -252,6 +284,29 @@ fn with_steps<'a>(alloc: Global, parser: Parser<'a>) -> Result<Parser<'a>, Alloc
     )
     .default_value("16"))?;
     parser.subcommand(steps)
+}
+
+/// The command line with the command `zone`.
+fn with_zone<'a>(alloc: Global, parser: Parser<'a>) -> Result<Parser<'a>, AllocError> {
+    let zone = Parser::new(alloc, "zone")
+        .about("prints the zone that a start of a store would serve, one record a line")
+        .after_help(
+            "Example, which keeps a copy of a store's zone while it is served:
+  dnsd zone /var/lib/dnsd > backup.zone",
+        );
+    let zone = zone.arg(
+        Arg::new(alloc, BEFORE_FAULT)
+            .long(BEFORE_FAULT)
+            .help("prints the zone in front of updates that are damaged")
+            .action(ArgAction::SetTrue),
+    )?;
+    let zone = zone.arg(
+        Arg::new(alloc, "dir")
+            .value_name("DIR")
+            .help("the store's folder")
+            .required(true),
+    )?;
+    parser.subcommand(zone)
 }
 
 /// The command line with the command `serve`.

@@ -2,7 +2,8 @@
 //!
 //! The command line is parsed by `command`. What a command does over a zone's text, standard input and standard output is
 //! `commands`': `answer` replies to each request that it reads, `check` prints the zone's written text, `apply` that of the zone
-//! after a transfer's messages, and `steps` plays a script. `serve` answers on sockets, by the workers of `serve_workers`.
+//! after a transfer's messages, and `steps` plays a script. `zone` prints the zone of a store, by `stored_zone`. `serve` answers on
+//! sockets, by the workers of `serve_workers`.
 #![tactic(auto)]
 
 ghost use Rattle.std.specs.Prelude.{◌≡◌, ◌⊎◌};
@@ -14,6 +15,7 @@ pub mod log;
 pub mod options;
 pub mod secondaries;
 pub mod serve;
+pub mod stored;
 pub mod zone_file;
 
 use command::{BAD_COMMAND, CommandFault, Task, parse_words};
@@ -28,6 +30,7 @@ use std::rt::{Env, Files};
 use std::sync::Wait;
 use std::thread::Threads;
 use std::time::Clock;
+use stored::run_stored;
 use zone_file::read_zone_file;
 
 fn main(rt: HostRuntime) -> ExitCode {
@@ -64,6 +67,7 @@ fn run_words<
     match parse_words(alloc, words.as_slice()) {
         Ok(Task::Lines(command)) => run_command(rt, &command),
         Ok(Task::Serve(serve)) => run_serve(rt, &serve),
+        Ok(Task::Stored(stored)) => run_stored(rt, stored),
         Err(fault) => tell_fault(rt, &fault),
     }
 }
