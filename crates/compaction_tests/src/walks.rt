@@ -31,13 +31,78 @@ impl Run for Walk {
     }
 }
 
-// A thousand crashes: each leaves the versions that were published, and no update but sent ones.
-#[test]
-fn a_thousand_crashes(rt: HostRuntime) -> Result<(), Fail> {
-    for seed in 0..40 {
+/// How many walks a test takes: a hundred crashes.
+const WALKS: u64 = 4;
+
+/// The first seed of so many from this one on whose walk doesn't go as it should.
+fn wrong_seed<R: Wait>(rt: &R, alloc: Global, first: u64) -> Option<u64> {
+    for seed in first..first.saturating_add(WALKS) {
         let walk = Walk { seed, steps: 25 };
-        assert_eq!(rt; goes(&rt, rt.alloc(), walk), Some(true), "{seed}");
+        if goes(rt, alloc, walk) != Some(true) {
+            return Some(seed);
+        }
     }
+    None
+}
+
+// A thousand crashes, in ten tests of a hundred each: each leaves the versions that were published, and no update but sent ones.
+#[test]
+fn walks_0_to_3(rt: HostRuntime) -> Result<(), Fail> {
+    assert_eq!(rt; wrong_seed(&rt, rt.alloc(), 0), None);
+    Ok(())
+}
+
+#[test]
+fn walks_4_to_7(rt: HostRuntime) -> Result<(), Fail> {
+    assert_eq!(rt; wrong_seed(&rt, rt.alloc(), 4), None);
+    Ok(())
+}
+
+#[test]
+fn walks_8_to_11(rt: HostRuntime) -> Result<(), Fail> {
+    assert_eq!(rt; wrong_seed(&rt, rt.alloc(), 8), None);
+    Ok(())
+}
+
+#[test]
+fn walks_12_to_15(rt: HostRuntime) -> Result<(), Fail> {
+    assert_eq!(rt; wrong_seed(&rt, rt.alloc(), 12), None);
+    Ok(())
+}
+
+#[test]
+fn walks_16_to_19(rt: HostRuntime) -> Result<(), Fail> {
+    assert_eq!(rt; wrong_seed(&rt, rt.alloc(), 16), None);
+    Ok(())
+}
+
+#[test]
+fn walks_20_to_23(rt: HostRuntime) -> Result<(), Fail> {
+    assert_eq!(rt; wrong_seed(&rt, rt.alloc(), 20), None);
+    Ok(())
+}
+
+#[test]
+fn walks_24_to_27(rt: HostRuntime) -> Result<(), Fail> {
+    assert_eq!(rt; wrong_seed(&rt, rt.alloc(), 24), None);
+    Ok(())
+}
+
+#[test]
+fn walks_28_to_31(rt: HostRuntime) -> Result<(), Fail> {
+    assert_eq!(rt; wrong_seed(&rt, rt.alloc(), 28), None);
+    Ok(())
+}
+
+#[test]
+fn walks_32_to_35(rt: HostRuntime) -> Result<(), Fail> {
+    assert_eq!(rt; wrong_seed(&rt, rt.alloc(), 32), None);
+    Ok(())
+}
+
+#[test]
+fn walks_36_to_39(rt: HostRuntime) -> Result<(), Fail> {
+    assert_eq!(rt; wrong_seed(&rt, rt.alloc(), 36), None);
     Ok(())
 }
 
