@@ -292,7 +292,7 @@ fn with_zone<'a>(alloc: Global, parser: Parser<'a>) -> Result<Parser<'a>, AllocE
         .about("prints the zone that a start of a store would serve, one record a line")
         .after_help(
             "Example, which keeps a copy of a store's zone while it is served:
-  dnsd zone /var/lib/dnsd > backup.zone",
+  dnsd zone /var/lib/dnsd > saved && mv saved backup.zone",
         );
     let zone = zone.arg(
         Arg::new(alloc, BEFORE_FAULT)
