@@ -24,6 +24,9 @@ const ENDS: [usize; 4] = [
     HEAD + 3 * 44 + 11 * 52,
 ];
 
+/// A place within the first batch, about its middle.
+const MIDDLE: usize = HEAD + 230;
+
 /// A store that is compacted: its folder, its journal, and the zone behind each of its batches, as text.
 #[derive(Drop)]
 struct Compacted {
@@ -132,10 +135,11 @@ fn journal_of(alloc: Global, writer: &StoreWriter<ToldDisk>) -> Option<Vec<u8>> 
     writer.log().disk().octets().to_vec(alloc).ok()
 }
 
-/// Each length of the journal, or each octet of it turned.
+/// The lengths of the journal from one on up to another, or the octets of it at these places turned.
 #[derive(Drop)]
 struct Each {
     turned: bool,
+    places: (usize, usize),
 }
 
 impl Run for Each {
@@ -147,7 +151,7 @@ impl Run for Each {
     ) -> Option<bool> {
         let store = Compacted::of(rt, alloc, engine)?;
         let mut right = true;
-        for at in 0..store.journal.len() {
+        for at in self.places.0..self.places.1 {
             let told = if self.turned {
                 store.is_turned(alloc, at)?
             } else {
@@ -155,21 +159,60 @@ impl Run for Each {
             };
             right = told && right;
         }
-        Some(right && store.is_cut(alloc, store.journal.len())?)
+        Some(right)
     }
 }
 
-// Each length of the journal: within the head it is told by name; else the batches that are whole are replayed.
+/// Whether each length from one on up to another goes as it should; None where memory is refused.
+fn are_cut<R: Wait>(rt: &R, alloc: Global, from: usize, to: usize) -> Option<bool> {
+    let places = (from, to);
+    let turned = false;
+    goes(rt, alloc, Each { turned, places })
+}
+
+/// Whether each octet turned does, from a place on up to another; None where memory is refused.
+fn are_turned<R: Wait>(rt: &R, alloc: Global, from: usize, to: usize) -> Option<bool> {
+    let places = (from, to);
+    let turned = true;
+    goes(rt, alloc, Each { turned, places })
+}
+
+// Each length of the journal, in two tests: within the head it is told by name; else the batches that are whole are replayed.
 #[test]
-fn each_length(rt: HostRuntime) -> Result<(), Fail> {
-    assert_eq!(rt; goes(&rt, rt.alloc(), Each { turned: false }), Some(true));
+fn lengths_up_to_a_middle(rt: HostRuntime) -> Result<(), Fail> {
+    assert_eq!(rt; are_cut(&rt, rt.alloc(), 0, MIDDLE), Some(true));
     Ok(())
 }
 
-// Each octet of the journal turned: in the head it is told by name; in a batch in front of another one it is damage, told at the octet at which the next whole frame
-// begins; in the last one it is torn.
 #[test]
-fn each_octet_turned(rt: HostRuntime) -> Result<(), Fail> {
-    assert_eq!(rt; goes(&rt, rt.alloc(), Each { turned: true }), Some(true));
+fn lengths_from_a_middle_on(rt: HostRuntime) -> Result<(), Fail> {
+    let end = ENDS[3] + 1;
+    assert_eq!(rt; are_cut(&rt, rt.alloc(), MIDDLE, end), Some(true));
+    Ok(())
+}
+
+// Each octet of the journal turned, in four tests: in the head it is told by name; in a batch in front of another one it is damage, told at the octet at which the next
+// whole frame begins; in the last one it is torn.
+#[test]
+fn turned_in_the_head(rt: HostRuntime) -> Result<(), Fail> {
+    assert_eq!(rt; are_turned(&rt, rt.alloc(), 0, HEAD), Some(true));
+    Ok(())
+}
+
+#[test]
+fn turned_in_front_of_a_middle(rt: HostRuntime) -> Result<(), Fail> {
+    assert_eq!(rt; are_turned(&rt, rt.alloc(), HEAD, MIDDLE), Some(true));
+    Ok(())
+}
+
+#[test]
+fn turned_behind_a_middle(rt: HostRuntime) -> Result<(), Fail> {
+    assert_eq!(rt; are_turned(&rt, rt.alloc(), MIDDLE, ENDS[1]), Some(true));
+    Ok(())
+}
+
+#[test]
+fn turned_behind_the_first_batch(rt: HostRuntime) -> Result<(), Fail> {
+    assert_eq!(rt; are_turned(&rt, rt.alloc(), ENDS[1], ENDS[3]), Some(true));
     Ok(())
 }
