@@ -1,4 +1,6 @@
 //! Engines over which stores are written, and updates that are sent.
+ghost use Rattle.std.specs.Prelude.{◌≡◌};
+
 use compaction::{StoreWriter, Trail, update_stored};
 use dns_engine::{Engine, FirstZone, KEPT, Naming, VersionCell, VersionPublisher, VersionReader};
 use dns_name::Name;
@@ -21,47 +23,53 @@ example. 3600 IN NS ns.example.
 const ADD: &str =
     "000128000001000000010000076578616d706c6500000600010161076578616d706c6500000100010000012c0004c0000201";
 
-/// What is done with an engine of the tests' zone that keeps as many versions as one may.
-pub(crate) trait Run {
-    /// Whether it goes as it should; None where memory is refused.
-    fn run<R: Wait, Z: FirstZone, N: Naming>(
-        &self,
-        rt: &R,
-        alloc: Global,
-        engine: &mut LastingEngine<'_, Z, N>,
-    ) -> Option<bool>;
+/// An engine of the tests' zone that keeps as many versions as one may, with the readers that it leaves.
+pub(crate) struct Table<'a, Z: FirstZone, N: Naming> {
+    /// The engine.
+    pub engine: LastingEngine<'a, Z, N>,
+    readers: Vec<VersionReader<N>>,
 }
 
-/// What is done with an engine, played in a cell.
-struct Over<T: Run> {
-    run: T,
-}
-
-impl<T: Run> Play for Over<T> {
-    fn play<R: Wait, Z: FirstZone, N: Naming>(
-        &self,
-        rt: &R,
-        alloc: Global,
-        cell: &VersionCell<Z, N>,
+impl<'a, Z: FirstZone, N: Naming> Table<'a, Z, N> {
+    /// The engine of a cell; what comes back where there is none.
+    pub fn begin(
+        cell: &'a VersionCell<Z, N>,
         publisher: VersionPublisher<Z, N>,
-        mut readers: Vec<VersionReader<N>>,
-    ) -> Played<Z, N> {
+        readers: Vec<VersionReader<N>>,
+    ) -> Result<Table<'a, Z, N>, Played<Z, N>>
+        requires { publisher.number ≡ 0 }
+    {
+        let mut readers = readers;
         let Some(reader) = readers.pop() else {
-            return Played {
+            return Err(Played {
                 told: None,
                 publisher,
                 readers,
-            };
+            });
         };
-        let (told, publisher, reader) = match Engine::new(cell, publisher, reader, KEPT) {
-            Ok(engine) => {
-                let mut engine = LastingEngine::of(cell, engine);
-                let told = self.run.run(rt, alloc, &mut engine);
-                let (publisher, reader) = engine.into_engine().finish();
-                (told, publisher, reader)
+        match Engine::new(cell, publisher, reader, KEPT) {
+            Ok(engine) => Ok(Table {
+                engine: LastingEngine::of(cell, engine),
+                readers,
+            }),
+            Err(refused) => {
+                let _ = readers.push(refused.reader);
+                Err(Played {
+                    told: None,
+                    publisher: refused.publisher,
+                    readers,
+                })
             }
-            Err(refused) => (None, refused.publisher, refused.reader),
-        };
+        }
+    }
+
+    /// What is told, with what comes back.
+    pub fn end(self, told: Option<bool>) -> Played<Z, N> {
+        let Table {
+            engine,
+            mut readers,
+        } = self;
+        let (publisher, reader) = engine.into_engine().finish();
         let _ = readers.push(reader);
         Played {
             told,
@@ -71,13 +79,36 @@ impl<T: Run> Play for Over<T> {
     }
 }
 
+/// Has something played with an engine of a cell, by its `run`.
+macro_rules! plays {
+    ([$($given:tt)*] $name:ty) => {
+        impl $($given)* played_zones::Play for $name {
+            fn play<R: std::sync::Wait, Z: dns_engine::FirstZone, N: dns_engine::Naming>(
+                &self,
+                rt: &R,
+                alloc: std::alloc::Global,
+                cell: &dns_engine::VersionCell<Z, N>,
+                publisher: dns_engine::VersionPublisher<Z, N>,
+                readers: Vec<dns_engine::VersionReader<N>>,
+            ) -> played_zones::Played<Z, N> {
+                match $crate::engines::Table::begin(cell, publisher, readers) {
+                    Ok(mut table) => {
+                        let told = self.run(rt, alloc, &mut table.engine);
+                        table.end(told)
+                    }
+                    Err(played) => played,
+                }
+            }
+        }
+    };
+}
+
+pub(crate) use plays;
+
 /// Whether it goes as it should; None where memory is refused.
-pub(crate) fn goes<R: Wait, T: Run + Drop>(rt: &R, alloc: Global, run: T) -> Option<bool> {
+pub(crate) fn goes<R: Wait, T: Play + Drop>(rt: &R, alloc: Global, run: T) -> Option<bool> {
     let zone = read_zone(alloc, ZONE.as_bytes(), &Name::root()).ok()?;
-    let over = Over { run };
-    let told = is_played(rt, alloc, zone, &over);
-    let Over { run: _ } = over;
-    told
+    is_played(rt, alloc, zone, &run)
 }
 
 /// A store that begins with the version that was published last: its zone text, the head of its journal, and its log, on a disk whose calls do what the plan says.

@@ -1,5 +1,5 @@
 //! A compaction over files.
-use crate::engines::{Run, are_told, goes};
+use crate::engines::{are_told, goes, plays};
 use compaction::{StoreWriter, Trail};
 use compaction_files::{drop_old_texts, replace_with_next, write_next_text};
 use dns_engine::{FirstZone, KEPT, Naming};
@@ -69,7 +69,10 @@ pub(crate) fn is_there<F: Files<File = File>, Z: FirstZone, N: Naming>(
     Some(found == wanted)
 }
 
-impl<'a, F: Files<File = File> + Alloc + Clone + Drop> Run for InFolder<'a, F> {
+plays!([<'a, F: Files<File = File> + Alloc + Clone + Drop>] InFolder<'a, F>);
+
+impl<'a, F: Files<File = File> + Alloc + Clone + Drop> InFolder<'a, F> {
+    /// Whether it goes as it should; None where memory is refused.
     fn run<R: Wait, Z: FirstZone, N: Naming>(
         &self,
         rt: &R,

@@ -1,5 +1,5 @@
 //! Compactions that end late.
-use crate::engines::{Run, are_told, begin, goes, renew};
+use crate::engines::{are_told, begin, goes, plays, renew};
 use crate::folder::Folder;
 use compaction::next_text;
 use dns_engine::{FirstZone, Naming};
@@ -12,7 +12,10 @@ use std::test::Fail;
 #[derive(Drop)]
 struct Late;
 
-impl Run for Late {
+plays!([] Late);
+
+impl Late {
+    /// Whether it goes as it should; None where memory is refused.
     fn run<R: Wait, Z: FirstZone, N: Naming>(
         &self,
         rt: &R,

@@ -1,5 +1,5 @@
 //! A store that is compacted, of whose journal octets are turned, or that is cut.
-use crate::engines::{Run, are_told, begin, goes, renew};
+use crate::engines::{are_told, begin, goes, plays, renew};
 use crate::folder::Folder;
 use compaction::{StoreWriter, next_text};
 use dns_engine::{FirstZone, Naming};
@@ -142,7 +142,10 @@ struct Each {
     places: (usize, usize),
 }
 
-impl Run for Each {
+plays!([] Each);
+
+impl Each {
+    /// Whether it goes as it should; None where memory is refused.
     fn run<R: Wait, Z: FirstZone, N: Naming>(
         &self,
         rt: &R,

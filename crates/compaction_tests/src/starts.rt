@@ -1,5 +1,5 @@
 //! The trail of a start.
-use crate::engines::{Run, are_told, begin, goes};
+use crate::engines::{are_told, begin, goes, plays};
 use crate::folder::Folder;
 use compaction::{Trail, steps_of, updates_behind};
 use dns_engine::{FirstZone, KEPT, Naming, SharedVersion};
@@ -41,7 +41,10 @@ struct Restart {
     batches: u8,
 }
 
-impl Run for Restart {
+plays!([] Restart);
+
+impl Restart {
+    /// Whether it goes as it should; None where memory is refused.
     fn run<R: Wait, Z: FirstZone, N: Naming>(
         &self,
         rt: &R,

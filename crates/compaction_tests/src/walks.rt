@@ -1,5 +1,5 @@
 //! Updates, compactions and failures in an order that looks random, with a crash behind each.
-use crate::engines::{Run, goes};
+use crate::engines::{goes, plays};
 use crate::walker::Walker;
 use dns_engine::{FirstZone, Naming};
 use lasting_engine::LastingEngine;
@@ -14,7 +14,10 @@ struct Walk {
     steps: u64,
 }
 
-impl Run for Walk {
+plays!([] Walk);
+
+impl Walk {
+    /// Whether it goes as it should; None where memory is refused.
     fn run<R: Wait, Z: FirstZone, N: Naming>(
         &self,
         rt: &R,
@@ -170,7 +173,10 @@ fn walks_38_and_39(rt: HostRuntime) -> Result<(), Fail> {
 #[derive(Drop)]
 struct Starved;
 
-impl Run for Starved {
+plays!([] Starved);
+
+impl Starved {
+    /// Whether it goes as it should; None where memory is refused.
     fn run<R: Wait, Z: FirstZone, N: Naming>(
         &self,
         rt: &R,
