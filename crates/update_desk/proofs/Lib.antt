@@ -1,0 +1,4 @@
+pub mod DeskLemmas
+pub mod JudgedLemmas
+pub mod MetLemmas
+pub mod SendLemmas

@@ -1,0 +1,32 @@
+-- A desk may be sent to another thread.
+use denote.Param.Send.{IsSend, recorded_send, struct_send, sendable}
+use denote.RattleType.{RattleType}
+use denote.Ref.{NamedLft}
+use denote.Struct.Declared.{shape}
+use Rattle.arrayvec.proofs.array_vec.ArrayVec.TheSendSync as array_vec
+use Rattle.dns_engine.proofs.SendLemmas as engine
+use Rattle.dns_engine.specs.declared.versions.FirstZone.{Ghosts}
+use Rattle.dns_rdata.specs.contracts.raw.RawRecord as raw
+use Rattle.snapshot_cell.proofs.SendLemmas as cell
+use Rattle.snapshot_cell.specs.declared.named.Naming as naming
+use Rattle.std.proofs.Crossing as crossing
+use Rattle.update_desk.specs.contracts.desk.Desk as desk
+use Rattle.update_desk.specs.contracts.desk.Desk.TheInside as inside
+use Rattle.update_desk.specs.contracts.seats.Seats as seats
+
+-- what a seat has, step by step: one search for all of it breaks off
+raw_send : IsSend raw.the_row
+raw_send = search (array_vec.the_send, crossing.crosses, sendable) depth 60 fits 20000
+
+seats_send : IsSend (seats.the_field).row
+seats_send = search (raw_send, array_vec.the_send, crossing.crosses, sendable) depth 60 fits 20000
+
+module _ (a : NamedLft) (T : RattleType) (g : Ghosts T.Denot) (N : RattleType) (n : naming.Ghosts N.Denot) where
+  inside_send : IsSend (inside.the_row a T N n g)
+  inside_send =
+      recorded_send (inside.the_field a T N n g).row _ _ (inside.the_type a T N n g).to_one
+      (struct_send (shape (inside.the_type a T N n g))
+      (search (engine.shared_send, engine.shared_sync, cell.crosses, crossing.crosses, sendable) depth 60 fits 20000, (engine.engine_send a T g N n, (seats_send, tt))))
+
+  pub desk_send : IsSend (desk.the_row a T N n g)
+  desk_send = search (inside_send, sendable) depth 60 fits 20000

@@ -1,0 +1,75 @@
+-- What is told of an update by who judges those that wait, and lets them last (RFC 2136, 3 and 3.5).
+use Rattle.std.specs.Prelude.{◌≡◌, ◌≢◌, ◌≤◌, ◌⊎◌, ℕ, Bool, List, [], ◌∷◌, None, Some, unwrap_or}
+use Rattle.dns_rdata.specs.Numbers.{rcode_number}
+use Rattle.dns_rdata.specs.Record.{Record}
+use Rattle.dns_rdata.specs.declared.numbers.Rcode.{Rcode}
+use Rattle.dns_rdata.specs.declared.numbers.Serial.{Serial}
+use Rattle.dns_rdata.specs.declared.numbers.Rcode.TheVariants.{NoError, ServFail}
+use Rattle.dns_message.specs.declared.update.Update.{Update}
+use Rattle.zone_tree.specs.Version.{Version}
+use Rattle.update_core.specs.Verdict.{verdict}
+use Rattle.update_core.specs.Act.{act}
+use Rattle.update_core.specs.Applied.{code_of}
+use Rattle.update_group.specs.Engine.{AreMade}
+use Rattle.dns_engine.specs.Chain.{IsPublished}
+use Rattle.dns_engine.specs.Held.{IsLatest}
+use Rattle.dns_engine.specs.Replayed.{IsReplay}
+use Rattle.lasting_engine.specs.declared.asked.Asked.{Asked}
+use Rattle.lasting_engine.specs.Asked.{makes}
+use Rattle.update_desk.specs.declared.done.Done.{Done}
+use Rattle.update_desk.specs.declared.done.Fetched.{Fetched}
+use Rattle.update_desk.specs.declared.done.Fetched.TheVariants.{Nothing as IsNothing, Waits as StillWaits, Told as IsTold}
+use Rattle.update_desk.specs.declared.seats.Seat.{Seat}
+use Rattle.update_desk.specs.declared.seats.Seat.TheVariants.{Free, Waits, Left, Told}
+
+-- what an update makes of a version, if that changes the zone, is the zone of the next version that is known to be published (RFC 2136, 3)
+abbrev pub IsMadeBehind : List Version → Version → Update → Bool → Type 0
+IsMadeBehind newer version update may =
+    (zone : List Record) → verdict version.zone update may ≡ None → act version.zone update ≡ Some zone → zone ≢ version.zone
+    → (next : Version) × (more : List Version) × (newer ≡ next ∷ more) × (next.zone ≡ zone)
+
+-- an update is told its code in a version: that of the first rule that it breaks, or SERVFAIL where it passes a limit, else NOERROR, and what it makes is
+-- published behind that version; or SERVFAIL, where memory, a number or the journal is wanted for what it makes (RFC 2136, 3 and 3.5; own)
+abbrev pub IsToldIn : Version → List Version → Update → Bool → Rcode → Type 0
+IsToldIn version newer update may code =
+    ((code ≡ unwrap_or (code_of version.zone update may) NoError) × IsMadeBehind newer version update may) ⊎ (code ≡ ServFail)
+
+-- an update is told its code in one of the versions that are known to be published, which is the first zone with updates replayed, and whose number is at
+-- least this one (RFC 2136, 3)
+pub record IsDone (first : List Record) (published : List Version) (done : Done) : Type 0 where
+  pub version : Version
+  pub replayed : IsReplay first version
+  pub least : done.least ≤ version.number
+  pub here : IsPublished first published version
+  pub told : IsToldIn version here.newer done.asked.update done.asked.may done.code
+
+-- what is told at a seat is so, by the versions that are known to be published
+abbrev pub IsSeatDone : List Record → List Version → Seat → Type 0
+IsSeatDone first published (Free next) = Unit {0}
+IsSeatDone first published Waits = Unit {0}
+IsSeatDone first published Left = Unit {0}
+IsSeatDone first published (Told done) = IsDone first published done
+
+-- what is fetched of a seat is so
+abbrev pub IsFetched : List Record → List Version → Fetched → Type 0
+IsFetched first published IsNothing = Unit {0}
+IsFetched first published StillWaits = Unit {0}
+IsFetched first published (IsTold done) = IsDone first published done
+
+-- versions are made one from the other, the first from the last of those that are known to be published, which has this number (RFC 2136, 3)
+abbrev pub IsJudgedIn : List Record → List Version → ℕ → List Version → Type 0
+IsJudgedIn first published number versions =
+    (last : Version) × IsLatest first published last × (last.number ≡ number) × AreMade makes last versions
+
+-- an update is told this code in a version whose number is at least this one, whichever serials are told with it
+abbrev pub IsDoneBy : List Record → List Version → Asked → ℕ → Rcode → Type 0
+IsDoneBy first published asked number code =
+    (before after : Serial) → IsDone first published (record { asked = asked; least = number; code = code; before = before; after = after })
+
+-- each of these updates is told the code of its number
+abbrev pub AreDone : List Record → List Version → ℕ → List Asked → List ℕ → Type 0
+AreDone first published number [] [] = Unit {0}
+AreDone first published number [] (code ∷ codes) = ⊥
+AreDone first published number (one ∷ asked) [] = ⊥
+AreDone first published number (one ∷ asked) (code ∷ codes) =
+    ((is : Rcode) × (rcode_number is ≡ code) × IsDoneBy first published one number is) × AreDone first published number asked codes
