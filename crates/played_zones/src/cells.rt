@@ -158,20 +158,21 @@ pub fn end<R: Wait, Z: FirstZone, N: Naming>(rt: &R, parts: NamedParts<Z, N>) {
 
 /// The server of a cell, which keeps eight versions. One that should keep nine is refused first; there is none where it isn't.
 pub fn server_of<'a, Z: FirstZone, N: Naming>(
+    alloc: Global,
     cell: &'a VersionCell<Z, N>,
     publisher: VersionPublisher<Z, N>,
     reader: VersionReader<N>,
 ) -> Result<Server<'a, Z, N>, NoEngine<Z, N>>
     requires { publisher.number ≡ 0 }
 {
-    match Server::new(cell, publisher, reader, 9) {
+    match Server::new(alloc, cell, publisher, reader, 9) {
         Err(
             NoEngine {
                 fault: EngineFault::TooGreat,
                 publisher,
                 reader,
             },
-        ) => Server::new(cell, publisher, reader, 8),
+        ) => Server::new(alloc, cell, publisher, reader, 8),
         Err(refused) => Err(refused),
         Ok(server) => {
             let (publisher, reader) = server.finish();

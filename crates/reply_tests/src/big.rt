@@ -170,7 +170,7 @@ impl Play for BothWays {
                 readers,
             };
         };
-        let (told, publisher, reader) = match server_of(cell, publisher, reader) {
+        let (told, publisher, reader) = match server_of(alloc, cell, publisher, reader) {
             Ok(server) => {
                 let told = is_same(rt, alloc, &server, &mut readers);
                 let (publisher, reader) = server.finish();

@@ -96,7 +96,7 @@ impl Play for OwnedAWhile {
                 readers,
             };
         };
-        let (told, publisher, reader) = match Server::new(cell, publisher, reader, 0) {
+        let (told, publisher, reader) = match Server::new(alloc, cell, publisher, reader, 0) {
             Ok(server) => {
                 let told = all_told(rt, alloc, cell, &server, &mut readers);
                 let (publisher, reader) = server.finish();

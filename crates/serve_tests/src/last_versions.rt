@@ -44,7 +44,7 @@ fn last_in<R: Wait + Abort, Z: FirstZone, N: Naming>(
         panic!(rt; "there is no memory");
     };
     let reader = readers.pop().expect(rt, "a reader");
-    let Ok(server) = server_of(&cell, publisher, reader) else {
+    let Ok(server) = server_of(alloc, &cell, publisher, reader) else {
         panic!(rt; "there is no server");
     };
     let told = told_by(rt, alloc, &server, &mut readers, row);

@@ -152,7 +152,7 @@ fn written_in<R: Wait + Abort, Z: FirstZone, N: Naming>(
         panic!(rt; "there is no memory");
     };
     let reader = readers.pop().expect(rt, "a reader");
-    let Ok(server) = Server::resume(&cell, publisher, reader, KEPT, later) else {
+    let Ok(server) = Server::resume(alloc, &cell, publisher, reader, KEPT, later) else {
         panic!(rt; "there is no server");
     };
     let (first, second) = streams;

@@ -277,7 +277,7 @@ impl Play for Row {
                 readers,
             };
         };
-        let (told, publisher, reader) = match server_of(cell, publisher, reader) {
+        let (told, publisher, reader) = match server_of(alloc, cell, publisher, reader) {
             Ok(server) => {
                 let told = told_by(rt, alloc, &server, &mut readers, self);
                 let (publisher, reader) = server.finish();

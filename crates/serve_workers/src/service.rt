@@ -230,7 +230,7 @@ fn serve_cell<
     ensures { vec_len result.2 ≡ vec_len pairs.entry + 1 }
 {
     let count = later.len();
-    let server = match Server::resume(cell, publisher, reader, plan.keep, later) {
+    let server = match Server::resume(alloc, cell, publisher, reader, plan.keep, later) {
         Ok(server) => server,
         Err(
             NoEngine {

@@ -209,7 +209,7 @@ fn serve_in<R: Wait + Threads + Sync + Abort, Z: FirstZone + Send + Sync, N: Nam
         panic!(rt; "there is no memory");
     };
     let reader = readers.pop().expect(rt, "a reader");
-    let Ok(server) = server_of(&cell, publisher, reader) else {
+    let Ok(server) = server_of(alloc, &cell, publisher, reader) else {
         panic!(rt; "there is no server");
     };
     let pairs = serve(rt, alloc, &server, readers);

@@ -7,3 +7,4 @@ pub mod ChainLemmas
 pub mod WantedLemmas
 pub mod AboutLemmas
 pub mod NotifiedLemmas
+pub mod DoneLemmas

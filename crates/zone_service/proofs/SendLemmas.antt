@@ -8,6 +8,7 @@ use Rattle.std.proofs.sync.Mutex.TheSendSync as mutex
 use Rattle.snapshot_cell.proofs.SendLemmas as cell
 use Rattle.snapshot_cell.specs.declared.named.Naming as naming
 use Rattle.dns_engine.proofs.SendLemmas as engine
+use Rattle.update_desk.proofs.SendLemmas as desk
 use Rattle.dns_engine.specs.declared.versions.FirstZone.{Ghosts}
 use Rattle.zone_service.specs.contracts.server.Server as server
 
@@ -15,4 +16,4 @@ pub server_sync : (a : NamedLft) (T N : RattleType) (g : Ghosts T.Denot) (n : na
 server_sync a T N g n =
     recorded_sync (server.the_field a T N n g).row _ _ (server.the_type a T N n g).to_one
     (struct_sync (shape (server.the_type a T N n g))
-    (search (engine.shared_send, engine.shared_sync, cell.crosses, crossing.crosses, sendable) depth 60 fits 20000, (mutex.the_sync _ (engine.engine_send a T g N n), tt)))
+    (search (engine.shared_send, engine.shared_sync, cell.crosses, crossing.crosses, sendable) depth 60 fits 20000, (mutex.the_sync _ (desk.desk_send a T g N n), tt)))

@@ -1,4 +1,5 @@
 pub mod Known
 pub mod Notified
+pub mod Waiting
 pub mod Updated
 pub mod Replied

@@ -1,9 +1,13 @@
 //! The server: a cell of versions, and its engine behind a lock.
-ghost use Rattle.std.specs.Prelude.{◌≡◌, ◌⊎◌, ◌↔◌, ◌<◌, ◌≤◌, IfOk, IfErr, length};
+ghost use Rattle.std.specs.Prelude.{◌≡◌, ◌⊎◌, ◌↔◌, ◌<◌, ◌≤◌, ◌++◌, ℕ, IfOk, IfErr, length};
 ghost use Rattle.cell_core.specs.Words.{notes};
-ghost use Rattle.zone_tree.specs.Version.{zone_serial};
+ghost use Rattle.zone_tree.specs.Version.{Version, zone_serial};
 ghost use Rattle.dns_engine.specs.Replayed.{IsReplay};
-ghost use Rattle.zone_service.specs.Known.{HasMet, MeetsAndAsks};
+ghost use Rattle.conversation.specs.Served.{BeginsWith, Grows};
+ghost use Rattle.update_group.specs.Group.{codes_of, versions_of};
+ghost use Rattle.update_desk.specs.Done.{IsDone, IsFetched, IsJudgedIn};
+ghost use Rattle.zone_service.specs.Known.{learned_by, HasMet, MeetsAndAsks};
+ghost use Rattle.zone_service.specs.Waiting.{MeetsAt, IsBegun};
 ghost use Rattle.zone_service.specs.Updated.{IsUpdated};
 ghost use Rattle.dns_engine.specs.Versions.{AreNext};
 ghost use Rattle.dns_engine.specs.Held.{IsLatest};
@@ -20,41 +24,35 @@ use dns_rdata::{Rcode, Serial};
 use snapshot_cell::Naming;
 use std::alloc::Global;
 use std::sync::{Mutex, Wait};
+use update_desk::{Begun, Desk, Done, Fetched};
+use update_group::Group;
 
-/// A cell of versions, with the engine that publishes in it behind a lock. Queries take no lock.
+/// A cell of versions, with the engine that publishes in it behind a lock, and what is told of updates that wait for their replies. Queries take no lock.
 #[derive(Drop)]
 pub struct Server<'a, Z: FirstZone, N: Naming> {
     cell: &'a VersionCell<Z, N>,
-    engine: Mutex<Engine<'a, Z, N>>,
-}
-
-/// Looks at an engine's last number for a proof alone, which learns by it that its last version is the latest that it has published.
-fn learn_latest<Z: FirstZone, N: Naming>(engine: &Engine<'_, Z, N>)
-    ensures latest { IsLatest Z.zone engine.now.held.published engine.now.held.last }
-    ensures replayed { IsReplay Z.zone engine.now.held.last }
-{
-    let _ = engine.number();
+    desk: Mutex<Desk<'a, Z, N>>,
 }
 
 /// The serial of an engine's last version, which a reader meets with all that is published.
 fn meet_last<Z: FirstZone, N: Naming>(
-    engine: &mut Engine<'_, Z, N>,
-    cell: &VersionCell<Z, N>,
+    desk: &mut Desk<'_, Z, N>,
     reader: &mut VersionReader<N>,
 ) -> Serial
-    ensures serial { result.0 ≡ zone_serial engine.old.held.last.zone }
-    ensures met { HasMet Z.zone engine.old reader.old reader.new }
-    ensures same { engine.new ≡ engine.old }
+    ensures serial { result.0 ≡ zone_serial desk.old.held.last.zone }
+    ensures met { HasMet Z.zone desk.old reader.old reader.new }
+    ensures same { desk.new ≡ desk.old }
 {
-    learn_latest(engine);
-    engine.meet(cell, reader);
-    engine.last_version().serial()
+    let _ = desk.number();
+    desk.meet(reader);
+    desk.serial()
 }
 
 impl<'a, Z: FirstZone, N: Naming> Server<'a, Z, N> {
     /// The server of a cell in which the first version alone is published, whose engine keeps so many older versions beside the
     /// last. It is refused as the engine is, and both tokens come back as they were.
     pub fn new(
+        alloc: Global,
         cell: &'a VersionCell<Z, N>,
         publisher: VersionPublisher<Z, N>,
         reader: VersionReader<N>,
@@ -70,13 +68,14 @@ impl<'a, Z: FirstZone, N: Naming> Server<'a, Z, N> {
         let engine = Engine::new(cell, publisher, reader, keep)?;
         Ok(Server {
             cell,
-            engine: Mutex::new(engine),
+            desk: Mutex::new(Desk::of(alloc, cell, engine)),
         })
     }
 
     /// The server of a cell in which the first version alone is published, once its engine has published these behind it. It is refused as the
     /// engine is, which has then published none, and both tokens come back.
     pub fn resume(
+        alloc: Global,
         cell: &'a VersionCell<Z, N>,
         publisher: VersionPublisher<Z, N>,
         reader: VersionReader<N>,
@@ -93,7 +92,7 @@ impl<'a, Z: FirstZone, N: Naming> Server<'a, Z, N> {
         let engine = Engine::resume(cell, publisher, reader, keep, later)?;
         Ok(Server {
             cell,
-            engine: Mutex::new(engine),
+            desk: Mutex::new(Desk::of(alloc, cell, engine)),
         })
     }
 
@@ -115,10 +114,10 @@ impl<'a, Z: FirstZone, N: Naming> Server<'a, Z, N> {
     ) -> (Rcode, Serials)
         ensures { IsUpdated Z.zone update.now may reader.old reader.new result.0 result.1 }
     {
-        let mut engine = self.engine.lock(rt);
-        let before = meet_last(&mut engine, self.cell, reader);
-        let code = engine.update(alloc, self.cell, update, may);
-        let after = meet_last(&mut engine, self.cell, reader);
+        let mut desk = self.desk.lock(rt);
+        let before = meet_last(&mut desk, reader);
+        let code = desk.update(alloc, update, may);
+        let after = meet_last(&mut desk, reader);
         (code, Serials { before, after })
     }
 
@@ -133,9 +132,95 @@ impl<'a, Z: FirstZone, N: Naming> Server<'a, Z, N> {
     ) -> ToldChain<'a, Z, N>
         ensures { MeetsAndAsks Z.zone from.0 upto reader.old reader.new result }
     {
-        let mut engine = self.engine.lock(rt);
-        meet_last(&mut engine, self.cell, reader);
-        engine.chain(from, upto, reader)
+        let mut desk = self.desk.lock(rt);
+        meet_last(&mut desk, reader);
+        desk.chain(from, upto, reader)
+    }
+
+    /// Lets a reader meet what is published, behind the lock: the number of the version published last.
+    pub fn meet<R: Wait>(&self, rt: &R, reader: &mut VersionReader<N>) -> u64
+        ensures { MeetsAt Z.zone reader.old reader.new result }
+    {
+        let mut desk = self.desk.lock(rt);
+        meet_last(&mut desk, reader);
+        desk.number()
+    }
+
+    /// A seat of one whose update is to wait for its reply, behind the lock, where the reader meets what is published: with the number of the version
+    /// published last. No seat where there is no memory for it.
+    pub fn open<R: Wait>(&self, rt: &R, reader: &mut VersionReader<N>) -> (u64, Option<usize>)
+        ensures { MeetsAt Z.zone reader.old reader.new result.0 }
+    {
+        let mut desk = self.desk.lock(rt);
+        meet_last(&mut desk, reader);
+        let number = desk.number();
+        (number, desk.open())
+    }
+
+    /// What is told at a seat, which is then free, if it is there yet, behind the lock, where the reader meets what is published: with the number of the
+    /// version published last.
+    pub fn fetch<R: Wait>(
+        &self,
+        rt: &R,
+        reader: &mut VersionReader<N>,
+        seat: usize,
+    ) -> (u64, Fetched)
+        ensures met { MeetsAt Z.zone reader.old reader.new result.0 }
+        ensures fetched { IsFetched Z.zone reader.new.seen result.1 }
+    {
+        let mut desk = self.desk.lock(rt);
+        meet_last(&mut desk, reader);
+        let number = desk.number();
+        (number, desk.fetch(seat))
+    }
+
+    /// Who waits at a seat waits no more: what is still to be told there goes nowhere.
+    pub fn leave<R: Wait>(&self, rt: &R, seat: usize) {
+        self.desk.lock(rt).leave(seat);
+    }
+
+    /// Frees a seat at which nothing is to be told.
+    pub fn close<R: Wait>(&self, rt: &R, seat: usize) {
+        self.desk.lock(rt).close(seat);
+    }
+
+    /// Tells something at a seat, if one waits at it, behind the lock, where the reader meets what is published: what is told is about versions that it
+    /// has seen before.
+    pub fn tell<R: Wait>(&self, rt: &R, reader: &mut VersionReader<N>, seat: usize, done: Done)
+        requires { IsDone Z.zone reader.old.seen done }
+        ensures { (number : ℕ) × MeetsAt Z.zone reader.old reader.new number }
+    {
+        let mut desk = self.desk.lock(rt);
+        meet_last(&mut desk, reader);
+        desk.tell(seat, done);
+    }
+
+    /// Begins a batch of updates, behind the lock, where the reader meets what is published: the version that they are to be judged in, and how many
+    /// more can be published behind it. The lock is free while they are judged, and brought to a disk.
+    pub fn begin<R: Wait>(&self, rt: &R, reader: &mut VersionReader<N>) -> Begun
+        ensures { IsBegun Z.zone reader.old reader.new result }
+    {
+        self.desk.lock(rt).begin(rt, reader)
+    }
+
+    /// Publishes the versions of a batch, behind the lock, where the reader meets them, and gives the codes of its updates, and the serial of the last
+    /// version. The group comes back where another version than the one of this number was published last, which the reader had then not seen, or there is
+    /// no room for all of them.
+    pub fn publish<R: Wait>(
+        &self,
+        rt: &R,
+        reader: &mut VersionReader<N>,
+        number: u64,
+        group: Group<SharedVersion>,
+    ) -> Result<(Vec<u8>, Serial), Group<SharedVersion>>
+        requires { IsJudgedIn Z.zone reader.old.seen number (versions_of group) }
+        ensures published { IfOk result (λ r. (r.0.items ≡ codes_of group) × (reader.new.seen ≡ reader.old.seen ++ versions_of group)) }
+        ensures kept { IfErr result (λ back. (back ≡ group) × BeginsWith reader.new.seen reader.old.seen) }
+        ensures grows { Grows {T = Version} (learned_by reader.new) (learned_by reader.old) }
+    {
+        let mut desk = self.desk.lock(rt);
+        let codes = desk.publish_batch(reader, number, group)?;
+        Ok((codes, desk.serial()))
     }
 
     /// Ends the server: its engine's history and owners are given up, and its publisher and its reader come back, with all that was published.
@@ -144,9 +229,9 @@ impl<'a, Z: FirstZone, N: Naming> Server<'a, Z, N> {
         ensures number { result.0.number ≡ result.0.value.number }
         ensures seen { result.1.seen ≡ result.0.published }
     {
-        let Server { cell: _, engine } = self;
-        let engine = engine.into_inner();
-        learn_latest(&engine);
-        engine.finish()
+        let Server { cell: _, desk } = self;
+        let desk = desk.into_inner();
+        let _ = desk.number();
+        desk.into_engine().finish()
     }
 }
