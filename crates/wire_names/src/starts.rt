@@ -22,6 +22,24 @@ impl Starts {
         usize::from(self.starts[i])
     }
 
+    /// Which label begins at an index; None where none does.
+    pub(crate) fn label_at(&self, start: usize) -> Option<usize> {
+        let mut low = 0;
+        let mut high = self.count.min(MAX_LABELS - 1) + 1;
+        while low < high {
+            let middle = low + (high - low) / 2;
+            if usize::from(self.starts[middle]) < start {
+                low = middle + 1;
+            } else {
+                high = middle;
+            }
+        }
+        if low <= self.count && low < MAX_LABELS && usize::from(self.starts[low]) == start {
+            return Some(low);
+        }
+        None
+    }
+
     /// The octets of a name from a label on.
     pub(crate) fn rest<'a>(&self, octets: &'a [u8], i: usize) -> &'a [u8]
         requires are { AreStarts octets.now self.now.starts self.now.count }

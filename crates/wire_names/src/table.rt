@@ -12,6 +12,7 @@ ghost use Rattle.wire_names.specs.Written.{starts_of, CanEnter};
 use crate::chains::{Chains, ROOT, UNKNOWN};
 use crate::key::first_key;
 use crate::part::{Part, differ, label_at, part_at};
+use crate::starts::Starts;
 use arrayvec::ArrayVec;
 use dns_name::first_label;
 use std::marker::Model;
@@ -151,15 +152,30 @@ impl Positions {
         None
     }
 
-    /// The index of the last entry, where it spells the name in these octets.
-    pub(crate) fn last_spells(&self, msg: &[u8], octets: &[u8]) -> Option<usize>
-        requires table { IsTable msg.now self.now }
-        requires whole { IsWhole octets.now }
-        ensures some { IfSome result (IsSpelt msg.now self.now (labels_in octets.now)) }
-        ensures none { IsNone result → IsSpelt msg.now self.now (labels_in octets.now) (length self.now - 1) → ⊥ }
-    {
+    /// The index of the last entry, where it spells the name in these octets from a label on.
+    pub(crate) fn last_spells(
+        &self,
+        msg: &[u8],
+        octets: &[u8],
+        starts: &Starts,
+        label: usize,
+    ) -> Option<usize> {
         let index = self.entries.len().checked_sub(1)?;
-        if spells(msg, usize::from(self.entry(index).position), octets) {
+        let place = usize::from(self.entry(index).position);
+        let start = starts.start(label);
+        let rest = octets.get(start..)?;
+        let same = same_front(rest, msg.get(place..)?);
+        if same == rest.len() {
+            return Some(index);
+        }
+        if starts.label_at(start + same).is_some() {
+            if let Ok(Part::Pointer(target)) = part_at(msg, place + same) {
+                if target < place && spells(msg, target, rest.get(same..)?) {
+                    return Some(index);
+                }
+            }
+        }
+        if spells(msg, place, rest) {
             return Some(index);
         }
         None
@@ -472,4 +488,32 @@ fn begin_alike(octets: &[u8], others: &[u8], len: usize) -> bool
         }
     }
     false
+}
+
+/// How many octets at their fronts are the same, eight at a time.
+fn same_front(octets: &[u8], others: &[u8]) -> usize {
+    let mut rest = octets;
+    let mut there = others;
+    while let (Some((eight, behind)), Some((same, after))) = (
+        rest.split_first_chunk::<8>(),
+        there.split_first_chunk::<8>(),
+    ) {
+        let differing = u64::from_le_bytes(*eight) ^ u64::from_le_bytes(*same);
+        if differing != 0 {
+            return octets.len() - rest.len() + differing.trailing_zeros() as usize / 8;
+        }
+        rest = behind;
+        there = after;
+    }
+    while let (Some((one, behind)), Some((same, after))) = (
+        rest.split_first(),
+        there.split_first(),
+    ) {
+        if one != same {
+            return octets.len() - rest.len();
+        }
+        rest = behind;
+        there = after;
+    }
+    octets.len() - rest.len()
 }

@@ -365,23 +365,22 @@ impl NameWriter {
         ensures longest { IsLongest msg.now self.now (labels_in octets.now) result.labels }
         ensures up { result.labels ≤ found.labels }
     {
-        let mut k = found.labels;
-        while k > 1 {
-            k -= 1;
-            if octets.len() - starts.start(k) == size {
-                let rest = starts.rest(octets, k - 1);
-                if let Some(index) = self.positions.last_spells(msg, rest) {
-                    return self.climb(
-                        msg,
-                        octets,
-                        starts,
-                        Place {
-                            labels: k - 1,
-                            index,
-                        },
-                    );
-                }
-            }
+        let Some(k) = starts.label_at(octets.len().saturating_sub(size)) else {
+            return found;
+        };
+        if k < 1 || k >= found.labels {
+            return found;
+        }
+        if let Some(index) = self.positions.last_spells(msg, octets, starts, k - 1) {
+            return self.climb(
+                msg,
+                octets,
+                starts,
+                Place {
+                    labels: k - 1,
+                    index,
+                },
+            );
         }
         found
     }
