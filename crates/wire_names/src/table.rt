@@ -191,7 +191,7 @@ impl Positions {
     }
 
     /// Whether this is the number, as a parent, of the name in these octets: its labels are compared with those of the entries, from the
-    /// first on.
+    /// first on, and those behind the last entry, where no entry spells them, with those of the message.
     #[inline(never)]
     pub(crate) fn is_parent(&self, msg: &[u8], octets: &[u8], index: usize) -> bool
         requires table { IsTable msg.now self.now }
@@ -211,11 +211,29 @@ impl Positions {
             if !begins_with(msg, usize::from(entry.position), here) {
                 return false;
             }
+            let parent = usize::from(entry.parent);
+            if parent >= UNKNOWN {
+                return self.is_last(msg, here, last);
+            }
             let len = usize::from(here[0]);
             rest = &here[1 + len..];
-            i = usize::from(entry.parent);
+            i = parent;
         }
         i == ROOT
+    }
+
+    /// Whether this is the index of the last entry, and that spells the name in these octets.
+    #[inline(never)]
+    fn is_last(&self, msg: &[u8], octets: &[u8], index: usize) -> bool
+        requires table { IsTable msg.now self.now }
+        requires whole { IsWhole octets.now }
+        requires some { 1 < length octets.now }
+        ensures { OnTrue result (IsKnown msg.now self.now (labels_in octets.now) index) }
+    {
+        match self.last_spells(msg, octets) {
+            Some(last) => last == index,
+            None => false,
+        }
     }
 
     /// The octets from the last label on of those that stand one behind the other from the entry at an index on, and the index of its

@@ -30,15 +30,15 @@ loop-rest-preserved c =
     let size = ap (λ (xs : List Entry). length xs) c.self.view_is in
     let own = c.entry-entry.ensures no_entry in
     let at : c.from.result ≡ place_at c.args.self.now c.in-Some.last = c.from.ensures ∙ ap (λ (x : Entry). x.position) own in
-    let child : IsChild c.args.msg.now c.args.self.now c.from-i.result (labels_in rest) c.in-Some.last = record {
+    let child : IsChild c.args.msg.now c.args.self.now c.from-parent.result (labels_in rest) c.in-Some.last = record {
       within = c.in-Some.ensures.within;
-      alike = (sym (c.from-i.ensures ∙ ap (λ (x : Entry). x.parent) own), ap (λ (k : ℕ). take 1 (spelt_at c.args.msg.now k)) (sym at) ∙ c.if-not-begins_with.ensures.0 refl);
+      alike = (sym (c.from-parent.ensures ∙ ap (λ (x : Entry). x.parent) own), ap (λ (k : ℕ). take 1 (spelt_at c.args.msg.now k)) (sym at) ∙ c.if-not-begins_with.ensures.0 refl);
     } in
     record {
       whole = subst IsWhole (sym same) whole;
       known = λ k. c.loop-rest.invariant.known (c.in-Some.ensures.known
-          (known_child c.args.msg.now c.args.self.now (labels_in rest) (labels_in (drop n rest)) c.in-Some.last c.from-i.result c.requires.table (omega (arith, next.more)) behind child
-          (subst (λ (xs : List ℕ). IsKnown c.args.msg.now c.args.self.now (labels_in xs) c.from-i.result) same k)));
+          (known_child c.args.msg.now c.args.self.now (labels_in rest) (labels_in (drop n rest)) c.in-Some.last c.from-parent.result c.requires.table (omega (arith, next.more)) behind child
+          (subst (λ (xs : List ℕ). IsKnown c.args.msg.now c.args.self.now (labels_in xs) c.from-parent.result) same k)));
     }
 
 on_root : (b : Bool) (i : ℕ) (P : Type 0) → b ≡ eqb i 257 → (i ≡ 257 → P) → OnTrue b P
