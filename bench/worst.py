@@ -717,6 +717,8 @@ def measure_transfers(program, rounds):
         ("mail exchanges of 112 labels, which differ in the last but one, at one owner", "".join(f"m MX 1 {deep}.{numbered(n, 3).decode()}\n" for n in range(100))),
         ("names of 92 labels, of which the last but one differs in its first octets alone", "".join(f"{'a.' * 90}{numbered(n, 3).decode()}{'x' * 17} A 10.0.0.1\n" for n in range(2000))),
         ("names that alternate between two parents of 100 labels", zone_in_turn(parents_of(2, 100, "top", "differ"), "AB", 2000)),
+        ("names below three parents of 120 labels in turn, of which the message knows the third in part", zone_in_turn(parents_of(3, 120, "top", "same"), "ABC", 2000)),
+        ("names below the third of them alone", zone_in_turn(parents_of(3, 120, "top", "same"), "ABC" + "C" * 1997, 2000)),
         ("names whose last labels end alike", "".join(f"{letters[n % 36]}{numbered(n, 3).decode()}{'x' * 40} A 10.0.0.1\n" for n in range(2000))),
     ):
         show(f"AXFR of {what}", run(zone, (), axfr_request(), end(1)))

@@ -58,7 +58,7 @@ def drawn_names(rng, kind):
         "at": rng.choice([1, 1, 2, 16, 128]),
         "records": rng.choice([100, 500, 2000, 4000]),
         "parents": rng.choice([0, 0, 1, 2, 3, 4, 5, 8, 16]),
-        "turns": rng.choice(["AB", "AABB", "ABC", "ABCD", "ABCDE", "ABCDEFGH", "ABCDEFGHIJKLMNOP", "ABACADAE"]),
+        "turns": rng.choice(["AB", "AABB", "ABC", "ABCD", "ABCDE", "ABCDEFGH", "ABCDEFGHIJKLMNOP", "ABACADAE", "ABC" + "C" * 9, "ABCD" + "CD" * 9]),
         "apart": rng.choice(["top", "bottom", "middle"]),
         "combs": rng.choice([False, False, True]),
         "keys": rng.choice(["differ", "same"]),
