@@ -9,8 +9,8 @@ long, combs, or of octets that stand for others. Dearness is the processor time 
 - of a transfer of plain names with as many octets of reply.
 
 Usage: bench/worst_search.py PROGRAM SECONDS SEED [KIND ..], of query, check, act, aliases, axfr and ixfr; by default all. A draw is told by its seed, the kinds
-and its place, and prints its whole description. What comes near its bound is measured several times more, and so are the eight dearest of each kind at the end, at another time;
-the least counts, since what else the machine does can only add to it. At the end stands the dearest of each kind; status 1 where one is dearer than ten times, or 16 aliases than the 17 plain queries."""
+and its place, and prints its whole description. What comes near its bound is measured several times more, and the eight dearest of each kind are measured anew at the end;
+the middle counts, of it and of the plain one. At the end stands the dearest of each kind; status 1 where one is dearer than ten times, or 16 aliases than the 17 plain queries."""
 import random
 import struct
 import sys
@@ -24,6 +24,8 @@ from worst import (
 # how many times as dear as a plain one anything may be, and aliases as 17 plain queries; and how often more what comes near it is measured
 BOUNDS = {"query": 10, "check": 10, "act": 10, "aliases": 1, "axfr": 10, "ixfr": 10}
 MORE = 4
+# how often the dearest are measured at the end
+ANEW = 7
 KINDS = ("query", "check", "act", "aliases", "axfr", "ixfr")
 # below so many microseconds what a message costs isn't told from its receipt
 LEAST = {"query": 200, "check": 500, "act": 500, "aliases": 5, "axfr": 50, "ixfr": 50}
@@ -386,14 +388,16 @@ def cost_of_aliases(program, own):
     return cost, plain, (len(reply), sum(len(one) for one in replies))
 
 
-def least(measured):
-    """The least cost of a draw that was measured several times, and the least of the plain one beside it, as far as the kernel has told it."""
-    return min(cost for cost, _ in measured), min((plain for _, plain in measured if plain > 0), default=0)
+def middle(measured):
+    """The middle cost of a draw that was measured several times, and the middle of the plain one beside it, as far as the kernel has told it: what else the machine does
+    adds to a cost, and what the kernel tells late is missing in it."""
+    costs, plain = sorted(cost for cost, _ in measured), sorted(plain for _, plain in measured if plain > 0)
+    return costs[(len(costs) - 1) // 2], plain[len(plain) // 2] if plain else 0
 
 
 def is_near(measured, kind):
     """Whether a draw comes near the bound of its kind."""
-    cost, plain = least(measured)
+    cost, plain = middle(measured)
     return cost > 0.7 * BOUNDS[kind] * max(plain, 1)
 
 
@@ -444,7 +448,7 @@ class Search:
             if cost < LEAST[kind] or len(known) == 8 and cost / max(plain, 1) <= known[-1].ratio():
                 self.tried[kind] += 1
                 return
-            # once more, since what else the machine does can only add to it
+            # once more, since what else the machine does adds to it
             if plain == 0:
                 raise ValueError("the plain one's time isn't told yet")
             again = [(cost, plain), self.cost(own)[:2]]
@@ -456,7 +460,7 @@ class Search:
                 self.server = Server(self.program, ZONE)
             return
         self.tried[kind] += 1
-        self.keep(kind, own, *least(again), f"{more}; draw {turn} {own}")
+        self.keep(kind, own, *middle(again), f"{more}; draw {turn} {own}")
 
     def keep(self, kind, own, cost, plain, more):
         """Keeps a draw among the dearest eight, and prints it if none is dearer."""
@@ -469,12 +473,14 @@ class Search:
         del known[8:]
 
     def measure_again(self):
-        """Measures the dearest of each kind once more, at another time, of which the least counts, and what is plain beside them anew."""
-        plain_costs.clear()
+        """Measures the dearest of each kind anew, at another time, and what is plain beside them each time."""
         for known in self.best.values():
             for found in known:
-                again = [self.cost(found.own)[:2] for _ in range(MORE)]
-                found.cost, found.plain = least([(found.cost, found.plain), *again])
+                again = []
+                for _ in range(ANEW):
+                    plain_costs.clear()
+                    again.append(self.cost(found.own)[:2])
+                found.cost, found.plain = middle(again)
             known.sort(key=lambda one: -one.ratio())
 
 
