@@ -3,12 +3,12 @@ ghost use Rattle.std.specs.Prelude.{◌↔◌, IsTrue, ℕ, MatchOption};
 ghost use Rattle.store_files.specs.Names.{IsTextName, IsLeftOver};
 
 use crate::files::{sync_folder, write_synced};
-use crate::names::NEW_JOURNAL;
+use crate::names::{JOURNAL, NEW_JOURNAL, path_of, text_path};
 use std::alloc::Global;
 use std::fs::{self, File, Files};
 use std::io::{self, ErrorKind};
 
-/// How many torn ends are kept at most.
+/// How many torn ends are kept at most, and how many pairs.
 const MOST: u64 = 10_000;
 
 /// Keeps the octets that stand behind the last whole batch of a journal, before they are cut off, in a file of their own: its path. It takes memory.
@@ -34,6 +34,41 @@ pub fn keep_torn<R: Files<File = File>>(
         ErrorKind::AlreadyExists,
         "the folder has too many torn ends",
     ))
+}
+
+/// Keeps a zone text of a number and the journal that names it, before another pair is the store's, in a folder of their own, which is a store itself: its path. It takes
+/// memory.
+pub fn keep_pair<R: Files<File = File>>(
+    rt: &R,
+    alloc: Global,
+    dir: &str,
+    number: u64,
+    text: &[u8],
+    journal: &[u8],
+) -> io::Result<String> {
+    for place in 1..=MOST {
+        let path = format!(in alloc; "{dir}/old-{place}")?;
+        match fs::create_dir(rt, path.as_str()) {
+            Ok(()) => {
+                write_kept(rt, &text_path(alloc, &path, number)?, text)?;
+                write_kept(rt, &path_of(alloc, &path, JOURNAL)?, journal)?;
+                sync_folder(rt, &path)?;
+                sync_folder(rt, dir)?;
+                return Ok(path);
+            }
+            Err(error) if error.kind() == ErrorKind::AlreadyExists => {}
+            Err(error) => return Err(error),
+        }
+    }
+    Err(io::Error::new(
+        ErrorKind::AlreadyExists,
+        "the folder has too many old pairs",
+    ))
+}
+
+/// Writes the octets of a file that is new.
+fn write_kept<R: Files<File = File>>(rt: &R, path: &str, octets: &[u8]) -> io::Result<()> {
+    write_synced(File::create_new(rt, path)?, octets)
 }
 
 /// Removes what a crash has left of a pair that isn't the store's, and the zone texts of other numbers than its own and the one before it: who copies

@@ -14,7 +14,7 @@ mod open;
 mod pair;
 mod read;
 
-pub use kept::{drop_others, keep_torn};
+pub use kept::{drop_others, keep_pair, keep_torn};
 pub use open::{Opened, Pair, StoreLock, open_store};
 pub use pair::{PairFault, replace_journal, write_pair, write_text};
 pub use read::read_store;

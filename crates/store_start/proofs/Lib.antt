@@ -1,0 +1,2 @@
+pub mod RecoveredLemmas
+pub mod ServedLemmas

@@ -1,0 +1,2 @@
+pub mod Started
+pub mod Private

@@ -1,0 +1,112 @@
+-- What a server begins with (own).
+use Rattle.std.specs.Prelude.{◌≡◌, ◌-◌, ◌∷◌, ⊤, ℕ, true, List, [], Option, None, Some, Ok, Err, length, map, drop}
+use Rattle.dns_name.specs.Name.{Name}
+use Rattle.dns_rdata.specs.Record.{Record}
+use Rattle.dns_rdata.specs.declared.numbers.Serial.{Serial}
+use Rattle.zone_tree.specs.Version.{Version, zone_serial}
+use Rattle.dns_engine.specs.Versions.{IsFirst, AreNext}
+use Rattle.master_file.specs.ZoneText.{zone_of_text}
+use Rattle.journal.specs.declared.heads.Head.{Head}
+use Rattle.journal.specs.declared.heads.TextSum.{TextSum}
+use Rattle.journal.specs.Head.{IsText}
+use Rattle.journal_store.specs.declared.log.Log.{Log}
+use Rattle.journal_store.specs.Log.{Holds}
+use Rattle.file_disks.specs.declared.file.FileDisk.{FileDisk}
+use Rattle.file_disks.specs.File.{written, synced}
+use Rattle.recovery.specs.declared.start.Start.{Start}
+use Rattle.recovery.specs.Replay.{first_version}
+use Rattle.recovery.specs.Rebased.{versions_in, rebased}
+use Rattle.recovery.specs.Start.{IsStarted, IsStartFault}
+use Rattle.stores.specs.declared.choices.Take.{Take}
+use Rattle.stores.specs.declared.choices.Choice.{Choice}
+use Rattle.stores.specs.declared.choices.Choice.TheVariants.{Same as IsSame, Store as IsStore, Zone as IsZone, StoreThoughOther as IsOlder, RefuseNewer}
+use Rattle.stores.specs.Begun.{IsBegun}
+use Rattle.stores.specs.Choice.{IsChoice}
+use Rattle.store_start.specs.declared.refusal.Refusal.{Refusal}
+use Rattle.store_start.specs.declared.refusal.Refusal.TheVariants.{Held, NoText, NoStart, Newer, Text, NoMemory, Device}
+use Rattle.store_start.specs.declared.resume.Resumed.{Resumed}
+use Rattle.store_start.specs.declared.start.Served.{Served}
+use Rattle.store_start.specs.declared.start.Served.TheVariants.{Begun, Same, Store, StoreThoughOther, Zone}
+use Rattle.store_start.specs.declared.start.Started.{Started}
+
+-- a store that is begun with a zone, whose text was given: a head that says so, and a log on the disk that has no batch
+pub record IsNewStore {F : Type 0} (zone : List Record) (number : ℕ) (random given : List ℕ) (head : Head) (log : Log FileDisk F) : Type 0 where
+  pub text : List ℕ
+  pub origin : TextSum
+  pub begun : IsBegun zone number random origin text head
+  pub from : IsText origin given
+  pub empty : Holds written synced head log []
+
+-- a store goes on of whose zone text and journal a start has this: the log on the disk has the journal's batches, and nothing behind them; the versions are the newest,
+-- the oldest as the first of its zone, and the updates are those that made the others
+pub record GoesOn (text octets : List ℕ) (start : Start) (store : Resumed) : Type 0 where
+  pub is : IsStarted text octets start
+  pub head : store.head ≡ start.head
+  pub log : Holds written synced store.head store.log is.recovered.bodies
+  pub versions : store.first ∷ store.later.items ≡ rebased (versions_in start.newest)
+  pub made : IsFirst store.first.zone store.first × AreNext store.first store.later.items
+  pub updates : map (λ update. update.items) store.updates.items ≡ drop (length is.messages - length start.newest.older.items) is.messages
+
+-- a store is begun with a zone, whose text was given: its first version alone is served
+pub record IsBegunStore (zone : List Record) (number : ℕ) (random given : List ℕ) (store : Resumed) : Type 0 where
+  pub new : IsNewStore zone number random given store.head store.log
+  pub first : store.first ≡ first_version zone
+  pub later : store.later.items ≡ []
+  pub updates : store.updates.items ≡ []
+
+-- a zone text is served that is given
+pub record IsBegunWith (given : List ℕ) (origin : Name) (random : List ℕ) (store : Resumed) : Type 0 where
+  pub zone : List Record
+  pub number : ℕ
+  pub is_zone : zone_of_text origin given ≡ Ok zone
+  pub begun : IsBegunStore zone number random given store
+
+-- a folder's store is chosen, or what is taken in its place, by the serial of its last version
+pub record IsChosen (given : List ℕ) (origin : Name) (taken : Option Take) (text octets : List ℕ) (choice : Choice) : Type 0 where
+  pub start : Start
+  pub is : IsStarted text octets start
+  pub chosen : IsChoice start.head.origin (zone_serial start.newest.last.zone) origin given taken choice
+
+-- what is served, and the store that goes on with it
+abbrev pub IsServedBy : List ℕ → Name → Option Take → List ℕ → Resumed → Served → Type 0
+IsServedBy given origin taken random store Begun = IsBegunWith given origin random store
+IsServedBy given origin taken random store (Zone kept) = (text : List ℕ) × (octets : List ℕ) × (zone : List Record) × IsChosen given origin taken text octets (IsZone zone) × IsBegunWith given origin random store
+IsServedBy given origin taken random store Same = (text : List ℕ) × (octets : List ℕ) × (is : IsChosen given origin taken text octets IsSame) × GoesOn text octets is.start store
+IsServedBy given origin taken random store Store = (text : List ℕ) × (octets : List ℕ) × (is : IsChosen given origin taken text octets IsStore) × GoesOn text octets is.start store
+IsServedBy given origin taken random store (StoreThoughOther serial) =
+    (text : List ℕ) × (octets : List ℕ) × (is : IsChosen given origin taken text octets (IsOlder serial)) × GoesOn text octets is.start store
+
+abbrev pub IsServed : List ℕ → Name → Option Take → List ℕ → Started → Type 0
+IsServed given origin taken random started = IsServedBy given origin taken random started.store started.served
+
+-- a zone text is served that is taken, and the store before is kept
+abbrev pub IsKept : Served → Type 0
+IsKept (Zone kept) = ⊤
+IsKept _ = ⊥
+
+-- want of memory, or a device's fault
+abbrev pub IsOwnFault : Refusal → Type 0
+IsOwnFault NoMemory = ⊤
+IsOwnFault (Device fault) = ⊤
+IsOwnFault _ = ⊥
+
+-- or a zone text and a journal that give no start
+abbrev pub IsNoStore : List ℕ → List ℕ → Refusal → Type 0
+IsNoStore text octets (NoStart fault) = IsStartFault text octets fault
+IsNoStore text octets refusal = IsOwnFault refusal
+
+-- or a zone text that is no zone
+abbrev pub IsNoText : List ℕ → Name → Refusal → Type 0
+IsNoText given origin (Text fault) = zone_of_text origin given ≡ Err fault
+IsNoText given origin refusal = IsOwnFault refusal
+
+-- why nothing is served
+abbrev pub IsRefused : List ℕ → Name → Option Take → Refusal → Type 0
+IsRefused given origin taken Held = ⊤
+IsRefused given origin taken (NoText number) = ⊤
+IsRefused given origin taken (NoStart fault) = (text : List ℕ) × (octets : List ℕ) × IsStartFault text octets fault
+IsRefused given origin taken (Newer has serial) =
+    (text : List ℕ) × (octets : List ℕ) × (is : IsChosen given origin taken text octets (RefuseNewer serial)) × (has.0 ≡ zone_serial is.start.newest.last.zone)
+IsRefused given origin taken (Text fault) = zone_of_text origin given ≡ Err fault
+IsRefused given origin taken NoMemory = ⊤
+IsRefused given origin taken (Device fault) = ⊤

@@ -1,0 +1,34 @@
+//! A store that is begun (own).
+ghost use Rattle.std.specs.Prelude.{IfOk, IfErr};
+ghost use Rattle.store_start.specs.Started.{IsNewStore, IsOwnFault};
+
+use crate::refusal::Refusal;
+use file_disks::FileDisk;
+use journal::{Head, TextSum, write_head};
+use journal_store::Log;
+use std::alloc::Global;
+use std::fs::{File, Files};
+use store_files::write_pair;
+use stores::begin_store;
+use zone_tree::Zone;
+
+/// Begins a folder's store with a zone: its zone text, of this number, which no journal names yet, and a journal without batches are in place. `random` are octets that
+/// nobody outside knows, and `given` is the text that the zone was read from. It takes memory.
+pub fn begin_with<R: Files<File = File>>(
+    rt: &R,
+    alloc: Global,
+    dir: &str,
+    zone: &Zone,
+    number: u64,
+    random: [u8; 16],
+    given: &[u8],
+) -> Result<(Head, Log<FileDisk>), Refusal>
+    ensures begun { IfOk result (λ r. IsNewStore zone.now number random given.now r.0 r.1) }
+    ensures refused { IfErr result IsOwnFault }
+{
+    let (text, head) = begin_store(alloc, zone, number, random, TextSum::of(given))?;
+    let (octets, salt) = write_head(alloc, &head)?;
+    let disk = write_pair(rt, alloc, dir, number, text.as_bytes(), &octets)?;
+    let log = Log::resume(disk, &salt, 0, octets.len() as u64)?;
+    Ok((head, log))
+}

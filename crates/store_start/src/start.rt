@@ -1,0 +1,223 @@
+//! A start over a folder (own).
+ghost use Rattle.std.specs.Prelude.{◌≡◌, ℕ, IfOk, IfErr};
+ghost use Rattle.zone_tree.specs.Version.{zone_serial};
+ghost use Rattle.file_disks.specs.File.{written};
+ghost use Rattle.recovery.specs.Start.{IsStarted};
+ghost use Rattle.stores.specs.Choice.{IsChoice};
+ghost use Rattle.store_start.specs.Started.{GoesOn, IsBegunStore, IsOwnFault, IsNoStore, IsNoText, IsKept, IsServed, IsRefused};
+
+use crate::begin::begin_with;
+use crate::refusal::Refusal;
+use crate::resume::{Resumed, resume_pair};
+use dns_name::Name;
+use dns_rdata::Serial;
+use journal::Head;
+use master_file::read_zone;
+use recovery::{Ending, Start, recover_zone};
+use std::alloc::Global;
+use std::fs::{File, Files};
+use store_files::{Opened, Pair, StoreLock, drop_others, keep_pair, keep_torn, open_store};
+use stores::{Choice, Take, choose};
+use zone_tree::{Version, Zone, ZoneRead};
+
+/// What the operator names beside a store.
+#[derive(Clone, Copy)]
+pub struct Given<'a> {
+    /// A zone text.
+    pub text: &'a [u8],
+    /// What names in it are relative to.
+    pub origin: &'a Name,
+    /// What he takes of the two, where the text is another one than the store was begun from.
+    pub taken: Option<Take>,
+}
+
+/// Which is served.
+#[derive(Debug, Drop)]
+pub enum Served {
+    /// The zone text: the folder had no journal.
+    Begun,
+    /// The store, which was begun from the zone text.
+    Same,
+    /// The store, which the operator has taken.
+    Store,
+    /// The store, though the zone text is another one: its zone has this serial, which isn't greater.
+    StoreThoughOther(Serial),
+    /// The zone text, which the operator has taken: the store before is kept in this folder.
+    Zone(String),
+}
+
+/// What a server begins with.
+#[derive(Drop)]
+pub struct Started {
+    /// What holds the folder.
+    pub lock: StoreLock,
+    /// The store.
+    pub store: Resumed,
+    /// Which is served.
+    pub served: Served,
+    /// Where the octets are kept that stood behind the journal's last batch and were no frame, if there were any.
+    pub torn: Option<String>,
+}
+
+/// Holds the store of a folder that is there, and gives what a server begins with. `random` are octets that nobody outside knows, for a journal that is begun. It takes
+/// memory.
+pub fn start_store<R: Files<File = File> + Alloc + Clone + Drop>(
+    rt: &R,
+    alloc: Global,
+    dir: &str,
+    given: Given<'_>,
+    random: [u8; 16],
+) -> Result<Started, Refusal>
+    ensures served { IfOk result (λ started. IsServed given.entry.text.now given.entry.origin.now given.entry.taken random started) }
+    ensures refused { IfErr result (λ refusal. IsRefused given.entry.text.now given.entry.origin.now given.entry.taken refusal) }
+{
+    match open_store(rt, alloc, dir)? {
+        Opened::Locked => Err(Refusal::Held),
+        Opened::NoText(number) => Err(Refusal::NoText(number)),
+        Opened::Empty(lock) => {
+            let zone = read_zone(alloc, given.text, given.origin)?;
+            let store = begin_anew(rt, alloc, dir, zone, 0, random, given.text)?;
+            Ok(Started {
+                lock,
+                store,
+                served: Served::Begun,
+                torn: None,
+            })
+        }
+        Opened::Found(lock, pair) => start_found(rt, alloc, dir, given, random, lock, pair),
+    }
+}
+
+/// What a server begins with where the folder has a store.
+fn start_found<R: Files<File = File> + Alloc + Clone + Drop>(
+    rt: &R,
+    alloc: Global,
+    dir: &str,
+    given: Given<'_>,
+    random: [u8; 16],
+    lock: StoreLock,
+    pair: Pair,
+) -> Result<Started, Refusal>
+    requires noted { written pair.disk ≡ pair.journal.items }
+    ensures served { IfOk result (λ started. IsServed given.entry.text.now given.entry.origin.now given.entry.taken random started) }
+    ensures refused { IfErr result (λ refusal. IsRefused given.entry.text.now given.entry.origin.now given.entry.taken refusal) }
+{
+    let start = recover_zone(alloc, &pair.text, &pair.journal)?;
+    match choice_of(alloc, &start, given)? {
+        Choice::Same => go_on(rt, alloc, dir, lock, pair, start, Served::Same),
+        Choice::Store => go_on(rt, alloc, dir, lock, pair, start, Served::Store),
+        Choice::StoreThoughOther(serial) => {
+            go_on(rt, alloc, dir, lock, pair, start, Served::StoreThoughOther(serial))
+        }
+        Choice::RefuseNewer(given) => {
+            let has = start.newest.last.serial();
+            Err(Refusal::Newer { has, given })
+        }
+        Choice::Zone(zone) => take_text(rt, alloc, dir, given, random, lock, pair, start.head, zone),
+    }
+}
+
+/// Which is served, of a store of which a start has this, and what the operator names beside it.
+fn choice_of(alloc: Global, start: &Start, given: Given<'_>) -> Result<Choice, Refusal>
+    ensures chosen { IfOk result (λ choice. IsChoice start.now.head.origin (zone_serial start.now.newest.last.zone) given.entry.origin.now given.entry.text.now given.entry.taken choice) }
+    ensures refused { IfErr result (λ refusal. IsNoText given.entry.text.now given.entry.origin.now refusal) }
+{
+    let last = start.newest.last.serial();
+    Ok(choose(alloc, &start.head.origin, last, given.text, given.origin, given.taken)?)
+}
+
+/// Goes on with a store of which a start has this.
+fn go_on<R: Files<File = File> + Alloc + Clone + Drop>(
+    rt: &R,
+    alloc: Global,
+    dir: &str,
+    lock: StoreLock,
+    pair: Pair,
+    start: Start,
+    served: Served,
+) -> Result<Started, Refusal>
+    requires noted { written pair.disk ≡ pair.journal.items }
+    requires started { IsStarted pair.text.items pair.journal.items start }
+    ensures store { IfOk result (λ started. GoesOn pair.text.items pair.journal.items start started.store) }
+    ensures served { IfOk result (λ started. started.served ≡ served) }
+    ensures refused { IfErr result (λ refusal. IsNoStore pair.text.items pair.journal.items refusal) }
+{
+    let torn = keep_end(rt, alloc, dir, &pair.journal, start.ending)?;
+    let store = resume_pair(alloc, pair, start)?;
+    drop_others(rt, dir, store.head.number)?;
+    Ok(Started {
+        lock,
+        store,
+        served,
+        torn,
+    })
+}
+
+/// Begins a store anew with a zone text that the operator takes, whose zone this is; the one before, with this head, is kept beside it.
+fn take_text<R: Files<File = File>>(
+    rt: &R,
+    alloc: Global,
+    dir: &str,
+    given: Given<'_>,
+    random: [u8; 16],
+    lock: StoreLock,
+    pair: Pair,
+    head: Head,
+    zone: Zone,
+) -> Result<Started, Refusal>
+    ensures served { IfOk result (λ started. IsKept started.served) }
+    ensures begun { IfOk result (λ started. (number : ℕ) × IsBegunStore zone number random given.entry.text.now started.store) }
+    ensures refused { IfErr result IsOwnFault }
+{
+    let next = head.number.saturating_add(1);
+    let kept = keep_pair(rt, alloc, dir, head.number, &pair.text, &pair.journal)?;
+    let store = begin_anew(rt, alloc, dir, zone, next, random, given.text)?;
+    Ok(Started {
+        lock,
+        store,
+        served: Served::Zone(kept),
+        torn: None,
+    })
+}
+
+/// Keeps what stands behind a journal's last batch, if it is torn: its path.
+fn keep_end<R: Files<File = File>>(
+    rt: &R,
+    alloc: Global,
+    dir: &str,
+    journal: &[u8],
+    ending: Ending,
+) -> Result<Option<String>, Refusal>
+    ensures { IfErr result IsOwnFault }
+{
+    match ending {
+        Ending::Torn(end) => match journal.get(end..) {
+            Some(octets) => Ok(Some(keep_torn(rt, alloc, dir, octets)?)),
+            None => Ok(None),
+        },
+        Ending::Clean | Ending::Blank => Ok(None),
+    }
+}
+
+/// A store that is begun with a zone.
+fn begin_anew<R: Files<File = File>>(
+    rt: &R,
+    alloc: Global,
+    dir: &str,
+    zone: Zone,
+    number: u64,
+    random: [u8; 16],
+    given: &[u8],
+) -> Result<Resumed, Refusal>
+    ensures begun { IfOk result (λ store. IsBegunStore zone number random given.now store) }
+    ensures refused { IfErr result IsOwnFault }
+{
+    let (head, log) = begin_with(rt, alloc, dir, &zone, number, random, given)?;
+    Ok(Resumed {
+        head,
+        log,
+        first: Version::first(zone),
+        later: Vec::new(alloc),
+        updates: Vec::new(alloc),
+    })
+}
