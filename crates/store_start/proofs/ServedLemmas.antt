@@ -4,7 +4,6 @@ use Rattle.dns_name.specs.Name.{Name}
 use Rattle.dns_rdata.specs.Record.{Record}
 use Rattle.dns_rdata.specs.declared.numbers.Serial.{Serial}
 use Rattle.zone_tree.specs.Version.{zone_serial}
-use Rattle.master_file.specs.ZoneText.{zone_of_text}
 use Rattle.recovery.specs.declared.start.Start.{Start}
 use Rattle.stores.specs.declared.choices.Take.{Take}
 use Rattle.stores.specs.declared.choices.Choice.{Choice}
@@ -15,7 +14,7 @@ use Rattle.store_start.specs.declared.resume.Resumed.{Resumed}
 use Rattle.store_start.specs.declared.start.Served.{Served}
 use Rattle.store_start.specs.declared.start.Served.TheVariants.{Begun, Same, Store, StoreThoughOther, Zone}
 use Rattle.store_start.specs.declared.start.Started.{Started}
-use Rattle.store_start.specs.Started.{GoesOn, IsBegunStore, IsBegunWith, IsChosen, IsServedBy, IsServed, IsKept}
+use Rattle.store_start.specs.Started.{GoesOn, IsBegunStore, IsChosen, IsServedBy, IsServed, IsKept}
 
 module _ (given : List ℕ) (origin : Name) (taken : Option Take) (random text octets : List ℕ) where
   -- a choice, as it was made

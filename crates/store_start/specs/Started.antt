@@ -1,9 +1,8 @@
 -- What a server begins with (own).
-use Rattle.std.specs.Prelude.{◌≡◌, ◌-◌, ◌∷◌, ⊤, ℕ, true, List, [], Option, None, Some, Ok, Err, length, map, drop}
+use Rattle.std.specs.Prelude.{◌≡◌, ◌-◌, ◌∷◌, ⊤, ℕ, List, [], Option, Ok, Err, length, map, drop}
 use Rattle.dns_name.specs.Name.{Name}
 use Rattle.dns_rdata.specs.Record.{Record}
-use Rattle.dns_rdata.specs.declared.numbers.Serial.{Serial}
-use Rattle.zone_tree.specs.Version.{Version, zone_serial}
+use Rattle.zone_tree.specs.Version.{zone_serial}
 use Rattle.dns_engine.specs.Versions.{IsFirst, AreNext}
 use Rattle.master_file.specs.ZoneText.{zone_of_text}
 use Rattle.journal.specs.declared.heads.Head.{Head}
