@@ -162,7 +162,6 @@ fn put_duties<'a>(
             worker,
             progress,
             sockets: Sockets::Connections(listeners),
-            told: None,
         })
         .ok()?;
     for socket in datagrams {
@@ -171,7 +170,6 @@ fn put_duties<'a>(
                 worker,
                 progress,
                 sockets: Sockets::Datagrams(socket),
-                told: None,
             })
             .ok()?;
     }

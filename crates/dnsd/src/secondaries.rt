@@ -184,7 +184,6 @@ pub fn put_secondaries<'a>(
             worker,
             progress,
             sockets: Sockets::Secondaries(secondaries),
-            told: None,
         })
         .ok()
 }

@@ -2,4 +2,3 @@ pub mod SendLemmas
 pub mod EachLemmas
 pub mod ListLemmas
 pub mod TurnedLemmas
-pub mod ToldLemmas

@@ -3,4 +3,3 @@ pub mod Ended
 pub mod Lost
 pub mod Numbers
 pub mod Seats
-pub mod Told

@@ -68,7 +68,6 @@ fn duties_of<'a>(
             worker: 1,
             progress,
             sockets,
-            told: None,
         })?;
     }
     Ok(duties)
