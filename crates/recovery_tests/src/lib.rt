@@ -2,8 +2,6 @@
 #![tactic(auto)]
 
 #[cfg(test)]
-mod before;
-#[cfg(test)]
 mod damage;
 #[cfg(test)]
 mod refusals;
