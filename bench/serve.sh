@@ -5,9 +5,9 @@
 # the servers take turns, and the middle of each figure is told at the end; then of dnsd the same
 # with 3,000 places a worker, without and beside idle connections that are opened anew as they end, updates a second, and the 99th percentile of queries' times without updates, while updates go to another dnsd on the same machine, and while as
 # many go to the one that is asked.
-# Usage: [DNSD=PROGRAM] bench/serve.sh [--seconds N] [--workers "N .."] [--port N] [--updates N] [--idle N] [--beside PROGRAM] [--queries-only] [--rounds N] [RECORDS ..]
+# Usage: [DNSD=PROGRAM] bench/serve.sh [--seconds N] [--workers "N .."] [--port N] [--updates N] [--idle N] [--beside PROGRAM] [--queries-only] [--udp-only] [--rounds N] [RECORDS ..]
 #   by default 5 seconds a figure, one round, 1, 2 and 4 workers, ports 15453 and 15454, at most 10000 updates a second beside queries, 2000 idle
-#   connections, and zones of 1000 and 1000000 records; --queries-only leaves out idle connections and updates
+#   connections, and zones of 1000 and 1000000 records; --queries-only leaves out idle connections and updates, and --udp-only queries over TCP too
 # It needs Debian's dnsperf, and knot and nsd for the figures beside. `make dnsd` builds the program.
 set -euo pipefail
 cd "$(dirname "$0")/.."
@@ -20,6 +20,7 @@ most=10000
 idle=2000
 other_program=
 whole=yes
+over_tcp=yes
 rounds=1
 sizes=()
 while [ $# -gt 0 ]; do
@@ -31,6 +32,7 @@ while [ $# -gt 0 ]; do
         --idle) idle=$2; shift 2 ;;
         --beside) other_program=$2; shift 2 ;;
         --queries-only) whole=; shift ;;
+        --udp-only) whole= over_tcp=; shift ;;
         --rounds) rounds=$2; shift 2 ;;
         *) sizes+=("$1"); shift ;;
     esac
@@ -109,7 +111,9 @@ measure() {
     "start_$1" "$2"
     wait_for
     for clients in "$2" 20; do measure_over "$1" "$2" "$3" udp "$clients"; done
-    for clients in 20 50; do measure_over "$1" "$2" "$3" tcp "$clients"; done
+    if [ -n "$over_tcp" ]; then
+        for clients in 20 50; do measure_over "$1" "$2" "$3" tcp "$clients"; done
+    fi
     stop
 }
 
