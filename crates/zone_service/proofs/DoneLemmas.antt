@@ -1,11 +1,11 @@
 -- What is told of an update that waited is its reply.
-use Rattle.std.proofs.Common.{◌≡◌, refl, ◌++◌, ℕ, ◌+◌, ◌≤◌, Bool, true, List, [], ◌∷◌, length, Option, None, Some, inl, inr, sym, ap, ◌∙◌, subst, arith}
+use Rattle.std.proofs.Common.{◌≡◌, refl, ◌++◌, ℕ, ◌+◌, ◌≤◌, Bool, true, List, [], ◌∷◌, length, Option, None, Some, Result, Ok, Err, IfOk, inl, inr, sym, ap, ◌∙◌, subst, arith}
 use Rattle.std.specs.Prelude.{take, unwrap_or}
 use Rattle.dns_rdata.specs.Record.{Record}
 use Rattle.dns_rdata.specs.declared.numbers.Rcode.{Rcode}
 use Rattle.dns_rdata.specs.declared.numbers.Rcode.TheVariants.{NoError, ServFail}
 use Rattle.dns_message.specs.Octets.{fit}
-use Rattle.dns_message.specs.Request.{reads}
+use Rattle.dns_message.specs.Request.{is_update, reads}
 use Rattle.dns_message.specs.declared.query.Parsed.TheVariants.{Update as SaysUpdate}
 use Rattle.dns_message.specs.declared.update.Update.{Update}
 use Rattle.zone_tree.specs.Version.{Version}
@@ -17,6 +17,8 @@ use Rattle.snapshot_cell.specs.Tokens.{ReaderState}
 use Rattle.dns_engine.specs.Held.{EngineState}
 use Rattle.dns_engine.specs.Versions.{IsFirst, IsNext}
 use Rattle.conversation.specs.Served.{Learned, BeginsWith, Grows}
+use Rattle.conversation.specs.Octets.{messages_in}
+use Rattle.conversation.proofs.TurnLemmas.{grows_itself}
 use Rattle.serve_core.specs.declared.heading.Heading.{Heading}
 use Rattle.serve_core.specs.declared.peer.Peer.{Peer}
 use Rattle.serve_core.specs.declared.transport.Transport.{Transport}
@@ -27,11 +29,13 @@ use Rattle.update_desk.specs.declared.done.Done.{Done}
 use Rattle.update_desk.specs.Done.{IsToldIn, IsDone}
 use Rattle.update_desk.proofs.DeskLemmas.{done_grows}
 use Rattle.zone_service.specs.Known.{learned_by, HasMet, IsNoOlder}
-use Rattle.zone_service.specs.Updated.{TellsOf}
+use Rattle.zone_service.specs.Updated.{TellsOf, IsToldUnread}
+use Rattle.zone_service.specs.Waiting.{MeetsAt, IsRepliedAtOnce, IsAnswered}
+use Rattle.zone_service.specs.declared.answer.Told.{Told}
 use Rattle.zone_service.specs.Replied.{IsReplied}
 use Rattle.dns_engine.specs.Chain.{IsPublished}
 use Rattle.zone_service.proofs.AboutLemmas.{latest_known, no_older}
-use Rattle.zone_service.proofs.ReplyLemmas.{update_replied}
+use Rattle.zone_service.proofs.ReplyLemmas.{update_replied, update_limit, told_replied, still_replied}
 
 answered_reply : (transport : Transport) (heading : Heading) (zone : List Record) (next : Option (List Record)) (code : Option Rcode)
     → (answered transport heading zone next code).reply ≡ Some (fit (coded heading (unwrap_or code NoError)) (limit_of transport None))
@@ -88,3 +92,31 @@ unheard_replied first peer before after engine request out update len met readin
       subst (λ (r : ReaderState Version). IsPublished first r.seen engine.held.last) (sym met.seen) (latest_known first engine.held.published engine.held.last met.latest),
     )
     (ap Some (sym written))
+
+-- SERVFAIL of an update that nobody judged, where the reader has met what is published
+pub refused_at_once : (first : List Record) (peer : Peer) (before after : ReaderState Version) (number : ℕ) (request out : List ℕ) (update : Update) (heading : Heading) (len : ℕ) → MeetsAt first before after number → is_update request ≡ true → reads request ≡ SaysUpdate update
+    → heading ≡ heading_of_update update → take len out ≡ fit (coded heading ServFail) (limit_of peer.transport None) → len ≤ limit_of peer.transport None → IsRepliedAtOnce first peer request before after out len
+refused_at_once first peer before after number request out update heading len met asks reading same written short = record {
+  bound = subst (λ (n : ℕ). len ≤ n) (sym (update_limit peer.transport request asks)) short;
+  replied = unheard_replied first peer before after met.0 request out update len met.1 reading (written ∙ ap (λ (h : Heading). fit (coded h ServFail) (limit_of peer.transport None)) same);
+  grows = grows_met before after met.0.held.published met.1.seen met.1.begun;
+}
+
+-- and what is told of one that can't be read
+pub unread_at_once : (first : List Record) (peer : Peer) (reader : ReaderState Version) (request out : List ℕ) (heading : Heading) (told : Told) (len : ℕ) → is_update request ≡ true → IsToldUnread request heading told
+    → take len out ≡ fit (coded heading told.code) (limit_of peer.transport None) → len ≤ limit_of peer.transport None → IsRepliedAtOnce first peer request reader reader out len
+unread_at_once first peer reader request out heading told len asks unread written short = record {
+  bound = subst (λ (n : ℕ). len ≤ n) (sym (update_limit peer.transport request asks)) short;
+  replied = told_replied first peer reader reader request out len short heading told (unread first peer.may_update reader) written;
+  grows = grows_itself (learned_by reader);
+}
+
+-- what is answered is so where less was known before
+still_answered : (first : List Record) (peer : Peer) (shorter longer later : Learned Version) (request : List ℕ) (messages : List (List ℕ)) → Grows longer shorter → IsAnswered first peer longer later request messages → IsAnswered first peer shorter later request messages
+still_answered first peer shorter longer later request messages grown (inl replied) = inl (still_replied first peer shorter longer later request messages grown replied)
+still_answered first peer shorter longer later request messages grown (inr handed) = inr handed
+
+pub datagram_answered : (first : List Record) (peer : Peer) (shorter longer later : Learned Version) (request out : List ℕ) {E : Type 0} (result : Result (Option ℕ) E) → Grows longer shorter
+    → IfOk result (λ len. IsAnswered first peer longer later request (messages_in len out)) → IfOk result (λ len. IsAnswered first peer shorter later request (messages_in len out))
+datagram_answered first peer shorter longer later request out (Ok len) grown answered = still_answered first peer shorter longer later request (messages_in len out) grown answered
+datagram_answered first peer shorter longer later request out (Err e) grown answered = tt

@@ -1,5 +1,5 @@
 -- What is replied, by what is told of a request.
-use Rattle.std.proofs.Common.{◌≡◌, ◌≢◌, ◌≤◌, ◌==◌, refl, ℕ, Bool, true, false, not, ◌&&◌, ◌||◌, nat_lt, List, [], ◌∷◌, length, take, Option, None, Some, option_and_then, ◌⊎◌, inl, inr, ⊎_elim, sym, ap, ◌∙◌, subst, unwrap_or, if◌then◌else◌, Result, Ok, Err, IfOk, OnErr, lit≤, arith, ◌+◌, ◌++◌, length-append}
+use Rattle.std.proofs.Common.{◌≡◌, ◌≢◌, ◌≤◌, ◌==◌, refl, ℕ, Bool, true, false, not, ◌&&◌, ◌||◌, nat_lt, List, [], ◌∷◌, length, take, Option, None, Some, option_and_then, ◌⊎◌, inl, inr, ⊎_elim, sym, ap, ◌∙◌, subst, unwrap_or, if◌then◌else◌, Result, Ok, Err, OnErr, lit≤, arith, ◌+◌, ◌++◌, length-append}
 use Rattle.std.proofs.lemmas.Bool.{eqb-true}
 use Rattle.std.proofs.lemmas.Bool.Decides.{nat_tests}
 use Rattle.std.specs.Option.{option_to_list, option_or, is_some}
@@ -29,7 +29,6 @@ use Rattle.dns_engine.specs.Chain.{ChainState, changes_by}
 use Rattle.dns_rdata.specs.Numbers.{type_IXFR}
 use Rattle.zone_tree.specs.Zone.{soa_of}
 use Rattle.conversation.specs.Served.{Learned, Grows, BeginsWith}
-use Rattle.conversation.specs.Octets.{messages_in}
 use Rattle.conversation.proofs.TurnLemmas.{grows_itself}
 use Rattle.dns_engine.specs.Told.{IsTold, made, refused, unchanged, full, starved}
 use Rattle.serve_core.specs.declared.transport.Transport.{Transport}
@@ -631,9 +630,3 @@ still_replied first peer shorter longer later request messages grown r = record 
   about = about_older first peer shorter longer later r.version r.want (reads request) grown r.about;
   reply = r.reply;
 }
-
--- and by a datagram
-pub datagram_replied : (first : List Record) (peer : Peer) (shorter longer later : Learned Version) (request out : List ℕ) {E : Type 0} (result : Result (Option ℕ) E) → Grows longer shorter
-    → IfOk result (λ len. IsReplied first peer longer later request (messages_in len out)) → IfOk result (λ len. IsReplied first peer shorter later request (messages_in len out))
-datagram_replied first peer shorter longer later request out (Ok len) grown r = still_replied first peer shorter longer later request (messages_in len out) grown r
-datagram_replied first peer shorter longer later request out (Err e) grown r = tt

@@ -1,7 +1,7 @@
--- A server may be shared by threads.
+-- A server may be shared by threads, and who hands updates in may be sent.
 use denote.RattleType.{RattleType}
 use denote.Ref.{NamedLft}
-use denote.Param.Send.{IsSync, recorded_sync, struct_sync, sendable}
+use denote.Param.Send.{IsSend, IsSync, recorded_sync, struct_sync, sendable}
 use denote.Struct.Declared.{shape}
 use Rattle.std.proofs.Crossing as crossing
 use Rattle.std.proofs.sync.Mutex.TheSendSync as mutex
@@ -10,6 +10,9 @@ use Rattle.snapshot_cell.specs.declared.named.Naming as naming
 use Rattle.dns_engine.proofs.SendLemmas as engine
 use Rattle.update_desk.proofs.SendLemmas as desk
 use Rattle.dns_engine.specs.declared.versions.FirstZone.{Ghosts}
+use Rattle.update_queue.proofs.queue.Queue.TheSendSync as queue
+use Rattle.zone_service.specs.contracts.handing.Hand as hand
+use Rattle.zone_service.specs.contracts.handing.Waiting as waiting
 use Rattle.zone_service.specs.contracts.server.Server as server
 
 pub server_sync : (a : NamedLft) (T N : RattleType) (g : Ghosts T.Denot) (n : naming.Ghosts N.Denot) → IsSync (server.the_row a T N n g)
@@ -17,3 +20,9 @@ server_sync a T N g n =
     recorded_sync (server.the_field a T N n g).row _ _ (server.the_type a T N n g).to_one
     (struct_sync (shape (server.the_type a T N n g))
     (search (engine.shared_send, engine.shared_sync, cell.crosses, crossing.crosses, sendable) depth 60 fits 20000, (mutex.the_sync _ (desk.desk_send a T g N n), tt)))
+
+waiting_send : IsSend waiting.the_row
+waiting_send = search (crossing.crosses, sendable) depth 60 fits 20000
+
+pub hand_send : (a : NamedLft) → IsSend (hand.the_row a)
+hand_send a = search (queue.the_sync, waiting_send, crossing.crosses, sendable) depth 60 fits 20000

@@ -70,6 +70,11 @@ pub data IsToldOf (first : List Record) (may : Bool) (request : List ℕ) (befor
       → IsToldOf first may request before after heading told
   starved : (head : Head) → IsWant request (NoMemory head) → heading ≡ header_alone head → told.code ≡ ServFail → told.serials ≡ None → after ≡ before → IsToldOf first may request before after heading told
 
+-- what is told of a request that asks for an update and isn't read, and what its reply repeats of it, whatever is known: the code of one that can't be read, or
+-- whose OPT isn't obeyed, and SERVFAIL where memory was wanted while it was read (own)
+abbrev pub IsToldUnread : List ℕ → Heading → Told → Type 0
+IsToldUnread request heading told = (first : List Record) (may : Bool) (reader : ReaderState Version) → IsToldOf first may request reader reader heading told
+
 -- a request asks for an update, and its reply has no record but an OPT, and the code that is told of it (RFC 2136, 3.8; RFC 6891, 6.1.1)
 pub record IsUpdateTold (first : List Record) (peer : Peer) (request : List ℕ) (before after : ReaderState Version) (octets : List ℕ) (told : Told) : Type 0 where
   pub asks : is_update request ≡ true

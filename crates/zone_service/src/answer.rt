@@ -1,12 +1,14 @@
 //! Requests that are answered at once, with a version that is loaded (RFC 1034, 4.3.2), and those that the engine answers, or the
 //! versions that it keeps: updates (RFC 2136, 3) and transfers (RFC 1995, 4; RFC 5936, 2.2).
-ghost use Rattle.std.specs.Prelude.{◌≡◌, ◌↔◌, ◌≤◌, ◌⊎◌, Some, None, false, length, IfOk, OnErr};
+ghost use Rattle.std.specs.Prelude.{◌≡◌, ◌↔◌, ◌≤◌, ◌⊎◌, Some, None, false, length, IfOk, OnErr, MatchResult};
 ghost use Rattle.serve_core.specs.Transport.{room_of};
 ghost use Rattle.zone_service.specs.Known.{HasTooFew};
 ghost use Rattle.zone_service.specs.Replied.{IsUpdate, IsQuery, IsTransfer, IsChained, IsNow, IsServed};
 ghost use Rattle.dns_engine.specs.Held.{IsLatest};
 ghost use Rattle.zone_service.specs.declared.answer.Now.{Now as AtOnce};
-ghost use Rattle.zone_service.specs.Updated.{IsJudged, IsToldOf};
+ghost use Rattle.dns_message.specs.Request.{reads};
+ghost use Rattle.dns_message.specs.declared.query.Parsed.TheVariants.{Update as SaysUpdate};
+ghost use Rattle.zone_service.specs.Updated.{IsJudged, IsToldOf, IsToldUnread};
 ghost use Rattle.update_core.specs.Verdict.{verdict};
 
 use crate::server::Server;
@@ -49,7 +51,7 @@ pub struct Told {
 
 impl Told {
     /// A code alone.
-    fn code(code: Rcode) -> Told
+    pub(crate) fn code(code: Rcode) -> Told
         ensures code { result.code ≡ code }
         ensures serials { result.serials ≡ None }
     {
@@ -193,9 +195,8 @@ fn chain_for<R: Wait, Z: FirstZone, N: Naming>(
     VersionChain::of(rt, told)
 }
 
-/// What is told of a request that asks for an update, and what its reply repeats of it: FORMERR of one that can't be read
-/// (RFC 2136, 2), FORMERR or BADVERS of one whose OPT isn't obeyed (RFC 6891, 6.1.1 and 6.1.3), and SERVFAIL where memory is wanted to
-/// read it (own).
+/// What is told of a request that asks for an update, and what its reply repeats of it: of one that is read what is judged, else what
+/// [`read_update`] tells.
 fn told_of<R: Wait, Z: FirstZone, N: Naming>(
     rt: &R,
     alloc: Global,
@@ -207,17 +208,29 @@ fn told_of<R: Wait, Z: FirstZone, N: Naming>(
     requires { IsUpdate request.now }
     ensures { IsToldOf Z.zone may request.now reader.old reader.new result.0 result.1 }
 {
-    match parse(alloc, request) {
-        Parsed::Update(update) => {
+    match read_update(alloc, request) {
+        Ok(update) => {
             let heading = Heading::of_update(&update);
             (heading, judge(rt, alloc, server, reader, may, &update))
         }
-        Parsed::NoMemory(head) => (Heading::header_alone(head), Told::code(Rcode::ServFail)),
-        Parsed::Fault(head, code) => (Heading::header_alone(head), Told::code(code)),
-        Parsed::BadOpt(head, question, code, dnssec_ok) => (
+        Err(told) => told,
+    }
+}
+
+/// The update that a request asks for; or what is told of one that can't be read, and what its reply repeats of it: FORMERR (RFC 2136, 2),
+/// FORMERR or BADVERS of one whose OPT isn't obeyed (RFC 6891, 6.1.1 and 6.1.3), and SERVFAIL where memory is wanted to read it (own).
+pub(crate) fn read_update(alloc: Global, request: &[u8]) -> Result<Update, (Heading, Told)>
+    requires { IsUpdate request.now }
+    ensures { MatchResult result (λ update. reads request.now ≡ SaysUpdate update) (λ told. IsToldUnread request.now told.0 told.1) }
+{
+    match parse(alloc, request) {
+        Parsed::Update(update) => Ok(update),
+        Parsed::NoMemory(head) => Err((Heading::header_alone(head), Told::code(Rcode::ServFail))),
+        Parsed::Fault(head, code) => Err((Heading::header_alone(head), Told::code(code))),
+        Parsed::BadOpt(head, question, code, dnssec_ok) => Err((
             Heading::of_bad(head, &question, dnssec_ok),
             Told::code(code),
-        ),
+        )),
         Parsed::Silent => unreachable!(),
         Parsed::Query(_) => unreachable!(),
     }

@@ -1,14 +1,16 @@
 //! A server as one who answers datagrams.
-ghost use Rattle.std.specs.Prelude.{◌≡◌, ◌≤◌, ◌⊎◌, length, IfOk, IfSome, OnErr};
+ghost use Rattle.std.specs.Prelude.{◌≡◌, ◌≤◌, ◌⊎◌, true, length, IfOk, IfSome, OnErr};
 ghost use Rattle.dns_message.specs.Message.{message_limit};
 ghost use Rattle.zone_tree.specs.Version.{Version};
 ghost use Rattle.zone_service.specs.Known.{learned_by};
 ghost use Rattle.conversation.specs.Octets.{messages_in};
 ghost use Rattle.conversation.specs.Datagrams.{by_datagram};
-ghost use Rattle.zone_service.specs.Replied.{IsReplied, IsUpdate, IsTransfer, HasNoAnswer};
+ghost use Rattle.zone_service.specs.Replied.{IsUpdate, IsTransfer, HasNoAnswer};
+ghost use Rattle.zone_service.specs.Waiting.{IsAnswered};
 ghost use Rattle.conversation.specs.Served.{Grows};
 
 use crate::answer::{Now, Served, answer_kept, serve_one};
+use crate::handing::{Hand, hand_over};
 use crate::notifying::{NextTurn, Notifying};
 use crate::server::Server;
 use crate::service_log::ServiceLog;
@@ -16,7 +18,7 @@ use crate::telling::tell_update;
 use crate::transfer::write_transfer;
 use conversation::Answering;
 use dns_engine::{FirstZone, VersionReader};
-use dns_message::Query;
+use dns_message::{Query, is_update};
 use notify::Notifier;
 use serve_core::{Peer, Transport};
 use snapshot_cell::{Naming, Spent};
@@ -36,6 +38,8 @@ pub struct Asked<'a, 's, Z: FirstZone, N: Naming, L> {
     from: SocketAddr,
     query: Query,
     names: NameWriter,
+    /// To whom it hands updates; none where the engine answers them.
+    hand: Option<Hand<'a>>,
 }
 
 impl<'a, 's, Z: FirstZone, N: Naming, L: ServiceLog> Asked<'a, 's, Z, N, L> {
@@ -60,7 +64,18 @@ impl<'a, 's, Z: FirstZone, N: Naming, L: ServiceLog> Asked<'a, 's, Z, N, L> {
             from,
             query: Query::blank(),
             names: NameWriter::new(),
+            hand: None,
         }
+    }
+
+    /// The same, that hands the updates of peers that may to who judges them on a thread of its own, and sends the replies.
+    pub fn handing(self, hand: Hand<'a>) -> Asked<'a, 's, Z, N, L>
+        ensures reader { result.reader ≡ self.entry.reader }
+        ensures peer { result.peer ≡ self.entry.peer }
+    {
+        let mut handing = self;
+        handing.hand = Some(hand);
+        handing
     }
 
     /// Its reader, with which it answers no more.
@@ -68,6 +83,40 @@ impl<'a, 's, Z: FirstZone, N: Naming, L: ServiceLog> Asked<'a, 's, Z, N, L> {
         ensures { result ≡ self.entry.reader }
     {
         self.reader
+    }
+
+    /// Hands an update over to who judges it, of a peer that may update: None where it waits, and who judges it sends the reply.
+    #[tactic(auto, using(crate::proofs::ReplyLemmas::limit_most, crate::proofs::ReplyLemmas::room_most))]
+    fn hand_over<R: Wait>(
+        &mut self,
+        rt: &R,
+        hand: Hand<'a>,
+        peer: Peer,
+        request: &[u8],
+        out: &mut [u8],
+    ) -> Option<usize>
+        requires update { IsUpdate request.now × (peer.may_update ≡ true) }
+        requires datagram { peer.transport ≡ Transport.Udp }
+        requires reply_room { message_limit ≤ length out.old }
+        ensures peer { self.new.peer ≡ self.old.peer }
+        ensures grows { Grows {T = Version} (learned_by self.new.reader) (learned_by self.old.reader) }
+        ensures bound { IfSome result (λ n. (n ≤ message_limit) × (n ≤ length out.new)) }
+        ensures replied { IsAnswered Z.zone peer (learned_by self.old.reader) (learned_by self.new.reader) request.now (messages_in result out.new) }
+    {
+        let from = self.from;
+        let (len, told) = hand_over(
+            rt,
+            self.alloc,
+            self.server,
+            &mut self.reader,
+            hand,
+            from,
+            peer,
+            request,
+            out,
+        )?;
+        tell_update(rt, self.log, peer, from, told);
+        Some(len)
     }
 
     /// Answers an update, or a transfer that is permitted.
@@ -85,9 +134,14 @@ impl<'a, 's, Z: FirstZone, N: Naming, L: ServiceLog> Asked<'a, 's, Z, N, L> {
         ensures peer { self.new.peer ≡ self.old.peer }
         ensures grows { Grows {T = Version} (learned_by self.new.reader) (learned_by self.old.reader) }
         ensures bound { IfOk result (λ len. IfSome len (λ n. (n ≤ message_limit) × (n ≤ length out.new))) }
-        ensures replied { IfOk result (λ len. IsReplied Z.zone peer (learned_by self.old.reader) (learned_by self.new.reader) request.now (messages_in len out.new)) }
+        ensures replied { IfOk result (λ len. IsAnswered Z.zone peer (learned_by self.old.reader) (learned_by self.new.reader) request.now (messages_in len out.new)) }
         ensures spent { OnErr result (IsTransfer Z.zone peer request.now × (self.new.reader.left ≡ 0)) }
     {
+        if let Some(hand) = self.hand {
+            if peer.may_update && is_update(request) {
+                return Ok(self.hand_over(rt, hand, peer, request, out));
+            }
+        }
         match serve_one(
             rt,
             self.alloc,
@@ -115,7 +169,8 @@ impl<'a, 's, Z: FirstZone, N: Naming, L: ServiceLog> Answering for Asked<'a, 's,
 
     ghost peer = { λ asked. asked.peer };
 
-    ghost is_reply = { λ peer known later request messages. IsReplied Z.zone peer known later request messages };
+    // An update that is handed over gets no reply now.
+    ghost is_reply = { λ peer known later request messages. IsAnswered Z.zone peer known later request messages };
 
     #[tactic(auto, using(conversation::proofs::TurnLemmas::grows_itself))]
     fn turn_to(&mut self, other: Peer, from: SocketAddr) {
@@ -134,7 +189,7 @@ impl<'a, 's, Z: FirstZone, N: Naming, L: ServiceLog> Answering for Asked<'a, 's,
         ensures same { self.new.peer ≡ self.old.peer }
         ensures grows { Grows {T = Version} (learned_by self.new.reader) (learned_by self.old.reader) }
         ensures bound { IfOk result (λ len. IfSome len (λ n. (n ≤ message_limit) × (n ≤ length out.new))) }
-        ensures reply { IfOk result (λ len. IsReplied Z.zone (by_datagram self.old.peer) (learned_by self.old.reader) (learned_by self.new.reader) request.now (messages_in len out.new)) }
+        ensures reply { IfOk result (λ len. IsAnswered Z.zone (by_datagram self.old.peer) (learned_by self.old.reader) (learned_by self.new.reader) request.now (messages_in len out.new)) }
         // What can't be read as a query is answered, or told as silence, whether a version can be loaded or not.
         ensures spent { OnErr result (HasNoAnswer Z.zone (by_datagram self.old.peer) request.now self.old.reader self.new.reader) }
     {

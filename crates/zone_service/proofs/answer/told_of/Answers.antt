@@ -1,19 +1,9 @@
 -- What is told of a request that asks for an update is told of it.
 use Rattle.zone_service.specs.Updated.{read}
-use Rattle.zone_service.proofs.ReplyLemmas.{heard_update, told_unread, told_bad, told_starved}
 use Rattle.zone_service.proofs.answer.told_of.Goals as goal
 
-pub returns-in-Update : goal.returns-in-Update
-returns-in-Update g c = read c.in-Update.update (heard_update c.args.request.now c.parse.result c.in-Update.update c.parse.ensures c.in-Update.is) c.of_update-heading.ensures c.judge.ensures
+pub returns-in-Ok : goal.returns-in-Ok
+returns-in-Ok g c = read c.in-Ok.update c.in-Ok.ensures c.of_update-heading.ensures c.judge.ensures
 
-pub returns-in-NoMemory : goal.returns-in-NoMemory
-returns-in-NoMemory g c =
-    told_starved g.Z.FirstZone.zone c.args.may c.args.request.now c.args.reader.now c.parse.result c.in-NoMemory.head _ _ c.requires c.parse.ensures c.in-NoMemory.is c.header_alone.ensures c.code.ensures.code c.code.ensures.serials
-
-pub returns-in-Fault : goal.returns-in-Fault
-returns-in-Fault g c =
-    told_unread g.Z.FirstZone.zone c.args.may c.args.request.now c.args.reader.now c.parse.result c.in-Fault.head c.in-Fault.code _ _ c.parse.ensures c.in-Fault.is c.header_alone-in-Fault.ensures c.code-in-Fault.ensures.code c.code-in-Fault.ensures.serials
-
-pub returns-in-BadOpt : goal.returns-in-BadOpt
-returns-in-BadOpt g c =
-    told_bad g.Z.FirstZone.zone c.args.may c.args.request.now c.args.reader.now c.parse.result c.in-BadOpt.head c.in-BadOpt.question c.in-BadOpt.code c.in-BadOpt.dnssec_ok _ _ c.parse.ensures c.in-BadOpt.is c.of_bad.ensures c.code-in-BadOpt.ensures.code c.code-in-BadOpt.ensures.serials
+pub returns-in-Err : goal.returns-in-Err
+returns-in-Err g c = c.in-Err.ensures g.Z.FirstZone.zone c.args.may c.args.reader.now

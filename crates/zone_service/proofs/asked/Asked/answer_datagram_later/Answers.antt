@@ -1,5 +1,5 @@
 -- What the reader has seen grows.
-use Rattle.std.proofs.Common.{ℕ, List, sym, subst}
+use Rattle.std.proofs.Common.{ℕ, List, inl, sym, subst}
 use Rattle.zone_tree.specs.Zone.{soa_of}
 use Rattle.zone_tree.specs.Version.{Version}
 use Rattle.dns_engine.specs.Chain.{changes_by}
@@ -22,4 +22,4 @@ returns-in-Spent-clause-spent g c = (c.in-Spent.ensures.0, vain_left g.Z.FirstZo
 pub returns-in-Transfer-clause-replied : goal.returns-in-Transfer-clause-replied
 returns-in-Transfer-clause-replied g c =
     let reply = subst (λ (v : Version). IsReplied g.Z.FirstZone.zone c.args.peer (learned_by c.args.self.now.reader) (learned_by c.serve_one.new.reader) c.args.request.now (messages_to v.zone (changes_by (soa_of v.zone) c.in-Transfer.chain) c.args.peer c.in-Transfer.query)) (sym c.get.ensures) c.in-Transfer.ensures.1.0 in
-    subst (λ (l : List (List ℕ)). IsReplied g.Z.FirstZone.zone c.args.peer (learned_by c.args.self.now.reader) (learned_by c.serve_one.new.reader) c.args.request.now l) (sym c.write_transfer.ensures.messages) reply
+    inl (subst (λ (l : List (List ℕ)). IsReplied g.Z.FirstZone.zone c.args.peer (learned_by c.args.self.now.reader) (learned_by c.serve_one.new.reader) c.args.request.now l) (sym c.write_transfer.ensures.messages) reply)

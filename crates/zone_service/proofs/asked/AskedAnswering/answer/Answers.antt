@@ -3,7 +3,8 @@ use Rattle.conversation.proofs.TurnLemmas.{grows_more}
 use Rattle.zone_service.specs.declared.answer.Now.TheVariants.{Bytes, Later}
 use Rattle.zone_service.specs.Known.{learned_by}
 use Rattle.zone_service.proofs.NowLemmas.{now_grows}
-use Rattle.zone_service.proofs.ReplyLemmas.{spent_transfer, datagram_replied}
+use Rattle.zone_service.proofs.ReplyLemmas.{spent_transfer}
+use Rattle.zone_service.proofs.DoneLemmas.{datagram_answered}
 use Rattle.zone_service.proofs.asked.AskedAnswering.answer.Goals as goal
 
 pub returns-in-Later-clause-spent : goal.returns-in-Later-clause-spent
@@ -19,4 +20,4 @@ returns-in-Later-clause-grows g c =
 pub returns-in-Later-clause-reply : goal.returns-in-Later-clause-reply
 returns-in-Later-clause-reply g c =
     let grown = now_grows g.Z.FirstZone.zone _ c.args.request.now c.args.self.now.reader c.answer_kept.new.reader c.answer_kept.new.out Later c.in-Later.ensures.now in
-    datagram_replied g.Z.FirstZone.zone _ (learned_by c.args.self.now.reader) (learned_by c.answer_kept.new.reader) _ _ _ c.answer_datagram_later.result grown c.answer_datagram_later.ensures.replied
+    datagram_answered g.Z.FirstZone.zone _ (learned_by c.args.self.now.reader) (learned_by c.answer_kept.new.reader) _ _ _ c.answer_datagram_later.result grown c.answer_datagram_later.ensures.replied
