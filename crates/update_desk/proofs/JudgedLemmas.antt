@@ -66,7 +66,7 @@ module _ (first : List Record) (published : List Version) (version : Version) (l
   no_other o zone is other = cc
 
   -- an update that makes nothing of the version published last
-  tells_done : (code : Rcode) → Tells version one.update one.may code → IsDoneBy first published one number code
+  pub tells_done : (code : Rcode) → Tells version one.update one.may code → IsDoneBy first published one number code
   tells_done code (inl coded) before after = record {
     version = version;
     replayed = replayed;
@@ -96,7 +96,7 @@ module _ (first : List Record) (published : List Version) (version : Version) (l
   }
 
   -- an update that is told SERVFAIL
-  starved_done : IsDoneBy first published one number ServFail
+  pub starved_done : IsDoneBy first published one number ServFail
   starved_done before after = record {
     version = version;
     replayed = replayed;
@@ -106,7 +106,7 @@ module _ (first : List Record) (published : List Version) (version : Version) (l
   }
 
   -- and one that makes the next version
-  made_done : (next : Version) → IsHistory (IsFirst first) IsNext (published ++ next ∷ []) → verdict version.zone one.update one.may ≡ None → Makes one.update version next
+  pub made_done : (next : Version) → IsHistory (IsFirst first) IsNext (published ++ next ∷ []) → verdict version.zone one.update one.may ≡ None → Makes one.update version next
       → IsDoneBy first (published ++ next ∷ []) one number NoError
   made_done next history lets is before after = record {
     version = version;

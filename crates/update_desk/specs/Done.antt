@@ -1,5 +1,5 @@
 -- What is told of an update by who judges those that wait, and lets them last (RFC 2136, 3 and 3.5).
-use Rattle.std.specs.Prelude.{◌≡◌, ◌≢◌, ◌≤◌, ◌⊎◌, ℕ, Bool, List, [], ◌∷◌, None, Some, unwrap_or}
+use Rattle.std.specs.Prelude.{◌≡◌, ◌≢◌, ◌<◌, ◌≤◌, ◌⊎◌, ℕ, Bool, List, [], ◌∷◌, length, None, Some, unwrap_or}
 use Rattle.dns_rdata.specs.Numbers.{rcode_number}
 use Rattle.dns_rdata.specs.Record.{Record}
 use Rattle.dns_rdata.specs.declared.numbers.Rcode.{Rcode}
@@ -12,7 +12,7 @@ use Rattle.update_core.specs.Act.{act}
 use Rattle.update_core.specs.Applied.{code_of}
 use Rattle.update_group.specs.Engine.{AreMade}
 use Rattle.dns_engine.specs.Chain.{IsPublished}
-use Rattle.dns_engine.specs.Held.{IsLatest}
+use Rattle.dns_engine.specs.Held.{EngineState, IsLatest}
 use Rattle.dns_engine.specs.Replayed.{IsReplay}
 use Rattle.lasting_engine.specs.declared.asked.Asked.{Asked}
 use Rattle.lasting_engine.specs.Asked.{makes}
@@ -60,6 +60,10 @@ IsFetched first published (IsTold done) = IsDone first published done
 abbrev pub IsJudgedIn : List Record → List Version → ℕ → List Version → Type 0
 IsJudgedIn first published number versions =
     (last : Version) × IsLatest first published last × (last.number ≡ number) × AreMade makes last versions
+
+-- versions aren't published: the last one that an engine has published hasn't this number, or it is sure to publish fewer than they are (own)
+abbrev pub IsTurnedAway : EngineState → ℕ → List Version → Type 0
+IsTurnedAway engine number versions = (engine.held.last.number ≢ number) ⊎ (engine.free < length versions)
 
 -- an update is told this code in a version whose number is at least this one, whichever serials are told with it
 abbrev pub IsDoneBy : List Record → List Version → Asked → ℕ → Rcode → Type 0

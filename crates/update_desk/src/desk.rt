@@ -10,7 +10,7 @@ ghost use Rattle.dns_engine.specs.Entries.{entries_of};
 ghost use Rattle.update_group.specs.Group.{codes_of, versions_of, Judged};
 ghost use Rattle.lasting_engine.specs.declared.asked.Asked.{Asked as Request};
 ghost use Rattle.lasting_engine.specs.Asked.{passes, tells, makes, octets_of};
-ghost use Rattle.update_desk.specs.Done.{IsDone, IsFetched, IsJudgedIn, AreDone};
+ghost use Rattle.update_desk.specs.Done.{IsDone, IsFetched, IsJudgedIn, IsTurnedAway, AreDone};
 
 use crate::done::{Done, Fetched};
 use crate::seats::Seats;
@@ -229,6 +229,7 @@ impl<'a, Z: FirstZone, N: Naming> Desk<'a, Z, N> {
         ensures done { IfOk result (λ codes. (asked : List Request) (updates : List (List ℕ)) (last : Version) → IsLatest Z.zone reader.old.seen last
             → Judged passes tells makes octets_of last asked codes.items (versions_of group) updates → AreDone Z.zone reader.new.seen last.number asked codes.items) }
         ensures kept { IfErr result (λ back. (back ≡ group) × (self.new.held ≡ self.old.held)) }
+        ensures refused { IfErr result (λ _. IsTurnedAway self.new number (versions_of group)) }
     {
         self.meet(reader);
         let free = self.room();

@@ -1,5 +1,5 @@
 -- What a batch makes is published where the reader has seen all that is.
-use Rattle.std.proofs.Common.{◌≡◌, List, ◌++◌, length, refl, sym, ap, ◌∙◌, subst, arith}
+use Rattle.std.proofs.Common.{◌≡◌, ◌<◌, List, ◌++◌, length, inl, inr, refl, sym, ap, ◌∙◌, subst, arith}
 use Rattle.zone_tree.specs.Version.{Version}
 use Rattle.snapshot_cell.specs.Tokens.{ReaderState}
 use Rattle.counted_handles.specs.Ruled.{Begins}
@@ -10,6 +10,7 @@ use Rattle.update_desk.proofs.DeskLemmas.{judged_last, seen_all, met_twice}
 use Rattle.update_desk.proofs.MetLemmas.{met_as}
 use Rattle.update_desk.proofs.JudgedLemmas.{judged_done}
 use Rattle.update_desk.proofs.desk.Desk.publish_batch.Goals as goal
+use Rattle.update_desk.proofs.desk.Desk.publish_batch.Goals.{then-last-number-via-then-last-number, then-last-number-via-else-last-number+then-free-count}
 
 pub publish_group-codes-requires : goal.publish_group-codes-requires
 publish_group-codes-requires g c =
@@ -49,6 +50,7 @@ returns g c =
           subst (λ (l : List Version). AreDone first l last.number asked c.publish_group-codes.result.items) (sym sees)
           (judged_done first seen last latest asked c.publish_group-codes.result.items versions updates judged);
       kept = tt;
+      refused = tt;
     }
 
 -- where the group comes back
@@ -56,10 +58,16 @@ pub returns-then-last-number : goal.returns-then-last-number
 returns-then-last-number g c =
     let engine = c.room-free.new.self in
     let held : engine.held ≡ c.args.self.now.held = ap (λ (s : EngineState). s.held) c.room-free.ensures ∙ ap (λ (s : EngineState). s.held) c.meet.ensures.same in
+    let free : engine.free ≡ c.room-free.result = ap (λ (s : EngineState). s.free) c.room-free.ensures in
+    let count : length c.versions-count.result.now ≡ length (versions_of c.args.group) = ap length c.versions-count.ensures in
     record {
       met = met_as c.args.reader.now c.meet.new.reader c.args.self.now.held.published engine.held.published c.meet.ensures.met (ap (λ (h : Held). h.published) (sym held));
       begun = subst (λ (h : Held). Begins c.args.reader.now.seen h.published) (sym held) c.meet.ensures.begun;
       published = tt;
       done = tt;
       kept = (refl, held);
+      refused = elim c.then-last-number.branch [
+        | then-last-number-via-then-last-number w ↦ inl (λ same. w.if-last-number.true (c.number-last.ensures.number ∙ same))
+        | then-last-number-via-else-last-number+then-free-count w ↦ (let few : engine.free < length (versions_of c.args.group) = omega (arith, free, count, w.if-free-count.true) in inr few)
+      ];
     }
