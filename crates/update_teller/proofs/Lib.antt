@@ -1,0 +1,3 @@
+pub mod DoneLemmas
+pub mod MetLemmas
+pub mod SendLemmas

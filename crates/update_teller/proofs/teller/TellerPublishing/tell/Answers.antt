@@ -1,0 +1,62 @@
+-- What is told of an update is so by the versions that are known to be published.
+use Rattle.std.proofs.Common.{◌≡◌, ◌≤◌, ◌++◌, ℕ, List, length, ◌∷◌, [], None, refl, ap, ◌∙◌, sym, subst, append-nil, lit<, arith}
+use Rattle.std.specs.Prelude.{take, drop}
+use Rattle.std.proofs.Math.Seq.{take-append_seam}
+use Rattle.dns_message.specs.Octets.{fit}
+use Rattle.serve_core.specs.declared.transport.Transport.{Transport}
+use Rattle.serve_core.specs.declared.transport.Transport.TheVariants.{Udp}
+use Rattle.serve_core.specs.Heading.{heading_of_update, coded}
+use Rattle.serve_core.specs.Transport.{limit_of}
+use Rattle.update_job.specs.Done.{IsDone, told_behind}
+use Rattle.zone_service.specs.declared.handing.Way.{Way}
+use Rattle.update_teller.specs.Brought.{key_to, sent_by, IsTold, IsBroughtBy}
+use Rattle.update_teller.specs.Met.{TellerState}
+use Rattle.update_teller.specs.Waits.{passes_waiting, tells_waiting, makes_waiting}
+use Rattle.update_teller.proofs.DoneLemmas.{waiting_done, reply_told}
+use Rattle.update_teller.proofs.teller.TellerPublishing.tell.Goals as goal
+
+pub tell-self-inside-requires : goal.tell-self-inside-requires
+tell-self-inside-requires g c =
+    let t = c.self.inside in
+    let had = c.self.invariant in
+    let least : t.begun ≤ had.version.number = omega (arith, had.begun_before, had.number) in
+    let is = subst (λ (s : TellerState). IsDone passes_waiting tells_waiting makes_waiting s.seen s.begun c.args.waiting c.args.code) (sym c.self.view_is) c.requires in (
+      lit< tt,
+      (waiting_done g.Z.FirstZone.zone t.reader.seen had.version had.latest t.begun least c.args.waiting c.args.code c.code_of-code.result is c.code_of-code.ensures.named).1 t.serials.before t.serials.after,
+    )
+
+pub returns-in-Connection-clause-brought : goal.returns-in-Connection-clause-brought
+returns-in-Connection-clause-brought g c = (
+  key_to c.in-Connection.worker c.in-Connection.key,
+  subst (λ (w : Way). IsBroughtBy w g.Z.FirstZone.zone c.args.self.now.seen c.args.self.now.begun c.args.waiting.asked c.args.code (key_to c.in-Connection.worker c.in-Connection.key)) (sym c.in-Connection.is) refl,
+  c.tell.ensures ∙ ap (λ (s : TellerState). told_behind s.brought (key_to c.in-Connection.worker c.in-Connection.key ∷ [])) c.self.view_is,
+)
+
+pub returns-in-Datagram-clause-grows : goal.returns-in-Datagram-clause-grows
+returns-in-Datagram-clause-grows g c = ([], ap (λ (s : TellerState). s.seen) c.self.view_is ∙ sym (append-nil c.args.self.now.seen))
+
+pub returns-in-Datagram-clause-brought : goal.returns-in-Datagram-clause-brought
+returns-in-Datagram-clause-brought g c =
+    let t = c.self.inside in
+    let had = c.self.invariant in
+    let least : t.begun ≤ had.version.number = omega (arith, had.begun_before, had.number) in
+    let asked = c.args.waiting.asked in
+    let code = c.code_of-code.result in
+    let is = subst (λ (s : TellerState). IsDone passes_waiting tells_waiting makes_waiting s.seen s.begun c.args.waiting c.args.code) (sym c.self.view_is) c.requires in
+    let done = waiting_done g.Z.FirstZone.zone t.reader.seen had.version had.latest t.begun least c.args.waiting c.args.code code is c.code_of-code.ensures.named in
+    let len = c.write_done-len.result in
+    let out = c.write_done-len.new.out in
+    let written : take len out ≡ fit (coded (heading_of_update asked.update) code) (limit_of Udp None) =
+    c.write_done-len.ensures.octets ∙ ap (λ (p : Transport). fit (coded (heading_of_update asked.update) code) (limit_of p None)) c.over-peer.ensures.carried in
+    let told = reply_told g.Z.FirstZone.zone t.reader.seen t.begun asked c.args.code code t.serials.before t.serials.after out len done.1 done.0 asked.read c.args.waiting.may written in
+    let kept : length out ≡ t.out.len = c.write_done-len.auto.out ∙ ap length c.deref_mut.ensures.value ∙ sym t.out.ok.0 in
+    let rest : List ℕ = drop (length out) t.out.items in
+    let same : c.deref.result.now ≡ out = c.deref.ensures.value ∙ ap (λ (n : ℕ). take n (out ++ rest)) (sym kept) ∙ take-append_seam out rest in
+    let one = sent_by c.in-Datagram.worker c.in-Datagram.to (take len out) in (
+      one,
+      subst (λ (w : Way). IsBroughtBy w g.Z.FirstZone.zone c.args.self.now.seen c.args.self.now.begun asked c.args.code one) (sym c.in-Datagram.is)
+          (take len out, refl, subst (λ (s : TellerState). IsTold g.Z.FirstZone.zone s.seen s.begun asked c.args.code (take len out)) c.self.view_is told),
+      c.send.ensures
+          ∙ ap (λ (o : List ℕ). told_behind (g.P.Replying.brought t.replying) (sent_by c.in-Datagram.worker c.in-Datagram.to (take len o) ∷ [])) same
+          ∙ ap (λ (s : TellerState). told_behind s.brought (one ∷ [])) c.self.view_is,
+    )

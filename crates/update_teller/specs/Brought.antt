@@ -1,0 +1,44 @@
+-- What is brought to those whose updates waited (RFC 2136, 3.8).
+use Rattle.std.specs.Prelude.{◌≡◌, ◌≤◌, ℕ, true, List, [], ◌∷◌, length, None}
+use Rattle.std.specs.declared.net.socket_addr.SocketAddr.{SocketAddr}
+use Rattle.dns_rdata.specs.Numbers.{rcode_number}
+use Rattle.dns_rdata.specs.Record.{Record}
+use Rattle.dns_rdata.specs.declared.numbers.Rcode.{Rcode}
+use Rattle.dns_message.specs.Octets.{fit}
+use Rattle.zone_tree.specs.Version.{Version}
+use Rattle.serve_core.specs.declared.peer.Peer.{Peer}
+use Rattle.serve_core.specs.declared.transport.Transport.TheVariants.{Udp}
+use Rattle.serve_core.specs.Heading.{heading_of_update, coded}
+use Rattle.serve_core.specs.Transport.{limit_of}
+use Rattle.lasting_engine.specs.declared.asked.Asked.{Asked}
+use Rattle.conversation.specs.Served.{Learned}
+use Rattle.zone_service.specs.Replied.{IsReplied}
+use Rattle.zone_service.specs.declared.handing.Waiting.{Waiting}
+use Rattle.zone_service.specs.declared.handing.Way.{Way}
+use Rattle.zone_service.specs.declared.handing.Way.TheVariants.{Connection, Datagram}
+
+-- a worker is told the key of a connection; or a datagram is sent by a worker's socket
+pub data Brought : Type 0 where
+  key_to : (worker key : ℕ) → Brought
+  sent_by : (worker : ℕ) (to : SocketAddr) (octets : List ℕ) → Brought
+
+-- octets are the reply by a datagram to a request, whoever sent it that may update, if no more was known to him than was published when the batch was begun (RFC 2136, 3 and 3.8)
+abbrev pub IsReplyTo : List Record → List Version → ℕ → List ℕ → List ℕ → Type 0
+IsReplyTo first seen begun request octets =
+    (peer : Peer) (known : Learned Version) → peer.transport ≡ Udp → peer.may_update ≡ true → length known.published ≤ begun
+    → IsReplied first peer known (record { published = seen; buried = [] }) request (octets ∷ [])
+
+-- octets are the message that tells an update the code of a number (RFC 2136, 3.8), and the reply to it
+pub record IsTold (first : List Record) (seen : List Version) (begun : ℕ) (asked : Asked) (number : ℕ) (octets : List ℕ) : Type 0 where
+  pub code : Rcode
+  pub numbered : rcode_number code ≡ number
+  pub spelt : octets ≡ fit (coded (heading_of_update asked.update) code) (limit_of Udp None)
+  pub reply : IsReplyTo first seen begun asked.octets.items octets
+
+-- what is brought of an update that waited: its connection's key to its worker, who finds the reply at its seat; or the reply, by the socket that it came on
+abbrev pub IsBroughtBy : Way → List Record → List Version → ℕ → Asked → ℕ → Brought → Type 0
+IsBroughtBy (Connection worker key seat) first seen begun asked number brought = brought ≡ key_to worker key
+IsBroughtBy (Datagram worker to) first seen begun asked number brought = (octets : List ℕ) × (brought ≡ sent_by worker to octets) × IsTold first seen begun asked number octets
+
+abbrev pub IsBrought : List Record → List Version → ℕ → Waiting → ℕ → Brought → Type 0
+IsBrought first seen begun waiting number brought = IsBroughtBy waiting.way first seen begun waiting.asked number brought

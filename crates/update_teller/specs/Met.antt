@@ -1,0 +1,37 @@
+-- What is known to be published by who tells those whose updates waited (own).
+use Rattle.std.specs.Prelude.{◌≡◌, ◌≢◌, ◌⊎◌, ◌<◌, ◌≤◌, ℕ, List, Option, length}
+use Rattle.dns_rdata.specs.Record.{Record}
+use Rattle.zone_tree.specs.Version.{Version}
+use Rattle.dns_message.specs.Message.{message_limit}
+use Rattle.dns_engine.specs.Held.{EngineState, IsLatest}
+use Rattle.dns_engine.specs.Replayed.{IsReplay}
+use Rattle.update_job.specs.Done.{BeginsWith}
+use Rattle.update_teller.specs.Brought.{Brought}
+
+-- the versions that are known to be published, the first one first, how many were when the last batch was begun, and what was brought, where it is kept
+pub record TellerState : Type 0 where
+  pub seen : List Version
+  pub begun : ℕ
+  pub brought : Option (List Brought)
+
+-- the last of those that are known to be published has this number, and isn't older than the one that the last batch was begun with; and there is room for a reply
+pub record HasMetLast (first : List Record) (seen : List Version) (last begun : ℕ) (out : List ℕ) : Type 0 where
+  pub version : Version
+  pub latest : IsLatest first seen version
+  pub number : version.number ≡ last
+  pub begun_before : begun ≤ last
+  pub room : length out ≡ message_limit
+
+-- a batch is begun: all that is published is known, of which a part was; its last version is the first zone with updates replayed
+pub record HasBegun (first : List Record) (known : List Version) (after : TellerState) (last : Version) : Type 0 where
+  pub grows : BeginsWith after.seen known
+  pub latest : IsLatest first after.seen last
+  pub replayed : IsReplay first last
+  pub begun : after.begun ≡ length after.seen
+
+-- versions that are made behind the last of those that were known to be published aren't: others are published there, or too few more are sure to find room
+pub record IsTurnedBack (first : List Record) (known later : List Version) (versions : List Version) : Type 0 where
+  pub engine : EngineState
+  pub latest : IsLatest first engine.held.published engine.held.last
+  pub published : later ≡ engine.held.published
+  pub why : (later ≢ known) ⊎ (engine.free < length versions)
