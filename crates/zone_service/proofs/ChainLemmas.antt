@@ -24,7 +24,7 @@ use Rattle.dns_engine.specs.Entries.{entries_of}
 use Rattle.dns_engine.specs.Chain.{ChainState, IsPublished, TellsSince, changes_told, changes_by, IsCopied, HasBroken}
 use Rattle.dns_engine.proofs.ChainLemmas.{IsBehind, run_of, versions_entered, told_unknown, told_behind, told_gone, found_behind}
 use Rattle.serve_core.specs.Transfers.{is_current, list_for}
-use Rattle.conversation.specs.Served.{Grows, EndsWith}
+use Rattle.conversation.specs.Served.{EndsWith}
 use Rattle.zone_service.specs.Known.{learned_by, HasTooFew, MeetsAndAsks}
 use Rattle.zone_service.specs.Replied.{TellsBy, IsChained}
 use Rattle.conversation.proofs.TurnLemmas.{grows_itself}

@@ -13,7 +13,7 @@ use Rattle.serve_core.specs.declared.peer.Peer.{Peer}
 use Rattle.conversation.specs.Served.{Grows}
 use Rattle.conversation.proofs.TurnLemmas.{grows_itself, grows_more}
 use Rattle.dns_engine.specs.Held.{EngineState}
-use Rattle.zone_service.specs.Known.{learned_by, HasGone, HasLoaded, HasMet, HasSeen, HasTooFew, LoadsInVain}
+use Rattle.zone_service.specs.Known.{learned_by, HasLoaded, HasMet, HasSeen, HasTooFew, LoadsInVain}
 use Rattle.zone_service.specs.Updated.{IsUpdated, IsJudged, by_engine as judged_by_engine, in_version, IsToldOf, read, unread, bad_opt, starved}
 use Rattle.zone_service.specs.Replied.{IsQuery, IsUpdate, IsTransfer, LoadsFor, IsNow}
 use Rattle.zone_service.specs.declared.answer.Told.{Told}
