@@ -39,16 +39,16 @@ made_of version [] made = tt
 made_of version (next ∷ versions) made = ((made.0.0.asked, made.0.1), made_of next versions made.1)
 
 -- versions that are made behind the last of those that are known to be published are judged in it
-pub judged_waiting : (first : List Record) (seen : List Version) (last begun : ℕ) (out : List ℕ) (versions : List Version) (version : Version) → HasMetLast first seen last begun out → IsLast seen version
+pub judged_waiting : (first : List Record) (seen : List Version) (last begun : ℕ) (versions : List Version) (version : Version) → HasMetLast first seen last begun → IsLast seen version
     → AreMade makes_waiting version versions → IsJudgedIn first seen last versions
-judged_waiting first seen last begun out versions version had is made =
+judged_waiting first seen last begun versions version had is made =
     let same : version ≡ had.version = last_once seen version had.version is (had.latest.before, had.latest.ends) in
     (had.version, had.latest, had.number, subst (λ (v : Version). AreMade makes v versions) same (made_of version versions made))
 
 -- a batch that isn't published, since another one was, or there is no room
-turned_back : (first : List Record) (before after : ReaderState Version) (last begun : ℕ) (out : List ℕ) (versions : List Version) → HasMetLast first before.seen last begun out → MeetsInVain first before after last versions
+turned_back : (first : List Record) (before after : ReaderState Version) (last begun : ℕ) (versions : List Version) → HasMetLast first before.seen last begun → MeetsInVain first before after last versions
     → IsTurnedBack first before.seen after.seen versions
-turned_back first before after last begun out versions had vain =
+turned_back first before after last begun versions had vain =
     let seen : after.seen ≡ vain.0.held.published = ap (λ (r : ReaderState Version). r.seen) vain.1.seen in
     record { engine = vain.0; latest = vain.1.latest; published = seen; why = by seen vain.2 }
   where
@@ -58,7 +58,7 @@ turned_back first before after last begun out versions had vain =
         other (omega (arith, long, latest_long first vain.0.held.published vain.0.held.last vain.1.latest, latest_long first before.seen had.version had.latest, had.number)))
     by seen (inr few) = inr few
 
-pub turned_by : {A E : Type 0} (first : List Record) (before after : ReaderState Version) (last begun : ℕ) (out : List ℕ) (versions : List Version) (result : Result A E) (error : E) → HasMetLast first before.seen last begun out
+pub turned_by : {A E : Type 0} (first : List Record) (before after : ReaderState Version) (last begun : ℕ) (versions : List Version) (result : Result A E) (error : E) → HasMetLast first before.seen last begun
     → result ≡ Err error → IfErr result (λ _. MeetsInVain first before after last versions) → IsTurnedBack first before.seen after.seen versions
-turned_by {A} {E} first before after last begun out versions result error had was refused =
-    turned_back first before after last begun out versions had (subst (λ (r : Result A E). IfErr r (λ _. MeetsInVain first before after last versions)) was refused)
+turned_by {A} {E} first before after last begun versions result error had was refused =
+    turned_back first before after last begun versions had (subst (λ (r : Result A E). IfErr r (λ _. MeetsInVain first before after last versions)) was refused)

@@ -2,7 +2,6 @@
 use Rattle.std.specs.Prelude.{◌≡◌, ◌≢◌, ◌⊎◌, ◌<◌, ◌≤◌, ℕ, List, Option, length}
 use Rattle.dns_rdata.specs.Record.{Record}
 use Rattle.zone_tree.specs.Version.{Version}
-use Rattle.dns_message.specs.Message.{message_limit}
 use Rattle.dns_engine.specs.Held.{EngineState, IsLatest}
 use Rattle.dns_engine.specs.Replayed.{IsReplay}
 use Rattle.update_job.specs.Done.{BeginsWith}
@@ -14,13 +13,12 @@ pub record TellerState : Type 0 where
   pub begun : ℕ
   pub brought : Option (List Brought)
 
--- the last of those that are known to be published has this number, and isn't older than the one that the last batch was begun with; and there is room for a reply
-pub record HasMetLast (first : List Record) (seen : List Version) (last begun : ℕ) (out : List ℕ) : Type 0 where
+-- the last of those that are known to be published has this number, and isn't older than the one that the last batch was begun with
+pub record HasMetLast (first : List Record) (seen : List Version) (last begun : ℕ) : Type 0 where
   pub version : Version
   pub latest : IsLatest first seen version
   pub number : version.number ≡ last
   pub begun_before : begun ≤ last
-  pub room : length out ≡ message_limit
 
 -- a batch is begun: all that is published is known, of which a part was; its last version is the first zone with updates replayed
 pub record HasBegun (first : List Record) (known : List Version) (after : TellerState) (last : Version) : Type 0 where

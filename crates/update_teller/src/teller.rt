@@ -11,11 +11,10 @@ ghost use Rattle.update_teller.specs.Waits.{passes_waiting, tells_waiting, makes
 use crate::codes::code_of;
 use crate::replying::Replying;
 use dns_engine::{FirstZone, SharedVersion, VersionReader};
-use dns_message::MAX_LIMIT;
 use lasting_engine::judge_asked;
-use serve_core::{Peer, Transport};
+use serve_core::{Peer, Transport, UDP_LIMIT};
 use snapshot_cell::Naming;
-use std::alloc::{AllocError, Global};
+use std::alloc::Global;
 use std::marker::Model;
 use std::sync::Wait;
 use update_desk::Done;
@@ -31,7 +30,7 @@ pub struct Teller<'a, 's, Z: FirstZone, N: Naming, L, P: Replying + Drop> {
     log: &'a L,
     replying: P,
     /// What the reply to a datagram is written into.
-    out: Vec<u8>,
+    out: [u8; UDP_LIMIT],
     /// The number of the last version that the reader has seen.
     last: u64,
     /// The number of the version that the last batch was begun with.
@@ -48,7 +47,7 @@ impl<'a, 's, Z: FirstZone, N: Naming, L, P: Replying + Drop> Model for Teller<'a
 
     ghost view = { λ t. record { seen = t.reader.seen; begun = t.begun + 1; brought = P.brought t.replying } };
 
-    ghost invariant = { λ t. HasMetLast Z.zone t.reader.seen t.last t.begun t.out.items };
+    ghost invariant = { λ t. HasMetLast Z.zone t.reader.seen t.last t.begun };
 }
 
 impl<'a, 's, Z: FirstZone, N: Naming, L: ServiceLog, P: Replying + Drop> Teller<
@@ -62,32 +61,48 @@ impl<'a, 's, Z: FirstZone, N: Naming, L: ServiceLog, P: Replying + Drop> Teller<
     /// Who tells them, of a server, with a reader, which meets what is published. A log is told of updates by datagrams, as their workers tell of others.
     pub fn new<R: Wait>(
         rt: &R,
-        alloc: Global,
         server: &'a Server<'s, Z, N>,
         reader: VersionReader<N>,
         log: &'a L,
         replying: P,
-    ) -> Result<Teller<'a, 's, Z, N, L, P>, AllocError>
-        ensures begun { IfOk result (λ teller. (last : VersionOf) × HasBegun Z.zone reader.seen teller last) }
-        ensures brought { IfOk result (λ teller. teller.brought ≡ P.brought replying) }
+    ) -> Teller<'a, 's, Z, N, L, P>
+        ensures begun { (last : VersionOf) × HasBegun Z.zone reader.seen result last }
+        ensures brought { result.brought ≡ P.brought replying }
     {
-        let out = vec![in alloc; 0u8; MAX_LIMIT]?;
         let mut met = reader;
         let begun = server.begin(rt, &mut met);
         let serial = begun.last.get().serial();
-        Ok(Teller {
+        Teller {
             server,
             reader: met,
             log,
             replying,
-            out,
+            out: [0u8; UDP_LIMIT],
             last: begun.number,
             begun: begun.number,
             serials: Serials {
                 before: serial,
                 after: serial,
             },
-        })
+        }
+    }
+
+    /// Its reader, and what brings replies, with which it tells nothing more.
+    pub fn into_parts(self) -> (VersionReader<N>, P)
+        ensures seen { result.0.seen ≡ self.entry.seen }
+        ensures brought { P.brought result.1 ≡ self.entry.brought }
+    {
+        let Teller {
+            server: _,
+            reader,
+            log: _,
+            replying,
+            out: _,
+            last: _,
+            begun: _,
+            serials: _,
+        } = self;
+        (reader, replying)
     }
 }
 

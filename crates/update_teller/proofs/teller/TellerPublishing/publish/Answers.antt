@@ -12,7 +12,7 @@ publish-number-requires g c =
     let t = c.self.inside in
     let made = c.requires in (
       lit< tt,
-      judged_waiting g.Z.FirstZone.zone t.reader.seen t.last t.begun t.out.items (versions_of c.args.group) made.0 c.self.invariant
+      judged_waiting g.Z.FirstZone.zone t.reader.seen t.last t.begun (versions_of c.args.group) made.0 c.self.invariant
           (subst (λ (s : TellerState). IsLast s.seen made.0) (sym c.self.view_is) made.1) made.2,
     )
 
@@ -21,4 +21,4 @@ returns-in_err-codes-clause-turned_back g c =
     let t = c.self.inside in
     let p = err_from_is_err_and c.from_residual.result c.from_residual.ensures.1 in
     rw p.1 (subst (λ (s : TellerState). IsTurnedBack g.Z.FirstZone.zone s.seen c.publish-number.new.reader.seen (versions_of c.args.group)) c.self.view_is
-    (turned_by g.Z.FirstZone.zone t.reader c.publish-number.new.reader t.last t.begun t.out.items (versions_of c.args.group) c.publish-number.result.1 _ c.self.invariant c.in_err-codes.was c.publish-number.ensures.refused))
+    (turned_by g.Z.FirstZone.zone t.reader c.publish-number.new.reader t.last t.begun (versions_of c.args.group) c.publish-number.result.1 _ c.self.invariant c.in_err-codes.was c.publish-number.ensures.refused))

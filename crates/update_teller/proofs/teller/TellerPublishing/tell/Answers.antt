@@ -1,7 +1,6 @@
 -- What is told of an update is so by the versions that are known to be published.
-use Rattle.std.proofs.Common.{◌≡◌, ◌≤◌, ◌++◌, ℕ, List, length, ◌∷◌, [], None, refl, ap, ◌∙◌, sym, subst, append-nil, lit<, arith}
-use Rattle.std.specs.Prelude.{take, drop}
-use Rattle.std.proofs.Math.Seq.{take-append_seam}
+use Rattle.std.proofs.Common.{◌≡◌, ◌≤◌, ◌∷◌, [], None, refl, ap, ◌∙◌, sym, subst, append-nil, lit<, arith}
+use Rattle.std.specs.Prelude.{take}
 use Rattle.dns_message.specs.Octets.{fit}
 use Rattle.serve_core.specs.declared.transport.Transport.{Transport}
 use Rattle.serve_core.specs.declared.transport.Transport.TheVariants.{Udp}
@@ -49,14 +48,10 @@ returns-in-Datagram-clause-brought g c =
     let written : take len out ≡ fit (coded (heading_of_update asked.update) code) (limit_of Udp None) =
     c.write_done-len.ensures.octets ∙ ap (λ (p : Transport). fit (coded (heading_of_update asked.update) code) (limit_of p None)) c.over-peer.ensures.carried in
     let told = reply_told g.Z.FirstZone.zone t.reader.seen t.begun asked c.args.code code t.serials.before t.serials.after out len done.1 done.0 asked.read c.args.waiting.may written in
-    let kept : length out ≡ t.out.len = c.write_done-len.auto.out ∙ ap length c.deref_mut.ensures.value ∙ sym t.out.ok.0 in
-    let rest : List ℕ = drop (length out) t.out.items in
-    let same : c.deref.result.now ≡ out = c.deref.ensures.value ∙ ap (λ (n : ℕ). take n (out ++ rest)) (sym kept) ∙ take-append_seam out rest in
     let one = sent_by c.in-Datagram.worker c.in-Datagram.to (take len out) in (
       one,
       subst (λ (w : Way). IsBroughtBy w g.Z.FirstZone.zone c.args.self.now.seen c.args.self.now.begun asked c.args.code one) (sym c.in-Datagram.is)
           (take len out, refl, subst (λ (s : TellerState). IsTold g.Z.FirstZone.zone s.seen s.begun asked c.args.code (take len out)) c.self.view_is told),
       c.send.ensures
-          ∙ ap (λ (o : List ℕ). told_behind (g.P.Replying.brought t.replying) (sent_by c.in-Datagram.worker c.in-Datagram.to (take len o) ∷ [])) same
           ∙ ap (λ (s : TellerState). told_behind s.brought (one ∷ [])) c.self.view_is,
     )

@@ -1,0 +1,168 @@
+//! Batches of updates that are published, and told.
+use crate::bag::Bag;
+use crate::servers::{goes, not_played};
+use crate::updates::{REFUSED, TAKEN, is_second, is_spelt, put_all};
+use dns_engine::{FirstZone, KEPT, Naming, VersionCell, VersionPublisher, VersionReader};
+use dns_rdata::Rcode;
+use played_zones::{Kept, Play, Played, asker};
+use std::alloc::Global;
+use std::sync::Wait;
+use std::test::Fail;
+use told_disks::ToldDisk;
+use update_desk::Fetched;
+use update_job::{Store, UpdateJob};
+use update_queue::Queue;
+use update_teller::Teller;
+use zone_service::{Server, Waiting, Way};
+
+/// A batch of three updates: the first came by a datagram, the second on a connection, the third by a datagram, and is refused.
+#[derive(Drop)]
+struct Three;
+
+/// What came of that batch.
+#[derive(Drop)]
+struct Outcome {
+    /// What was brought.
+    bag: Bag,
+    /// The number of the version published last.
+    number: u64,
+    /// What was told at the seat of the second.
+    fetched: Fetched,
+}
+
+/// The ways of their replies.
+fn ways(seat: usize) -> [Way; 3] {
+    [
+        Way::Datagram {
+            worker: 3,
+            to: asker(4711),
+        },
+        Way::Connection {
+            worker: 1,
+            key: 70,
+            seat,
+        },
+        Way::Datagram {
+            worker: 2,
+            to: asker(4712),
+        },
+    ]
+}
+
+/// Whether each datagram is sent, to who asked, by the socket that his came on; and the key of the connection is told, no other.
+fn are_brought(alloc: Global, bag: &Bag) -> Option<bool> {
+    let [first, third] = bag.sent.as_slice() else {
+        return Some(false);
+    };
+    let to_whom = first.worker == 3
+        && first.to == asker(4711)
+        && third.worker == 2
+        && third.to == asker(4712);
+    let spelt = is_spelt(alloc, &first.octets, TAKEN)? && is_spelt(alloc, &third.octets, REFUSED)?;
+    Some(to_whom && spelt && bag.keys.len() == 1 && bag.keys.first().copied() == Some((1, 70)))
+}
+
+/// Whether the second is told at its seat: NOERROR, in the version that the batch was begun with, or a later one, and the serials about the batch.
+fn is_told(alloc: Global, fetched: &Fetched) -> Option<bool> {
+    let Fetched::Told(done) = fetched else {
+        return Some(false);
+    };
+    let about = done.code == Rcode::NoError
+        && done.least == 0
+        && done.before.0 == 7
+        && done.after.0 == 9;
+    Some(about && is_second(alloc, done.asked.octets())?)
+}
+
+/// Whether all of it came as it should.
+fn is_right<R: Wait>(rt: &R, alloc: Global, outcome: &Outcome, log: &Kept) -> Option<bool> {
+    // A connection's worker tells the log of its update.
+    let lines =
+        "update from 192.0.2.7:4711: NOERROR, serial 7 to 9;update from 192.0.2.7:4712: NOTZONE, serial 7 to 9;";
+    let brought = are_brought(alloc, &outcome.bag)? && is_told(alloc, &outcome.fetched)?;
+    Some(brought && outcome.number == 2 && log.has(rt, lines))
+}
+
+/// Whether the batch is told as it should be, and the reader; None where memory is refused.
+fn tell_three<R: Wait, Z: FirstZone, N: Naming>(
+    rt: &R,
+    alloc: Global,
+    server: &Server<'_, Z, N>,
+    reader: VersionReader<N>,
+) -> (Option<bool>, Option<VersionReader<N>>) {
+    let mut reader = reader;
+    let log = Kept::new(alloc);
+    let Ok(queue) = Queue::<Waiting>::new(alloc, 8) else {
+        return (None, Some(reader));
+    };
+    let (_, Some(seat)) = server.open(rt, &mut reader) else {
+        return (None, Some(reader));
+    };
+    if put_all(rt, alloc, &queue, ways(seat)).is_none() {
+        return (None, Some(reader));
+    }
+    let teller = Teller::new(rt, server, reader, &log, Bag::new(alloc));
+    let Ok(mut job) = UpdateJob::new(alloc, teller, Store::<ToldDisk>::Nowhere, &queue) else {
+        return (None, None);
+    };
+    if !matches!(job.turn(rt), Ok(None)) {
+        return (Some(false), None);
+    }
+    let (teller, _) = job.into_parts();
+    let (mut reader, bag) = teller.into_parts();
+    let (number, fetched) = server.fetch(rt, &mut reader, seat);
+    let outcome = Outcome {
+        bag,
+        number,
+        fetched,
+    };
+    (is_right(rt, alloc, &outcome, &log), Some(reader))
+}
+
+impl Play for Three {
+    fn play<R: Wait, Z: FirstZone, N: Naming>(
+        &self,
+        rt: &R,
+        alloc: Global,
+        cell: &VersionCell<Z, N>,
+        publisher: VersionPublisher<Z, N>,
+        readers: Vec<VersionReader<N>>,
+    ) -> Played<Z, N> {
+        let mut readers = readers;
+        let Some(own) = readers.pop() else {
+            return not_played(publisher, readers);
+        };
+        let Some(reader) = readers.pop() else {
+            let _ = readers.push(own);
+            return not_played(publisher, readers);
+        };
+        match Server::new(alloc, cell, publisher, own, KEPT) {
+            Ok(server) => {
+                let (told, reader) = tell_three(rt, alloc, &server, reader);
+                if let Some(reader) = reader {
+                    let _ = readers.push(reader);
+                }
+                let (publisher, own) = server.finish();
+                let _ = readers.push(own);
+                Played {
+                    told,
+                    publisher,
+                    readers,
+                }
+            }
+            Err(refused) => {
+                let _ = readers.push(reader);
+                let _ = readers.push(refused.reader);
+                not_played(refused.publisher, readers)
+            }
+        }
+    }
+}
+
+// Each update of a batch is told its code: by a datagram, with a line of the log, or at its seat, with the key of its connection.
+#[test]
+fn a_batch_is_told(rt: HostRuntime) -> Result<(), Fail> {
+    let alloc: Global = rt.alloc();
+    assert!(rt; goes(&rt, alloc, Three) == Some(true));
+    Ok(())
+}
