@@ -1,31 +1,35 @@
 //! A server as one who answers connections.
-ghost use Rattle.std.specs.Prelude.{◌≡◌, ◌≤◌, ◌⊎◌, ℕ, true, length, IfOk, IfErr, OnErr};
+ghost use Rattle.std.specs.Prelude.{◌≡◌, ◌≤◌, ◌⊎◌, ℕ, true, None, length, take, IfOk, IfErr};
 ghost use Rattle.dns_message.specs.Message.{message_limit};
 ghost use Rattle.zone_tree.specs.Version.{Version};
 ghost use Rattle.serve_core.specs.Transfers.{is_permitted, messages_to};
 ghost use Rattle.zone_tree.specs.Zone.{soa_of};
 ghost use Rattle.dns_engine.specs.Chain.{changes_by};
-ghost use Rattle.conversation.specs.Served.{Grows};
-ghost use Rattle.zone_service.specs.Known.{learned_by};
 ghost use Rattle.connections.specs.Asked.{EachGrows};
 ghost use Rattle.connections.specs.Kept.{messages_of};
 ghost use Rattle.connections.specs.declared.answering.Reply.{Reply as ReplyOf};
 ghost use Rattle.connections.specs.declared.answering.Unmade.{Unmade as WhyUnmade};
 ghost use Rattle.zone_service.specs.Replied.{IsReplied, IsUpdate, IsTransfer, HasNoAnswer};
 ghost use Rattle.zone_replies.specs.Going.{transfer_left};
+ghost use Rattle.zone_replies.specs.Taken.{known_at, place_in, AreTakenUp, IsLater, IsWritten};
 
+use crate::taken::{Place, Taken, TakenUp};
 use crate::transfer::Transfer;
 use connections::{Answering, Reply, Unmade};
 use dns_engine::{FirstZone, SharedVersion, VersionChain, VersionReader};
-use dns_message::Query;
+use dns_message::{Query, is_update};
+use dns_rdata::Rcode;
 use serve_core::{Peer, Transport};
 use snapshot_cell::Naming;
 use std::alloc::Global;
 use std::net::SocketAddr;
+use std::snapshot::Snapshot;
 use std::sync::Wait;
+use update_desk::{Done, Fetched};
 use wire_names::NameWriter;
 use zone_service::{
-    Now, Served, Server, ServiceLog, answer_kept, serve_one, tell_update, write_transfer,
+    Hand, Handed, Now, Serials, Served, Server, ServiceLog, Told, answer_kept, hand_in, serve_one,
+    tell_update, write_done, write_transfer,
 };
 
 /// A server that answers the peers of connections, with a worker's reader, of which contracts know what it has seen published. A log is told of
@@ -42,6 +46,10 @@ pub struct Replies<'a, 's, Z: FirstZone, N: Naming, L> {
     asker: usize,
     query: Query,
     names: NameWriter,
+    /// To whom it hands updates; none where the engine answers them.
+    hand: Option<Hand<'a>>,
+    taken: TakenUp<N>,
+    ghost taken_up: { AreTakenUp taken reader },
 }
 
 /// The reply to a query for a transfer that is permitted in a version, by those since the asker's: over a stream what makes its messages, for a
@@ -90,7 +98,20 @@ impl<'a, 's, Z: FirstZone, N: Naming, L: ServiceLog> Replies<'a, 's, Z, N, L> {
             asker: 0,
             query: Query::blank(),
             names: NameWriter::new(),
+            hand: None,
+            taken: TakenUp::new(alloc),
         }
+    }
+
+    /// The same, that hands the updates of peers that may to who judges them on a thread of its own, and answers them later.
+    pub fn handing(self, hand: Hand<'a>) -> Replies<'a, 's, Z, N, L>
+        ensures reader { result.reader ≡ self.entry.reader }
+        ensures peer { result.peer ≡ self.entry.peer }
+        ensures taken { result.taken ≡ self.entry.taken }
+    {
+        let mut handing = self;
+        handing.hand = Some(hand);
+        handing
     }
 
     /// Its reader, with which it answers no more.
@@ -98,6 +119,134 @@ impl<'a, 's, Z: FirstZone, N: Naming, L: ServiceLog> Replies<'a, 's, Z, N, L> {
         ensures { result ≡ self.entry.reader }
     {
         self.reader
+    }
+
+    /// Gives up what was taken up on the connection under the asker's key, where another one has that key now, or something else is asked for.
+    fn settle<R: Wait>(&mut self, rt: &R, request: &[u8])
+        ensures peer { self.new.peer ≡ self.old.peer }
+        ensures asker { self.new.asker ≡ self.old.asker }
+        ensures reader { self.new.reader ≡ self.old.reader }
+        ensures hand { self.new.hand ≡ self.old.hand }
+        ensures other { (self.old.hand ≡ None) ⊎ (IsLater self.old.peer request.now → ⊥) → place_in self.new.taken self.old.asker ≡ None }
+        ensures grows { EachGrows {T = Version} (known_at self.new.taken self.new.reader) (known_at self.old.taken self.old.reader) }
+    {
+        let Some(place) = self.taken.at(self.asker) else {
+            return;
+        };
+        let is_later = self.hand.is_some() && self.peer.may_update && is_update(request);
+        if is_later && place.from == self.from {
+            return;
+        }
+        self.server.leave(rt, place.seat);
+        self.taken.remove(self.asker);
+    }
+
+    /// Writes what is told of an update that was taken up to the front of `out`, and tells the log: SERVFAIL where it was judged in an older version than
+    /// was published last when it was taken up, which is never so.
+    fn reply_done<R: Wait>(&self, rt: &R, place: Place, done: Done, out: &mut [u8]) -> usize
+        requires room { message_limit ≤ length out.old }
+        ensures bound { (result ≤ message_limit) × (result ≤ length out.new) }
+        ensures octets { IsWritten self.now.peer place done (take result out.new) }
+    {
+        let code = if place.number <= done.least {
+            done.code
+        } else {
+            Rcode::ServFail
+        };
+        let serials = Some(Serials {
+            before: done.before,
+            after: done.after,
+        });
+        tell_update(rt, self.log, self.peer, self.from, Told { code, serials });
+        write_done(&done.asked, code, self.peer, out)
+    }
+
+    /// Takes an update of a peer that may update up: it is told to be made later, or gets a reply at once where nobody judges it.
+    fn take_up<R: Wait>(
+        &mut self,
+        rt: &R,
+        hand: Hand<'a>,
+        request: &[u8],
+        out: &mut [u8],
+    ) -> Result<Reply<Transfer>, Unmade>
+        requires later { IsLater self.old.peer request.now }
+        requires none { place_in self.old.taken self.old.asker ≡ None }
+        requires room { message_limit ≤ length out.old }
+        ensures peer { self.new.peer ≡ self.old.peer }
+        ensures asker { self.new.asker ≡ self.old.asker }
+        ensures grows { EachGrows {T = Version} (known_at self.new.taken self.new.reader) (known_at self.old.taken self.old.reader) }
+        ensures bound { IfOk result (λ reply. (len : ℕ) → reply ≡ ReplyOf.One len → (len ≤ message_limit) × (len ≤ length out.new)) }
+        ensures replied { IfOk result (λ reply. IsReplied Z.zone self.old.peer (known_at self.old.taken self.old.reader self.old.asker) (known_at self.new.taken self.new.reader self.old.asker) request.now (messages_of transfer_left reply out.new)) }
+        ensures unspent { IfErr result (λ unmade. unmade ≡ WhyUnmade.Later) }
+    {
+        let (key, peer) = (self.asker, self.peer);
+        let known = Snapshot::of(&self.reader);
+        let hand = if self.taken.make_room(key) {
+            Some(hand)
+        } else {
+            None
+        };
+        match hand_in(
+            rt,
+            self.alloc,
+            self.server,
+            &mut self.reader,
+            hand,
+            key,
+            peer,
+            request,
+            out,
+        ) {
+            Handed::Told(len, told) => {
+                tell_update(rt, self.log, peer, self.from, told);
+                Ok(Reply::One(len))
+            }
+            Handed::Waits { seat, number } => {
+                let from = self.from;
+                self.taken.put(
+                    key,
+                    Taken {
+                        from,
+                        seat,
+                        number,
+                        known,
+                    },
+                );
+                Err(Unmade::Later)
+            }
+        }
+    }
+
+    /// The reply to an update of a peer that may update, once it is there; where none was taken up, it is.
+    fn reply_update<R: Wait>(
+        &mut self,
+        rt: &R,
+        hand: Hand<'a>,
+        request: &[u8],
+        out: &mut [u8],
+    ) -> Result<Reply<Transfer>, Unmade>
+        requires later { IsLater self.old.peer request.now }
+        requires room { message_limit ≤ length out.old }
+        ensures peer { self.new.peer ≡ self.old.peer }
+        ensures asker { self.new.asker ≡ self.old.asker }
+        ensures grows { EachGrows {T = Version} (known_at self.new.taken self.new.reader) (known_at self.old.taken self.old.reader) }
+        ensures bound { IfOk result (λ reply. (len : ℕ) → reply ≡ ReplyOf.One len → (len ≤ message_limit) × (len ≤ length out.new)) }
+        ensures replied { IfOk result (λ reply. IsReplied Z.zone self.old.peer (known_at self.old.taken self.old.reader self.old.asker) (known_at self.new.taken self.new.reader self.old.asker) request.now (messages_of transfer_left reply out.new)) }
+        ensures unspent { IfErr result (λ unmade. unmade ≡ WhyUnmade.Later) }
+    {
+        if let Some(place) = self.taken.at(self.asker) {
+            let (_, fetched) = self.server.fetch(rt, &mut self.reader, place.seat);
+            if let Fetched::Waits = fetched {
+                return Err(Unmade::Later);
+            }
+            self.taken.remove(self.asker);
+            if let Fetched::Told(done) = fetched {
+                if done.asked.octets() == request {
+                    return Ok(Reply::One(self.reply_done(rt, place, done, out)));
+                }
+            }
+        }
+        self.take_up(rt, hand, request, out)
     }
 
     /// The reply to an update, or to a query for a transfer that is permitted.
@@ -109,16 +258,22 @@ impl<'a, 's, Z: FirstZone, N: Naming, L: ServiceLog> Replies<'a, 's, Z, N, L> {
         out: &mut [u8],
     ) -> Result<Reply<Transfer>, Unmade>
         requires later { IsUpdate request.now ⊎ IsTransfer Z.zone self.old.peer request.now }
+        requires other { (self.old.hand ≡ None) ⊎ (IsLater self.old.peer request.now → ⊥) → place_in self.old.taken self.old.asker ≡ None }
         requires room { message_limit ≤ length out.old }
         ensures peer { self.new.peer ≡ self.old.peer }
         ensures asker { self.new.asker ≡ self.old.asker }
-        ensures grows { Grows {T = Version} (learned_by self.new.reader) (learned_by self.old.reader) }
+        ensures grows { EachGrows {T = Version} (known_at self.new.taken self.new.reader) (known_at self.old.taken self.old.reader) }
         ensures bound { IfOk result (λ reply. (len : ℕ) → reply ≡ ReplyOf.One len → (len ≤ message_limit) × (len ≤ length out.new)) }
-        ensures replied { IfOk result (λ reply. IsReplied Z.zone self.old.peer (learned_by self.old.reader) (learned_by self.new.reader) request.now (messages_of transfer_left reply out.new)) }
-        ensures now { IfErr result (λ unmade. unmade ≡ WhyUnmade.Later → ⊥) }
-        ensures spent { OnErr result (IsTransfer Z.zone self.old.peer request.now × (self.new.reader.left ≡ 0)) }
+        ensures replied { IfOk result (λ reply. IsReplied Z.zone self.old.peer (known_at self.old.taken self.old.reader self.old.asker) (known_at self.new.taken self.new.reader self.old.asker) request.now (messages_of transfer_left reply out.new)) }
+        ensures later { IfErr result (λ unmade. unmade ≡ WhyUnmade.Later → IsLater self.old.peer request.now) }
+        ensures spent { IfErr result (λ unmade. unmade ≡ WhyUnmade.Spent → IsTransfer Z.zone self.old.peer request.now × (self.new.reader.left ≡ 0)) }
     {
         let peer = self.peer;
+        if let Some(hand) = self.hand {
+            if peer.may_update && is_update(request) {
+                return self.reply_update(rt, hand, request, out);
+            }
+        }
         match serve_one(
             rt,
             self.alloc,
@@ -143,8 +298,8 @@ impl<'a, 's, Z: FirstZone, N: Naming, L: ServiceLog> Replies<'a, 's, Z, N, L> {
 
 impl<'a, 's, Z: FirstZone, N: Naming, L: ServiceLog> Answering<Transfer>
     for Replies<'a, 's, Z, N, L> {
-    // No request is answered later, so that what is known on each connection is what its reader has seen.
-    ghost seen = { λ replies _. learned_by replies.reader };
+    // While an update waits to be judged, what is known on its connection is what was known when it was taken up.
+    ghost seen = { λ replies. known_at replies.taken replies.reader };
 
     ghost peer = { λ replies. replies.peer };
 
@@ -152,7 +307,7 @@ impl<'a, 's, Z: FirstZone, N: Naming, L: ServiceLog> Answering<Transfer>
 
     ghost is_reply = { λ peer known later request messages. IsReplied Z.zone peer known later request messages };
 
-    ghost is_later = { λ _ _. ⊥ };
+    ghost is_later = { IsLater };
 
     #[tactic(auto, using(connections::proofs::AskedLemmas::each_itself))]
     fn turn_to(&mut self, other: Peer, from: SocketAddr, key: usize) {
@@ -171,14 +326,14 @@ impl<'a, 's, Z: FirstZone, N: Naming, L: ServiceLog> Answering<Transfer>
         requires { message_limit ≤ length out.old }
         ensures same { self.new.peer ≡ self.old.peer }
         ensures asker { self.new.asker ≡ self.old.asker }
-        ensures grows { EachGrows {T = Version} (λ _. learned_by self.new.reader) (λ _. learned_by self.old.reader) }
+        ensures grows { EachGrows {T = Version} (known_at self.new.taken self.new.reader) (known_at self.old.taken self.old.reader) }
         ensures bound { IfOk result (λ reply. (len : ℕ) → reply ≡ ReplyOf.One len → (len ≤ message_limit) × (len ≤ length out.new)) }
-        ensures reply { IfOk result (λ reply. IsReplied Z.zone self.old.peer (learned_by self.old.reader) (learned_by self.new.reader) request.now (messages_of transfer_left reply out.new)) }
-        // None is made later.
-        ensures later { IfErr result (λ unmade. unmade ≡ WhyUnmade.Later → ⊥) }
+        ensures reply { IfOk result (λ reply. IsReplied Z.zone self.old.peer (known_at self.old.taken self.old.reader self.old.asker) (known_at self.new.taken self.new.reader self.old.asker) request.now (messages_of transfer_left reply out.new)) }
+        ensures later { IfErr result (λ unmade. unmade ≡ WhyUnmade.Later → IsLater self.old.peer request.now) }
         // What can't be read as a query is replied to, whether a version can be loaded or not.
-        ensures spent { OnErr result (HasNoAnswer Z.zone self.old.peer request.now self.old.reader self.new.reader) }
+        ensures spent { IfErr result (λ unmade. unmade ≡ WhyUnmade.Spent → HasNoAnswer Z.zone self.old.peer request.now self.old.reader self.new.reader) }
     {
+        self.settle(rt, request);
         let cell = self.server.cell();
         match answer_kept(
             cell,

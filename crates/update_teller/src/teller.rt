@@ -1,0 +1,171 @@
+//! Telling those whose updates waited (RFC 2136, 3.8).
+ghost use Rattle.std.specs.Prelude.{◌≡◌, ◌++◌, IfOk, IfErr};
+ghost use Rattle.zone_tree.specs.Version.{Version as VersionOf};
+ghost use Rattle.update_group.specs.Engine.{IsLast, AreMade};
+ghost use Rattle.update_group.specs.Group.{codes_of, versions_of};
+ghost use Rattle.update_job.specs.Done.{BeginsWith};
+ghost use Rattle.update_teller.specs.Waits.{passes_waiting, tells_waiting, makes_waiting, octets_of_waiting};
+
+use crate::codes::code_of;
+use crate::replying::Replying;
+use dns_engine::{FirstZone, SharedVersion, VersionReader};
+use dns_message::MAX_LIMIT;
+use lasting_engine::judge_asked;
+use serve_core::{Peer, Transport};
+use snapshot_cell::Naming;
+use std::alloc::{AllocError, Global};
+use std::marker::Model;
+use std::sync::Wait;
+use update_desk::Done;
+use update_group::{Group, Judgement, Judging};
+use update_job::Publishing;
+use zone_service::{Serials, Server, ServiceLog, Told, Waiting, Way, tell_update, write_done};
+
+/// Who publishes the versions of batches in a server, and tells those whose updates waited, with a reader, of which contracts know what it has seen published.
+#[derive(Drop)]
+pub struct Teller<'a, 's, Z: FirstZone, N: Naming, L, P: Drop> {
+    server: &'a Server<'s, Z, N>,
+    reader: VersionReader<N>,
+    log: &'a L,
+    replying: P,
+    /// What the reply to a datagram is written into.
+    out: Vec<u8>,
+    /// The number of the last version that the reader has seen.
+    last: u64,
+    /// The number of the version that the last batch was begun with.
+    begun: u64,
+    /// The serials of the zone before that batch, and after it.
+    serials: Serials,
+}
+
+impl<'a, 's, Z: FirstZone, N: Naming, L, P: Drop> Model for Teller<'a, 's, Z, N, L, P> {
+    ghost use Rattle.std.specs.Prelude.{◌+◌};
+    ghost use Rattle.update_teller.specs.Met.{TellerState, HasMetLast};
+
+    ghost Value = { TellerState };
+
+    ghost view = { λ t. record { seen = t.reader.seen; begun = t.begun + 1 } };
+
+    ghost invariant = { λ t. HasMetLast Z.zone t.reader.seen t.last t.begun t.out.items };
+}
+
+impl<'a, 's, Z: FirstZone, N: Naming, L: ServiceLog, P: Replying + Drop> Teller<'a, 's, Z, N, L, P> {
+    /// Who tells them, of a server, with a reader, which meets what is published. A log is told of updates by datagrams, as their workers tell of others.
+    pub fn new<R: Wait>(
+        rt: &R,
+        alloc: Global,
+        server: &'a Server<'s, Z, N>,
+        reader: VersionReader<N>,
+        log: &'a L,
+        replying: P,
+    ) -> Result<Teller<'a, 's, Z, N, L, P>, AllocError> {
+        let out = vec![in alloc; 0u8; MAX_LIMIT]?;
+        let mut met = reader;
+        let begun = server.begin(rt, &mut met);
+        let serial = begun.last.get().serial();
+        Ok(Teller {
+            server,
+            reader: met,
+            log,
+            replying,
+            out,
+            last: begun.number,
+            begun: begun.number,
+            serials: Serials {
+                before: serial,
+                after: serial,
+            },
+        })
+    }
+}
+
+impl<'a, 's, Z: FirstZone, N: Naming, L, P: Drop> Judging for Teller<'a, 's, Z, N, L, P> {
+    type Version = SharedVersion;
+
+    type Asked = Waiting;
+
+    ghost octets = { octets_of_waiting };
+
+    ghost passes = { passes_waiting };
+
+    ghost tells = { tells_waiting };
+
+    ghost makes = { makes_waiting };
+
+    fn judge(
+        &self,
+        alloc: Global,
+        version: &SharedVersion,
+        waiting: &Waiting,
+    ) -> Judgement<SharedVersion> {
+        judge_asked(alloc, version, &waiting.asked)
+    }
+
+    fn octets_of<'b>(&self, waiting: &'b Waiting) -> &'b [u8] {
+        waiting.asked.octets()
+    }
+}
+
+impl<'a, 's, Z: FirstZone, N: Naming, L: ServiceLog, P: Replying + Drop> Publishing for Teller<'a, 's, Z, N, L, P> {
+    ghost use Rattle.std.specs.Prelude.{None};
+
+    ghost seen = { λ teller. teller.seen };
+
+    ghost begun = { λ teller. teller.begun };
+
+    ghost told = { λ teller. None };
+
+    fn begin<R: Wait>(&mut self, rt: &R) -> (SharedVersion, usize) {
+        let begun = self.server.begin(rt, &mut self.reader);
+        let serial = begun.last.get().serial();
+        self.last = begun.number;
+        self.begun = begun.number;
+        self.serials = Serials {
+            before: serial,
+            after: serial,
+        };
+        (begun.last, begun.room)
+    }
+
+    fn publish<R: Wait>(
+        &mut self,
+        rt: &R,
+        group: Group<SharedVersion>,
+    ) -> Result<Vec<u8>, Group<SharedVersion>>
+        requires { (first : VersionOf) × IsLast self.old.seen first × AreMade makes_waiting first (versions_of group) }
+        ensures published { IfOk result (λ codes. (codes.items ≡ codes_of group) × (self.new.seen ≡ self.old.seen ++ versions_of group)) }
+        ensures given_back { IfErr result (λ back. (back ≡ group) × BeginsWith self.new.seen self.old.seen) }
+        ensures begun { self.new.begun ≡ self.old.begun }
+    {
+        let (number, published) = self.server.publish(rt, &mut self.reader, self.last, group);
+        self.last = number;
+        let (codes, after) = published?;
+        self.serials.after = after;
+        Ok(codes)
+    }
+
+    fn tell<R: Wait>(&mut self, rt: &R, waiting: Waiting, code: u8) {
+        let Waiting { asked, way } = waiting;
+        let (code, serials) = (code_of(code), self.serials);
+        match way {
+            Way::Connection { worker, key, seat } => {
+                let done = Done {
+                    asked,
+                    least: self.begun,
+                    code,
+                    before: serials.before,
+                    after: serials.after,
+                };
+                self.last = self.server.tell(rt, &mut self.reader, seat, done);
+                self.replying.tell(rt, worker, key);
+            }
+            Way::Datagram { worker, to } => {
+                let peer = Peer::over(Transport::Udp, true);
+                let serials = Some(serials);
+                tell_update(rt, self.log, peer, to, Told { code, serials });
+                let len = write_done(&asked, code, peer, &mut self.out);
+                self.replying.send(worker, to, &self.out[..len]);
+            }
+        }
+    }
+}
