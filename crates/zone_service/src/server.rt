@@ -185,22 +185,14 @@ impl<'a, Z: FirstZone, N: Naming> Server<'a, Z, N> {
     }
 
     /// Tells something at a seat, if one waits at it, behind the lock, where the reader meets what is published: what is told is about versions that it
-    /// has seen before. The number of the version published last.
-    pub fn tell<R: Wait>(
-        &self,
-        rt: &R,
-        reader: &mut VersionReader<N>,
-        seat: usize,
-        done: Done,
-    ) -> u64
+    /// has seen before.
+    pub fn tell<R: Wait>(&self, rt: &R, reader: &mut VersionReader<N>, seat: usize, done: Done)
         requires { IsDone Z.zone reader.old.seen done }
-        ensures { MeetsAt Z.zone reader.old reader.new result }
+        ensures { (number : ℕ) × MeetsAt Z.zone reader.old reader.new number }
     {
         let mut desk = self.desk.lock(rt);
         meet_last(&mut desk, reader);
-        let number = desk.number();
         desk.tell(seat, done);
-        number
     }
 
     /// Begins a batch of updates, behind the lock, where the reader meets what is published: the version that they are to be judged in, and how many
@@ -211,28 +203,24 @@ impl<'a, Z: FirstZone, N: Naming> Server<'a, Z, N> {
         self.desk.lock(rt).begin(rt, reader)
     }
 
-    /// Publishes the versions of a batch, behind the lock, where the reader meets them, and gives the number of the version published last, with the codes of its
-    /// updates, and the serial of that version. The group comes back where another version than the one of this number was published last, which the reader had then not
-    /// seen, or there is no room for all of them.
+    /// Publishes the versions of a batch, behind the lock, where the reader meets them, and gives the codes of its updates, and the serial of the last
+    /// version. The group comes back where another version than the one of this number was published last, which the reader had then not seen, or there is
+    /// no room for all of them.
     pub fn publish<R: Wait>(
         &self,
         rt: &R,
         reader: &mut VersionReader<N>,
         number: u64,
         group: Group<SharedVersion>,
-    ) -> (u64, Result<(Vec<u8>, Serial), Group<SharedVersion>>)
+    ) -> Result<(Vec<u8>, Serial), Group<SharedVersion>>
         requires { IsJudgedIn Z.zone reader.old.seen number (versions_of group) }
-        ensures met { MeetsAt Z.zone reader.old reader.new result.0 }
-        ensures published { IfOk result.1 (λ r. (r.0.items ≡ codes_of group) × (reader.new.seen ≡ reader.old.seen ++ versions_of group)) }
-        ensures kept { IfErr result.1 (λ back. back ≡ group) }
+        ensures published { IfOk result (λ r. (r.0.items ≡ codes_of group) × (reader.new.seen ≡ reader.old.seen ++ versions_of group)) }
+        ensures kept { IfErr result (λ back. (back ≡ group) × BeginsWith reader.new.seen reader.old.seen) }
+        ensures grows { Grows {T = Version} (learned_by reader.new) (learned_by reader.old) }
     {
         let mut desk = self.desk.lock(rt);
-        let published = desk.publish_batch(reader, number, group);
-        let last = desk.number();
-        match published {
-            Ok(codes) => (last, Ok((codes, desk.serial()))),
-            Err(group) => (last, Err(group)),
-        }
+        let codes = desk.publish_batch(reader, number, group)?;
+        Ok((codes, desk.serial()))
     }
 
     /// Ends the server: its engine's history and owners are given up, and its publisher and its reader come back, with all that was published.
