@@ -1,2 +1,5 @@
 pub mod GoingLemmas
 pub mod RepliedLemmas
+pub mod TakenLemmas
+pub mod TakenReplies
+pub mod SendLemmas

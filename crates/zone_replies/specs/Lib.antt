@@ -1,3 +1,4 @@
 pub mod Left
 pub mod Going
 pub mod Taken
+pub mod State

@@ -1,5 +1,5 @@
 //! A server as one who answers connections.
-ghost use Rattle.std.specs.Prelude.{◌≡◌, ◌≤◌, ◌⊎◌, ℕ, true, None, length, take, IfOk, IfErr};
+ghost use Rattle.std.specs.Prelude.{◌≡◌, ◌≤◌, ◌⊎◌, ℕ, true, false, None, length, take, IfOk, IfErr, OnErr, MatchOption};
 ghost use Rattle.dns_message.specs.Message.{message_limit};
 ghost use Rattle.zone_tree.specs.Version.{Version};
 ghost use Rattle.serve_core.specs.Transfers.{is_permitted, messages_to};
@@ -11,7 +11,9 @@ ghost use Rattle.connections.specs.declared.answering.Reply.{Reply as ReplyOf};
 ghost use Rattle.connections.specs.declared.answering.Unmade.{Unmade as WhyUnmade};
 ghost use Rattle.zone_service.specs.Replied.{IsReplied, IsUpdate, IsTransfer, HasNoAnswer};
 ghost use Rattle.zone_replies.specs.Going.{transfer_left};
-ghost use Rattle.zone_replies.specs.Taken.{known_at, place_in, AreTakenUp, IsLater, IsWritten};
+ghost use Rattle.conversation.specs.Served.{Grows};
+ghost use Rattle.zone_service.specs.Known.{learned_by};
+ghost use Rattle.zone_replies.specs.Taken.{known_at, place_in, IsLater, IsWritten, IsToldOnce};
 
 use crate::taken::{Place, Taken, TakenUp};
 use crate::transfer::Transfer;
@@ -22,6 +24,7 @@ use dns_rdata::Rcode;
 use serve_core::{Peer, Transport};
 use snapshot_cell::Naming;
 use std::alloc::Global;
+use std::marker::Model;
 use std::net::SocketAddr;
 use std::snapshot::Snapshot;
 use std::sync::Wait;
@@ -49,7 +52,18 @@ pub struct Replies<'a, 's, Z: FirstZone, N: Naming, L> {
     /// To whom it hands updates; none where the engine answers them.
     hand: Option<Hand<'a>>,
     taken: TakenUp<N>,
-    ghost taken_up: { AreTakenUp taken reader },
+}
+
+impl<'a, 's, Z: FirstZone, N: Naming, L> Model for Replies<'a, 's, Z, N, L> {
+    ghost use Rattle.std.specs.Prelude.{is_some};
+    ghost use Rattle.zone_replies.specs.State.{RepliesState};
+    ghost use Rattle.zone_replies.specs.Taken.{AreTakenUp};
+
+    ghost Value = { RepliesState };
+
+    ghost view = { λ a. record { reader = a.reader; peer = a.peer; asker = a.asker; taken = a.taken; hands = is_some a.hand } };
+
+    ghost invariant = { λ a. AreTakenUp a.taken a.reader };
 }
 
 /// The reply to a query for a transfer that is permitted in a version, by those since the asker's: over a stream what makes its messages, for a
@@ -87,6 +101,7 @@ impl<'a, 's, Z: FirstZone, N: Naming, L: ServiceLog> Replies<'a, 's, Z, N, L> {
     ) -> Replies<'a, 's, Z, N, L>
         ensures reader { result.reader ≡ reader }
         ensures peer { result.peer ≡ peer }
+        ensures hands { result.hands ≡ false }
     {
         Replies {
             server,
@@ -107,7 +122,6 @@ impl<'a, 's, Z: FirstZone, N: Naming, L: ServiceLog> Replies<'a, 's, Z, N, L> {
     pub fn handing(self, hand: Hand<'a>) -> Replies<'a, 's, Z, N, L>
         ensures reader { result.reader ≡ self.entry.reader }
         ensures peer { result.peer ≡ self.entry.peer }
-        ensures taken { result.taken ≡ self.entry.taken }
     {
         let mut handing = self;
         handing.hand = Some(hand);
@@ -121,20 +135,33 @@ impl<'a, 's, Z: FirstZone, N: Naming, L: ServiceLog> Replies<'a, 's, Z, N, L> {
         self.reader
     }
 
+    /// To whom a request is handed: an update of a peer that may update, where those are handed to anybody.
+    fn hand_for(&self, request: &[u8]) -> Option<Hand<'a>>
+        ensures { MatchOption result ((self.now.hands ≡ false) ⊎ (IsLater self.now.peer request.now → ⊥)) (λ _. IsLater self.now.peer request.now × (self.now.hands ≡ true)) }
+    {
+        let Some(hand) = self.hand else {
+            return None;
+        };
+        if self.peer.may_update && is_update(request) {
+            return Some(hand);
+        }
+        None
+    }
+
     /// Gives up what was taken up on the connection under the asker's key, where another one has that key now, or something else is asked for.
     fn settle<R: Wait>(&mut self, rt: &R, request: &[u8])
         ensures peer { self.new.peer ≡ self.old.peer }
         ensures asker { self.new.asker ≡ self.old.asker }
         ensures reader { self.new.reader ≡ self.old.reader }
-        ensures hand { self.new.hand ≡ self.old.hand }
-        ensures other { (self.old.hand ≡ None) ⊎ (IsLater self.old.peer request.now → ⊥) → place_in self.new.taken self.old.asker ≡ None }
+        ensures hands { self.new.hands ≡ self.old.hands }
+        ensures other { (self.old.hands ≡ false) ⊎ (IsLater self.old.peer request.now → ⊥) → place_in self.new.taken self.old.asker ≡ None }
         ensures grows { EachGrows {T = Version} (known_at self.new.taken self.new.reader) (known_at self.old.taken self.old.reader) }
     {
         let Some(place) = self.taken.at(self.asker) else {
             return;
         };
-        let is_later = self.hand.is_some() && self.peer.may_update && is_update(request);
-        if is_later && place.from == self.from {
+        let is_handed = self.hand_for(request).is_some();
+        if is_handed && place.from == self.from {
             return;
         }
         self.server.leave(rt, place.seat);
@@ -217,6 +244,39 @@ impl<'a, 's, Z: FirstZone, N: Naming, L: ServiceLog> Replies<'a, 's, Z, N, L> {
         }
     }
 
+    /// How many octets the reply to an update has that was taken up on the connection under the asker's key, at the front of `out`: told to be made later
+    /// while it waits. None where none was taken up, or what is told at its seat is of another one; then none is taken up.
+    fn reply_taken<R: Wait>(
+        &mut self,
+        rt: &R,
+        request: &[u8],
+        out: &mut [u8],
+    ) -> Result<Option<usize>, Unmade>
+        requires later { IsLater self.old.peer request.now }
+        requires room { message_limit ≤ length out.old }
+        ensures peer { self.new.peer ≡ self.old.peer }
+        ensures asker { self.new.asker ≡ self.old.asker }
+        ensures grows { EachGrows {T = Version} (known_at self.new.taken self.new.reader) (known_at self.old.taken self.old.reader) }
+        ensures replied { IfOk result (λ told. IsToldOnce Z.zone self.old.peer (known_at self.old.taken self.old.reader self.old.asker) (known_at self.new.taken self.new.reader self.old.asker) request.now out.new (place_in self.new.taken self.old.asker) told) }
+        ensures unspent { IfErr result (λ unmade. unmade ≡ WhyUnmade.Later) }
+    {
+        let Some(place) = self.taken.at(self.asker) else {
+            return Ok(None);
+        };
+        let (_, fetched) = self.server.fetch(rt, &mut self.reader, place.seat);
+        if let Fetched::Waits = fetched {
+            return Err(Unmade::Later);
+        }
+        self.taken.remove(self.asker);
+        let Fetched::Told(done) = fetched else {
+            return Ok(None);
+        };
+        if done.asked.may() && done.asked.octets() == request {
+            return Ok(Some(self.reply_done(rt, place, done, out)));
+        }
+        Ok(None)
+    }
+
     /// The reply to an update of a peer that may update, once it is there; where none was taken up, it is.
     fn reply_update<R: Wait>(
         &mut self,
@@ -234,46 +294,35 @@ impl<'a, 's, Z: FirstZone, N: Naming, L: ServiceLog> Replies<'a, 's, Z, N, L> {
         ensures replied { IfOk result (λ reply. IsReplied Z.zone self.old.peer (known_at self.old.taken self.old.reader self.old.asker) (known_at self.new.taken self.new.reader self.old.asker) request.now (messages_of transfer_left reply out.new)) }
         ensures unspent { IfErr result (λ unmade. unmade ≡ WhyUnmade.Later) }
     {
-        if let Some(place) = self.taken.at(self.asker) {
-            let (_, fetched) = self.server.fetch(rt, &mut self.reader, place.seat);
-            if let Fetched::Waits = fetched {
-                return Err(Unmade::Later);
-            }
-            self.taken.remove(self.asker);
-            if let Fetched::Told(done) = fetched {
-                if done.asked.octets() == request {
-                    return Ok(Reply::One(self.reply_done(rt, place, done, out)));
-                }
-            }
+        match self.reply_taken(rt, request, out) {
+            Ok(told) => match told {
+                Some(len) => Ok(Reply::One(len)),
+                None => self.take_up(rt, hand, request, out),
+            },
+            Err(unmade) => Err(unmade),
         }
-        self.take_up(rt, hand, request, out)
     }
 
-    /// The reply to an update, or to a query for a transfer that is permitted.
+    /// The reply to an update by the engine, or to a query for a transfer that is permitted.
     #[tactic(auto, using(zone_service::proofs::ReplyLemmas::limit_most, zone_service::proofs::ReplyLemmas::room_most))]
-    fn reply_later<R: Wait>(
+    fn reply_served<R: Wait>(
         &mut self,
         rt: &R,
         request: &[u8],
         out: &mut [u8],
     ) -> Result<Reply<Transfer>, Unmade>
         requires later { IsUpdate request.now ⊎ IsTransfer Z.zone self.old.peer request.now }
-        requires other { (self.old.hand ≡ None) ⊎ (IsLater self.old.peer request.now → ⊥) → place_in self.old.taken self.old.asker ≡ None }
         requires room { message_limit ≤ length out.old }
         ensures peer { self.new.peer ≡ self.old.peer }
         ensures asker { self.new.asker ≡ self.old.asker }
-        ensures grows { EachGrows {T = Version} (known_at self.new.taken self.new.reader) (known_at self.old.taken self.old.reader) }
+        ensures taken { self.new.taken ≡ self.old.taken }
+        ensures grows { Grows {T = Version} (learned_by self.new.reader) (learned_by self.old.reader) }
         ensures bound { IfOk result (λ reply. (len : ℕ) → reply ≡ ReplyOf.One len → (len ≤ message_limit) × (len ≤ length out.new)) }
-        ensures replied { IfOk result (λ reply. IsReplied Z.zone self.old.peer (known_at self.old.taken self.old.reader self.old.asker) (known_at self.new.taken self.new.reader self.old.asker) request.now (messages_of transfer_left reply out.new)) }
-        ensures later { IfErr result (λ unmade. unmade ≡ WhyUnmade.Later → IsLater self.old.peer request.now) }
-        ensures spent { IfErr result (λ unmade. unmade ≡ WhyUnmade.Spent → IsTransfer Z.zone self.old.peer request.now × (self.new.reader.left ≡ 0)) }
+        ensures replied { IfOk result (λ reply. IsReplied Z.zone self.old.peer (learned_by self.old.reader) (learned_by self.new.reader) request.now (messages_of transfer_left reply out.new)) }
+        ensures now { IfErr result (λ unmade. unmade ≡ WhyUnmade.Later → ⊥) }
+        ensures spent { OnErr result (IsTransfer Z.zone self.old.peer request.now × (self.new.reader.left ≡ 0)) }
     {
         let peer = self.peer;
-        if let Some(hand) = self.hand {
-            if peer.may_update && is_update(request) {
-                return self.reply_update(rt, hand, request, out);
-            }
-        }
         match serve_one(
             rt,
             self.alloc,
@@ -292,6 +341,30 @@ impl<'a, 's, Z: FirstZone, N: Naming, L: ServiceLog> Replies<'a, 's, Z, N, L> {
                 Ok(reply_transfer(version, chain, query, peer, out))
             }
             Served::Spent => Err(Unmade::Spent),
+        }
+    }
+
+    /// The reply to an update, or to a query for a transfer that is permitted.
+    fn reply_later<R: Wait>(
+        &mut self,
+        rt: &R,
+        request: &[u8],
+        out: &mut [u8],
+    ) -> Result<Reply<Transfer>, Unmade>
+        requires later { IsUpdate request.now ⊎ IsTransfer Z.zone self.old.peer request.now }
+        requires other { (self.old.hands ≡ false) ⊎ (IsLater self.old.peer request.now → ⊥) → place_in self.old.taken self.old.asker ≡ None }
+        requires room { message_limit ≤ length out.old }
+        ensures peer { self.new.peer ≡ self.old.peer }
+        ensures asker { self.new.asker ≡ self.old.asker }
+        ensures grows { EachGrows {T = Version} (known_at self.new.taken self.new.reader) (known_at self.old.taken self.old.reader) }
+        ensures bound { IfOk result (λ reply. (len : ℕ) → reply ≡ ReplyOf.One len → (len ≤ message_limit) × (len ≤ length out.new)) }
+        ensures replied { IfOk result (λ reply. IsReplied Z.zone self.old.peer (known_at self.old.taken self.old.reader self.old.asker) (known_at self.new.taken self.new.reader self.old.asker) request.now (messages_of transfer_left reply out.new)) }
+        ensures later { IfErr result (λ unmade. unmade ≡ WhyUnmade.Later → IsLater self.old.peer request.now) }
+        ensures spent { IfErr result (λ unmade. unmade ≡ WhyUnmade.Spent → IsTransfer Z.zone self.old.peer request.now × (self.new.reader.left ≡ 0)) }
+    {
+        match self.hand_for(request) {
+            Some(hand) => self.reply_update(rt, hand, request, out),
+            None => self.reply_served(rt, request, out),
         }
     }
 }

@@ -23,6 +23,14 @@ pub(crate) struct Taken<N: Naming> {
     pub known: Snapshot<VersionReader<N>>,
 }
 
+impl<N: Naming> Model for Taken<N> {
+    ghost use Rattle.zone_replies.specs.State.{TakenState};
+
+    ghost Value = { TakenState };
+
+    ghost view = { λ t. record { from = t.from; seat = t.seat; number = t.number; known = t.known.value } };
+}
+
 /// Where the reply to an update will be that is taken up.
 #[derive(Clone, Copy)]
 pub(crate) struct Place {
@@ -42,9 +50,9 @@ pub(crate) struct TakenUp<N: Naming> {
 
 impl<N: Naming> Model for TakenUp<N> {
     ghost use Rattle.std.specs.Prelude.{List, Option};
-    ghost use Rattle.zone_replies.specs.declared.taken.Taken.{Taken};
+    ghost use Rattle.zone_replies.specs.State.{TakenState};
 
-    ghost Value = { List (Option Taken) };
+    ghost Value = { List (Option TakenState) };
 
     ghost view = { λ t. t.entries.items };
 }
@@ -78,10 +86,13 @@ impl<N: Naming> TakenUp<N> {
         ensures room { OnTrue result (key < length self.new) }
         ensures none { (more : ℕ) × (self.new ≡ self.old ++ replicate more None) }
     {
-        for _entry in self.entries.len()..key.saturating_add(1) {
-            if self.entries.push(None).is_err() {
+        let Some(count) = key.checked_add(1) else {
+            return false;
+        };
+        for _entry in self.entries.len()..count {
+            let Ok(()) = self.entries.push(None) else {
                 return false;
-            }
+            };
         }
         true
     }

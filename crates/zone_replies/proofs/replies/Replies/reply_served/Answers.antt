@@ -3,7 +3,7 @@ use Rattle.zone_service.specs.Known.{learned_by}
 use Rattle.zone_service.proofs.NowLemmas.{told_grows, vain_left, vain_grows, seen_grows}
 use Rattle.zone_replies.specs.Going.{transfer_left}
 use Rattle.zone_replies.proofs.RepliedLemmas.{messages_replied}
-use Rattle.zone_replies.proofs.replies.Replies.reply_later.Goals as goal
+use Rattle.zone_replies.proofs.replies.Replies.reply_served.Goals as goal
 
 pub returns-in-Updated-clause-grows : goal.returns-in-Updated-clause-grows
 returns-in-Updated-clause-grows g c =

@@ -1,0 +1,74 @@
+-- What is told of updates that are taken up is their reply, by what was known when they were.
+use Rattle.std.proofs.Common.{◌≡◌, refl, ◌⊎◌, inl, inr, ℕ, ◌+◌, ◌≤◌, true, List, [], ◌∷◌, length, Option, None, Some, Result, Ok, Err, IfOk, sym, ap, ◌∙◌, subst, arith}
+use Rattle.std.specs.Prelude.{take}
+use Rattle.dns_rdata.specs.Record.{Record}
+use Rattle.dns_message.specs.Octets.{fit}
+use Rattle.dns_message.specs.Request.{reads}
+use Rattle.dns_message.specs.declared.query.Parsed.TheVariants.{Update as SaysUpdate}
+use Rattle.dns_rdata.specs.declared.numbers.Rcode.TheVariants.{ServFail}
+use Rattle.zone_tree.specs.Version.{Version}
+use Rattle.snapshot_cell.specs.Tokens.{ReaderState}
+use Rattle.serve_core.specs.declared.peer.Peer.{Peer}
+use Rattle.serve_core.specs.Heading.{heading_of_update, coded}
+use Rattle.serve_core.specs.Transport.{limit_of}
+use Rattle.conversation.specs.Served.{Learned, Grows}
+use Rattle.connections.specs.Kept.{messages_of}
+use Rattle.connections.specs.declared.answering.Reply.{Reply}
+use Rattle.update_desk.specs.declared.done.Done.{Done}
+use Rattle.update_desk.specs.Done.{IsDone}
+use Rattle.zone_service.specs.Known.{learned_by, HasMet}
+use Rattle.zone_service.specs.Waiting.{MeetsAt}
+use Rattle.zone_service.specs.Replied.{IsReplied}
+use Rattle.zone_service.proofs.AboutLemmas.{no_older}
+use Rattle.zone_service.proofs.DoneLemmas.{done_replied, unheard_replied, grows_met}
+use Rattle.zone_service.proofs.ReplyLemmas.{still_replied}
+use Rattle.zone_replies.specs.declared.taken.Place.{Place}
+use Rattle.zone_replies.specs.State.{TakenState}
+use Rattle.zone_replies.specs.Taken.{known_at, place_in, IsTakenUp, AreTakenUp, IsWritten}
+use Rattle.zone_replies.proofs.TakenLemmas.{none_known, place_known}
+
+-- a reader that meets what is published has forgotten nothing
+pub meets_grows : (first : List Record) (before after : ReaderState Version) (number : ℕ) → MeetsAt first before after number → Grows (learned_by after) (learned_by before)
+meets_grows first before after number meets = grows_met before after meets.0.held.published meets.1.seen meets.1.begun
+
+-- and what was known before isn't newer than the version of the number that it has met
+pub meets_taken : (first : List Record) (before after : ReaderState Version) (number : ℕ) (one : TakenState) → MeetsAt first before after number → one.known ≡ before → one.number ≡ number → IsTakenUp after one
+meets_taken first before after number one meets is same = record {
+  grown = subst (λ (r : ReaderState Version). Grows (learned_by after) (learned_by r)) (sym is) (meets_grows first before after number meets);
+  number =
+  let fresh = no_older first before.seen meets.0.held.published meets.0.held.last meets.1.begun meets.1.latest in
+  let here : length one.known.seen ≡ length before.seen = ap (λ (r : ReaderState Version). length r.seen) is in
+  omega (arith, fresh, here, meets.2, same);
+}
+
+module _ (first : List Record) (peer : Peer) (taken : List (Option TakenState)) (before after : ReaderState Version) (key number : ℕ) (place : Place) (done : Done) (request out : List ℕ) (len : ℕ) where
+  -- what is written of an update that was taken up is its reply
+  by_one : (one : TakenState) → IsTakenUp before one → one.number ≡ place.number → MeetsAt first before after number → IsDone first after.seen done → reads request ≡ SaysUpdate done.asked.update → done.asked.may ≡ peer.may_update
+      → IsWritten peer place done (take len out) → IsReplied first peer (learned_by one.known) (learned_by after) request (take len out ∷ [])
+  by_one one is same meets told reading may (inl written) =
+      done_replied first peer (learned_by one.known) (learned_by after) request out len done told (omega (arith, is.number, same, written.0)) reading may written.1
+  by_one one is same meets told reading may (inr late) =
+      still_replied first peer (learned_by one.known) (learned_by before) (learned_by after) request (take len out ∷ []) is.grown
+      (unheard_replied first peer before after meets.0 request out done.asked.update len meets.1 reading late)
+
+  pub taken_replied : AreTakenUp taken before → place_in taken key ≡ Some place → MeetsAt first before after number → IsDone first after.seen done → done.asked.octets.items ≡ request → done.asked.may ≡ true → peer.may_update ≡ true
+      → IsWritten peer place done (take len out) → IsReplied first peer (known_at taken before key) (learned_by after) request (take len out ∷ [])
+  taken_replied all here meets told octets may permitted written =
+      let one = place_known taken before key place all here in
+      let reading : reads request ≡ SaysUpdate done.asked.update = subst (λ (o : List ℕ). reads o ≡ SaysUpdate done.asked.update) octets done.asked.read in
+      subst (λ (l : Learned Version). IsReplied first peer l (learned_by after) request (take len out ∷ [])) (sym one.1)
+      (by_one one.0 one.2 one.3 meets told reading (may ∙ sym permitted) written)
+
+module _ (first : List Record) (peer : Peer) (taken : List (Option TakenState)) (before after : ReaderState Version) (key : ℕ) (request : List ℕ) where
+  -- a reply where none is taken up
+  pub none_replied : (messages : List (List ℕ)) → place_in taken key ≡ None → IsReplied first peer (learned_by before) (learned_by after) request messages
+      → IsReplied first peer (known_at taken before key) (known_at taken after key) request messages
+  none_replied messages none replied =
+      subst (λ (l : Learned Version). IsReplied first peer l (known_at taken after key) request messages) (sym (none_known taken before key none))
+      (subst (λ (l : Learned Version). IsReplied first peer (learned_by before) l request messages) (sym (none_known taken after key none)) replied)
+
+module _ {M E : Type 0} (first : List Record) (peer : Peer) (left : M → List (List ℕ)) (taken : List (Option TakenState)) (before after : ReaderState Version) (key : ℕ) (request out : List ℕ) where
+  pub none_served : (result : Result (Reply M) E) → place_in taken key ≡ None → IfOk result (λ reply. IsReplied first peer (learned_by before) (learned_by after) request (messages_of left reply out))
+      → IfOk result (λ reply. IsReplied first peer (known_at taken before key) (known_at taken after key) request (messages_of left reply out))
+  none_served (Ok reply) none replied = none_replied first peer taken before after key request (messages_of left reply out) none replied
+  none_served (Err e) none replied = tt
