@@ -8,6 +8,7 @@ use Rattle.snapshot_cell.specs.Tokens.{ReaderState}
 use Rattle.conversation.specs.Served.{Learned, Grows}
 use Rattle.conversation.proofs.TurnLemmas.{grows_itself, grows_more}
 use Rattle.connections.specs.Asked.{EachGrows}
+use Rattle.connections.proofs.AskedLemmas.{each_more}
 use Rattle.zone_service.specs.Known.{learned_by}
 use Rattle.zone_replies.specs.declared.taken.Place.{Place}
 use Rattle.zone_replies.specs.State.{TakenState}
@@ -30,6 +31,9 @@ entry_knows (Some (Some taken)) before after grown = grows_itself (learned_by ta
 
 pub known_grows : (taken : List (Option TakenState)) (before after : ReaderState Version) → Grows (learned_by after) (learned_by before) → EachGrows (known_at taken after) (known_at taken before)
 known_grows taken before after grown = λ key. entry_knows (slice_get taken key) before after grown
+
+pub same_grows : (taken same : List (Option TakenState)) (before after : ReaderState Version) → same ≡ taken → Grows (learned_by after) (learned_by before) → EachGrows (known_at same after) (known_at taken before)
+same_grows taken same before after is grown = subst (λ (l : List (Option TakenState)). EachGrows (known_at l after) (known_at taken before)) (sym is) (known_grows taken before after grown)
 
 -- what was known when an update was taken up isn't forgotten later
 entry_grows : (before after : ReaderState Version) → Grows (learned_by after) (learned_by before) → (entry : Option TakenState) → IsEntry before entry → IsEntry after entry
@@ -77,15 +81,15 @@ place_known taken reader key place all here = by (slice_get taken key) (λ entry
         option_or (Some p) n = p.number
 
 -- one is given up
-pub place_removed : (taken : List (Option TakenState)) (key : ℕ) → place_in (slice_set taken key None) key ≡ None
+place_removed : (taken : List (Option TakenState)) (key : ℕ) → place_in (slice_set taken key None) key ≡ None
 place_removed [] key = refl
 place_removed (entry ∷ taken) zero = refl
 place_removed (entry ∷ taken) (suc key) = place_removed taken key
 
-pub removed_all : (taken : List (Option TakenState)) (reader : ReaderState Version) (key : ℕ) → AreTakenUp taken reader → AreTakenUp (slice_set taken key None) reader
+removed_all : (taken : List (Option TakenState)) (reader : ReaderState Version) (key : ℕ) → AreTakenUp taken reader → AreTakenUp (slice_set taken key None) reader
 removed_all taken reader key all = All-set (IsEntry reader) taken key None tt all
 
-pub removed_grows : (taken : List (Option TakenState)) (reader : ReaderState Version) (key : ℕ) → AreTakenUp taken reader → EachGrows (known_at (slice_set taken key None) reader) (known_at taken reader)
+removed_grows : (taken : List (Option TakenState)) (reader : ReaderState Version) (key : ℕ) → AreTakenUp taken reader → EachGrows (known_at (slice_set taken key None) reader) (known_at taken reader)
 removed_grows taken reader key all = λ at. by at (set_cases taken key at None)
   where
     by : (at : ℕ) → (slice_get (slice_set taken key None) at ≡ slice_get taken at) ⊎ ((slice_get (slice_set taken key None) at ≡ Some None) × (key ≡ at)) → Grows (known_at (slice_set taken key None) reader at) (known_at taken reader at)
@@ -103,7 +107,7 @@ known_room [] more reader key = none more key
 known_room (entry ∷ taken) more reader zero = refl
 known_room (entry ∷ taken) more reader (suc key) = known_room taken more reader key
 
-pub room_all : (taken : List (Option TakenState)) (more : ℕ) (reader : ReaderState Version) → AreTakenUp taken reader → AreTakenUp (taken ++ replicate more None) reader
+room_all : (taken : List (Option TakenState)) (more : ℕ) (reader : ReaderState Version) → AreTakenUp taken reader → AreTakenUp (taken ++ replicate more None) reader
 room_all taken more reader all = All-append (IsEntry reader) taken (replicate more None) all (All-replicate (IsEntry reader) more None tt)
 
 -- room for one more
@@ -116,10 +120,10 @@ room_more old new more count is pushed =
     pushed ∙ ap (λ (l : List (Option TakenState)). l ++ None ∷ []) is ∙ append_assoc old (replicate count None) (None ∷ []) ∙ ap (λ (l : List (Option TakenState)). old ++ l) (replicate_more {X = Option TakenState} count None)
 
 -- one is taken up
-pub put_all : (taken : List (Option TakenState)) (reader : ReaderState Version) (key : ℕ) (one : TakenState) → IsTakenUp reader one → AreTakenUp taken reader → AreTakenUp (slice_set taken key (Some one)) reader
+put_all : (taken : List (Option TakenState)) (reader : ReaderState Version) (key : ℕ) (one : TakenState) → IsTakenUp reader one → AreTakenUp taken reader → AreTakenUp (slice_set taken key (Some one)) reader
 put_all taken reader key one is all = All-set (IsEntry reader) taken key (Some one) is all
 
-pub put_grows : (taken : List (Option TakenState)) (before after : ReaderState Version) (key : ℕ) (one : TakenState) → one.known ≡ before → known_at taken before key ≡ learned_by before → Grows (learned_by after) (learned_by before)
+put_grows : (taken : List (Option TakenState)) (before after : ReaderState Version) (key : ℕ) (one : TakenState) → one.known ≡ before → known_at taken before key ≡ learned_by before → Grows (learned_by after) (learned_by before)
     → EachGrows (known_at (slice_set taken key (Some one)) after) (known_at taken before)
 put_grows taken before after key one is none grown = λ at. by at (set_cases taken key at (Some one))
   where
@@ -138,3 +142,38 @@ reader_grows old new before after each =
     let had : known_at old before key ≡ learned_by before = ap (λ (e : Option (Option TakenState)). known_of e before) (slice_get_past old key (omega arith)) in
     let has : known_at new after key ≡ learned_by after = ap (λ (e : Option (Option TakenState)). known_of e after) (slice_get_past new key (omega arith)) in
     subst (λ (l : Learned Version). Grows l (learned_by before)) has (subst (λ (l : Learned Version). Grows (known_at new after key) l) had (each key))
+
+module _ (taken : List (Option TakenState)) (before after : ReaderState Version) (key : ℕ) (grown : Grows (learned_by after) (learned_by before)) where
+  -- one is given up, while the reader learns more
+  pub gone_all : (left : List (Option TakenState)) → left ≡ slice_set taken key None → AreTakenUp taken before → AreTakenUp left after
+  gone_all left is all = subst (λ (l : List (Option TakenState)). AreTakenUp l after) (sym is) (removed_all taken after key (taken_grow taken before after grown all))
+
+  pub gone_grows : (left : List (Option TakenState)) → left ≡ slice_set taken key None → AreTakenUp taken before → EachGrows (known_at left after) (known_at taken before)
+  gone_grows left is all =
+      subst (λ (l : List (Option TakenState)). EachGrows (known_at l after) (known_at taken before)) (sym is)
+      (each_more (known_at taken before) (known_at taken after) (known_at (slice_set taken key None) after) (known_grows taken before after grown) (removed_grows taken after key (taken_grow taken before after grown all)))
+
+  -- and none is taken up there
+  pub gone_none : (left : List (Option TakenState)) → left ≡ slice_set taken key None → place_in left key ≡ None
+  gone_none left is = ap (λ (l : List (Option TakenState)). place_in l key) is ∙ place_removed taken key
+
+  -- room is made for one more, while the reader learns more
+  pub made_all : (made : List (Option TakenState)) (count : ℕ) → made ≡ taken ++ replicate count None → AreTakenUp taken before → AreTakenUp made after
+  made_all made count is all = subst (λ (l : List (Option TakenState)). AreTakenUp l after) (sym is) (room_all taken count after (taken_grow taken before after grown all))
+
+  made_known : (made : List (Option TakenState)) (count : ℕ) (reader : ReaderState Version) (at : ℕ) → made ≡ taken ++ replicate count None → known_at made reader at ≡ known_at taken reader at
+  made_known made count reader at is = ap (λ (l : List (Option TakenState)). known_at l reader at) is ∙ known_room taken count reader at
+
+  pub made_grows : (made : List (Option TakenState)) (count : ℕ) → made ≡ taken ++ replicate count None → EachGrows (known_at made after) (known_at taken before)
+  made_grows made count is = λ at. subst (λ (l : Learned Version). Grows l (known_at taken before at)) (sym (made_known made count after at is)) (known_grows taken before after grown at)
+
+  -- one is taken up
+  pub begun_all : (made begun : List (Option TakenState)) (count : ℕ) (one : TakenState) → made ≡ taken ++ replicate count None → begun ≡ slice_set made key (Some one) → IsTakenUp after one → AreTakenUp taken before → AreTakenUp begun after
+  begun_all made begun count one is put up all = subst (λ (l : List (Option TakenState)). AreTakenUp l after) (sym put) (put_all made after key one up (made_all made count is all))
+
+  pub begun_grows : (made begun : List (Option TakenState)) (count : ℕ) (one : TakenState) → made ≡ taken ++ replicate count None → begun ≡ slice_set made key (Some one) → one.known ≡ before → place_in taken key ≡ None
+      → EachGrows (known_at begun after) (known_at taken before)
+  begun_grows made begun count one is put known none = λ at.
+      subst (λ (l : List (Option TakenState)). Grows (known_at l after at) (known_at taken before at)) (sym put)
+      (subst (λ (l : Learned Version). Grows (known_at (slice_set made key (Some one)) after at) l) (made_known made count before at is)
+      (put_grows made before after key one known (made_known made count before key is ∙ none_known taken before key none) grown at))

@@ -1,6 +1,6 @@
 -- What is told of updates that are taken up is their reply, by what was known when they were.
 use Rattle.std.proofs.Common.{◌≡◌, refl, ◌⊎◌, inl, inr, ℕ, ◌+◌, ◌≤◌, true, List, [], ◌∷◌, length, Option, None, Some, Result, Ok, Err, IfOk, sym, ap, ◌∙◌, subst, arith}
-use Rattle.std.specs.Prelude.{take}
+use Rattle.std.specs.Prelude.{◌++◌, take, replicate}
 use Rattle.dns_rdata.specs.Record.{Record}
 use Rattle.dns_message.specs.Octets.{fit}
 use Rattle.dns_message.specs.Request.{reads}
@@ -12,6 +12,7 @@ use Rattle.serve_core.specs.declared.peer.Peer.{Peer}
 use Rattle.serve_core.specs.Heading.{heading_of_update, coded}
 use Rattle.serve_core.specs.Transport.{limit_of}
 use Rattle.conversation.specs.Served.{Learned, Grows}
+use Rattle.connections.specs.Asked.{EachGrows}
 use Rattle.connections.specs.Kept.{messages_of}
 use Rattle.connections.specs.declared.answering.Reply.{Reply}
 use Rattle.update_desk.specs.declared.done.Done.{Done}
@@ -23,9 +24,9 @@ use Rattle.zone_service.proofs.AboutLemmas.{no_older}
 use Rattle.zone_service.proofs.DoneLemmas.{done_replied, unheard_replied, grows_met}
 use Rattle.zone_service.proofs.ReplyLemmas.{still_replied}
 use Rattle.zone_replies.specs.declared.taken.Place.{Place}
-use Rattle.zone_replies.specs.State.{TakenState}
+use Rattle.zone_replies.specs.State.{TakenState, RepliesState}
 use Rattle.zone_replies.specs.Taken.{known_at, place_in, IsTakenUp, AreTakenUp, IsWritten}
-use Rattle.zone_replies.proofs.TakenLemmas.{none_known, place_known}
+use Rattle.zone_replies.proofs.TakenLemmas.{none_known, place_known, known_room}
 
 -- a reader that meets what is published has forgotten nothing
 pub meets_grows : (first : List Record) (before after : ReaderState Version) (number : ℕ) → MeetsAt first before after number → Grows (learned_by after) (learned_by before)
@@ -68,7 +69,27 @@ module _ (first : List Record) (peer : Peer) (taken : List (Option TakenState)) 
       (subst (λ (l : Learned Version). IsReplied first peer (learned_by before) l request messages) (sym (none_known taken after key none)) replied)
 
 module _ {M E : Type 0} (first : List Record) (peer : Peer) (left : M → List (List ℕ)) (taken : List (Option TakenState)) (before after : ReaderState Version) (key : ℕ) (request out : List ℕ) where
-  pub none_served : (result : Result (Reply M) E) → place_in taken key ≡ None → IfOk result (λ reply. IsReplied first peer (learned_by before) (learned_by after) request (messages_of left reply out))
-      → IfOk result (λ reply. IsReplied first peer (known_at taken before key) (known_at taken after key) request (messages_of left reply out))
-  none_served (Ok reply) none replied = none_replied first peer taken before after key request (messages_of left reply out) none replied
-  none_served (Err e) none replied = tt
+  pub none_served : (same : List (Option TakenState)) (result : Result (Reply M) E) → same ≡ taken → place_in taken key ≡ None → IfOk result (λ reply. IsReplied first peer (learned_by before) (learned_by after) request (messages_of left reply out))
+      → IfOk result (λ reply. IsReplied first peer (known_at taken before key) (known_at same after key) request (messages_of left reply out))
+  none_served same (Ok reply) is none replied =
+      subst (λ (l : List (Option TakenState)). IsReplied first peer (known_at taken before key) (known_at l after key) request (messages_of left reply out)) (sym is)
+      (none_replied first peer taken before after key request (messages_of left reply out) none replied)
+  none_served same (Err e) is none replied = tt
+
+-- a reply at once to an update of which none is taken up, where there is room for it
+pub made_replied : (first : List Record) (peer : Peer) (taken made : List (Option TakenState)) (count : ℕ) (before after : ReaderState Version) (key : ℕ) (request : List ℕ) (messages : List (List ℕ)) → made ≡ taken ++ replicate count None → place_in taken key ≡ None
+    → IsReplied first peer (learned_by before) (learned_by after) request messages → IsReplied first peer (known_at taken before key) (known_at made after key) request messages
+made_replied first peer taken made count before after key request messages is none replied =
+    subst (λ (l : List (Option TakenState)). IsReplied first peer (known_at taken before key) (known_at l after key) request messages) (sym is)
+    (subst (λ (l : Learned Version). IsReplied first peer (known_at taken before key) l request messages) (sym (known_room taken count after key))
+    (none_replied first peer taken before after key request messages none replied))
+
+-- a reply by what was known between two steps is one by what was known before both
+pub step_replied : {M E : Type 0} (first : List Record) (left : M → List (List ℕ)) (request out : List ℕ) (old mid : RepliesState) (later : ℕ → Learned Version) (result : Result (Reply M) E) → mid.peer ≡ old.peer → mid.asker ≡ old.asker
+    → EachGrows {T = Version} (known_at mid.taken mid.reader) (known_at old.taken old.reader) → IfOk result (λ reply. IsReplied first mid.peer (known_at mid.taken mid.reader mid.asker) (later mid.asker) request (messages_of left reply out))
+    → IfOk result (λ reply. IsReplied first old.peer (known_at old.taken old.reader old.asker) (later old.asker) request (messages_of left reply out))
+step_replied first left request out old mid later (Ok reply) peer asker grown replied =
+    still_replied first old.peer (known_at old.taken old.reader old.asker) (known_at mid.taken mid.reader old.asker) (later old.asker) request (messages_of left reply out) (grown old.asker)
+    (subst (λ (k : ℕ). IsReplied first old.peer (known_at mid.taken mid.reader k) (later k) request (messages_of left reply out)) asker
+    (subst (λ (p : Peer). IsReplied first p (known_at mid.taken mid.reader mid.asker) (later mid.asker) request (messages_of left reply out)) peer replied))
+step_replied first left request out old mid later (Err e) peer asker grown replied = tt

@@ -1,23 +1,19 @@
--- What the reader has seen grows, and a transfer's messages are those of its version.
+-- What the reader has learned grows, and what was known when an update was taken up stays.
+use Rattle.std.proofs.Common.{subst}
+use Rattle.zone_tree.specs.Version.{Version}
+use Rattle.conversation.specs.Served.{Grows}
 use Rattle.zone_service.specs.Known.{learned_by}
-use Rattle.zone_service.proofs.NowLemmas.{told_grows, vain_left, vain_grows, seen_grows}
-use Rattle.zone_replies.specs.Going.{transfer_left}
-use Rattle.zone_replies.proofs.RepliedLemmas.{messages_replied}
+use Rattle.zone_replies.specs.State.{RepliesState}
+use Rattle.zone_replies.proofs.RepliedLemmas.{served_grows}
+use Rattle.zone_replies.proofs.TakenLemmas.{taken_grow}
 use Rattle.zone_replies.proofs.replies.Replies.reply_served.Goals as goal
 
-pub returns-in-Updated-clause-grows : goal.returns-in-Updated-clause-grows
-returns-in-Updated-clause-grows g c =
-    told_grows g.Z.FirstZone.zone c.args.self.now.peer.may_update c.args.request.now c.args.self.now.reader c.serve_one.new.reader c.in-Updated.ensures.2.heading c.in-Updated.told c.in-Updated.ensures.2.tells
+pub invariant_of-self : goal.invariant_of-self
+invariant_of-self g c =
+    taken_grow c.self.inside.taken c.self.inside.reader c.serve_one.new.reader
+    (served_grows g.Z.FirstZone.zone c.self.inside.peer c.args.request.now c.self.inside.reader c.serve_one.new.reader c.serve_one.new.out c.serve_one.result c.serve_one.ensures) c.self.invariant
 
-pub returns-in-Spent-clause-grows : goal.returns-in-Spent-clause-grows
-returns-in-Spent-clause-grows g c = vain_grows g.Z.FirstZone.zone c.in-Spent.ensures.0.query c.args.self.now.reader c.serve_one.new.reader c.in-Spent.ensures.1
-
-pub returns-in-Spent-clause-spent : goal.returns-in-Spent-clause-spent
-returns-in-Spent-clause-spent g c = (c.in-Spent.ensures.0, vain_left g.Z.FirstZone.zone c.in-Spent.ensures.0.query c.args.self.now.reader c.serve_one.new.reader c.in-Spent.ensures.1)
-
-pub returns-in-Transfer-clause-replied : goal.returns-in-Transfer-clause-replied
-returns-in-Transfer-clause-replied g c =
-    messages_replied g.Z.FirstZone.zone c.args.self.now.peer transfer_left c.args.request.now c.reply_transfer.new.out (learned_by c.args.self.now.reader) (learned_by c.serve_one.new.reader) _ c.reply_transfer.result c.in-Transfer.ensures.1.0 c.reply_transfer.ensures.messages
-
-pub returns-in-Transfer-clause-grows : goal.returns-in-Transfer-clause-grows
-returns-in-Transfer-clause-grows g c = seen_grows g.Z.FirstZone.zone c.args.self.now.reader c.serve_one.new.reader c.in-Transfer.version c.in-Transfer.ensures.3
+pub returns-clause-grows : goal.returns-clause-grows
+returns-clause-grows g c =
+    subst (λ (s : RepliesState). Grows {T = Version} (learned_by c.serve_one.new.reader) (learned_by s.reader)) c.self.view_is
+    (served_grows g.Z.FirstZone.zone c.self.inside.peer c.args.request.now c.self.inside.reader c.serve_one.new.reader c.serve_one.new.out c.serve_one.result c.serve_one.ensures)

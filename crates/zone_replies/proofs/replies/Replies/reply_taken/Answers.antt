@@ -1,0 +1,90 @@
+-- What is told at a seat is the reply by what was known when the update was taken up.
+use Rattle.std.proofs.Common.{◌≡◌, ℕ, ◌≤◌, true, List, [], ◌∷◌, Option, None, Some, length, take, sym, ap, ◌∙◌, subst}
+use Rattle.std.proofs.lemmas.Slice.Eq.{bytes_eq-Decides}
+use Rattle.zone_tree.specs.Version.{Version}
+use Rattle.snapshot_cell.specs.Tokens.{ReaderState}
+use Rattle.conversation.specs.Served.{Learned, Grows}
+use Rattle.connections.specs.Asked.{EachGrows}
+use Rattle.zone_service.specs.Known.{learned_by}
+use Rattle.update_desk.specs.Done.{IsFetched, IsDone}
+use Rattle.update_desk.specs.declared.done.Fetched.{Fetched}
+use Rattle.zone_service.specs.Replied.{IsReplied}
+use Rattle.zone_replies.specs.State.{TakenState, RepliesState}
+use Rattle.zone_replies.specs.Taken.{known_at, place_in, AreTakenUp}
+use Rattle.zone_replies.proofs.TakenLemmas.{known_grows, gone_all, gone_grows, gone_none, none_known}
+use Rattle.zone_replies.proofs.TakenReplies.{meets_grows, taken_replied}
+use Rattle.zone_replies.proofs.replies.Replies.reply_taken.Goals as goal
+
+pub returns-in-Waits-clause-grows : goal.returns-in-Waits-clause-grows
+returns-in-Waits-clause-grows g c =
+    let grown = meets_grows g.Z.FirstZone.zone c.self.inside.reader c.fetch-fetched.new.reader _ c.fetch-fetched.ensures.met in
+    subst (λ (s : RepliesState). EachGrows {T = Version} (known_at c.self.inside.taken c.fetch-fetched.new.reader) (known_at s.taken s.reader)) c.self.view_is
+    (known_grows c.self.inside.taken c.self.inside.reader c.fetch-fetched.new.reader grown)
+
+pub invariant_of-self-in_default-fetched-2 : goal.invariant_of-self-in_default-fetched-2
+invariant_of-self-in_default-fetched-2 g c =
+    let grown = meets_grows g.Z.FirstZone.zone c.self.inside.reader c.fetch-fetched.new.reader _ c.fetch-fetched.ensures.met in
+    gone_all c.self.inside.taken c.self.inside.reader c.fetch-fetched.new.reader c.self.inside.asker grown c.remove.new.self c.remove.ensures c.self.invariant
+
+pub invariant_of-self-then-eq : goal.invariant_of-self-then-eq
+invariant_of-self-then-eq g c =
+    let grown = meets_grows g.Z.FirstZone.zone c.self.inside.reader c.fetch-fetched.new.reader _ c.fetch-fetched.ensures.met in
+    gone_all c.self.inside.taken c.self.inside.reader c.fetch-fetched.new.reader c.self.inside.asker grown c.remove.new.self c.remove.ensures c.self.invariant
+
+pub invariant_of-self-2 : goal.invariant_of-self-2
+invariant_of-self-2 g c =
+    let grown = meets_grows g.Z.FirstZone.zone c.self.inside.reader c.fetch-fetched.new.reader _ c.fetch-fetched.ensures.met in
+    gone_all c.self.inside.taken c.self.inside.reader c.fetch-fetched.new.reader c.self.inside.asker grown c.remove.new.self c.remove.ensures c.self.invariant
+
+pub returns-in_default-fetched-2 : goal.returns-in_default-fetched-2
+returns-in_default-fetched-2 g c =
+    let grown = meets_grows g.Z.FirstZone.zone c.self.inside.reader c.fetch-fetched.new.reader _ c.fetch-fetched.ensures.met in
+    record {
+      peer = ap (λ (s : RepliesState). s.peer) c.self.view_is;
+      asker = ap (λ (s : RepliesState). s.asker) c.self.view_is;
+      grows =
+      subst (λ (s : RepliesState). EachGrows {T = Version} (known_at c.remove.new.self c.fetch-fetched.new.reader) (known_at s.taken s.reader)) c.self.view_is
+      (gone_grows c.self.inside.taken c.self.inside.reader c.fetch-fetched.new.reader c.self.inside.asker grown c.remove.new.self c.remove.ensures c.self.invariant);
+      replied = subst (λ (s : RepliesState). place_in c.remove.new.self s.asker ≡ None) c.self.view_is (gone_none c.self.inside.taken c.self.inside.reader c.fetch-fetched.new.reader c.self.inside.asker grown c.remove.new.self c.remove.ensures);
+      unspent = tt;
+    }
+
+pub returns : goal.returns
+returns g c =
+    let grown = meets_grows g.Z.FirstZone.zone c.self.inside.reader c.fetch-fetched.new.reader _ c.fetch-fetched.ensures.met in
+    record {
+      peer = ap (λ (s : RepliesState). s.peer) c.self.view_is;
+      asker = ap (λ (s : RepliesState). s.asker) c.self.view_is;
+      grows =
+      subst (λ (s : RepliesState). EachGrows {T = Version} (known_at c.remove.new.self c.fetch-fetched.new.reader) (known_at s.taken s.reader)) c.self.view_is
+      (gone_grows c.self.inside.taken c.self.inside.reader c.fetch-fetched.new.reader c.self.inside.asker grown c.remove.new.self c.remove.ensures c.self.invariant);
+      replied = subst (λ (s : RepliesState). place_in c.remove.new.self s.asker ≡ None) c.self.view_is (gone_none c.self.inside.taken c.self.inside.reader c.fetch-fetched.new.reader c.self.inside.asker grown c.remove.new.self c.remove.ensures);
+      unspent = tt;
+    }
+
+pub returns-then-eq : goal.returns-then-eq
+returns-then-eq g c =
+    let first = g.Z.FirstZone.zone in
+    let grown = meets_grows first c.self.inside.reader c.fetch-fetched.new.reader _ c.fetch-fetched.ensures.met in
+    let here : place_in c.self.inside.taken c.self.inside.asker ≡ Some c.in-Some.place = sym c.at.ensures ∙ c.in-Some.is in
+    let told : IsDone first c.fetch-fetched.new.reader.seen c.in-Told.done = subst (λ (f : Fetched). IsFetched first c.fetch-fetched.new.reader.seen f) c.in-Told.is c.fetch-fetched.ensures.fetched in
+    let octets : c.in-Told.done.asked.octets.items ≡ c.args.request.now = sym c.octets.ensures.octets ∙ (bytes_eq-Decides c.octets.result.now c.args.request.now).0 (sym c.if-eq.ensures) in
+    let may : c.in-Told.done.asked.may ≡ true = sym c.may.ensures ∙ c.if-may.true in
+    let permitted : c.self.inside.peer.may_update ≡ true = subst (λ (s : RepliesState). s.peer.may_update ≡ true) (sym c.self.view_is) c.requires.later.1 in
+    let none = gone_none c.self.inside.taken c.self.inside.reader c.fetch-fetched.new.reader c.self.inside.asker grown c.remove.new.self c.remove.ensures in
+    let replied = taken_replied first c.self.inside.peer c.self.inside.taken c.self.inside.reader c.fetch-fetched.new.reader c.self.inside.asker _ c.in-Some.place c.in-Told.done c.args.request.now c.reply_done.new.out c.reply_done.result c.self.invariant here c.fetch-fetched.ensures.met told octets may permitted c.reply_done.ensures.octets in
+    record {
+      peer = ap (λ (s : RepliesState). s.peer) c.self.view_is;
+      asker = ap (λ (s : RepliesState). s.asker) c.self.view_is;
+      grows =
+      subst (λ (s : RepliesState). EachGrows {T = Version} (known_at c.remove.new.self c.fetch-fetched.new.reader) (known_at s.taken s.reader)) c.self.view_is
+      (gone_grows c.self.inside.taken c.self.inside.reader c.fetch-fetched.new.reader c.self.inside.asker grown c.remove.new.self c.remove.ensures c.self.invariant);
+      replied = (
+        c.reply_done.ensures.bound.0,
+        c.reply_done.ensures.bound.1,
+        subst (λ (s : RepliesState). IsReplied first s.peer (known_at s.taken s.reader s.asker) (known_at c.remove.new.self c.fetch-fetched.new.reader s.asker) c.args.request.now (take c.reply_done.result c.reply_done.new.out ∷ [])) c.self.view_is
+        (subst (λ (l : Learned Version). IsReplied first c.self.inside.peer (known_at c.self.inside.taken c.self.inside.reader c.self.inside.asker) l c.args.request.now (take c.reply_done.result c.reply_done.new.out ∷ []))
+        (sym (none_known c.remove.new.self c.fetch-fetched.new.reader c.self.inside.asker none)) replied),
+      );
+      unspent = tt;
+    }
