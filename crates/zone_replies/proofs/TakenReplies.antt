@@ -1,9 +1,9 @@
 -- What is told of updates that are taken up is their reply, by what was known when they were.
-use Rattle.std.proofs.Common.{◌≡◌, refl, ◌⊎◌, inl, inr, ℕ, ◌+◌, ◌≤◌, true, List, [], ◌∷◌, length, Option, None, Some, Result, Ok, Err, IfOk, sym, ap, ◌∙◌, subst, arith}
+use Rattle.std.proofs.Common.{◌≡◌, refl, ◌⊎◌, inl, inr, ℕ, ◌+◌, ◌≤◌, true, false, List, [], ◌∷◌, length, Option, None, Some, Result, Ok, Err, IfOk, IfErr, sym, ap, ◌∙◌, subst, arith}
 use Rattle.std.specs.Prelude.{◌++◌, take, replicate}
 use Rattle.dns_rdata.specs.Record.{Record}
 use Rattle.dns_message.specs.Octets.{fit}
-use Rattle.dns_message.specs.Request.{reads}
+use Rattle.dns_message.specs.Request.{is_update, reads}
 use Rattle.dns_message.specs.declared.query.Parsed.TheVariants.{Update as SaysUpdate}
 use Rattle.dns_rdata.specs.declared.numbers.Rcode.TheVariants.{ServFail}
 use Rattle.zone_tree.specs.Version.{Version}
@@ -15,17 +15,19 @@ use Rattle.conversation.specs.Served.{Learned, Grows}
 use Rattle.connections.specs.Asked.{EachGrows}
 use Rattle.connections.specs.Kept.{messages_of}
 use Rattle.connections.specs.declared.answering.Reply.{Reply}
+use Rattle.connections.specs.declared.answering.Unmade.{Unmade}
+use Rattle.connections.specs.declared.answering.Unmade.TheVariants.{Spent}
 use Rattle.update_desk.specs.declared.done.Done.{Done}
 use Rattle.update_desk.specs.Done.{IsDone}
 use Rattle.zone_service.specs.Known.{learned_by, HasMet}
 use Rattle.zone_service.specs.Waiting.{MeetsAt}
-use Rattle.zone_service.specs.Replied.{IsReplied}
+use Rattle.zone_service.specs.Replied.{IsReplied, IsTransfer, HasNoAnswer}
 use Rattle.zone_service.proofs.AboutLemmas.{no_older}
 use Rattle.zone_service.proofs.DoneLemmas.{done_replied, unheard_replied, grows_met}
 use Rattle.zone_service.proofs.ReplyLemmas.{still_replied}
 use Rattle.zone_replies.specs.declared.taken.Place.{Place}
 use Rattle.zone_replies.specs.State.{TakenState, RepliesState}
-use Rattle.zone_replies.specs.Taken.{known_at, place_in, IsTakenUp, AreTakenUp, IsWritten}
+use Rattle.zone_replies.specs.Taken.{known_at, place_in, IsTakenUp, AreTakenUp, IsLater, IsWritten}
 use Rattle.zone_replies.proofs.TakenLemmas.{none_known, place_known, known_room}
 
 -- a reader that meets what is published has forgotten nothing
@@ -93,3 +95,24 @@ step_replied first left request out old mid later (Ok reply) peer asker grown re
     (subst (λ (k : ℕ). IsReplied first old.peer (known_at mid.taken mid.reader k) (later k) request (messages_of left reply out)) asker
     (subst (λ (p : Peer). IsReplied first p (known_at mid.taken mid.reader mid.asker) (later mid.asker) request (messages_of left reply out)) peer replied))
 step_replied first left request out old mid later (Err e) peer asker grown replied = tt
+
+-- a reply at once, to a request of whose connection none is taken up any more
+pub settled_replied : (first : List Record) (old : RepliesState) (peer : Peer) (taken : List (Option TakenState)) (before after : ReaderState Version) (request : List ℕ) (messages : List (List ℕ)) → peer ≡ old.peer → place_in taken old.asker ≡ None
+    → EachGrows {T = Version} (known_at taken before) (known_at old.taken old.reader) → IsReplied first peer (learned_by before) (learned_by after) request messages
+    → IsReplied first old.peer (known_at old.taken old.reader old.asker) (known_at taken after old.asker) request messages
+settled_replied first old peer taken before after request messages is none grown replied =
+    still_replied first old.peer (known_at old.taken old.reader old.asker) (known_at taken before old.asker) (known_at taken after old.asker) request messages (grown old.asker)
+    (none_replied first old.peer taken before after old.asker request messages none (subst (λ (p : Peer). IsReplied first p (learned_by before) (learned_by after) request messages) is replied))
+
+-- a request that isn't an update is answered at once
+pub never_later : (peer : Peer) (request : List ℕ) → is_update request ≡ false → IsLater peer request → ⊥
+never_later peer request other later = none (later.0)
+  where
+    none : is_update request ≡ true → ⊥
+    none asks = cc
+
+-- a transfer for which grants are wanted gets no answer
+pub spent_later : {T : Type 0} (first : List Record) (peer same : Peer) (request : List ℕ) (before after : ReaderState Version) (result : Result T Unmade) → peer ≡ same
+    → IfErr result (λ unmade. unmade ≡ Spent → IsTransfer first peer request × (after.left ≡ 0)) → IfErr result (λ unmade. unmade ≡ Spent → HasNoAnswer first same request before after)
+spent_later first peer same request before after (Ok x) is spent = tt
+spent_later first peer same request before after (Err unmade) is spent = λ e. inr (subst (λ (p : Peer). IsTransfer first p request × (after.left ≡ 0)) is (spent e))
