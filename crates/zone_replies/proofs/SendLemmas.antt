@@ -15,7 +15,6 @@ use Rattle.wire_names.specs.contracts.write.NameWriter as names
 use Rattle.zone_service.proofs.SendLemmas.{server_sync, hand_send}
 use Rattle.zone_replies.specs.contracts.replies.Replies as replies
 use Rattle.zone_replies.specs.contracts.replies.Replies.TheInside as inside
-use Rattle.zone_replies.specs.contracts.taken.Taken as one
 use Rattle.zone_replies.specs.contracts.taken.TakenUp as taken
 
 query_send : IsSend (query.the_field).row

@@ -1,16 +1,12 @@
 -- What is told of updates that are taken up is their reply, by what was known when they were.
-use Rattle.std.proofs.Common.{◌≡◌, refl, ◌⊎◌, inl, inr, ℕ, ◌+◌, ◌≤◌, true, false, List, [], ◌∷◌, length, Option, None, Some, Result, Ok, Err, IfOk, IfErr, sym, ap, ◌∙◌, subst, arith}
+use Rattle.std.proofs.Common.{◌≡◌, inl, inr, ℕ, true, false, List, [], ◌∷◌, length, Option, None, Some, Result, Ok, Err, IfOk, IfErr, sym, ap, ◌∙◌, subst, arith}
 use Rattle.std.specs.Prelude.{◌++◌, take, replicate}
 use Rattle.dns_rdata.specs.Record.{Record}
-use Rattle.dns_message.specs.Octets.{fit}
 use Rattle.dns_message.specs.Request.{is_update, reads}
 use Rattle.dns_message.specs.declared.query.Parsed.TheVariants.{Update as SaysUpdate}
-use Rattle.dns_rdata.specs.declared.numbers.Rcode.TheVariants.{ServFail}
 use Rattle.zone_tree.specs.Version.{Version}
 use Rattle.snapshot_cell.specs.Tokens.{ReaderState}
 use Rattle.serve_core.specs.declared.peer.Peer.{Peer}
-use Rattle.serve_core.specs.Heading.{heading_of_update, coded}
-use Rattle.serve_core.specs.Transport.{limit_of}
 use Rattle.conversation.specs.Served.{Learned, Grows}
 use Rattle.connections.specs.Asked.{EachGrows}
 use Rattle.connections.specs.Kept.{messages_of}
@@ -19,7 +15,7 @@ use Rattle.connections.specs.declared.answering.Unmade.{Unmade}
 use Rattle.connections.specs.declared.answering.Unmade.TheVariants.{Spent}
 use Rattle.update_desk.specs.declared.done.Done.{Done}
 use Rattle.update_desk.specs.Done.{IsDone}
-use Rattle.zone_service.specs.Known.{learned_by, HasMet}
+use Rattle.zone_service.specs.Known.{learned_by}
 use Rattle.zone_service.specs.Waiting.{MeetsAt}
 use Rattle.zone_service.specs.Replied.{IsReplied, IsTransfer, HasNoAnswer}
 use Rattle.zone_service.proofs.AboutLemmas.{no_older}
@@ -39,9 +35,9 @@ pub meets_taken : (first : List Record) (before after : ReaderState Version) (nu
 meets_taken first before after number one meets is same = record {
   grown = subst (λ (r : ReaderState Version). Grows (learned_by after) (learned_by r)) (sym is) (meets_grows first before after number meets);
   number =
-  let fresh = no_older first before.seen meets.0.held.published meets.0.held.last meets.1.begun meets.1.latest in
-  let here : length one.known.seen ≡ length before.seen = ap (λ (r : ReaderState Version). length r.seen) is in
-  omega (arith, fresh, here, meets.2, same);
+      let fresh = no_older first before.seen meets.0.held.published meets.0.held.last meets.1.begun meets.1.latest in
+      let here : length one.known.seen ≡ length before.seen = ap (λ (r : ReaderState Version). length r.seen) is in
+      omega (arith, fresh, here, meets.2, same);
 }
 
 module _ (first : List Record) (peer : Peer) (taken : List (Option TakenState)) (before after : ReaderState Version) (key number : ℕ) (place : Place) (done : Done) (request out : List ℕ) (len : ℕ) where

@@ -1,16 +1,14 @@
 -- What is told at a seat is the reply by what was known when the update was taken up.
-use Rattle.std.proofs.Common.{◌≡◌, ℕ, ◌≤◌, true, List, [], ◌∷◌, Option, None, Some, length, take, sym, ap, ◌∙◌, subst}
+use Rattle.std.proofs.Common.{◌≡◌, true, [], ◌∷◌, None, Some, take, sym, ap, ◌∙◌, subst}
 use Rattle.std.proofs.lemmas.Slice.Eq.{bytes_eq-Decides}
 use Rattle.zone_tree.specs.Version.{Version}
-use Rattle.snapshot_cell.specs.Tokens.{ReaderState}
-use Rattle.conversation.specs.Served.{Learned, Grows}
+use Rattle.conversation.specs.Served.{Learned}
 use Rattle.connections.specs.Asked.{EachGrows}
-use Rattle.zone_service.specs.Known.{learned_by}
 use Rattle.update_desk.specs.Done.{IsFetched, IsDone}
 use Rattle.update_desk.specs.declared.done.Fetched.{Fetched}
 use Rattle.zone_service.specs.Replied.{IsReplied}
-use Rattle.zone_replies.specs.State.{TakenState, RepliesState}
-use Rattle.zone_replies.specs.Taken.{known_at, place_in, AreTakenUp}
+use Rattle.zone_replies.specs.State.{RepliesState}
+use Rattle.zone_replies.specs.Taken.{known_at, place_in}
 use Rattle.zone_replies.proofs.TakenLemmas.{known_grows, gone_all, gone_grows, gone_none, none_known}
 use Rattle.zone_replies.proofs.TakenReplies.{meets_grows, taken_replied}
 use Rattle.zone_replies.proofs.replies.Replies.reply_taken.Goals as goal
@@ -43,8 +41,8 @@ returns-in_default-fetched-2 g c =
       peer = ap (λ (s : RepliesState). s.peer) c.self.view_is;
       asker = ap (λ (s : RepliesState). s.asker) c.self.view_is;
       grows =
-      subst (λ (s : RepliesState). EachGrows {T = Version} (known_at c.remove.new.self c.fetch-fetched.new.reader) (known_at s.taken s.reader)) c.self.view_is
-      (gone_grows c.self.inside.taken c.self.inside.reader c.fetch-fetched.new.reader c.self.inside.asker grown c.remove.new.self c.remove.ensures c.self.invariant);
+          subst (λ (s : RepliesState). EachGrows {T = Version} (known_at c.remove.new.self c.fetch-fetched.new.reader) (known_at s.taken s.reader)) c.self.view_is
+          (gone_grows c.self.inside.taken c.self.inside.reader c.fetch-fetched.new.reader c.self.inside.asker grown c.remove.new.self c.remove.ensures c.self.invariant);
       replied = subst (λ (s : RepliesState). place_in c.remove.new.self s.asker ≡ None) c.self.view_is (gone_none c.self.inside.taken c.self.inside.reader c.fetch-fetched.new.reader c.self.inside.asker grown c.remove.new.self c.remove.ensures);
       unspent = tt;
     }
@@ -56,8 +54,8 @@ returns g c =
       peer = ap (λ (s : RepliesState). s.peer) c.self.view_is;
       asker = ap (λ (s : RepliesState). s.asker) c.self.view_is;
       grows =
-      subst (λ (s : RepliesState). EachGrows {T = Version} (known_at c.remove.new.self c.fetch-fetched.new.reader) (known_at s.taken s.reader)) c.self.view_is
-      (gone_grows c.self.inside.taken c.self.inside.reader c.fetch-fetched.new.reader c.self.inside.asker grown c.remove.new.self c.remove.ensures c.self.invariant);
+          subst (λ (s : RepliesState). EachGrows {T = Version} (known_at c.remove.new.self c.fetch-fetched.new.reader) (known_at s.taken s.reader)) c.self.view_is
+          (gone_grows c.self.inside.taken c.self.inside.reader c.fetch-fetched.new.reader c.self.inside.asker grown c.remove.new.self c.remove.ensures c.self.invariant);
       replied = subst (λ (s : RepliesState). place_in c.remove.new.self s.asker ≡ None) c.self.view_is (gone_none c.self.inside.taken c.self.inside.reader c.fetch-fetched.new.reader c.self.inside.asker grown c.remove.new.self c.remove.ensures);
       unspent = tt;
     }
@@ -77,14 +75,14 @@ returns-then-eq g c =
       peer = ap (λ (s : RepliesState). s.peer) c.self.view_is;
       asker = ap (λ (s : RepliesState). s.asker) c.self.view_is;
       grows =
-      subst (λ (s : RepliesState). EachGrows {T = Version} (known_at c.remove.new.self c.fetch-fetched.new.reader) (known_at s.taken s.reader)) c.self.view_is
-      (gone_grows c.self.inside.taken c.self.inside.reader c.fetch-fetched.new.reader c.self.inside.asker grown c.remove.new.self c.remove.ensures c.self.invariant);
+          subst (λ (s : RepliesState). EachGrows {T = Version} (known_at c.remove.new.self c.fetch-fetched.new.reader) (known_at s.taken s.reader)) c.self.view_is
+          (gone_grows c.self.inside.taken c.self.inside.reader c.fetch-fetched.new.reader c.self.inside.asker grown c.remove.new.self c.remove.ensures c.self.invariant);
       replied = (
         c.reply_done.ensures.bound.0,
         c.reply_done.ensures.bound.1,
         subst (λ (s : RepliesState). IsReplied first s.peer (known_at s.taken s.reader s.asker) (known_at c.remove.new.self c.fetch-fetched.new.reader s.asker) c.args.request.now (take c.reply_done.result c.reply_done.new.out ∷ [])) c.self.view_is
-        (subst (λ (l : Learned Version). IsReplied first c.self.inside.peer (known_at c.self.inside.taken c.self.inside.reader c.self.inside.asker) l c.args.request.now (take c.reply_done.result c.reply_done.new.out ∷ []))
-        (sym (none_known c.remove.new.self c.fetch-fetched.new.reader c.self.inside.asker none)) replied),
+            (subst (λ (l : Learned Version). IsReplied first c.self.inside.peer (known_at c.self.inside.taken c.self.inside.reader c.self.inside.asker) l c.args.request.now (take c.reply_done.result c.reply_done.new.out ∷ []))
+            (sym (none_known c.remove.new.self c.fetch-fetched.new.reader c.self.inside.asker none)) replied),
       );
       unspent = tt;
     }

@@ -1,11 +1,10 @@
 -- Where it waits, what is known on its connection is what was known before; else it gets its reply at once.
-use Rattle.std.proofs.Common.{◌≡◌, ℕ, List, [], ◌∷◌, Option, None, take, refl, sym, ap, ◌∙◌, subst}
+use Rattle.std.proofs.Common.{◌≡◌, [], ◌∷◌, None, take, refl, sym, subst}
 use Rattle.zone_tree.specs.Version.{Version}
-use Rattle.snapshot_cell.specs.Tokens.{ReaderState}
 use Rattle.connections.specs.Asked.{EachGrows}
 use Rattle.zone_service.specs.Replied.{IsReplied}
 use Rattle.zone_replies.specs.State.{TakenState, RepliesState}
-use Rattle.zone_replies.specs.Taken.{known_at, place_in, AreTakenUp}
+use Rattle.zone_replies.specs.Taken.{known_at, place_in}
 use Rattle.zone_replies.proofs.TakenLemmas.{made_all, made_grows, begun_all, begun_grows}
 use Rattle.zone_replies.proofs.TakenReplies.{meets_grows, meets_taken, made_replied}
 use Rattle.zone_replies.proofs.replies.Replies.take_up.Goals as goal
