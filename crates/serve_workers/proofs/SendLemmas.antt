@@ -20,7 +20,7 @@ use Rattle.ready_sockets.specs.contracts.watch.Watch as watch
 use Rattle.wire_names.specs.contracts.write.NameWriter as names
 use Rattle.zone_service.proofs.SendLemmas.{server_sync, hand_send}
 use Rattle.zone_service.specs.contracts.asked.Asked as asked
-use Rattle.zone_replies.specs.contracts.replies.Replies as replies
+use Rattle.zone_replies.proofs.SendLemmas.{replies_send}
 use Rattle.zone_replies.specs.contracts.transfer.Transfer as transfer
 use Rattle.serve_workers.specs.contracts.connections_job.ConnectionsJob as connections
 use Rattle.serve_workers.specs.contracts.notify_job.NotifyJob as telling
@@ -62,11 +62,6 @@ asked_send : (a b : NamedLft) (T N L : RattleType) (g : Ghosts T.Denot) (n : nam
 asked_send a b T N L g n hears =
     struct_send (shape (asked.the_type a b T N L n g))
     (shr_send _ _ _ (server_sync b T N g n), (search (cell.crosses, crossing.crosses, sendable) depth 60 fits 20000, (search (crossing.crosses, sendable) depth 60 fits 20000, (search (global.the_field_send, sendable) depth 60 fits 20000, (search (crossing.crosses, sendable) depth 60 fits 20000, (search (crossing.crosses, sendable) depth 60 fits 20000, (search (query_send, sendable) depth 60 fits 20000, (search (names_send, sendable) depth 60 fits 20000, (search (hand_send, option.the_field_send, option.the_send, crossing.crosses, sendable) depth 60 fits 20000, tt)))))))))
-
-replies_send : (a b : NamedLft) (T N L : RattleType) (g : Ghosts T.Denot) (n : naming.Ghosts N.Denot) → IsSync L → IsSend (replies.the_field a b T N L n g).row
-replies_send a b T N L g n hears =
-    struct_send (shape (replies.the_type a b T N L n g))
-    (shr_send _ _ _ (server_sync b T N g n), (search (cell.crosses, crossing.crosses, sendable) depth 60 fits 20000, (search (crossing.crosses, sendable) depth 60 fits 20000, (search (global.the_field_send, sendable) depth 60 fits 20000, (search (crossing.crosses, sendable) depth 60 fits 20000, (search (crossing.crosses, sendable) depth 60 fits 20000, (search (crossing.crosses, sendable) depth 60 fits 20000, (search (query_send, sendable) depth 60 fits 20000, (search (names_send, sendable) depth 60 fits 20000, tt)))))))))
 
 pub worker_send : (a b : NamedLft) (T N J G L : RattleType) (g : Ghosts T.Denot) (n : naming.Ghosts N.Denot) → IsSend J → IsSync G → IsSync L → IsSend (worker.the_row a b T N J G L n g)
 worker_send a b T N J G L g n sends shares hears =
