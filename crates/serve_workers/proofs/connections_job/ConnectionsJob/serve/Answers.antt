@@ -1,5 +1,5 @@
 -- One turn more has been taken.
-use Rattle.std.proofs.Common.{◌≡◌, refl, ◌∙◌, subst}
+use Rattle.std.proofs.Common.{refl, ◌∙◌, subst}
 use Rattle.connections.proofs.AskedLemmas.{each_itself, each_more}
 use Rattle.turns.specs.Steps.{Turned, unturned}
 use Rattle.turns.specs.declared.worker.Plan.{Plan}
