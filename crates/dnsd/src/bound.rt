@@ -162,6 +162,7 @@ fn put_duties<'a>(
             worker,
             progress,
             sockets: Sockets::Connections(listeners),
+            told: None,
         })
         .ok()?;
     for socket in datagrams {
@@ -170,6 +171,7 @@ fn put_duties<'a>(
                 worker,
                 progress,
                 sockets: Sockets::Datagrams(socket),
+                told: None,
             })
             .ok()?;
     }

@@ -184,6 +184,7 @@ pub fn put_secondaries<'a>(
             worker,
             progress,
             sockets: Sockets::Secondaries(secondaries),
+            told: None,
         })
         .ok()
 }

@@ -213,6 +213,7 @@ fn serve_all<R: Net + Threads + Wait + Clock + Sync>(
             limits: serve.limits,
             allowed: Allowed::new(serve.allowed.as_slice()),
         },
+        updates: None,
     };
     let first = Version::first(zone);
     let later = Vec::new(alloc);

@@ -15,6 +15,7 @@ use crate::notify_job::{NotifyJob, Secondaries};
 use crate::progress::{Muster, Progress, Standing};
 use crate::scratch::Scratch;
 use crate::threads::{SocketJob, TcpJob, run_threads};
+use crate::told_keys::ToldKeys;
 use crate::worker_socket::WorkerSocket;
 use crate::workers::NotStarted;
 use dns_engine::{
@@ -34,7 +35,8 @@ use std::thread::Threads;
 use std::time::Clock;
 use thiserror::Error;
 use turns::{Plan as ConnectionPlan, Turns};
-use zone_service::{JobEnd, Server, ServiceLog};
+use update_queue::Queue;
+use zone_service::{JobEnd, Server, ServiceLog, Waiting};
 use zone_tree::Version;
 
 /// How a zone is served.
@@ -48,6 +50,9 @@ pub struct Plan<'a> {
     pub places: usize,
     /// How long connections may wait for their peers, and who may update and transfer.
     pub connections: ConnectionPlan<'a>,
+    /// Where updates of peers that may wait for who judges them, tells the codes of those by connections at their seats, and sends the replies to those by
+    /// datagrams; none where the engine answers them.
+    pub updates: Option<&'a Queue<Waiting>>,
 }
 
 /// What one thread serves.
@@ -70,6 +75,8 @@ pub struct Duty<'a> {
     pub progress: &'a Progress,
     /// What it serves.
     pub sockets: Sockets,
+    /// Where it is told the keys of connections whose replies can be had, if it is.
+    pub told: Option<&'a ToldKeys>,
 }
 
 /// Why a zone isn't served any more.
@@ -251,7 +258,7 @@ fn serve_cell<
             },
         ) => unreachable!(),
     };
-    let served = serve_with(rt, alloc, &server, plan.muster, pairs, &mut back, log);
+    let served = serve_with(rt, alloc, &server, plan, pairs, &mut back, log);
     let (publisher, reader) = server.finish();
     back.push_reserved(reader);
     (served, publisher, back)
@@ -267,7 +274,7 @@ fn serve_with<
     rt: &R,
     alloc: Global,
     server: &Server<'_, Z, N>,
-    muster: &Muster,
+    plan: Plan<'_>,
     pairs: Vec<(VersionReader<N>, SocketJob<'_, R>)>,
     back: &mut Vec<VersionReader<N>>,
     log: &L,
@@ -277,7 +284,7 @@ fn serve_with<
     ensures count { vec_len back.new ≡ vec_len pairs.entry }
     ensures room { vec_capacity back.new ≡ vec_capacity back.old }
 {
-    match run_threads(rt, alloc, server, muster, pairs, log) {
+    match run_threads(rt, alloc, server, plan.muster, plan.updates, pairs, log) {
         Ok(pairs) => {
             let fault = fault_in(&pairs);
             put_readers(pairs, back);
@@ -367,13 +374,14 @@ fn places_of<C: Clock>(
 }
 
 /// The job of a worker, by its number, on listeners that don't wait. An error where they can't be waited on.
-fn tcp_job<'a, R: Clock + Net>(
+fn tcp_job<'a, R: Clock + Net + Wait>(
     rt: &'a R,
     alloc: Global,
     worker: usize,
     listeners: Vec<TcpListener>,
     plan: Plan<'a>,
     standing: Standing<'a>,
+    told: Option<&'a ToldKeys>,
     scratch: Scratch,
 ) -> io::Result<TcpJob<'a, R>>
     ensures number { IfOk result (λ job. job.number ≡ worker) }
@@ -384,11 +392,19 @@ fn tcp_job<'a, R: Clock + Net>(
     let places = places_of(alloc, &mut watch, listeners)?;
     let turns = Turns::new(alloc, plan.places, count)?;
     let plan = plan.connections;
-    Ok(ConnectionsJob::new(worker, watch, places, turns, plan, standing, rt, scratch))
+    let waker = watch.waker()?;
+    let job = ConnectionsJob::new(worker, watch, places, turns, plan, standing, rt, scratch);
+    match told {
+        Some(told) => {
+            told.wake_by(rt, waker);
+            Ok(job.hearing(alloc, told))
+        }
+        None => Ok(job),
+    }
 }
 
 /// The job of a thread. An error where its sockets can't be waited on.
-fn job_of<'a, R: Clock + Net>(
+fn job_of<'a, R: Clock + Net + Wait>(
     rt: &'a R,
     alloc: Global,
     duty: Duty<'a>,
@@ -403,6 +419,7 @@ fn job_of<'a, R: Clock + Net>(
         worker,
         progress,
         sockets,
+        told,
     } = duty;
     let standing = Standing::new(plan.muster, progress);
     match sockets {
@@ -413,7 +430,7 @@ fn job_of<'a, R: Clock + Net>(
             Ok(SocketJob::Datagrams(job))
         }
         Sockets::Connections(listeners) => {
-            let job = tcp_job(rt, alloc, worker, listeners, plan, standing, scratch)?;
+            let job = tcp_job(rt, alloc, worker, listeners, plan, standing, told, scratch)?;
             Ok(SocketJob::Connections(job))
         }
         Sockets::Secondaries(secondaries) => {
@@ -436,7 +453,7 @@ fn fault_of(fault: &io::Error) -> ServeFault
 }
 
 /// The jobs of threads.
-fn jobs_of<'a, R: Clock + Net>(
+fn jobs_of<'a, R: Clock + Net + Wait>(
     rt: &'a R,
     alloc: Global,
     duties: Vec<Duty<'a>>,

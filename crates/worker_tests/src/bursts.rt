@@ -70,6 +70,7 @@ fn serve<R: Net + Threads + Wait + Clock + Sync>(
         worker: 1,
         progress: &progress,
         sockets: Sockets::Datagrams(socket),
+        told: None,
     };
     let second = 1_000_000_000;
     let limits = Limits {
@@ -86,6 +87,7 @@ fn serve<R: Net + Threads + Wait + Clock + Sync>(
             limits,
             allowed: Allowed::new(&[]),
         },
+        updates: None,
     };
     let duties = Vec::from_array(alloc, [duty])?;
     let zone = zone(alloc).ok_or("a zone")?;

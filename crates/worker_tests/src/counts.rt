@@ -68,6 +68,7 @@ fn duties_of<'a>(
             worker: 1,
             progress,
             sockets,
+            told: None,
         })?;
     }
     Ok(duties)

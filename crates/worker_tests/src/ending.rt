@@ -103,6 +103,7 @@ fn duties_of<'a, R: Net>(
                 worker,
                 progress,
                 sockets,
+                told: None,
             })
             .ok()?;
         let sockets = Sockets::Datagrams(bind_datagrams(rt, any_port(), Turn::First).ok()?);
@@ -111,6 +112,7 @@ fn duties_of<'a, R: Net>(
                 worker,
                 progress,
                 sockets,
+                told: None,
             })
             .ok()?;
     }
@@ -144,6 +146,7 @@ pub(crate) fn served<R: Net + Threads + Wait + Clock + Sync>(
             limits,
             allowed: Allowed::new(&[]),
         },
+        updates: None,
     };
     let zone = zone(alloc)?;
     let first = Version::first(zone);
