@@ -59,11 +59,13 @@ told_send = search (option.the_field_send, option.the_send, crossing.crosses, se
 told_sync : IsSync keys.the_row
 told_sync = recorded_sync (keys.the_field).row _ _ (keys.the_type).to_one (struct_sync (shape (keys.the_type)) (mutex.the_sync _ told_send, tt))
 
-hearing_send : (a : NamedLft) (P : RattleType) → IsSend P → IsSend (hearing.the_row a P)
+hearing_send : (a : NamedLft) (P : RattleType) → IsSend P → IsSend (hearing.the_field a P).row
 hearing_send a P polls = search (told_sync, option.the_field_send, option.the_send, crossing.crosses, sendable) depth 60 fits 20000
 
 connections_send : (a : NamedLft) (S P L C : RattleType) → IsSend S → IsSend P → IsSend L → IsSync C → IsSend (connections.the_field a S P L C).row
-connections_send a S P L C peers polls places ticks = search (hearing_send a P polls, transfer_send, global.the_field_send, crossing.crosses, sendable) depth 60 fits 20000
+connections_send a S P L C peers polls places ticks =
+    struct_send (shape (connections.the_type a S P L C))
+    (search (crossing.crosses, sendable) depth 60 fits 20000, (hearing_send a P polls, (search (crossing.crosses, sendable) depth 60 fits 20000, (search (transfer_send, global.the_field_send, crossing.crosses, sendable) depth 60 fits 20000, (search (crossing.crosses, sendable) depth 60 fits 20000, (search (crossing.crosses, sendable) depth 60 fits 20000, (search (crossing.crosses, sendable) depth 60 fits 20000, (search (crossing.crosses, sendable) depth 60 fits 20000, (search (crossing.crosses, sendable) depth 60 fits 20000, (search (crossing.crosses, sendable) depth 60 fits 20000, (search (crossing.crosses, sendable) depth 60 fits 20000, (search (crossing.crosses, sendable) depth 60 fits 20000, tt))))))))))))
 
 tcp_send : (a : NamedLft) (C : RattleType) → IsSync C → IsSend (connections.the_field a peer.the_row (watch.the_row a C) place.the_row C).row
 tcp_send a C ticks = connections_send a peer.the_row (watch.the_row a C) place.the_row C peer_send (watch_send a C ticks) place_send ticks
