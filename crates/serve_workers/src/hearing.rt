@@ -62,13 +62,7 @@ impl<'a, P> Hearing<'a, P> {
     /// How long is waited: not at all where a key was heard.
     fn patience(&self, most: u64) -> u64 {
         match &self.ears {
-            Some(ears) => {
-                if ears.heard.is_empty() {
-                    most
-                } else {
-                    0
-                }
-            }
+            Some(ears) => { if ears.heard.is_empty() { most } else { 0 } }
             None => most,
         }
     }

@@ -1,5 +1,5 @@
 -- None is told.
-use Rattle.std.proofs.Common.{ℕ, ◌≤◌, List, sym, subst}
+use Rattle.std.proofs.Common.{ℕ, List, sym, subst}
 use Rattle.serve_workers.specs.Told.{AreTold}
 use Rattle.serve_workers.proofs.ToldLemmas.{none_told}
 use Rattle.serve_workers.proofs.told.Told.new.Goals as goal

@@ -1,5 +1,5 @@
 -- There is room for each that isn't told yet.
-use Rattle.std.proofs.Common.{◌≡◌, ◌==◌, ℕ, ◌≤◌, Bool, false, List, sym, ap, ◌∙◌, subst, arith}
+use Rattle.std.proofs.Common.{◌≡◌, ◌==◌, ℕ, ◌≤◌, false, List, sym, ap, ◌∙◌, subst, arith}
 use Rattle.std.specs.List.{list_any}
 use Rattle.serve_workers.specs.Told.{AreTold}
 use Rattle.serve_workers.proofs.ToldLemmas.{told_more, room_for}
