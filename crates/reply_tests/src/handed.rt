@@ -1,0 +1,136 @@
+//! Updates that are handed to who judges them: one that waits is handed once, and what another asker has under the same key is another one.
+use connections::{Answering, Reply, Unmade};
+use dns_engine::{FirstZone, Naming, VersionCell, VersionPublisher, VersionReader};
+use played_zones::{Kept, Play, Played, asker, is_played, octets_of, server_of, zone};
+use serve_core::{Peer, Transport};
+use std::alloc::Global;
+use std::sync::Wait;
+use update_queue::Queue;
+use zone_replies::Replies;
+use zone_service::{Hand, Server, Waiting, Way};
+
+/// An update that adds an address at `new` (RFC 2136, 2).
+const UPDATE: &str =
+    "432128000001000000010000076578616d706c6504746573740000060001036e6577c00c0001000100000e100004c000020b";
+
+/// A query for the zone's SOA.
+const QUERY: &str = "123401000001000000000000076578616d706c6504746573740000060001";
+
+/// Who may update.
+fn updater() -> Peer {
+    Peer {
+        may_update: true,
+        may_transfer: true,
+        transport: Transport::Tcp,
+    }
+}
+
+/// Whether the reply to a request is made later, which a port's peer asks for on the connection under a key.
+fn is_later<R: Wait, Z: FirstZone, N: Naming>(
+    rt: &R,
+    replies: &mut Replies<'_, '_, Z, N, Kept>,
+    port: u16,
+    key: usize,
+    request: &[u8],
+) -> Option<bool> {
+    let mut out = [0u8; 65_535];
+    replies.turn_to(updater(), asker(port), key);
+    match replies.reply(rt, request, &mut out) {
+        Ok(Reply::One(_)) => Some(false),
+        Err(Unmade::Later) => Some(true),
+        _ => None,
+    }
+}
+
+/// The key of the connection of the one update that waits; None where none waits, or more do.
+fn one_key<R: Wait>(rt: &R, queue: &Queue<Waiting>) -> Option<usize> {
+    let waiting = queue.try_take(rt)?;
+    if queue.try_take(rt).is_some() {
+        return None;
+    }
+    match waiting.way {
+        Way::Connection { worker: 1, key, .. } => Some(key),
+        _ => None,
+    }
+}
+
+/// Whether an update is handed once while it waits, and anew for another asker, on another connection, and behind a query.
+fn is_handed_once<R: Wait, Z: FirstZone, N: Naming>(
+    rt: &R,
+    alloc: Global,
+    queue: &Queue<Waiting>,
+    replies: &mut Replies<'_, '_, Z, N, Kept>,
+) -> Option<bool> {
+    let (update, query) = (octets_of(alloc, UPDATE)?, octets_of(alloc, QUERY)?);
+    let first = is_later(rt, replies, 4711, 0, &update)? && one_key(rt, queue) == Some(0);
+    let again = is_later(rt, replies, 4711, 0, &update)? && queue.try_take(rt).is_none();
+    let other = is_later(rt, replies, 4712, 0, &update)? && one_key(rt, queue) == Some(0);
+    let beside = is_later(rt, replies, 4711, 1, &update)? && one_key(rt, queue) == Some(1);
+    let asked = !is_later(rt, replies, 4712, 0, &query)? && queue.try_take(rt).is_none();
+    let behind = is_later(rt, replies, 4712, 0, &update)? && one_key(rt, queue) == Some(0);
+    Some(first && again && other && beside && asked && behind)
+}
+
+/// The same, by a reader that comes back.
+fn is_handed<R: Wait, Z: FirstZone, N: Naming>(
+    rt: &R,
+    alloc: Global,
+    server: &Server<'_, Z, N>,
+    readers: &mut Vec<VersionReader<N>>,
+) -> Option<bool> {
+    let queue = Queue::new(alloc, 8).ok()?;
+    let log = Kept::new(alloc);
+    let replies = Replies::new(alloc, server, readers.pop()?, &log, updater(), asker(4711));
+    let mut replies = replies.handing(Hand {
+        queue: &queue,
+        worker: 1,
+    });
+    let is_handed = is_handed_once(rt, alloc, &queue, &mut replies);
+    readers.push(replies.into_reader()).ok()?;
+    is_handed
+}
+
+/// Updates that are handed.
+struct Handing;
+
+impl Play for Handing {
+    fn play<R: Wait, Z: FirstZone, N: Naming>(
+        &self,
+        rt: &R,
+        alloc: Global,
+        cell: &VersionCell<Z, N>,
+        publisher: VersionPublisher<Z, N>,
+        mut readers: Vec<VersionReader<N>>,
+    ) -> Played<Z, N> {
+        let Some(reader) = readers.pop() else {
+            return Played {
+                told: None,
+                publisher,
+                readers,
+            };
+        };
+        let (told, publisher, reader) = match server_of(alloc, cell, publisher, reader) {
+            Ok(server) => {
+                let told = is_handed(rt, alloc, &server, &mut readers);
+                let (publisher, reader) = server.finish();
+                (told, publisher, reader)
+            }
+            Err(refused) => (None, refused.publisher, refused.reader),
+        };
+        let _ = readers.push(reader);
+        Played {
+            told,
+            publisher,
+            readers,
+        }
+    }
+}
+
+#[test]
+fn an_update_that_waits_is_handed_once(rt: HostRuntime) {
+    let told = match zone(rt.alloc()) {
+        Some(zone) => is_played(&rt, rt.alloc(), zone, &Handing),
+        None => None,
+    };
+    assert_eq!(rt; told, Some(true));
+}
