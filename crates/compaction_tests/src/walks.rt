@@ -1,0 +1,201 @@
+//! Updates, compactions and failures in an order that looks random, with a crash behind each.
+use crate::engines::{goes, plays};
+use crate::walker::Walker;
+use dns_engine::{FirstZone, Naming};
+use lasting_engine::LastingEngine;
+use std::alloc::Global;
+use std::sync::Wait;
+use std::test::Fail;
+
+/// So many steps from a seed, with a crash behind each.
+#[derive(Drop)]
+struct Walk {
+    seed: u64,
+    steps: u64,
+}
+
+plays!([] Walk);
+
+impl Walk {
+    /// Whether it goes as it should; None where memory is refused.
+    fn run<R: Wait, Z: FirstZone, N: Naming>(
+        &self,
+        rt: &R,
+        alloc: Global,
+        engine: &mut LastingEngine<'_, Z, N>,
+    ) -> Option<bool> {
+        let mut walker = Walker::begin(rt, alloc, engine, self.seed)?;
+        let mut right = walker.is_right(alloc)?;
+        for _ in 0..self.steps {
+            right = walker.step(rt, alloc, engine)? && right;
+            right = walker.is_right(alloc)? && right;
+        }
+        Some(right)
+    }
+}
+
+/// How many walks a test takes: fifty crashes.
+const WALKS: u64 = 2;
+
+/// The first seed of so many from this one on whose walk doesn't go as it should.
+fn wrong_seed<R: Wait>(rt: &R, alloc: Global, first: u64) -> Option<u64> {
+    for seed in first..first.saturating_add(WALKS) {
+        let walk = Walk { seed, steps: 25 };
+        if goes(rt, alloc, walk) != Some(true) {
+            return Some(seed);
+        }
+    }
+    None
+}
+
+// A thousand crashes, in twenty tests of fifty each: each leaves the versions that were published, and no update but sent ones.
+#[test]
+fn walks_0_and_1(rt: HostRuntime) -> Result<(), Fail> {
+    assert_eq!(rt; wrong_seed(&rt, rt.alloc(), 0), None);
+    Ok(())
+}
+
+#[test]
+fn walks_2_and_3(rt: HostRuntime) -> Result<(), Fail> {
+    assert_eq!(rt; wrong_seed(&rt, rt.alloc(), 2), None);
+    Ok(())
+}
+
+#[test]
+fn walks_4_and_5(rt: HostRuntime) -> Result<(), Fail> {
+    assert_eq!(rt; wrong_seed(&rt, rt.alloc(), 4), None);
+    Ok(())
+}
+
+#[test]
+fn walks_6_and_7(rt: HostRuntime) -> Result<(), Fail> {
+    assert_eq!(rt; wrong_seed(&rt, rt.alloc(), 6), None);
+    Ok(())
+}
+
+#[test]
+fn walks_8_and_9(rt: HostRuntime) -> Result<(), Fail> {
+    assert_eq!(rt; wrong_seed(&rt, rt.alloc(), 8), None);
+    Ok(())
+}
+
+#[test]
+fn walks_10_and_11(rt: HostRuntime) -> Result<(), Fail> {
+    assert_eq!(rt; wrong_seed(&rt, rt.alloc(), 10), None);
+    Ok(())
+}
+
+#[test]
+fn walks_12_and_13(rt: HostRuntime) -> Result<(), Fail> {
+    assert_eq!(rt; wrong_seed(&rt, rt.alloc(), 12), None);
+    Ok(())
+}
+
+#[test]
+fn walks_14_and_15(rt: HostRuntime) -> Result<(), Fail> {
+    assert_eq!(rt; wrong_seed(&rt, rt.alloc(), 14), None);
+    Ok(())
+}
+
+#[test]
+fn walks_16_and_17(rt: HostRuntime) -> Result<(), Fail> {
+    assert_eq!(rt; wrong_seed(&rt, rt.alloc(), 16), None);
+    Ok(())
+}
+
+#[test]
+fn walks_18_and_19(rt: HostRuntime) -> Result<(), Fail> {
+    assert_eq!(rt; wrong_seed(&rt, rt.alloc(), 18), None);
+    Ok(())
+}
+
+#[test]
+fn walks_20_and_21(rt: HostRuntime) -> Result<(), Fail> {
+    assert_eq!(rt; wrong_seed(&rt, rt.alloc(), 20), None);
+    Ok(())
+}
+
+#[test]
+fn walks_22_and_23(rt: HostRuntime) -> Result<(), Fail> {
+    assert_eq!(rt; wrong_seed(&rt, rt.alloc(), 22), None);
+    Ok(())
+}
+
+#[test]
+fn walks_24_and_25(rt: HostRuntime) -> Result<(), Fail> {
+    assert_eq!(rt; wrong_seed(&rt, rt.alloc(), 24), None);
+    Ok(())
+}
+
+#[test]
+fn walks_26_and_27(rt: HostRuntime) -> Result<(), Fail> {
+    assert_eq!(rt; wrong_seed(&rt, rt.alloc(), 26), None);
+    Ok(())
+}
+
+#[test]
+fn walks_28_and_29(rt: HostRuntime) -> Result<(), Fail> {
+    assert_eq!(rt; wrong_seed(&rt, rt.alloc(), 28), None);
+    Ok(())
+}
+
+#[test]
+fn walks_30_and_31(rt: HostRuntime) -> Result<(), Fail> {
+    assert_eq!(rt; wrong_seed(&rt, rt.alloc(), 30), None);
+    Ok(())
+}
+
+#[test]
+fn walks_32_and_33(rt: HostRuntime) -> Result<(), Fail> {
+    assert_eq!(rt; wrong_seed(&rt, rt.alloc(), 32), None);
+    Ok(())
+}
+
+#[test]
+fn walks_34_and_35(rt: HostRuntime) -> Result<(), Fail> {
+    assert_eq!(rt; wrong_seed(&rt, rt.alloc(), 34), None);
+    Ok(())
+}
+
+#[test]
+fn walks_36_and_37(rt: HostRuntime) -> Result<(), Fail> {
+    assert_eq!(rt; wrong_seed(&rt, rt.alloc(), 36), None);
+    Ok(())
+}
+
+#[test]
+fn walks_38_and_39(rt: HostRuntime) -> Result<(), Fail> {
+    assert_eq!(rt; wrong_seed(&rt, rt.alloc(), 38), None);
+    Ok(())
+}
+
+/// A walk that goes on where memory is refused.
+#[derive(Drop)]
+struct Starved;
+
+plays!([] Starved);
+
+impl Starved {
+    /// Whether it goes as it should; None where memory is refused.
+    fn run<R: Wait, Z: FirstZone, N: Naming>(
+        &self,
+        rt: &R,
+        alloc: Global,
+        engine: &mut LastingEngine<'_, Z, N>,
+    ) -> Option<bool> {
+        let mut walker = Walker::begin(rt, alloc, engine, 3)?;
+        let mut right = true;
+        for _ in 0..20 {
+            let _ = walker.step(rt, alloc, engine);
+            right = walker.is_right(alloc) != Some(false) && right;
+        }
+        Some(right)
+    }
+}
+
+// Where a request for memory is refused, a crash behind each step leaves the same.
+#[test]
+fn memory_is_refused(rt: HostRuntime) -> Result<(), Fail> {
+    assert!(rt; goes(&rt, rt.alloc(), Starved) != Some(false));
+    Ok(())
+}
