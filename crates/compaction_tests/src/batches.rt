@@ -1,5 +1,5 @@
 //! Batches of which not each update makes a version.
-use crate::engines::{begin, goes, plays, update};
+use crate::engines::{Run, begin, goes, update};
 use crate::folder::Folder;
 use compaction::update_stored;
 use dns_engine::{FirstZone, Naming};
@@ -16,10 +16,7 @@ const OUTSIDE: &str =
 #[derive(Drop)]
 struct Mixed;
 
-plays!([] Mixed);
-
-impl Mixed {
-    /// Whether it goes as it should; None where memory is refused.
+impl Run for Mixed {
     fn run<R: Wait, Z: FirstZone, N: Naming>(
         &self,
         rt: &R,

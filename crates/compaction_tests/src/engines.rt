@@ -79,36 +79,46 @@ impl<'a, Z: FirstZone, N: Naming> Table<'a, Z, N> {
     }
 }
 
-/// Has something played with an engine of a cell, by its `run`.
-macro_rules! plays {
-    ([$($given:tt)*] $name:ty) => {
-        impl $($given)* played_zones::Play for $name {
-            fn play<R: std::sync::Wait, Z: dns_engine::FirstZone, N: dns_engine::Naming>(
-                &self,
-                rt: &R,
-                alloc: std::alloc::Global,
-                cell: &dns_engine::VersionCell<Z, N>,
-                publisher: dns_engine::VersionPublisher<Z, N>,
-                readers: Vec<dns_engine::VersionReader<N>>,
-            ) -> played_zones::Played<Z, N> {
-                match $crate::engines::Table::begin(cell, publisher, readers) {
-                    Ok(mut table) => {
-                        let told = self.run(rt, alloc, &mut table.engine);
-                        table.end(told)
-                    }
-                    Err(played) => played,
-                }
-            }
-        }
-    };
+/// What is done with an engine of the tests' zone.
+pub(crate) trait Run {
+    /// Whether it goes as it should; None where memory is refused.
+    fn run<R: Wait, Z: FirstZone, N: Naming>(
+        &self,
+        rt: &R,
+        alloc: Global,
+        engine: &mut LastingEngine<'_, Z, N>,
+    ) -> Option<bool>;
 }
 
-pub(crate) use plays;
+/// What is done with an engine, played in a cell.
+#[derive(Drop)]
+struct Over<T: Drop> {
+    run: T,
+}
+
+impl<T: Run + Drop> Play for Over<T> {
+    fn play<R: Wait, Z: FirstZone, N: Naming>(
+        &self,
+        rt: &R,
+        alloc: Global,
+        cell: &VersionCell<Z, N>,
+        publisher: VersionPublisher<Z, N>,
+        readers: Vec<VersionReader<N>>,
+    ) -> Played<Z, N> {
+        match Table::begin(cell, publisher, readers) {
+            Ok(mut table) => {
+                let told = self.run.run(rt, alloc, &mut table.engine);
+                table.end(told)
+            }
+            Err(played) => played,
+        }
+    }
+}
 
 /// Whether it goes as it should; None where memory is refused.
-pub(crate) fn goes<R: Wait, T: Play + Drop>(rt: &R, alloc: Global, run: T) -> Option<bool> {
+pub(crate) fn goes<R: Wait, T: Run + Drop>(rt: &R, alloc: Global, run: T) -> Option<bool> {
     let zone = read_zone(alloc, ZONE.as_bytes(), &Name::root()).ok()?;
-    is_played(rt, alloc, zone, &run)
+    is_played(rt, alloc, zone, &Over { run })
 }
 
 /// A store that begins with the version that was published last: its zone text, the head of its journal, and its log, on a disk whose calls do what the plan says.

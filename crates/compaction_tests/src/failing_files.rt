@@ -1,5 +1,5 @@
 //! A compaction over files that fails at one of its steps.
-use crate::engines::{are_told, goes, plays};
+use crate::engines::{Run, are_told, goes};
 use crate::files::{begin_in, is_there};
 use compaction::StoreWriter;
 use compaction_files::{drop_old_texts, replace_with_next, write_next_text};
@@ -46,10 +46,7 @@ fn write_next<R: Wait, F: Files>(
     write_next_text(files, alloc, DIR, &next, &before, [5; 16]).ok()
 }
 
-plays!([<'a, F: Files<File = File> + Alloc + Clone + Drop>] Failing<'a, F>);
-
-impl<'a, F: Files<File = File> + Alloc + Clone + Drop> Failing<'a, F> {
-    /// Whether it goes as it should; None where memory is refused.
+impl<'a, F: Files<File = File> + Alloc + Clone + Drop> Run for Failing<'a, F> {
     fn run<R: Wait, Z: FirstZone, N: Naming>(
         &self,
         rt: &R,

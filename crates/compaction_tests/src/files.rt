@@ -1,5 +1,5 @@
 //! A compaction over files.
-use crate::engines::{are_told, goes, plays};
+use crate::engines::{Run, are_told, goes};
 use compaction::{StoreWriter, Trail};
 use compaction_files::{drop_old_texts, replace_with_next, write_next_text};
 use dns_engine::{FirstZone, KEPT, Naming};
@@ -69,10 +69,7 @@ pub(crate) fn is_there<F: Files<File = File>, Z: FirstZone, N: Naming>(
     Some(found == wanted)
 }
 
-plays!([<'a, F: Files<File = File> + Alloc + Clone + Drop>] InFolder<'a, F>);
-
-impl<'a, F: Files<File = File> + Alloc + Clone + Drop> InFolder<'a, F> {
-    /// Whether it goes as it should; None where memory is refused.
+impl<'a, F: Files<File = File> + Alloc + Clone + Drop> Run for InFolder<'a, F> {
     fn run<R: Wait, Z: FirstZone, N: Naming>(
         &self,
         rt: &R,

@@ -1,5 +1,5 @@
 //! Trails that keep fewer versions than an engine may, and the next stores that are begun with them.
-use crate::engines::{are_told, goes, logged, plays, renew, update};
+use crate::engines::{Run, are_told, goes, logged, renew, update};
 use crate::folder::Folder;
 use compaction::{StoreWriter, Trail, next_text};
 use dns_engine::{FirstZone, Naming};
@@ -31,10 +31,7 @@ fn has_last(alloc: Global, trail: &Trail, count: usize) -> Option<bool> {
     Some(right)
 }
 
-plays!([] Keeps);
-
-impl Keeps {
-    /// Whether it goes as it should; None where memory is refused.
+impl Run for Keeps {
     fn run<R: Wait, Z: FirstZone, N: Naming>(
         &self,
         rt: &R,

@@ -1,5 +1,5 @@
 //! Compactions that end late.
-use crate::engines::{are_told, begin, goes, plays, renew};
+use crate::engines::{Run, are_told, begin, goes, renew};
 use crate::folder::Folder;
 use compaction::next_text;
 use dns_engine::{FirstZone, Naming};
@@ -12,10 +12,7 @@ use std::test::Fail;
 #[derive(Drop)]
 struct Late;
 
-plays!([] Late);
-
-impl Late {
-    /// Whether it goes as it should; None where memory is refused.
+impl Run for Late {
     fn run<R: Wait, Z: FirstZone, N: Naming>(
         &self,
         rt: &R,

@@ -1,5 +1,5 @@
 //! A store that is compacted, of whose journal octets are turned, or that is cut.
-use crate::engines::{are_told, begin, goes, plays, renew};
+use crate::engines::{Run, are_told, begin, goes, renew};
 use crate::folder::Folder;
 use compaction::{StoreWriter, next_text};
 use dns_engine::{FirstZone, Naming};
@@ -142,10 +142,7 @@ struct Each {
     places: (usize, usize),
 }
 
-plays!([] Each);
-
-impl Each {
-    /// Whether it goes as it should; None where memory is refused.
+impl Run for Each {
     fn run<R: Wait, Z: FirstZone, N: Naming>(
         &self,
         rt: &R,

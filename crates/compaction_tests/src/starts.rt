@@ -1,5 +1,5 @@
 //! The trail of a start.
-use crate::engines::{are_told, begin, goes, plays};
+use crate::engines::{Run, are_told, begin, goes};
 use crate::folder::Folder;
 use compaction::{Trail, steps_of, updates_behind};
 use dns_engine::{FirstZone, KEPT, Naming, SharedVersion};
@@ -41,10 +41,7 @@ struct Restart {
     batches: u8,
 }
 
-plays!([] Restart);
-
-impl Restart {
-    /// Whether it goes as it should; None where memory is refused.
+impl Run for Restart {
     fn run<R: Wait, Z: FirstZone, N: Naming>(
         &self,
         rt: &R,

@@ -1,5 +1,5 @@
 //! A compaction that is cut off at each of its steps.
-use crate::engines::{are_told, begin, goes, plays, renew};
+use crate::engines::{Run, are_told, begin, goes, renew};
 use crate::folder::Folder;
 use compaction::{StoreWriter, next_text};
 use dns_engine::{FirstZone, Naming};
@@ -90,10 +90,7 @@ impl Store {
 #[derive(Drop)]
 struct Compactions;
 
-plays!([] Compactions);
-
-impl Compactions {
-    /// Whether it goes as it should; None where memory is refused.
+impl Run for Compactions {
     fn run<R: Wait, Z: FirstZone, N: Naming>(
         &self,
         rt: &R,

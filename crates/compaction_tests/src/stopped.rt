@@ -1,5 +1,5 @@
 //! A rename of which nobody knows whether it was done.
-use crate::engines::{are_told, begin, goes, plays, renew};
+use crate::engines::{Run, are_told, begin, goes, renew};
 use crate::folder::Folder;
 use compaction::next_text;
 use dns_engine::{FirstZone, Naming};
@@ -12,10 +12,7 @@ use std::test::Fail;
 #[derive(Drop)]
 struct Stops;
 
-plays!([] Stops);
-
-impl Stops {
-    /// Whether it goes as it should; None where memory is refused.
+impl Run for Stops {
     fn run<R: Wait, Z: FirstZone, N: Naming>(
         &self,
         rt: &R,

@@ -1,5 +1,5 @@
 //! Disks that fail, and logs that go on by a compaction.
-use crate::engines::{are_told, begin, goes, plays, renew};
+use crate::engines::{Run, are_told, begin, goes, renew};
 use crate::folder::Folder;
 use compaction::{StoreWriter, next_text};
 use dns_engine::{FirstZone, Naming};
@@ -33,10 +33,7 @@ fn compact<R: Wait>(
     renew(alloc, writer, head)
 }
 
-plays!([] Fails);
-
-impl Fails {
-    /// Whether it goes as it should; None where memory is refused.
+impl Run for Fails {
     fn run<R: Wait, Z: FirstZone, N: Naming>(
         &self,
         rt: &R,

@@ -1,5 +1,5 @@
 //! Updates, compactions and failures in an order that looks random, with a crash behind each.
-use crate::engines::{goes, plays};
+use crate::engines::{Run, goes};
 use crate::walker::Walker;
 use dns_engine::{FirstZone, Naming};
 use lasting_engine::LastingEngine;
@@ -14,10 +14,7 @@ struct Walk {
     steps: u64,
 }
 
-plays!([] Walk);
-
-impl Walk {
-    /// Whether it goes as it should; None where memory is refused.
+impl Run for Walk {
     fn run<R: Wait, Z: FirstZone, N: Naming>(
         &self,
         rt: &R,
@@ -173,10 +170,7 @@ fn walks_38_and_39(rt: HostRuntime) -> Result<(), Fail> {
 #[derive(Drop)]
 struct Starved;
 
-plays!([] Starved);
-
-impl Starved {
-    /// Whether it goes as it should; None where memory is refused.
+impl Run for Starved {
     fn run<R: Wait, Z: FirstZone, N: Naming>(
         &self,
         rt: &R,
