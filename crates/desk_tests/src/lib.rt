@@ -1,0 +1,17 @@
+//! Tests of desks: seats of those who wait for replies to their updates, and batches of updates that are judged, published and told (RFC 2136, 3 and 3.8).
+#![tactic(auto)]
+
+#[cfg(test)]
+mod acts;
+#[cfg(test)]
+mod batches;
+#[cfg(test)]
+mod desks;
+#[cfg(test)]
+mod refused;
+#[cfg(test)]
+mod rows;
+#[cfg(test)]
+mod turned_away;
+#[cfg(test)]
+mod updates;

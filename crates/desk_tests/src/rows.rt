@@ -1,0 +1,179 @@
+//! Rows of acts at seats (RFC 2136, 3.8; own).
+use crate::acts::{Act, Acts};
+use crate::desks::goes;
+use std::alloc::Global;
+use std::sync::Wait;
+use std::test::Fail;
+
+/// Acts at one desk, and what they show.
+type Row = (&'static str, &'static [Act]);
+
+/// The number of the first row whose acts don't go as they should; None where all do.
+fn wrong_row<R: Wait>(rt: &R, alloc: Global, rows: &[Row]) -> Option<&'static str> {
+    for (what, acts) in rows {
+        if goes(rt, alloc, Acts(acts)) != Some(true) {
+            return Some(what);
+        }
+    }
+    None
+}
+
+/// Seats at which something is told.
+const TOLD: &[Row] = &[
+    (
+        "a seat whose update is told is free once that is fetched",
+        &[
+            Act::Open(0),
+            Act::Waits(0),
+            Act::Waits(0),
+            Act::Tell(0, 1),
+            Act::Fetch(0, 1),
+            Act::Nothing(0),
+            Act::Open(0),
+            Act::Waits(0),
+        ],
+    ),
+    (
+        "each is told at a seat of its own, in any order",
+        &[
+            Act::Open(0),
+            Act::Open(1),
+            Act::Open(2),
+            Act::Tell(2, 3),
+            Act::Tell(0, 1),
+            Act::Waits(1),
+            Act::Fetch(2, 3),
+            Act::Fetch(0, 1),
+            Act::Tell(1, 2),
+            Act::Fetch(1, 2),
+        ],
+    ),
+    (
+        "what is told stays until it is fetched",
+        &[
+            Act::Open(0),
+            Act::Tell(0, 1),
+            Act::Tell(0, 2),
+            Act::Close(0),
+            Act::Open(1),
+            Act::Fetch(0, 1),
+            Act::Nothing(0),
+        ],
+    ),
+    (
+        "the seat that is free since last is opened first, else one more",
+        &[
+            Act::Open(0),
+            Act::Open(1),
+            Act::Open(2),
+            Act::Close(2),
+            Act::Close(0),
+            Act::Open(0),
+            Act::Open(2),
+            Act::Open(3),
+        ],
+    ),
+];
+
+/// Seats of those who wait no more.
+const LEFT: &[Row] = &[
+    (
+        "what is told at a seat that was left goes nowhere, and the seat is free then",
+        &[
+            Act::Open(0),
+            Act::Leave(0),
+            Act::Nothing(0),
+            Act::Open(1),
+            Act::Tell(0, 1),
+            Act::Nothing(0),
+            Act::Open(0),
+            Act::Waits(0),
+            Act::Waits(1),
+        ],
+    ),
+    (
+        "a seat that was left stays so until it is told",
+        &[
+            Act::Open(0),
+            Act::Leave(0),
+            Act::Leave(0),
+            Act::Close(0),
+            Act::Open(1),
+            Act::Tell(0, 1),
+            Act::Open(0),
+        ],
+    ),
+    (
+        "a seat that is left where something is told is free",
+        &[
+            Act::Open(0),
+            Act::Tell(0, 1),
+            Act::Leave(0),
+            Act::Nothing(0),
+            Act::Open(0),
+            Act::Waits(0),
+        ],
+    ),
+    (
+        "a seat that is closed is free, and nothing is told at it",
+        &[
+            Act::Open(0),
+            Act::Close(0),
+            Act::Tell(0, 1),
+            Act::Nothing(0),
+            Act::Open(0),
+            Act::Waits(0),
+            Act::Open(1),
+        ],
+    ),
+];
+
+/// Seats that nobody has.
+const NOBODY: &[Row] = &[
+    (
+        "there is no seat",
+        &[
+            Act::Nothing(0),
+            Act::Tell(0, 1),
+            Act::Leave(0),
+            Act::Close(0),
+            Act::Nothing(0),
+            Act::Tell(usize::MAX, 1),
+            Act::Leave(usize::MAX),
+            Act::Close(usize::MAX),
+            Act::Nothing(usize::MAX),
+            Act::Open(0),
+        ],
+    ),
+    (
+        "a seat that is free is freed once",
+        &[
+            Act::Open(0),
+            Act::Open(1),
+            Act::Close(0),
+            Act::Close(0),
+            Act::Leave(0),
+            Act::Tell(0, 1),
+            Act::Open(0),
+            Act::Open(2),
+        ],
+    ),
+];
+
+#[test]
+fn what_is_told_is_fetched(rt: HostRuntime) -> Result<(), Fail> {
+    assert_eq!(rt; wrong_row(&rt, rt.alloc(), TOLD), None);
+    Ok(())
+}
+
+#[test]
+fn who_waits_no_more_is_told_nothing(rt: HostRuntime) -> Result<(), Fail> {
+    assert_eq!(rt; wrong_row(&rt, rt.alloc(), LEFT), None);
+    Ok(())
+}
+
+#[test]
+fn nobody_waits(rt: HostRuntime) -> Result<(), Fail> {
+    assert_eq!(rt; wrong_row(&rt, rt.alloc(), NOBODY), None);
+    Ok(())
+}
