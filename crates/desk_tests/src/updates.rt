@@ -1,5 +1,5 @@
 //! Updates that are sent, and what is told of them (RFC 2136, 2 and 2.2).
-ghost use Rattle.std.specs.Prelude.{◌≡◌};
+ghost use Rattle.std.specs.Prelude.{◌≡◌, ◌⊎◌};
 ghost use Rattle.dns_rdata.specs.Numbers.{rcode_number};
 ghost use Rattle.dns_rdata.specs.declared.numbers.Rcode.{Rcode as Code};
 ghost use Rattle.update_desk.specs.Done.{IsDone};
