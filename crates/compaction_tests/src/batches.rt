@@ -1,9 +1,10 @@
 //! Batches of which not each update makes a version.
-use crate::engines::{Run, begin, goes, update};
+use crate::engines::{Table, begin, goes, update};
 use crate::folder::Folder;
 use compaction::update_stored;
-use dns_engine::{FirstZone, Naming};
+use dns_engine::{FirstZone, Naming, VersionCell, VersionPublisher, VersionReader};
 use lasting_engine::{Asked, LastingEngine};
+use played_zones::{Play, Played};
 use std::alloc::Global;
 use std::sync::Wait;
 use std::test::Fail;
@@ -16,7 +17,27 @@ const OUTSIDE: &str =
 #[derive(Drop)]
 struct Mixed;
 
-impl Run for Mixed {
+impl Play for Mixed {
+    fn play<R: Wait, Z: FirstZone, N: Naming>(
+        &self,
+        rt: &R,
+        alloc: Global,
+        cell: &VersionCell<Z, N>,
+        publisher: VersionPublisher<Z, N>,
+        readers: Vec<VersionReader<N>>,
+    ) -> Played<Z, N> {
+        match Table::begin(cell, publisher, readers) {
+            Ok(mut table) => {
+                let told = self.run(rt, alloc, &mut table.engine);
+                table.end(told)
+            }
+            Err(played) => played,
+        }
+    }
+}
+
+impl Mixed {
+    /// Whether it goes as it should; None where memory is refused.
     fn run<R: Wait, Z: FirstZone, N: Naming>(
         &self,
         rt: &R,

@@ -79,46 +79,10 @@ impl<'a, Z: FirstZone, N: Naming> Table<'a, Z, N> {
     }
 }
 
-/// What is done with an engine of the tests' zone.
-pub(crate) trait Run {
-    /// Whether it goes as it should; None where memory is refused.
-    fn run<R: Wait, Z: FirstZone, N: Naming>(
-        &self,
-        rt: &R,
-        alloc: Global,
-        engine: &mut LastingEngine<'_, Z, N>,
-    ) -> Option<bool>;
-}
-
-/// What is done with an engine, played in a cell.
-#[derive(Drop)]
-struct Over<T: Drop> {
-    run: T,
-}
-
-impl<T: Run + Drop> Play for Over<T> {
-    fn play<R: Wait, Z: FirstZone, N: Naming>(
-        &self,
-        rt: &R,
-        alloc: Global,
-        cell: &VersionCell<Z, N>,
-        publisher: VersionPublisher<Z, N>,
-        readers: Vec<VersionReader<N>>,
-    ) -> Played<Z, N> {
-        match Table::begin(cell, publisher, readers) {
-            Ok(mut table) => {
-                let told = self.run.run(rt, alloc, &mut table.engine);
-                table.end(told)
-            }
-            Err(played) => played,
-        }
-    }
-}
-
 /// Whether it goes as it should; None where memory is refused.
-pub(crate) fn goes<R: Wait, T: Run + Drop>(rt: &R, alloc: Global, run: T) -> Option<bool> {
+pub(crate) fn goes<R: Wait, T: Play + Drop>(rt: &R, alloc: Global, run: T) -> Option<bool> {
     let zone = read_zone(alloc, ZONE.as_bytes(), &Name::root()).ok()?;
-    is_played(rt, alloc, zone, &Over { run })
+    is_played(rt, alloc, zone, &run)
 }
 
 /// A store that begins with the version that was published last: its zone text, the head of its journal, and its log, on a disk whose calls do what the plan says.

@@ -1,12 +1,13 @@
 //! A compaction over files that fails at one of its steps.
-use crate::engines::{Run, are_told, goes};
+use crate::engines::{Table, are_told, goes};
 use crate::files::{begin_in, is_there};
 use compaction::StoreWriter;
 use compaction_files::{drop_old_texts, replace_with_next, write_next_text};
-use dns_engine::{FirstZone, Naming};
+use dns_engine::{FirstZone, Naming, VersionCell, VersionPublisher, VersionReader};
 use file_disks::FileDisk;
 use journal::Head;
 use lasting_engine::LastingEngine;
+use played_zones::{Play, Played};
 use std::alloc::Global;
 use std::fs::{self, File, Files};
 use std::sync::Wait;
@@ -46,7 +47,27 @@ fn write_next<R: Wait, F: Files>(
     write_next_text(files, alloc, DIR, &next, &before, [5; 16]).ok()
 }
 
-impl<'a, F: Files<File = File> + Alloc + Clone + Drop> Run for Failing<'a, F> {
+impl<'a, F: Files<File = File> + Alloc + Clone + Drop> Play for Failing<'a, F> {
+    fn play<R: Wait, Z: FirstZone, N: Naming>(
+        &self,
+        rt: &R,
+        alloc: Global,
+        cell: &VersionCell<Z, N>,
+        publisher: VersionPublisher<Z, N>,
+        readers: Vec<VersionReader<N>>,
+    ) -> Played<Z, N> {
+        match Table::begin(cell, publisher, readers) {
+            Ok(mut table) => {
+                let told = self.run(rt, alloc, &mut table.engine);
+                table.end(told)
+            }
+            Err(played) => played,
+        }
+    }
+}
+
+impl<'a, F: Files<File = File> + Alloc + Clone + Drop> Failing<'a, F> {
+    /// Whether it goes as it should; None where memory is refused.
     fn run<R: Wait, Z: FirstZone, N: Naming>(
         &self,
         rt: &R,

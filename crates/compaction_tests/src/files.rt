@@ -1,13 +1,14 @@
 //! A compaction over files.
-use crate::engines::{Run, are_told, goes};
+use crate::engines::{Table, are_told, goes};
 use compaction::{StoreWriter, Trail};
 use compaction_files::{drop_old_texts, replace_with_next, write_next_text};
-use dns_engine::{FirstZone, KEPT, Naming};
+use dns_engine::{FirstZone, KEPT, Naming, VersionCell, VersionPublisher, VersionReader};
 use file_disks::FileDisk;
 use journal::{TextSum, write_head};
 use journal_store::Log;
 use lasting_engine::LastingEngine;
 use master_file::write_zone;
+use played_zones::{Play, Played};
 use recovery::recover_zone;
 use std::alloc::Global;
 use std::fs::{self, File, Files};
@@ -69,7 +70,27 @@ pub(crate) fn is_there<F: Files<File = File>, Z: FirstZone, N: Naming>(
     Some(found == wanted)
 }
 
-impl<'a, F: Files<File = File> + Alloc + Clone + Drop> Run for InFolder<'a, F> {
+impl<'a, F: Files<File = File> + Alloc + Clone + Drop> Play for InFolder<'a, F> {
+    fn play<R: Wait, Z: FirstZone, N: Naming>(
+        &self,
+        rt: &R,
+        alloc: Global,
+        cell: &VersionCell<Z, N>,
+        publisher: VersionPublisher<Z, N>,
+        readers: Vec<VersionReader<N>>,
+    ) -> Played<Z, N> {
+        match Table::begin(cell, publisher, readers) {
+            Ok(mut table) => {
+                let told = self.run(rt, alloc, &mut table.engine);
+                table.end(told)
+            }
+            Err(played) => played,
+        }
+    }
+}
+
+impl<'a, F: Files<File = File> + Alloc + Clone + Drop> InFolder<'a, F> {
+    /// Whether it goes as it should; None where memory is refused.
     fn run<R: Wait, Z: FirstZone, N: Naming>(
         &self,
         rt: &R,

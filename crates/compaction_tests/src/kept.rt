@@ -1,10 +1,11 @@
 //! Trails that keep fewer versions than an engine may, and the next stores that are begun with them.
-use crate::engines::{Run, are_told, goes, logged, renew, update};
+use crate::engines::{Table, are_told, goes, logged, renew, update};
 use crate::folder::Folder;
 use compaction::{StoreWriter, Trail, next_text};
-use dns_engine::{FirstZone, Naming};
+use dns_engine::{FirstZone, Naming, VersionCell, VersionPublisher, VersionReader};
 use journal::TextSum;
 use lasting_engine::LastingEngine;
+use played_zones::{Play, Played};
 use std::alloc::Global;
 use std::sync::Wait;
 use std::test::Fail;
@@ -31,7 +32,27 @@ fn has_last(alloc: Global, trail: &Trail, count: usize) -> Option<bool> {
     Some(right)
 }
 
-impl Run for Keeps {
+impl Play for Keeps {
+    fn play<R: Wait, Z: FirstZone, N: Naming>(
+        &self,
+        rt: &R,
+        alloc: Global,
+        cell: &VersionCell<Z, N>,
+        publisher: VersionPublisher<Z, N>,
+        readers: Vec<VersionReader<N>>,
+    ) -> Played<Z, N> {
+        match Table::begin(cell, publisher, readers) {
+            Ok(mut table) => {
+                let told = self.run(rt, alloc, &mut table.engine);
+                table.end(told)
+            }
+            Err(played) => played,
+        }
+    }
+}
+
+impl Keeps {
+    /// Whether it goes as it should; None where memory is refused.
     fn run<R: Wait, Z: FirstZone, N: Naming>(
         &self,
         rt: &R,

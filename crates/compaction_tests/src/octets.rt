@@ -1,11 +1,12 @@
 //! A store that is compacted, of whose journal octets are turned, or that is cut.
-use crate::engines::{Run, are_told, begin, goes, renew};
+use crate::engines::{Table, are_told, begin, goes, renew};
 use crate::folder::Folder;
 use compaction::{StoreWriter, next_text};
-use dns_engine::{FirstZone, Naming};
+use dns_engine::{FirstZone, Naming, VersionCell, VersionPublisher, VersionReader};
 use journal::{HeadFault, Refused};
 use lasting_engine::LastingEngine;
 use master_file::write_zone;
+use played_zones::{Play, Played};
 use recovery::{Ending, Start, StartFault};
 use std::alloc::Global;
 use std::sync::Wait;
@@ -142,7 +143,27 @@ struct Each {
     places: (usize, usize),
 }
 
-impl Run for Each {
+impl Play for Each {
+    fn play<R: Wait, Z: FirstZone, N: Naming>(
+        &self,
+        rt: &R,
+        alloc: Global,
+        cell: &VersionCell<Z, N>,
+        publisher: VersionPublisher<Z, N>,
+        readers: Vec<VersionReader<N>>,
+    ) -> Played<Z, N> {
+        match Table::begin(cell, publisher, readers) {
+            Ok(mut table) => {
+                let told = self.run(rt, alloc, &mut table.engine);
+                table.end(told)
+            }
+            Err(played) => played,
+        }
+    }
+}
+
+impl Each {
+    /// Whether it goes as it should; None where memory is refused.
     fn run<R: Wait, Z: FirstZone, N: Naming>(
         &self,
         rt: &R,

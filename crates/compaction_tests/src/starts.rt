@@ -1,9 +1,12 @@
 //! The trail of a start.
-use crate::engines::{Run, are_told, begin, goes};
+use crate::engines::{Table, are_told, begin, goes};
 use crate::folder::Folder;
 use compaction::{Trail, steps_of, updates_behind};
-use dns_engine::{FirstZone, KEPT, Naming, SharedVersion};
+use dns_engine::{
+    FirstZone, KEPT, Naming, SharedVersion, VersionCell, VersionPublisher, VersionReader,
+};
 use lasting_engine::LastingEngine;
+use played_zones::{Play, Played};
 use recovery::Newest;
 use std::alloc::Global;
 use std::sync::Wait;
@@ -41,7 +44,27 @@ struct Restart {
     batches: u8,
 }
 
-impl Run for Restart {
+impl Play for Restart {
+    fn play<R: Wait, Z: FirstZone, N: Naming>(
+        &self,
+        rt: &R,
+        alloc: Global,
+        cell: &VersionCell<Z, N>,
+        publisher: VersionPublisher<Z, N>,
+        readers: Vec<VersionReader<N>>,
+    ) -> Played<Z, N> {
+        match Table::begin(cell, publisher, readers) {
+            Ok(mut table) => {
+                let told = self.run(rt, alloc, &mut table.engine);
+                table.end(told)
+            }
+            Err(played) => played,
+        }
+    }
+}
+
+impl Restart {
+    /// Whether it goes as it should; None where memory is refused.
     fn run<R: Wait, Z: FirstZone, N: Naming>(
         &self,
         rt: &R,

@@ -1,10 +1,11 @@
 //! A compaction that is cut off at each of its steps.
-use crate::engines::{Run, are_told, begin, goes, renew};
+use crate::engines::{Table, are_told, begin, goes, renew};
 use crate::folder::Folder;
 use compaction::{StoreWriter, next_text};
-use dns_engine::{FirstZone, Naming};
+use dns_engine::{FirstZone, Naming, VersionCell, VersionPublisher, VersionReader};
 use journal::Head;
 use lasting_engine::LastingEngine;
+use played_zones::{Play, Played};
 use std::alloc::Global;
 use std::sync::Wait;
 use std::test::Fail;
@@ -90,7 +91,27 @@ impl Store {
 #[derive(Drop)]
 struct Compactions;
 
-impl Run for Compactions {
+impl Play for Compactions {
+    fn play<R: Wait, Z: FirstZone, N: Naming>(
+        &self,
+        rt: &R,
+        alloc: Global,
+        cell: &VersionCell<Z, N>,
+        publisher: VersionPublisher<Z, N>,
+        readers: Vec<VersionReader<N>>,
+    ) -> Played<Z, N> {
+        match Table::begin(cell, publisher, readers) {
+            Ok(mut table) => {
+                let told = self.run(rt, alloc, &mut table.engine);
+                table.end(told)
+            }
+            Err(played) => played,
+        }
+    }
+}
+
+impl Compactions {
+    /// Whether it goes as it should; None where memory is refused.
     fn run<R: Wait, Z: FirstZone, N: Naming>(
         &self,
         rt: &R,

@@ -1,9 +1,10 @@
 //! A rename of which nobody knows whether it was done.
-use crate::engines::{Run, are_told, begin, goes, renew};
+use crate::engines::{Table, are_told, begin, goes, renew};
 use crate::folder::Folder;
 use compaction::next_text;
-use dns_engine::{FirstZone, Naming};
+use dns_engine::{FirstZone, Naming, VersionCell, VersionPublisher, VersionReader};
 use lasting_engine::LastingEngine;
+use played_zones::{Play, Played};
 use std::alloc::Global;
 use std::sync::Wait;
 use std::test::Fail;
@@ -12,7 +13,27 @@ use std::test::Fail;
 #[derive(Drop)]
 struct Stops;
 
-impl Run for Stops {
+impl Play for Stops {
+    fn play<R: Wait, Z: FirstZone, N: Naming>(
+        &self,
+        rt: &R,
+        alloc: Global,
+        cell: &VersionCell<Z, N>,
+        publisher: VersionPublisher<Z, N>,
+        readers: Vec<VersionReader<N>>,
+    ) -> Played<Z, N> {
+        match Table::begin(cell, publisher, readers) {
+            Ok(mut table) => {
+                let told = self.run(rt, alloc, &mut table.engine);
+                table.end(told)
+            }
+            Err(played) => played,
+        }
+    }
+}
+
+impl Stops {
+    /// Whether it goes as it should; None where memory is refused.
     fn run<R: Wait, Z: FirstZone, N: Naming>(
         &self,
         rt: &R,

@@ -1,9 +1,10 @@
 //! Disks that fail, and logs that go on by a compaction.
-use crate::engines::{Run, are_told, begin, goes, renew};
+use crate::engines::{Table, are_told, begin, goes, renew};
 use crate::folder::Folder;
 use compaction::{StoreWriter, next_text};
-use dns_engine::{FirstZone, Naming};
+use dns_engine::{FirstZone, Naming, VersionCell, VersionPublisher, VersionReader};
 use lasting_engine::LastingEngine;
+use played_zones::{Play, Played};
 use std::alloc::Global;
 use std::sync::Wait;
 use std::test::Fail;
@@ -33,7 +34,27 @@ fn compact<R: Wait>(
     renew(alloc, writer, head)
 }
 
-impl Run for Fails {
+impl Play for Fails {
+    fn play<R: Wait, Z: FirstZone, N: Naming>(
+        &self,
+        rt: &R,
+        alloc: Global,
+        cell: &VersionCell<Z, N>,
+        publisher: VersionPublisher<Z, N>,
+        readers: Vec<VersionReader<N>>,
+    ) -> Played<Z, N> {
+        match Table::begin(cell, publisher, readers) {
+            Ok(mut table) => {
+                let told = self.run(rt, alloc, &mut table.engine);
+                table.end(told)
+            }
+            Err(played) => played,
+        }
+    }
+}
+
+impl Fails {
+    /// Whether it goes as it should; None where memory is refused.
     fn run<R: Wait, Z: FirstZone, N: Naming>(
         &self,
         rt: &R,

@@ -1,8 +1,9 @@
 //! Updates, compactions and failures in an order that looks random, with a crash behind each.
-use crate::engines::{Run, goes};
+use crate::engines::{Table, goes};
 use crate::walker::Walker;
-use dns_engine::{FirstZone, Naming};
+use dns_engine::{FirstZone, Naming, VersionCell, VersionPublisher, VersionReader};
 use lasting_engine::LastingEngine;
+use played_zones::{Play, Played};
 use std::alloc::Global;
 use std::sync::Wait;
 use std::test::Fail;
@@ -14,7 +15,27 @@ struct Walk {
     steps: u64,
 }
 
-impl Run for Walk {
+impl Play for Walk {
+    fn play<R: Wait, Z: FirstZone, N: Naming>(
+        &self,
+        rt: &R,
+        alloc: Global,
+        cell: &VersionCell<Z, N>,
+        publisher: VersionPublisher<Z, N>,
+        readers: Vec<VersionReader<N>>,
+    ) -> Played<Z, N> {
+        match Table::begin(cell, publisher, readers) {
+            Ok(mut table) => {
+                let told = self.run(rt, alloc, &mut table.engine);
+                table.end(told)
+            }
+            Err(played) => played,
+        }
+    }
+}
+
+impl Walk {
+    /// Whether it goes as it should; None where memory is refused.
     fn run<R: Wait, Z: FirstZone, N: Naming>(
         &self,
         rt: &R,
@@ -170,7 +191,27 @@ fn walks_38_and_39(rt: HostRuntime) -> Result<(), Fail> {
 #[derive(Drop)]
 struct Starved;
 
-impl Run for Starved {
+impl Play for Starved {
+    fn play<R: Wait, Z: FirstZone, N: Naming>(
+        &self,
+        rt: &R,
+        alloc: Global,
+        cell: &VersionCell<Z, N>,
+        publisher: VersionPublisher<Z, N>,
+        readers: Vec<VersionReader<N>>,
+    ) -> Played<Z, N> {
+        match Table::begin(cell, publisher, readers) {
+            Ok(mut table) => {
+                let told = self.run(rt, alloc, &mut table.engine);
+                table.end(told)
+            }
+            Err(played) => played,
+        }
+    }
+}
+
+impl Starved {
+    /// Whether it goes as it should; None where memory is refused.
     fn run<R: Wait, Z: FirstZone, N: Naming>(
         &self,
         rt: &R,

@@ -41,6 +41,10 @@ first_done first published number one asked code codes told before after are nam
     by (inl same) = subst (λ (r : Rcode). IsDone first published (record { asked = one; least = number; code = r; before = before; after = after })) (sym same) (are.0.2 before after)
     by (inr failed) = failed_done first published one number are.0.0 told before after are.0.2 failed
 
--- codes by their numbers
-pub named : (is : Rcode) (number : ℕ) (told : Rcode) → rcode_number told ≡ number → rcode_number is ≡ number → told ≡ is
-named is number told ours same = ?
+-- the first of those that are left, by where the lists are cut
+pub next_done : (first : List Record) (published : List Version) (number : ℕ) (batch rest : List Asked) (one : Asked) (left behind : List ℕ) (code : ℕ) (told : Rcode) (before after : Serial)
+    → batch ≡ one ∷ rest → left ≡ code ∷ behind → AreDone first published number batch left → ((is : Rcode) → rcode_number is ≡ code → (told ≡ is) ⊎ (told ≡ ServFail))
+    → IsDone first published (record { asked = one; least = number; code = told; before = before; after = after })
+next_done first published number batch rest one left behind code told before after cut codes are names =
+    first_done first published number one rest code behind told before after
+    (subst (λ (l : List ℕ). AreDone first published number (one ∷ rest) l) codes (subst (λ (l : List Asked). AreDone first published number l left) cut are)) names

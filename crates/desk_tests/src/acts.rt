@@ -1,8 +1,9 @@
 //! Acts of those who wait at a desk, and of who tells them.
-use crate::desks::Run;
+use crate::desks::Table;
 use crate::updates::{is_told, servfail, update};
-use dns_engine::{FirstZone, Naming, VersionReader};
+use dns_engine::{FirstZone, Naming, VersionCell, VersionPublisher, VersionReader};
 use dns_rdata::Rcode;
+use played_zones::{Play, Played};
 use std::alloc::Global;
 use std::sync::Wait;
 use update_desk::{Desk, Fetched};
@@ -54,13 +55,31 @@ fn goes_as_told<Z: FirstZone, N: Naming>(
 #[derive(Drop)]
 pub(crate) struct Acts(pub(crate) &'static [Act]);
 
-impl Run for Acts {
-    fn run<R: Wait, Z: FirstZone, N: Naming>(
+impl Play for Acts {
+    fn play<R: Wait, Z: FirstZone, N: Naming>(
         &self,
-        _rt: &R,
+        rt: &R,
+        alloc: Global,
+        cell: &VersionCell<Z, N>,
+        publisher: VersionPublisher<Z, N>,
+        readers: Vec<VersionReader<N>>,
+    ) -> Played<Z, N> {
+        match Table::begin(alloc, cell, publisher, readers) {
+            Ok((mut table, reader)) => {
+                let told = self.run(alloc, &mut table.desk);
+                table.end(reader, told)
+            }
+            Err(played) => played,
+        }
+    }
+}
+
+impl Acts {
+    /// Whether it goes as it should; None where memory is refused.
+    fn run<Z: FirstZone, N: Naming>(
+        &self,
         alloc: Global,
         desk: &mut Desk<'_, Z, N>,
-        _reader: &mut VersionReader<N>,
     ) -> Option<bool> {
         for act in self.0 {
             if !goes_as_told(alloc, desk, *act)? {

@@ -4,13 +4,16 @@ ghost use Rattle.zone_tree.specs.Version.{Version};
 ghost use Rattle.dns_engine.specs.Held.{IsLatest};
 ghost use Rattle.update_group.specs.Group.{codes_of, versions_of, Judged};
 ghost use Rattle.lasting_engine.specs.Asked.{passes, tells, makes, octets_of};
-ghost use Rattle.update_desk.specs.Done.{AreDone};
+ghost use Rattle.update_desk.specs.Done.{IsJudgedIn, AreDone};
 
-use crate::desks::{Run, goes};
+use crate::desks::{Table, goes};
 use crate::updates::{Telling, code_of, is_told, outside, update};
-use dns_engine::{FirstZone, Naming, SharedVersion, VersionChain, VersionReader};
+use dns_engine::{
+    FirstZone, Naming, SharedVersion, VersionCell, VersionChain, VersionPublisher, VersionReader,
+};
 use dns_rdata::{Rcode, Serial};
 use lasting_engine::Asked;
+use played_zones::{Play, Played};
 use std::alloc::Global;
 use std::sync::Wait;
 use std::test::Fail;
@@ -38,11 +41,14 @@ pub(crate) fn judge<R: Wait, Z: FirstZone, N: Naming>(
     most: usize,
 ) -> Option<Batch>
     requires { most ≤ 64 }
-    ensures { IfSome result (λ batch. (last : Version) × (updates : List (List ℕ)) × IsLatest Z.zone reader.new.seen last × (last.number ≡ batch.number)
+    ensures judged_in { IfSome result (λ batch. IsJudgedIn Z.zone reader.new.seen batch.number (versions_of batch.group)) }
+    ensures judged { IfSome result (λ batch. (last : Version) × (updates : List (List ℕ)) × IsLatest Z.zone reader.new.seen last × (last.number ≡ batch.number)
         × Judged passes tells makes octets_of last asked.now (codes_of batch.group) (versions_of batch.group) updates) }
 {
     let begun = desk.begin(rt, reader);
-    let group = judge_group(&*desk, alloc, &begun.last, asked, most).ok()?;
+    let Ok(group) = judge_group(&*desk, alloc, &begun.last, asked, most) else {
+        return None;
+    };
     Some(Batch {
         number: begun.number,
         before: begun.last.get().serial(),
@@ -52,7 +58,7 @@ pub(crate) fn judge<R: Wait, Z: FirstZone, N: Naming>(
 }
 
 /// Tells updates their codes, each at its seat: the number of the version that they were judged in, and the serials before and after.
-pub(crate) fn tell_all<Z: FirstZone, N: Naming>(
+fn tell_all<Z: FirstZone, N: Naming>(
     desk: &mut Desk<'_, Z, N>,
     number: u64,
     serials: (Serial, Serial),
@@ -82,6 +88,26 @@ pub(crate) fn tell_all<Z: FirstZone, N: Naming>(
         left = behind;
         places = others;
     }
+}
+
+/// Publishes a batch of updates, and tells them their codes, each at its seat: the codes. None where it comes back.
+pub(crate) fn publish<Z: FirstZone, N: Naming>(
+    desk: &mut Desk<'_, Z, N>,
+    reader: &mut VersionReader<N>,
+    batch: Batch,
+    asked: Vec<Asked>,
+    seats: &[usize],
+) -> Option<Vec<u8>>
+    requires judged_in { IsJudgedIn Z.zone reader.old.seen batch.number (versions_of batch.group) }
+    requires judged { (last : Version) × (updates : List (List ℕ)) × IsLatest Z.zone reader.old.seen last × (last.number ≡ batch.number)
+        × Judged passes tells makes octets_of last asked.items (codes_of batch.group) (versions_of batch.group) updates }
+{
+    let Ok(codes) = desk.publish_batch(reader, batch.number, batch.group) else {
+        return None;
+    };
+    let serials = (batch.before, desk.serial());
+    tell_all(desk, batch.number, serials, seats, asked, &codes);
+    Some(codes)
 }
 
 /// Updates of which two make a version: the second changes nothing, the third is of a peer that may not update, and the fourth is of another zone.
@@ -141,7 +167,27 @@ fn all_wait<Z: FirstZone, N: Naming>(desk: &mut Desk<'_, Z, N>, count: usize) ->
 #[derive(Drop)]
 struct InOrder;
 
-impl Run for InOrder {
+impl Play for InOrder {
+    fn play<R: Wait, Z: FirstZone, N: Naming>(
+        &self,
+        rt: &R,
+        alloc: Global,
+        cell: &VersionCell<Z, N>,
+        publisher: VersionPublisher<Z, N>,
+        readers: Vec<VersionReader<N>>,
+    ) -> Played<Z, N> {
+        match Table::begin(alloc, cell, publisher, readers) {
+            Ok((mut table, mut reader)) => {
+                let told = self.run(rt, alloc, &mut table.desk, &mut reader);
+                table.end(reader, told)
+            }
+            Err(played) => played,
+        }
+    }
+}
+
+impl InOrder {
+    /// Whether it goes as it should; None where memory is refused.
     fn run<R: Wait, Z: FirstZone, N: Naming>(
         &self,
         rt: &R,
@@ -160,15 +206,10 @@ impl Run for InOrder {
         right = batch.number == 0 && batch.before.0 == 7 && batch.room == 63 && right;
         right = batch.group.versions().len() == 2 && desk.number() == 0 && right;
         right = all_wait(desk, 5) && right;
-        let Ok(codes) = desk.publish_batch(reader, batch.number, batch.group) else {
-            return Some(false);
-        };
+        let codes = publish(desk, reader, batch, asked, &seats)?;
         right = codes.as_slice() == [0, 0, 5, 10, 0].as_slice() && right;
         right = desk.number() == 2 && desk.serial().0 == 9 && desk.room() == 61 && right;
         right = desk.last_shared().get().serial().0 == 9 && has_both(rt, desk, reader) && right;
-        right = all_wait(desk, 5) && right;
-        let serials = (batch.before, desk.serial());
-        tell_all(desk, batch.number, serials, &seats, asked, &codes);
         Some(are_told(desk, &TOLD) && right)
     }
 }

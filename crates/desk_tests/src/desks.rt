@@ -1,4 +1,6 @@
 //! Desks over which something is done.
+ghost use Rattle.std.specs.Prelude.{◌≡◌};
+
 use dns_engine::{Engine, FirstZone, KEPT, Naming, VersionCell, VersionPublisher, VersionReader};
 use dns_name::Name;
 use master_file::read_zone;
@@ -12,39 +14,49 @@ const ZONE: &str = "example. 3600 IN SOA ns.example. host.example. 7 1 1 1 1
 example. 3600 IN NS ns.example.
 ";
 
-/// What is done with a desk of the tests' zone, and a reader of its cell.
-pub(crate) trait Run {
-    /// Whether it goes as it should; None where memory is refused.
-    fn run<R: Wait, Z: FirstZone, N: Naming>(
-        &self,
-        rt: &R,
-        alloc: Global,
-        desk: &mut Desk<'_, Z, N>,
-        reader: &mut VersionReader<N>,
-    ) -> Option<bool>;
+/// A desk of the tests' zone, whose engine keeps as many versions as one may, with the readers that it leaves.
+pub(crate) struct Table<'a, Z: FirstZone, N: Naming> {
+    /// The desk.
+    pub desk: Desk<'a, Z, N>,
+    readers: Vec<VersionReader<N>>,
 }
 
-/// What is done with a desk, played in a cell.
-#[derive(Drop)]
-struct Over<T: Drop> {
-    run: T,
-}
-
-impl<T: Run + Drop> Over<T> {
-    /// What comes of it, with what the desk gives back.
-    fn play_at<R: Wait, Z: FirstZone, N: Naming>(
-        &self,
-        rt: &R,
+impl<'a, Z: FirstZone, N: Naming> Table<'a, Z, N> {
+    /// The desk of a cell, and a reader beside it; what comes back where there is none.
+    pub fn begin(
         alloc: Global,
-        mut desk: Desk<'_, Z, N>,
-        mut readers: Vec<VersionReader<N>>,
-    ) -> Played<Z, N> {
-        let mut told = None;
-        if let Some(mut reader) = readers.pop() {
-            told = self.run.run(rt, alloc, &mut desk, &mut reader);
-            let _ = readers.push(reader);
+        cell: &'a VersionCell<Z, N>,
+        publisher: VersionPublisher<Z, N>,
+        readers: Vec<VersionReader<N>>,
+    ) -> Result<(Table<'a, Z, N>, VersionReader<N>), Played<Z, N>>
+        requires { publisher.number ≡ 0 }
+    {
+        let mut readers = readers;
+        let Some(own) = readers.pop() else {
+            return Err(not_played(publisher, readers));
+        };
+        let Some(reader) = readers.pop() else {
+            let _ = readers.push(own);
+            return Err(not_played(publisher, readers));
+        };
+        match Engine::new(cell, publisher, own, KEPT) {
+            Ok(engine) => {
+                let desk = Desk::of(alloc, cell, engine);
+                Ok((Table { desk, readers }, reader))
+            }
+            Err(refused) => {
+                let _ = readers.push(reader);
+                let _ = readers.push(refused.reader);
+                Err(not_played(refused.publisher, readers))
+            }
         }
+    }
+
+    /// What is told, with what comes back, and the reader.
+    pub fn end(self, reader: VersionReader<N>, told: Option<bool>) -> Played<Z, N> {
+        let Table { desk, mut readers } = self;
         let (publisher, own) = desk.into_engine().finish();
+        let _ = readers.push(reader);
         let _ = readers.push(own);
         Played {
             told,
@@ -54,48 +66,30 @@ impl<T: Run + Drop> Over<T> {
     }
 }
 
-impl<T: Run + Drop> Play for Over<T> {
-    fn play<R: Wait, Z: FirstZone, N: Naming>(
-        &self,
-        rt: &R,
-        alloc: Global,
-        cell: &VersionCell<Z, N>,
-        publisher: VersionPublisher<Z, N>,
-        mut readers: Vec<VersionReader<N>>,
-    ) -> Played<Z, N> {
-        let Some(own) = readers.pop() else {
-            return Played {
-                told: None,
-                publisher,
-                readers,
-            };
-        };
-        match Engine::new(cell, publisher, own, KEPT) {
-            Ok(engine) => self.play_at(rt, alloc, Desk::of(alloc, cell, engine), readers),
-            Err(refused) => {
-                let _ = readers.push(refused.reader);
-                Played {
-                    told: None,
-                    publisher: refused.publisher,
-                    readers,
-                }
-            }
-        }
+/// What comes back where there is no desk.
+fn not_played<Z: FirstZone, N: Naming>(
+    publisher: VersionPublisher<Z, N>,
+    readers: Vec<VersionReader<N>>,
+) -> Played<Z, N> {
+    Played {
+        told: None,
+        publisher,
+        readers,
     }
 }
 
 /// Whether it goes as it should; None where memory is refused.
-pub(crate) fn goes<R: Wait, T: Run + Drop>(rt: &R, alloc: Global, run: T) -> Option<bool> {
+pub(crate) fn goes<R: Wait, T: Play + Drop>(rt: &R, alloc: Global, run: T) -> Option<bool> {
     goes_by(rt, alloc, u64::MAX, run)
 }
 
 /// The same where the engine's reader has so many grants.
-pub(crate) fn goes_by<R: Wait, T: Run + Drop>(
+pub(crate) fn goes_by<R: Wait, T: Play + Drop>(
     rt: &R,
     alloc: Global,
     grants: u64,
     run: T,
 ) -> Option<bool> {
     let zone = read_zone(alloc, ZONE.as_bytes(), &Name::root()).ok()?;
-    is_played_by(rt, alloc, zone, grants, &Over { run })
+    is_played_by(rt, alloc, zone, grants, &run)
 }

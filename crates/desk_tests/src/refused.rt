@@ -1,9 +1,10 @@
 //! Seats whose memory is refused.
-use crate::desks::{Run, goes};
+use crate::desks::{Table, goes};
 use crate::updates::{is_told, servfail, update};
-use dns_engine::{FirstZone, Naming, VersionReader};
+use dns_engine::{FirstZone, Naming, VersionCell, VersionPublisher, VersionReader};
 use dns_rdata::Rcode;
 use lasting_engine::Asked;
+use played_zones::{Play, Played};
 use std::alloc::Global;
 use std::sync::Wait;
 use update_desk::Desk;
@@ -35,17 +36,35 @@ impl Seats {
     }
 }
 
-impl Run for Seats {
-    fn run<R: Wait, Z: FirstZone, N: Naming>(
+impl Play for Seats {
+    fn play<R: Wait, Z: FirstZone, N: Naming>(
         &self,
-        _rt: &R,
+        rt: &R,
+        alloc: Global,
+        cell: &VersionCell<Z, N>,
+        publisher: VersionPublisher<Z, N>,
+        readers: Vec<VersionReader<N>>,
+    ) -> Played<Z, N> {
+        match Table::begin(alloc, cell, publisher, readers) {
+            Ok((mut table, reader)) => {
+                let told = self.run(alloc, &mut table.desk);
+                table.end(reader, told)
+            }
+            Err(played) => played,
+        }
+    }
+}
+
+impl Seats {
+    /// Whether it goes as it should; None where memory is refused.
+    fn run<Z: FirstZone, N: Naming>(
+        &self,
         alloc: Global,
         desk: &mut Desk<'_, Z, N>,
-        _reader: &mut VersionReader<N>,
     ) -> Option<bool> {
-        let done = servfail(desk, update_anew(alloc)?);
         let mut next = 0usize;
         let mut right = self.open(desk)? == 0;
+        let done = servfail(desk, update_anew(alloc)?);
         desk.tell(0, done);
         for _ in 1..SEATS {
             // Where there is no memory for a seat, those that are there stay as they were.

@@ -1,10 +1,11 @@
 //! Batches of updates that come back: another one has published since they were judged, or there is no room for all that they make.
-use crate::batches::{judge, tell_all};
-use crate::desks::{Run, goes, goes_by};
+use crate::batches::{judge, publish};
+use crate::desks::{Table, goes, goes_by};
 use crate::updates::{is_told, servfail, update};
-use dns_engine::{FirstZone, Naming, VersionReader};
+use dns_engine::{FirstZone, Naming, VersionCell, VersionPublisher, VersionReader};
 use dns_rdata::Rcode;
 use lasting_engine::Asked;
+use played_zones::{Play, Played};
 use std::alloc::Global;
 use std::sync::Wait;
 use std::test::Fail;
@@ -23,7 +24,27 @@ fn updates(alloc: Global, from: u8, to: u8) -> Option<Vec<Asked>> {
 #[derive(Drop)]
 struct Overtaken;
 
-impl Run for Overtaken {
+impl Play for Overtaken {
+    fn play<R: Wait, Z: FirstZone, N: Naming>(
+        &self,
+        rt: &R,
+        alloc: Global,
+        cell: &VersionCell<Z, N>,
+        publisher: VersionPublisher<Z, N>,
+        readers: Vec<VersionReader<N>>,
+    ) -> Played<Z, N> {
+        match Table::begin(alloc, cell, publisher, readers) {
+            Ok((mut table, mut reader)) => {
+                let told = self.run(rt, alloc, &mut table.desk, &mut reader);
+                table.end(reader, told)
+            }
+            Err(played) => played,
+        }
+    }
+}
+
+impl Overtaken {
+    /// Whether it goes as it should; None where memory is refused.
     fn run<R: Wait, Z: FirstZone, N: Naming>(
         &self,
         rt: &R,
@@ -64,12 +85,8 @@ impl Overtaken {
         let mut right = desk.open()? == 0 && desk.open()? == 1 && before;
         let batch = judge(rt, alloc, desk, reader, &asked, 64)?;
         right = batch.number == 1 && batch.before.0 == 8 && right;
-        let Ok(codes) = desk.publish_batch(reader, batch.number, batch.group) else {
-            return Some(false);
-        };
+        let codes = publish(desk, reader, batch, asked, &[0, 1])?;
         right = codes.as_slice() == [0, 0].as_slice() && desk.number() == 3 && right;
-        let serials = (batch.before, desk.serial());
-        tell_all(desk, batch.number, serials, &[0, 1], asked, &codes);
         right = is_told(&desk.fetch(0), &(1, Rcode::NoError, 1, 8, 10)) && right;
         Some(is_told(&desk.fetch(1), &(2, Rcode::NoError, 1, 8, 10)) && right)
     }
@@ -86,7 +103,27 @@ fn a_batch_of_an_older_version_comes_back(rt: HostRuntime) -> Result<(), Fail> {
 #[derive(Drop)]
 struct NoRoom;
 
-impl Run for NoRoom {
+impl Play for NoRoom {
+    fn play<R: Wait, Z: FirstZone, N: Naming>(
+        &self,
+        rt: &R,
+        alloc: Global,
+        cell: &VersionCell<Z, N>,
+        publisher: VersionPublisher<Z, N>,
+        readers: Vec<VersionReader<N>>,
+    ) -> Played<Z, N> {
+        match Table::begin(alloc, cell, publisher, readers) {
+            Ok((mut table, mut reader)) => {
+                let told = self.run(rt, alloc, &mut table.desk, &mut reader);
+                table.end(reader, told)
+            }
+            Err(played) => played,
+        }
+    }
+}
+
+impl NoRoom {
+    /// Whether it goes as it should; None where memory is refused.
     fn run<R: Wait, Z: FirstZone, N: Naming>(
         &self,
         rt: &R,
