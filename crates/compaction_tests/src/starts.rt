@@ -1,4 +1,8 @@
 //! The trail of a start.
+ghost use Rattle.std.specs.Prelude.{map, All};
+ghost use Rattle.std.specs.Bool.{OnTrue};
+ghost use Rattle.journal.specs.Batch.{IsShort};
+
 use crate::engines::{Table, are_told, begin, goes};
 use crate::folder::Folder;
 use compaction::{Trail, steps_of, updates_behind};
@@ -12,6 +16,18 @@ use std::alloc::Global;
 use std::sync::Wait;
 use std::test::Fail;
 
+/// Whether each of updates has at most 65,535 octets, as those of a batch have.
+fn are_short(updates: &[&[u8]]) -> bool
+    ensures { OnTrue result (All IsShort (map (λ update. update.now) updates.now)) }
+{
+    for update in updates {
+        if update.len() > 65_535 {
+            return false;
+        }
+    }
+    true
+}
+
 /// The trail of a start's versions, with the updates of its journal that made them.
 fn trail_of<R: Wait>(rt: &R, alloc: Global, newest: Newest, updates: &[&[u8]]) -> Option<Trail> {
     let mut versions = Vec::new(alloc);
@@ -21,7 +37,7 @@ fn trail_of<R: Wait>(rt: &R, alloc: Global, newest: Newest, updates: &[&[u8]]) -
     versions.push(SharedVersion::new(alloc, newest.last)?).ok()?;
     let (oldest, later) = versions.split_first()?;
     let mut trail = Trail::of(alloc, oldest.share(rt), KEPT).ok()?;
-    if later.len() != updates.len() || updates.iter().any(|update| update.len() > 65_535) {
+    if later.len() != updates.len() || !are_short(updates) {
         return None;
     }
     trail.follow(steps_of(rt, alloc, later, updates).ok()?);
