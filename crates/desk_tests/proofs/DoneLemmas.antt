@@ -1,11 +1,11 @@
 -- What is told of an update is so by the versions that are published.
-use Rattle.std.proofs.Common.{◌≡◌, refl, ℕ, ◌≤◌, List, [], ◌∷◌, ◌++◌, inl, inr, sym, ap, ◌∙◌, subst, append-nil, arith}
+use Rattle.std.proofs.Common.{◌≡◌, ℕ, ◌≤◌, List, [], ◌∷◌, ◌++◌, inl, inr, sym, ◌∙◌, subst, append-nil}
 use Rattle.std.specs.Prelude.{◌⊎◌}
 use Rattle.dns_rdata.specs.Numbers.{rcode_number}
 use Rattle.dns_rdata.specs.Record.{Record}
 use Rattle.dns_rdata.specs.declared.numbers.Rcode.{Rcode}
 use Rattle.dns_rdata.specs.declared.numbers.Serial.{Serial}
-use Rattle.dns_rdata.specs.declared.numbers.Rcode.TheVariants.{NoError, FormErr, ServFail, NxDomain, NotImp, Refused, YXDomain, YXRRSet, NXRRSet, NotAuth, NotZone, BadVers}
+use Rattle.dns_rdata.specs.declared.numbers.Rcode.TheVariants.{ServFail}
 use Rattle.zone_tree.specs.Version.{Version}
 use Rattle.dns_engine.specs.Held.{IsLatest}
 use Rattle.dns_engine.specs.Replayed.{IsReplay}
