@@ -21,6 +21,57 @@ fn before(alloc: Global, octets: &[u8]) -> Result<Start, StartFault> {
     recover_before(alloc, ZONE, octets)
 }
 
+/// What a start in front of damage comes to: the first batches, so many, or why there is no head.
+#[derive(Clone, Copy, Debug, PartialEq)]
+enum Had {
+    /// So many batches.
+    Batches(usize),
+    /// No head.
+    NoHead(HeadFault),
+}
+
+/// The batches that a start has: as many as end where it ends, cleanly, with their updates.
+fn batches_of(alloc: Global, start: &Start) -> Option<usize> {
+    let batches = PLACES.iter().position(|end| *end == start.end)?;
+    let count = *ENDS.get(batches)?;
+    let told = updates_in(alloc, start).ok()??;
+    if told == count as u64 && start.ending == Ending::Clean {
+        Some(batches)
+    } else {
+        None
+    }
+}
+
+/// What a start in front of damage has of octets; None where it is anything else, or memory is refused.
+fn told_of(alloc: Global, octets: &[u8]) -> Option<Had> {
+    match before(alloc, octets) {
+        Ok(start) => Some(Had::Batches(batches_of(alloc, &start)?)),
+        Err(StartFault::Journal(Refused::BadHead(fault))) => Some(Had::NoHead(fault)),
+        Err(_) => None,
+    }
+}
+
+/// What it should have of a journal of which so many octets are as they were: the batches that end there; where the head doesn't, this fault.
+fn wanted(len: usize, fault: HeadFault) -> Had {
+    let whole = PLACES.iter().filter(|end| **end <= len).count();
+    match whole.checked_sub(1) {
+        Some(batches) => Had::Batches(batches),
+        None => Had::NoHead(fault),
+    }
+}
+
+/// The journal with one of its octets turned.
+fn turned(alloc: Global, octets: &[u8], at: usize) -> Option<Vec<u8>> {
+    let mut turned = octets.to_vec(alloc).ok()?;
+    if let Some(octet) = turned.get_mut(at) {
+        *octet ^= 255;
+    }
+    Some(turned)
+}
+
+/// How many octets at the front of a head say its format: `dnsd journal, 1` and the end of its line.
+const FORMAT: usize = 16;
+
 // Each octet of a journal turned: in the head it is told by name; behind it the updates of the batches in front are replayed, whatever stands behind them.
 #[test]
 fn each_octet_turned(rt: HostRuntime) -> Result<(), Fail> {
@@ -28,28 +79,17 @@ fn each_octet_turned(rt: HostRuntime) -> Result<(), Fail> {
     let octets = journal_of(alloc, &BATCHES)?;
     assert_eq!(rt; octets.len(), PLACES[3]);
     for at in 0..octets.len() {
-        let mut turned = octets.to_vec(alloc)?;
-        if let Some(octet) = turned.get_mut(at) {
-            *octet ^= 255;
-        }
-        let whole = PLACES.iter().filter(|end| **end <= at).count();
-        match before(alloc, &turned) {
-            Ok(start) => {
-                let batches = whole.checked_sub(1).ok_or("no head")?;
-                let count = *ENDS.get(batches).ok_or("too many batches")?;
-                let end = *PLACES.get(batches).ok_or("too many batches")?;
-                let told = updates_in(alloc, &start)?;
-                assert_eq!(rt; told, Some(count as u64), "octet {at}");
-                assert!(rt;
-                    start.end == end && start.ending == Ending::Clean,
-                    "octet {at}"
-                );
-            }
-            Err(fault) => assert!(rt;
-                whole == 0 && matches!(fault, StartFault::Journal(Refused::BadHead(_))),
-                "octet {at}"
-            ),
-        }
+        let other = turned(alloc, &octets, at).ok_or("no memory")?;
+        let fault = if at < FORMAT {
+            HeadFault::Foreign
+        } else {
+            HeadFault::WrongSum
+        };
+        assert_eq!(rt;
+            told_of(alloc, &other),
+            Some(wanted(at, fault)),
+            "octet {at}"
+        );
     }
     Ok(())
 }
@@ -60,24 +100,8 @@ fn each_length(rt: HostRuntime) -> Result<(), Fail> {
     let alloc: Global = rt.alloc();
     let octets = journal_of(alloc, &BATCHES)?;
     for len in 0..=octets.len() {
-        let whole = PLACES.iter().filter(|end| **end <= len).count();
-        match before(alloc, &octets[..len]) {
-            Ok(start) => {
-                let batches = whole.checked_sub(1).ok_or("no head")?;
-                let count = *ENDS.get(batches).ok_or("too many batches")?;
-                let end = *PLACES.get(batches).ok_or("too many batches")?;
-                let told = updates_in(alloc, &start)?;
-                assert_eq!(rt; told, Some(count as u64), "{len} octets");
-                assert!(rt;
-                    start.end == end && start.ending == Ending::Clean,
-                    "{len} octets"
-                );
-            }
-            Err(fault) => assert!(rt;
-                whole == 0 && fault == StartFault::Journal(Refused::BadHead(HeadFault::Short)),
-                "{len} octets"
-            ),
-        }
+        let told = told_of(alloc, &octets[..len]);
+        assert_eq!(rt; told, Some(wanted(len, HeadFault::Short)), "{len} octets");
     }
     Ok(())
 }
