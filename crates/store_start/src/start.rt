@@ -107,13 +107,23 @@ fn start_found<R: Files<File = File> + Alloc + Clone + Drop>(
         Choice::Same => go_on(rt, alloc, dir, lock, pair, start, Served::Same),
         Choice::Store => go_on(rt, alloc, dir, lock, pair, start, Served::Store),
         Choice::StoreThoughOther(serial) => {
-            go_on(rt, alloc, dir, lock, pair, start, Served::StoreThoughOther(serial))
+            go_on(
+                rt,
+                alloc,
+                dir,
+                lock,
+                pair,
+                start,
+                Served::StoreThoughOther(serial),
+            )
         }
         Choice::RefuseNewer(given) => {
             let has = start.newest.last.serial();
             Err(Refusal::Newer { has, given })
         }
-        Choice::Zone(zone) => take_text(rt, alloc, dir, given, random, lock, pair, start.head, zone),
+        Choice::Zone(zone) => take_text(
+            rt, alloc, dir, given, random, lock, pair, start.head, zone,
+        ),
     }
 }
 
@@ -123,7 +133,14 @@ fn choice_of(alloc: Global, start: &Start, given: Given<'_>) -> Result<Choice, R
     ensures refused { IfErr result (λ refusal. IsNoText given.entry.text.now given.entry.origin.now refusal) }
 {
     let last = start.newest.last.serial();
-    Ok(choose(alloc, &start.head.origin, last, given.text, given.origin, given.taken)?)
+    Ok(choose(
+        alloc,
+        &start.head.origin,
+        last,
+        given.text,
+        given.origin,
+        given.taken,
+    )?)
 }
 
 /// Goes on with a store of which a start has this.
