@@ -48,7 +48,7 @@ module _ (first : List Record) (peer : Peer) (taken : List (Option TakenState)) 
       done_replied first peer (learned_by one.known) (learned_by after) request out len done told (omega (arith, is.number, same, written.0)) reading may written.1
   by_one one is same meets told reading may (inr late) =
       still_replied first peer (learned_by one.known) (learned_by before) (learned_by after) request (take len out ∷ []) is.grown
-      (unheard_replied first peer before after meets.0 request out done.asked.update len meets.1 reading late)
+      (unheard_replied first peer before after meets.0 request out done.asked.update len meets.1 reading late.1)
 
   pub taken_replied : AreTakenUp taken before → place_in taken key ≡ Some place → MeetsAt first before after number → IsDone first after.seen done → done.asked.octets.items ≡ request → done.asked.may ≡ true → peer.may_update ≡ true
       → IsWritten peer place done (take len out) → IsReplied first peer (known_at taken before key) (learned_by after) request (take len out ∷ [])

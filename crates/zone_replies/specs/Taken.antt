@@ -1,5 +1,5 @@
 -- Updates that are taken up on connections, and wait to be judged (RFC 2136, 3; own).
-use Rattle.std.specs.Prelude.{◌≡◌, ◌⊎◌, ◌≤◌, ◌+◌, ℕ, true, List, [], ◌∷◌, length, take, Option, None, Some}
+use Rattle.std.specs.Prelude.{◌≡◌, ◌⊎◌, ◌<◌, ◌≤◌, ◌+◌, ℕ, true, List, [], ◌∷◌, length, take, Option, None, Some}
 use Rattle.std.specs.List.{All, slice_get}
 use Rattle.dns_message.specs.Request.{is_update}
 use Rattle.dns_message.specs.Message.{message_limit}
@@ -60,7 +60,7 @@ IsLater peer request = (is_update request ≡ true) × (peer.may_update ≡ true
 abbrev pub IsWritten : Peer → Place → Done → List ℕ → Type 0
 IsWritten peer place done octets =
     ((place.number ≤ done.least) × (octets ≡ fit (coded (heading_of_update done.asked.update) done.code) (limit_of peer.transport None)))
-    ⊎ (octets ≡ fit (coded (heading_of_update done.asked.update) ServFail) (limit_of peer.transport None))
+    ⊎ ((done.least < place.number) × (octets ≡ fit (coded (heading_of_update done.asked.update) ServFail) (limit_of peer.transport None)))
 
 -- an update that was taken up is told once: its reply; or nothing, and none is taken up on its connection
 abbrev pub IsToldOnce : List Record → Peer → Learned Version → Learned Version → List ℕ → List ℕ → Option Place → Option ℕ → Type 0

@@ -122,6 +122,9 @@ impl<'a, 's, Z: FirstZone, N: Naming, L: ServiceLog> Replies<'a, 's, Z, N, L> {
     pub fn handing(self, hand: Hand<'a>) -> Replies<'a, 's, Z, N, L>
         ensures reader { result.reader ≡ self.entry.reader }
         ensures peer { result.peer ≡ self.entry.peer }
+        ensures asker { result.asker ≡ self.entry.asker }
+        ensures taken { result.taken ≡ self.entry.taken }
+        ensures hands { result.hands ≡ true }
     {
         let mut handing = self;
         handing.hand = Some(hand);
