@@ -137,13 +137,23 @@ impl Recents {
             return (nearest, most);
         }
         for i in 0..self.count {
-            let same = self.same_as(i, octets);
-            if same > most {
-                nearest = i;
-                most = same;
+            if self.goes_on(i, octets, most) {
+                let same = self.same_as(i, octets);
+                if same > most {
+                    nearest = i;
+                    most = same;
+                }
             }
         }
         (nearest, most)
+    }
+
+    /// Whether the name at an index may have more than so many octets in common with this one at their ends: the next one is the same.
+    fn goes_on(&self, i: usize, octets: &[u8], most: usize) -> bool {
+        match (self.names.get(i), octet_before(octets, most)) {
+            (Some(name), Some(octet)) => octet_before(name.octets(), most) == Some(octet),
+            _ => false,
+        }
     }
 
     /// How many octets the name at an index has in common with this one at their ends.
@@ -191,6 +201,12 @@ impl Recents {
         self.count = self.count.max(self.next + 1);
         self.next = (self.next + 1) % NAMES;
     }
+}
+
+/// The octet in front of the last ones, so many.
+fn octet_before(octets: &[u8], behind: usize) -> Option<u8> {
+    let at = octets.len().checked_sub(behind)?.checked_sub(1)?;
+    octets.get(at).copied()
 }
 
 /// How many octets at their ends are the same, eight at a time.
