@@ -197,12 +197,7 @@ impl Positions {
         if index >= self.heads.len() {
             return false;
         }
-        is_there(
-            msg,
-            usize::from(self.head(index).position),
-            octets,
-            follows,
-        )
+        is_there(msg, usize::from(self.head(index).position), octets, follows)
     }
 
     /// The parent of the entry at an index; where there is no such entry, one that is none either.
@@ -261,9 +256,7 @@ impl Positions {
 
     /// Whether there is room for so many labels of a name of so many octets at a position, and pointers can name them.
     pub(crate) fn has_room_for(&self, at: usize, size: usize, labels: usize) -> bool {
-        labels <= MAX_POSITIONS - self.heads.len()
-            && size <= MAX_TARGET
-            && at <= MAX_TARGET - size
+        labels <= MAX_POSITIONS - self.heads.len() && size <= MAX_TARGET && at <= MAX_TARGET - size
     }
 
     /// Whether there is room for one more position, behind so many that are yet to be entered, and a pointer can name it.
