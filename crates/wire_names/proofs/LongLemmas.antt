@@ -7,7 +7,7 @@ use Rattle.dns_name.specs.Labels.{labels_in, IsWhole}
 use Rattle.dns_name.specs.Name.{Name, wire_of}
 use Rattle.dns_name.proofs.LabelLemmas.{wire_of-labels_in, labels_in-wire_of}
 use Rattle.wire_names.specs.Entry.{Entry, long_octets}
-use Rattle.wire_names.specs.Long.{kept_of, entry_with, head_of, joined}
+use Rattle.wire_names.specs.Long.{kept_of, entry_with, head_of, entries_with}
 use Rattle.wire_names.specs.declared.long.Long.{Long}
 use Rattle.wire_names.specs.declared.table.Head.{Head}
 use Rattle.wire_names.specs.Place.{IsKnown}
@@ -18,42 +18,42 @@ use Rattle.wire_names.proofs.PlaceLemmas.{place_if}
 use Rattle.wire_names.proofs.TableLemmas.{target_spells}
 
 -- there are as many entries as heads
-pub joined_many : (heads : List Head) (longs : List Long) → length (joined heads longs) ≡ length heads
-joined_many [] longs = refl
-joined_many (head ∷ heads) [] = ap suc (joined_many heads [])
-joined_many (head ∷ heads) (long ∷ longs) = ap suc (joined_many heads longs)
+pub entries_many : (heads : List Head) (longs : List Long) → length (entries_with heads longs) ≡ length heads
+entries_many [] longs = refl
+entries_many (head ∷ heads) [] = ap suc (entries_many heads [])
+entries_many (head ∷ heads) (long ∷ longs) = ap suc (entries_many heads longs)
 
 -- the octets of no name
 abbrev pub no_octets : Long
 no_octets = record { octets = []; size = 0 }
 
 -- the entry at an index has the head and the octets there
-joined_at : (heads : List Head) (longs : List Long) (i : ℕ) (d : Entry) (h : Head) → i < length heads → get_or (joined heads longs) i d ≡ entry_with (get_or heads i h) (kept_of (get_or longs i no_octets))
-joined_at [] longs i d h within = absurd (omega arith)
-joined_at (head ∷ heads) [] zero d h within = refl
-joined_at (head ∷ heads) [] (suc i) d h within = joined_at heads [] i d h (omega arith)
-joined_at (head ∷ heads) (long ∷ longs) zero d h within = refl
-joined_at (head ∷ heads) (long ∷ longs) (suc i) d h within = joined_at heads longs i d h (omega arith)
+entries_at : (heads : List Head) (longs : List Long) (i : ℕ) (d : Entry) (h : Head) → i < length heads → get_or (entries_with heads longs) i d ≡ entry_with (get_or heads i h) (kept_of (get_or longs i no_octets))
+entries_at [] longs i d h within = absurd (omega arith)
+entries_at (head ∷ heads) [] zero d h within = refl
+entries_at (head ∷ heads) [] (suc i) d h within = entries_at heads [] i d h (omega arith)
+entries_at (head ∷ heads) (long ∷ longs) zero d h within = refl
+entries_at (head ∷ heads) (long ∷ longs) (suc i) d h within = entries_at heads longs i d h (omega arith)
 
 -- so each of the two stands there
-pub head_at : (heads : List Head) (longs : List Long) (xs : List Entry) (i : ℕ) (d : Entry) (h : Head) → joined heads longs ≡ xs → i < length xs → get_or heads i h ≡ head_of (get_or xs i d)
+pub head_at : (heads : List Head) (longs : List Long) (xs : List Entry) (i : ℕ) (d : Entry) (h : Head) → entries_with heads longs ≡ xs → i < length xs → get_or heads i h ≡ head_of (get_or xs i d)
 head_at heads longs xs i d h view within =
-    let many = joined_many heads longs in
+    let many = entries_many heads longs in
     let size = ap length view in
-    ap head_of (sym (joined_at heads longs i d h (omega arith)) ∙ ap (λ (ys : List Entry). get_or ys i d) view)
+    ap head_of (sym (entries_at heads longs i d h (omega arith)) ∙ ap (λ (ys : List Entry). get_or ys i d) view)
 
-pub octets_at : (heads : List Head) (longs : List Long) (xs : List Entry) (i : ℕ) (d : Entry) → joined heads longs ≡ xs → i < length xs → kept_of (get_or longs i no_octets) ≡ (get_or xs i d).octets
+pub octets_at : (heads : List Head) (longs : List Long) (xs : List Entry) (i : ℕ) (d : Entry) → entries_with heads longs ≡ xs → i < length xs → kept_of (get_or longs i no_octets) ≡ (get_or xs i d).octets
 octets_at heads longs xs i d view within =
-    let many = joined_many heads longs in
+    let many = entries_many heads longs in
     let size = ap length view in
-    ap (λ (e : Entry). e.octets) (sym (joined_at heads longs i d (record { key = 0; position = 0; parent = 0 }) (omega arith)) ∙ ap (λ (ys : List Entry). get_or ys i d) view)
+    ap (λ (e : Entry). e.octets) (sym (entries_at heads longs i d (record { key = 0; position = 0; parent = 0 }) (omega arith)) ∙ ap (λ (ys : List Entry). get_or ys i d) view)
 
 -- one more head, and the octets beside it, are one more entry
-pub joined_more : (heads now : List Head) (longs : List Long) (i : ℕ) (head : Head) (long : Long) → now ≡ heads ++ head ∷ [] → i ≡ length heads → length heads < length longs → joined now (set longs i long) ≡ joined heads longs ++ entry_with head (kept_of long) ∷ []
-joined_more heads now longs i head long is at room =
-    ap (λ (xs : List Head). joined xs (set longs i long)) is ∙ ap (λ (n : ℕ). joined (heads ++ head ∷ []) (set longs n long)) at ∙ put heads longs room
+pub entries_more : (heads now : List Head) (longs : List Long) (i : ℕ) (head : Head) (long : Long) → now ≡ heads ++ head ∷ [] → i ≡ length heads → length heads < length longs → entries_with now (set longs i long) ≡ entries_with heads longs ++ entry_with head (kept_of long) ∷ []
+entries_more heads now longs i head long is at room =
+    ap (λ (xs : List Head). entries_with xs (set longs i long)) is ∙ ap (λ (n : ℕ). entries_with (heads ++ head ∷ []) (set longs n long)) at ∙ put heads longs room
   where
-    put : (hs : List Head) (ls : List Long) → length hs < length ls → joined (hs ++ head ∷ []) (set ls (length hs) long) ≡ joined hs ls ++ entry_with head (kept_of long) ∷ []
+    put : (hs : List Head) (ls : List Long) → length hs < length ls → entries_with (hs ++ head ∷ []) (set ls (length hs) long) ≡ entries_with hs ls ++ entry_with head (kept_of long) ∷ []
     put [] [] less = absurd (omega arith)
     put [] (l ∷ ls) less = refl
     put (h ∷ hs) [] less = absurd (omega arith)

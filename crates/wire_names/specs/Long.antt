@@ -17,7 +17,7 @@ abbrev pub head_of : Entry → Head
 head_of entry = record { key = entry.key; position = entry.position; parent = entry.parent }
 
 -- each head with the octets that stand beside it
-abbrev pub joined : List Head → List Long → List Entry
-joined [] longs = []
-joined (head ∷ heads) [] = entry_with head [] ∷ joined heads []
-joined (head ∷ heads) (long ∷ longs) = entry_with head (kept_of long) ∷ joined heads longs
+abbrev pub entries_with : List Head → List Long → List Entry
+entries_with [] longs = []
+entries_with (head ∷ heads) [] = entry_with head [] ∷ entries_with heads []
+entries_with (head ∷ heads) (long ∷ longs) = entry_with head (kept_of long) ∷ entries_with heads longs

@@ -59,14 +59,14 @@ impl Model for Positions {
     ghost use Rattle.std.specs.Prelude.{List};
     ghost use Rattle.wire_names.specs.Entry.{Entry};
     ghost use Rattle.wire_names.specs.Chains.{AreChained};
-    ghost use Rattle.wire_names.specs.Long.{joined};
+    ghost use Rattle.wire_names.specs.Long.{entries_with};
     ghost use Rattle.wire_names.specs.Table.{AreMarked};
 
     ghost Value = { List Entry };
 
-    ghost view = { λ a. joined a.heads.items a.longs };
+    ghost view = { λ a. entries_with a.heads.items a.longs };
 
-    ghost invariant = { λ a. AreChained (joined a.heads.items a.longs) a.chains.newest a.chains.older × AreMarked (joined a.heads.items a.longs) a.marks };
+    ghost invariant = { λ a. AreChained (entries_with a.heads.items a.longs) a.chains.newest a.chains.older × AreMarked (entries_with a.heads.items a.longs) a.marks };
 }
 
 impl Positions {
@@ -94,7 +94,7 @@ impl Positions {
     }
 
     /// How many entries there are.
-    #[tactic(auto, using(crate::proofs::LongLemmas::joined_many))]
+    #[tactic(auto, using(crate::proofs::LongLemmas::entries_many))]
     pub(crate) fn count(&self) -> usize
         ensures is { result ≡ length self.now }
         ensures few { result ≤ MAX_POSITIONS }
@@ -103,7 +103,7 @@ impl Positions {
     }
 
     /// The head of the entry at an index.
-    #[tactic(auto, using(crate::proofs::LongLemmas::joined_many))]
+    #[tactic(auto, using(crate::proofs::LongLemmas::entries_many))]
     pub(crate) fn head(&self, i: usize) -> Head
         requires { i < length self.now }
         ensures { (d : Entry) → result ≡ head_of (slice_index_or self.now i d) }
@@ -112,7 +112,7 @@ impl Positions {
     }
 
     /// The octets of the name that the entry at an index spells, where they are many; else, or where there is no such entry, none.
-    #[tactic(auto, using(crate::proofs::LongLemmas::joined_many))]
+    #[tactic(auto, using(crate::proofs::LongLemmas::entries_many))]
     pub(crate) fn long(&self, index: usize) -> &[u8]
         ensures { index < length self.now → (d : Entry) → result.now ≡ (slice_index_or self.now index d).octets }
     {
@@ -123,7 +123,7 @@ impl Positions {
     }
 
     /// How many octets the name takes behind the first label of the last entry, where no entry spells it.
-    #[tactic(auto, using(crate::proofs::LongLemmas::joined_many))]
+    #[tactic(auto, using(crate::proofs::LongLemmas::entries_many))]
     pub(crate) fn part(&self) -> Option<usize>
         ensures none { IsNone result → 0 < length self.now → parent_at self.now (length self.now - 1) < 258 }
         ensures some { IfSome result (λ size. (0 < length self.now) × (parent_at self.now (length self.now - 1) ≡ 258 + size)) }
@@ -133,7 +133,7 @@ impl Positions {
     }
 
     /// The index of the newest entry that has this parent, where it begins with the first label of the name in these octets.
-    #[tactic(auto, using(crate::proofs::LongLemmas::joined_many))]
+    #[tactic(auto, using(crate::proofs::LongLemmas::entries_many))]
     pub(crate) fn newest_child(&self, msg: &[u8], octets: &[u8], parent: usize) -> Option<usize>
         requires table { IsTable msg.now self.now }
         requires whole { IsWhole octets.now }
@@ -149,7 +149,7 @@ impl Positions {
     }
 
     /// The index of the entry that has this parent, and begins with the first label of the name in these octets.
-    #[tactic(auto, using(crate::proofs::LongLemmas::joined_many))]
+    #[tactic(auto, using(crate::proofs::LongLemmas::entries_many))]
     pub(crate) fn child(&self, msg: &[u8], octets: &[u8], parent: usize) -> Option<usize>
         requires table { IsTable msg.now self.now }
         requires whole { IsWhole octets.now }
@@ -173,7 +173,7 @@ impl Positions {
     }
 
     /// The index of the last entry, where it spells the name in these octets.
-    #[tactic(auto, using(crate::proofs::LongLemmas::joined_many))]
+    #[tactic(auto, using(crate::proofs::LongLemmas::entries_many))]
     pub(crate) fn last_spells(&self, msg: &[u8], octets: &[u8]) -> Option<usize>
         requires table { IsTable msg.now self.now }
         requires whole { IsWhole octets.now }
@@ -188,7 +188,7 @@ impl Positions {
     }
 
     /// Whether these very octets stand at the position at an index, or, where pointers are followed, the name in them is spelt there.
-    #[tactic(auto, using(crate::proofs::LongLemmas::joined_many))]
+    #[tactic(auto, using(crate::proofs::LongLemmas::entries_many))]
     pub(crate) fn stands(&self, msg: &[u8], octets: &[u8], index: usize, follows: bool) -> bool
         requires table { IsTable msg.now self.now }
         requires whole { IsWhole octets.now }
@@ -201,7 +201,7 @@ impl Positions {
     }
 
     /// The parent of the entry at an index; where there is no such entry, one that is none either.
-    #[tactic(auto, using(crate::proofs::LongLemmas::joined_many))]
+    #[tactic(auto, using(crate::proofs::LongLemmas::entries_many))]
     pub(crate) fn parent_of(&self, index: usize) -> usize {
         if index < self.heads.len() {
             return usize::from(self.head(index).parent);
@@ -210,7 +210,7 @@ impl Positions {
     }
 
     /// Whether the entry at an index spells the name in these octets, which are many: its own are kept.
-    #[tactic(auto, using(crate::proofs::LongLemmas::joined_many))]
+    #[tactic(auto, using(crate::proofs::LongLemmas::entries_many))]
     pub(crate) fn is_long(&self, octets: &[u8], index: usize) -> bool
         requires whole { IsWhole octets.now }
         ensures { (msg : List ℕ) → IsTable msg self.now → OnTrue result (IsKnown msg self.now (labels_in octets.now) index) }
@@ -260,7 +260,7 @@ impl Positions {
     }
 
     /// Whether there is room for one more position, behind so many that are yet to be entered, and a pointer can name it.
-    #[tactic(auto, using(crate::proofs::LongLemmas::joined_many))]
+    #[tactic(auto, using(crate::proofs::LongLemmas::entries_many))]
     fn has_room(&self, more: usize, position: usize) -> bool
         requires { more < 2 }
         ensures { result ≡ (nat_lt (length self.now + more) 256 && nat_le position 16383) }
@@ -269,7 +269,7 @@ impl Positions {
     }
 
     /// Enters a position behind all others, where the name in these octets begins.
-    #[tactic(auto, using(crate::proofs::LongLemmas::joined_many))]
+    #[tactic(auto, using(crate::proofs::LongLemmas::entries_many))]
     fn push(&mut self, position: usize, octets: &[u8], parent: usize)
         requires whole { IsWhole octets.now }
         requires short { length octets.now ≤ 255 }

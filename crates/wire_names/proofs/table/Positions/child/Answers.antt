@@ -3,7 +3,7 @@ use Rattle.dns_name.specs.Labels.{labels_in}
 use Rattle.wire_names.specs.declared.table.Head.{Head}
 use Rattle.wire_names.specs.Table.{Entry, AreMarked, BeginsAlike, place_at, spelt_at}
 use Rattle.wire_names.proofs.IndexLemmas.{no_entry, unmarked, other_by_key, left_next}
-use Rattle.wire_names.proofs.LongLemmas.{joined_many}
+use Rattle.wire_names.proofs.LongLemmas.{entries_many}
 use Rattle.wire_names.proofs.table.Positions.child.Goals.{else-head-key-via-then-head-key+else-begins_with, else-head-key-via-else-head-key}
 use Rattle.wire_names.proofs.table.Positions.child.Goals as goal
 
@@ -26,7 +26,7 @@ differs c h alike =
 pub loop-i-preserved : goal.loop-i-preserved
 loop-i-preserved c =
     let size = ap (λ (xs : List Entry). length xs) c.self.view_is in
-    let many = joined_many c.self.inside.heads.items c.self.inside.longs in
+    let many = entries_many c.self.inside.heads.items c.self.inside.longs in
     let few = c.self.invariant.0.few in
     let len = c.len-in-loop-i.ensures.value in
     let test = c.loop-i-test.true in

@@ -6,7 +6,7 @@ use Rattle.dns_name.specs.Labels.{labels_in}
 use Rattle.wire_names.specs.Place.{IsKnown}
 use Rattle.wire_names.specs.Table.{Entry}
 use Rattle.wire_names.proofs.IndexLemmas.{no_entry}
-use Rattle.wire_names.proofs.LongLemmas.{joined_many, long_spelt, octets_at}
+use Rattle.wire_names.proofs.LongLemmas.{entries_many, long_spelt, octets_at}
 use Rattle.wire_names.proofs.TableLemmas.{equal_from}
 use Rattle.wire_names.proofs.table.Positions.is_long.Goals as goal
 
@@ -16,7 +16,7 @@ on_alike own octets false P e f = f ((bytes_eq-Decides own octets).0 (equal_from
 
 pub returns : goal.returns
 returns c =
-    let many = joined_many c.self.inside.heads.items c.self.inside.longs in
+    let many = entries_many c.self.inside.heads.items c.self.inside.longs in
     let size = ap (λ (xs : List Entry). length xs) c.self.view_is in
     let few = c.self.invariant.0.few in
     λ msg table. on_alike _ _ c.differ.result _ c.differ.ensures (λ same.
