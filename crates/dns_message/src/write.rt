@@ -78,7 +78,9 @@ pub fn write_reply_by(
     put_truncated(names, room, reply)
 }
 
-/// Writes a reply's header, question and OPT alone, with TC 1: how many octets they have (RFC 2181, 9; RFC 6891, 7).
+/// Writes a reply's header, question and OPT alone, with TC 1: how many octets they have (RFC 2181, 9; RFC 6891, 7). It is a function of its
+/// own, since it is seldom called.
+#[inline(never)]
 fn put_truncated(names: &mut NameWriter, out: &mut [u8], reply: &Reply<'_>) -> usize
     requires least { MIN_LIMIT ≤ length out.old }
     requires most { length out.old ≤ MAX_LIMIT }

@@ -281,12 +281,14 @@ impl NameWriter {
         ensures all { result.1.labels ≡ result.0.count }
         ensures place { IsPlace msg.now self.now (labels_in octets.now) result.1 }
     {
-        let starts = starts_of(octets, suffix.size.max(1));
-        let labels = starts.count;
-        let rest = starts.rest(octets, labels);
-        if self.positions.is_long(rest, suffix.index) {
-            let index = suffix.index;
-            return (starts, Place { labels, index });
+        if suffix.index != ROOT {
+            let starts = starts_of(octets, suffix.size.max(1));
+            let labels = starts.count;
+            let rest = starts.rest(octets, labels);
+            if self.positions.is_long(rest, suffix.index) {
+                let index = suffix.index;
+                return (starts, Place { labels, index });
+            }
         }
         let starts = starts_of(octets, 1);
         let labels = starts.count;
