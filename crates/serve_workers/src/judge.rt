@@ -1,0 +1,92 @@
+//! Who judges updates, while threads hand them in (RFC 2136, 3).
+
+use crate::bringing::Bringing;
+use crate::progress::Muster;
+use crate::updates::Updates;
+use crate::workers::Meanwhile;
+use dns_engine::{FirstZone, SharedVersion, VersionReader};
+use snapshot_cell::Naming;
+use std::sync::Wait;
+use update_job::{Faults, Storing, UpdateJob};
+use update_teller::Teller;
+use zone_service::ServiceLog;
+
+/// How updates are judged beside the threads that they come to.
+#[derive(Drop)]
+pub struct Handing<S: Storing<SharedVersion>, F> {
+    /// How many may wait.
+    pub most: usize,
+    /// Where they are brought before they are told.
+    pub store: S,
+    /// Who notes why batches aren't there.
+    pub faults: F,
+}
+
+/// What updates are judged by.
+#[derive(Drop)]
+pub(crate) struct Judging<'a, S: Storing<SharedVersion>, F> {
+    /// Those that wait.
+    pub(crate) updates: &'a Updates,
+    /// What brings the replies.
+    pub(crate) bringing: Bringing<'a>,
+    /// Where they are brought before they are told.
+    pub(crate) store: S,
+    /// Who notes why batches aren't there.
+    pub(crate) faults: F,
+}
+
+/// Who judges updates until no thread hands in any more.
+#[derive(Drop)]
+pub(crate) struct Judge<
+    'a,
+    's,
+    'b,
+    Z: FirstZone,
+    N: Naming,
+    L: ServiceLog,
+    S: Storing<SharedVersion>,
+    F,
+> {
+    pub(crate) job: UpdateJob<'b, Teller<'a, 's, Z, N, L, Bringing<'b>>, S>,
+    pub(crate) faults: F,
+    pub(crate) muster: &'a Muster,
+}
+
+impl<'a, 's, 'b, Z: FirstZone, N: Naming, L: ServiceLog, S: Storing<SharedVersion>, F: Drop> Judge<
+    'a,
+    's,
+    'b,
+    Z,
+    N,
+    L,
+    S,
+    F,
+> {
+    /// Its reader, with which it judges no more.
+    pub(crate) fn into_reader(self) -> VersionReader<N> {
+        let Judge {
+            job,
+            faults: _,
+            muster: _,
+        } = self;
+        let (teller, _store) = job.into_parts();
+        teller.into_parts().0
+    }
+}
+
+impl<
+    'a,
+    's,
+    'b,
+    Z: FirstZone,
+    N: Naming,
+    L: ServiceLog,
+    S: Storing<SharedVersion>,
+    F: Faults<S::Fault> + Drop,
+> Meanwhile for Judge<'a, 's, 'b, Z, N, L, S, F> {
+    // Secondaries are told of versions until this is over too.
+    fn meanwhile<R: Wait>(&mut self, rt: &R) {
+        self.job.serve(rt, &mut self.faults);
+        self.muster.judged();
+    }
+}
