@@ -11,10 +11,12 @@ ghost use Rattle.std.specs.Prelude.{◌≡◌, ◌⊎◌};
 pub mod bound;
 pub mod command;
 pub mod descriptors;
+pub mod kept;
 pub mod log;
 pub mod options;
 pub mod secondaries;
 pub mod serve;
+pub mod store_options;
 pub mod stored;
 pub mod zone_file;
 
@@ -22,11 +24,12 @@ use command::{BAD_COMMAND, CommandFault, Task, parse_words};
 use commands::{Command, DONE, FAILED, Source, run_text, run_with_zone, tell};
 use serve::run_serve;
 use std::env;
+use std::fs::{File, Files};
 use std::io::{self, BufRead, BufReader, BufWriter, Write};
 use std::net::{Net, TcpListener, TcpStream};
 use std::process::ExitCode;
 use std::random::RandomSource;
-use std::rt::{Env, Files};
+use std::rt::Env;
 use std::sync::Wait;
 use std::thread::Threads;
 use std::time::Clock;
@@ -45,7 +48,7 @@ fn main(rt: HostRuntime) -> ExitCode {
 
 /// Does what the program's words ask for, and gives its status.
 fn run_words<
-    R: Files
+    R: Files<File = File>
         + Env
         + Print
         + Eprint
@@ -104,7 +107,7 @@ fn tell_fault<R: Print + Eprint>(rt: &R, fault: &CommandFault<'_>) -> io::Result
         }
         CommandFault::Threads(workers, addresses) => {
             eprintln!(rt;
-                "error: --workers {workers} for {addresses} addresses ask for more than 63 threads: each worker has one for TCP, and one for UDP of each address; --notify has one more"
+                "error: --workers {workers} for {addresses} addresses ask for more than 62 threads: each worker has one for TCP, and one for UDP of each address; --notify has one more"
             )?;
         }
         CommandFault::Notify(word) => {
@@ -119,6 +122,12 @@ fn tell_fault<R: Print + Eprint>(rt: &R, fault: &CommandFault<'_>) -> io::Result
         }
         CommandFault::SecondaryTwice(word) => {
             eprintln!(rt; "error: --notify takes a secondary once, and '{word}' is there already")?;
+        }
+        CommandFault::Take(word) => {
+            eprintln!(rt; "error: --take takes store or zone, and '{word}' is neither")?;
+        }
+        CommandFault::NoStore(option) => {
+            eprintln!(rt; "error: --{option} is for a store, and no --store is given")?;
         }
     }
     Ok(BAD_COMMAND)

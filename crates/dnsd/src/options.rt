@@ -6,6 +6,7 @@ ghost use Rattle.transfer_core.specs.declared.kept.TheConstants.{KEPT};
 
 use crate::command::{CommandFault, KEEP, MAX_KEEP, number_for, option};
 use crate::secondaries::{Secondary, secondaries_of, with_notify};
+use crate::store_options::{StorePlan, store_of, with_store};
 use clap::{ArgAction, ArgMatches, Command as Parser};
 use commands::Source;
 use dns_name::Name;
@@ -36,9 +37,11 @@ pub struct Serve<'a> {
     pub limits: Limits,
     /// The secondaries that are told of each version; a thread tells them.
     pub secondaries: Vec<Secondary>,
+    /// The folder in which updates last, if there is one.
+    pub store: Option<StorePlan<'a>>,
     ghost few_kept: { keep ≤ KEPT },
     ghost some_workers: { 0 < workers },
-    ghost few_threads: { workers * (vec_len listen + 1) ≤ 63 },
+    ghost few_threads: { workers * (vec_len listen + 1) ≤ 62 },
     ghost some_places: { 0 < places },
     ghost few_places: { places ≤ 100000 },
     ghost idle: { IsPatience limits.idle },
@@ -55,8 +58,8 @@ const WORKERS: &str = "workers";
 /// The most workers.
 const MAX_WORKERS: usize = 31;
 
-/// The most threads of all workers, since each has a reader of the zone's versions, and the engine has one more.
-pub const MAX_THREADS: usize = 63;
+/// The most threads of all workers, since each has a reader of the zone's versions; the engine has one more, and who judges updates another.
+pub const MAX_THREADS: usize = 62;
 
 /// The option for who may update and transfer.
 const ALLOW: &str = "allow";
@@ -99,7 +102,7 @@ pub fn serve_options<'a>(alloc: Global, parser: Parser<'a>) -> Result<Parser<'a>
         alloc,
         WORKERS,
         "N",
-        "how many workers there are, each with a thread for TCP and one for UDP of each address; at most 63 threads",
+        "how many workers there are, each with a thread for TCP and one for UDP of each address; at most 62 threads",
     )
     .default_value("4"))?;
     let parser = parser.arg(option(
@@ -122,7 +125,8 @@ pub fn serve_options<'a>(alloc: Global, parser: Parser<'a>) -> Result<Parser<'a>
         "N",
         "after how many datagrams and connections, together, a worker ends; else never",
     ))?;
-    with_bounds(alloc, with_notify(alloc, parser)?)
+    let parser = with_store(alloc, with_notify(alloc, parser)?)?;
+    with_bounds(alloc, parser)
 }
 
 /// The options that bound connections.
@@ -182,6 +186,7 @@ pub fn serve_of<'a>(
         1000,
     )?;
     let limits = limits_of(found)?;
+    let store = store_of(found)?;
     Ok(Serve {
         zone,
         origin,
@@ -193,12 +198,13 @@ pub fn serve_of<'a>(
         places,
         limits,
         secondaries,
+        store,
     })
 }
 
 /// The most threads of all workers, beside the one that tells secondaries, where there are any.
 fn threads_beside(secondaries: &[Secondary]) -> usize
-    ensures { result ≤ 63 }
+    ensures { result ≤ 62 }
 {
     if secondaries.is_empty() {
         MAX_THREADS

@@ -1,14 +1,8 @@
--- No version is published behind the first one.
-use Rattle.std.proofs.Common.{refl, ap}
-use Rattle.zone_tree.specs.Version.{Version}
+-- A server begins with the versions that it is given.
 use Rattle.dnsd.proofs.serve.serve_all.Goals as goal
 
-pub serve_zone-requires-clause-first : goal.serve_zone-requires-clause-first
-serve_zone-requires-clause-first g c = λ _ _. record {
-  number = ap (λ (v : Version). v.number) c.first-first.ensures;
-  zone = refl;
-  changes = ap (λ (v : Version). v.changes) c.first-first.ensures;
-}
+pub serve_zone-served-requires-clause-first : goal.serve_zone-served-requires-clause-first
+serve_zone-served-requires-clause-first g c = λ _ _. c.requires.0
 
-pub serve_zone-requires-clause-follow : goal.serve_zone-requires-clause-follow
-serve_zone-requires-clause-follow g c = λ _ _. rw c.new-later.ensures.items tt
+pub serve_zone-served-requires-clause-follow : goal.serve_zone-served-requires-clause-follow
+serve_zone-served-requires-clause-follow g c = λ _ _. c.requires.1
