@@ -44,17 +44,27 @@ class Served:
 
     def __init__(self, program, folder, zone, options):
         words = [program, "serve", "--listen", "127.0.0.1:0", "--store", folder, *options, zone]
-        self.process = subprocess.Popen(words, stderr=subprocess.PIPE, text=True)
-        self.said = []
+        said = ""
         while True:
-            line = self.process.stderr.readline()
-            if not line:
-                sys.exit(f"crash: the server doesn't run: {''.join(self.said)}")
-            self.said.append(line)
-            if line.startswith("listening on"):
+            self.process = subprocess.Popen(words, stderr=subprocess.PIPE, text=True)
+            line, said = self.listening()
+            if line:
                 break
+            # the port that the system picks for one transport may be taken for the other
+            if "another program listens there" not in said:
+                sys.exit(f"crash: the server doesn't run: {said}")
         self.port = int(line.split(": ")[0].rsplit(":", 1)[1])
         os.set_blocking(self.process.stderr.fileno(), False)
+
+    def listening(self):
+        """The line that tells the port, and what is told up to it; no line where the program ends before."""
+        said = ""
+        while line := self.process.stderr.readline():
+            said += line
+            if line.startswith("listening on"):
+                return line, said
+        self.process.wait()
+        return None, said
 
     def drain(self):
         try:
