@@ -6,7 +6,7 @@ use Rattle.std.proofs.lemmas.List.{append-nil, length-take-le, take_at, drop_at,
 use Rattle.dns_rdata.specs.Record.{Record}
 use Rattle.dns_rdata.specs.declared.numbers.Rcode.TheVariants.{NoError}
 use Rattle.wire_names.specs.Table.{Table, IsTable}
-use Rattle.wire_names.specs.declared.table.Entry.{Entry}
+use Rattle.wire_names.specs.Entry.{Entry}
 use Rattle.wire_names.specs.Written.{IsOverwritten}
 use Rattle.wire_names.proofs.OverwrittenLemmas.{length_stays, octets_are}
 use Rattle.dns_message.specs.Answers.{answers, filled, StopsTaking, PutsFirst, StopsBehind, Fills, placed, IsFull, HasBody}

@@ -10,7 +10,7 @@ use Rattle.dns_name.specs.Labels.{labels_in, IsFirstName}
 use Rattle.dns_name.proofs.FirstLemmas.{first_size, first_rest}
 use Rattle.dns_rdata.specs.Layout.{names_in}
 use Rattle.wire_names.specs.Table.{Table, IsTable, position_in}
-use Rattle.wire_names.specs.declared.table.Entry.{Entry}
+use Rattle.wire_names.specs.Entry.{Entry}
 use Rattle.wire_names.specs.Written.{IsOverwritten, WritesOctets, name_octets, pointer_to}
 use Rattle.wire_names.proofs.OverwrittenLemmas.{length_stays, octets_are, IsOverwritten-then}
 use Rattle.dns_message.specs.declared.query.Question.{Question}

@@ -3,7 +3,7 @@ use Rattle.std.proofs.Common.{◌≡◌, ℕ, ◌+◌, ◌<◌, ◌≤◌, List,
 use Rattle.std.proofs.Math.Path.{fun_ext}
 use Rattle.std.proofs.lemmas.List.{append-nil, at_drop_more, at_drop_all, take-append-drop, take-take}
 use Rattle.wire_names.specs.Table.{Table, IsTable, table_of}
-use Rattle.wire_names.specs.declared.table.Entry.{Entry}
+use Rattle.wire_names.specs.Entry.{Entry}
 use Rattle.wire_names.specs.Written.{IsOverwritten, WritesOctets}
 use Rattle.wire_names.proofs.OverwrittenLemmas.{length_stays, octets_are, front_stays, IsOverwritten-then}
 use Rattle.wire_names.proofs.TabledLemmas.{IsTableOf, IsTable-longer, table_goes_on}

@@ -9,7 +9,7 @@ use Rattle.dns_rdata.specs.declared.layout.Layout.TheVariants.{Fields, Strings, 
 use Rattle.dns_rdata.specs.Layout.{layout_of, names_in}
 use Rattle.dns_rdata.specs.Record.{Record}
 use Rattle.wire_names.specs.Table.{Table, keyed}
-use Rattle.wire_names.specs.declared.table.Entry.{Entry}
+use Rattle.wire_names.specs.Entry.{Entry}
 use Rattle.wire_names.specs.Written.{written, table_after}
 use Rattle.wire_names.proofs.TabledLemmas.{IsTableOf, after_name}
 use Rattle.dns_message.specs.declared.query.Question.{Question}

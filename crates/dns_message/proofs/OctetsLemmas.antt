@@ -6,7 +6,7 @@ use Rattle.std.specs.Int.{to_be_bytes, w16}
 use Rattle.dns_rdata.specs.Record.{Record}
 use Rattle.dns_rdata.specs.declared.numbers.Rcode.{Rcode}
 use Rattle.wire_names.specs.Table.{Table}
-use Rattle.wire_names.specs.declared.table.Entry.{Entry}
+use Rattle.wire_names.specs.Entry.{Entry}
 use Rattle.wire_names.specs.Written.{IsOverwritten}
 use Rattle.wire_names.proofs.OverwrittenLemmas.{length_stays, octets_are, IsOverwritten-then}
 use Rattle.dns_message.specs.Message.{Message}

@@ -1,7 +1,7 @@
 -- Tables that are true of a message.
 use Rattle.std.proofs.Common.{◌≡◌, ℕ, List, [], ◌++◌, take, refl, sym, ap, subst, ◌∙◌}
 use Rattle.wire_names.specs.Table.{Table, IsTable, table_of, keyed}
-use Rattle.wire_names.specs.declared.table.Entry.{Entry}
+use Rattle.wire_names.specs.Entry.{Entry}
 use Rattle.wire_names.specs.Written.{IsOverwritten}
 use Rattle.wire_names.proofs.TabledLemmas.{IsTableOf, IsTable-longer, IsTable-nothing, table_goes_on}
 use Rattle.dns_message.specs.Encoded.{IsTrueOf, IsEncoded}

@@ -2,7 +2,7 @@
 use Rattle.std.specs.Prelude.{◌≡◌, ℕ, ◌+◌, ◌<◌, ◌≤◌, true, false, List, [], ◌∷◌, ◌++◌, length, take, Option, Some, None, if◌then◌else◌}
 use Rattle.dns_rdata.specs.declared.numbers.Rcode.TheVariants.{NoError}
 use Rattle.dns_rdata.specs.Record.{Record}
-use Rattle.wire_names.specs.declared.table.Entry.{Entry}
+use Rattle.wire_names.specs.Entry.{Entry}
 use Rattle.dns_message.specs.Encoded.{WritesEncoding}
 use Rattle.dns_message.specs.Encoding.{Encoding, before, each}
 use Rattle.dns_message.specs.Message.{Message}

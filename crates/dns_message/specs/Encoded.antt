@@ -1,7 +1,7 @@
 -- What a write into a buffer leaves, and what a count of records tells.
 use Rattle.std.specs.Prelude.{◌≡◌, ℕ, ◌+◌, ◌^◌, ◌<◌, ◌≤◌, List, length, take, Option, Some, None}
 use Rattle.wire_names.specs.Table.{Table, IsTable, table_of, keyed}
-use Rattle.wire_names.specs.declared.table.Entry.{Entry}
+use Rattle.wire_names.specs.Entry.{Entry}
 use Rattle.wire_names.specs.Written.{IsOverwritten}
 use Rattle.dns_message.specs.Encoding.{Encoding}
 

@@ -75,11 +75,13 @@ pub fn write_reply_by(
             return len;
         }
     }
-    put_truncated(room, reply)
+    put_truncated(names, room, reply)
 }
 
-/// Writes a reply's header, question and OPT alone, with TC 1: how many octets they have (RFC 2181, 9; RFC 6891, 7).
-fn put_truncated(out: &mut [u8], reply: &Reply<'_>) -> usize
+/// Writes a reply's header, question and OPT alone, with TC 1: how many octets they have (RFC 2181, 9; RFC 6891, 7). It is a function of its
+/// own, since it is seldom called.
+#[inline(never)]
+fn put_truncated(names: &mut NameWriter, out: &mut [u8], reply: &Reply<'_>) -> usize
     requires least { MIN_LIMIT ≤ length out.old }
     requires most { length out.old ≤ MAX_LIMIT }
     ensures { IsOverwritten out.old out.new 0 (reply_octets (truncated (message_of reply.now))) result }
@@ -87,8 +89,8 @@ fn put_truncated(out: &mut [u8], reply: &Reply<'_>) -> usize
     let asked = u16::from(reply.question.is_some());
     let counts = [asked, 0, 0, u16::from(reply.opt.is_some())];
     let at = put_header(out, reply, true, counts).unwrap();
-    let mut names = NameWriter::new();
-    let next = put_questions(out, at, &mut names, reply.question).unwrap();
+    names.reset();
+    let next = put_questions(out, at, names, reply.question).unwrap();
     put_opt(out, next, reply.rcode, reply.opt).unwrap()
 }
 

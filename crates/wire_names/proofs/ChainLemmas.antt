@@ -2,12 +2,12 @@
 use Rattle.std.proofs.Common.{◌≡◌, ℕ, ◌+◌, ◌<◌, ◌≤◌, ◌⊎◌, inl, inr, List, [], ◌∷◌, ◌++◌, length, set, get_or, refl, sym, ap, subst, ◌∙◌, arith}
 use Rattle.std.proofs.lemmas.List.{get_or-set_same, get_or-set_other, length-set, get_or_append_left, length-append}
 use Rattle.std.proofs.lemmas.Bool.{cases_eq, cases_lt}
-use Rattle.wire_names.specs.declared.table.Entry.{Entry}
+use Rattle.wire_names.specs.Entry.{Entry}
 use Rattle.wire_names.specs.Chains.{IsNewest, AreChained, parent_at}
 
 -- the parent of an entry stays when one is entered behind
 parent_stays : (xs : List Entry) (x : Entry) (i : ℕ) → i < length xs → parent_at (xs ++ x ∷ []) i ≡ parent_at xs i
-parent_stays xs x i h = ap (λ (e : Entry). e.parent) (get_or_append_left xs (x ∷ []) (record { key = 0; position = 0; parent = 0 }) i h)
+parent_stays xs x i h = ap (λ (e : Entry). e.parent) (get_or_append_left xs (x ∷ []) (record { key = 0; position = 0; parent = 0; octets = [] }) i h)
 
 parent_last : (xs : List Entry) (x : Entry) → parent_at (xs ++ x ∷ []) (length xs) ≡ x.parent
 parent_last [] x = refl

@@ -6,6 +6,7 @@ use Rattle.std.proofs.lemmas.List.{length-append, length-drop, append_assoc, app
 use Rattle.std.proofs.lemmas.List.Elements.{All-nil, All-cons, All-head, All-tail, All-append}
 use Rattle.dns_name.specs.Name.{Name, wire_of}
 use Rattle.wire_names.specs.Chains.{parent_at}
+use Rattle.wire_names.specs.Entry.{long_octets}
 use Rattle.wire_names.specs.Table.{Entry, Table, first_key, parent_of, index_from, entry_of, keyed, entered, position_in, positions_in, same_spelling}
 use Rattle.wire_names.specs.Written.{starts_of, CanEnter}
 use Rattle.wire_names.proofs.ParentLemmas.{nowhere, index_step, spelt_true, spelt_false, step, unfound}
@@ -140,7 +141,7 @@ entering_label entries final place k m last names name label e a b =
     subst (λ (n : ℕ). Entering entries final place (label ∷ name) n last) b (subst (λ (ns : Name). Entering entries final place ns k last) a e)
 
 -- one more label is entered
-module _ (entries next : List Entry) (final : Table) (place there key parent m last len : ℕ) (label : List ℕ) (name : Name) (room more : Bool) (e : Entering entries final place (label ∷ name) (suc m) last) (room_is : room ≡ (nat_lt (length entries + 0) 256 && nat_le place 16383)) (fits : room ≡ true) (there_is : there ≡ place + 1 + length label) (key_is : key ≡ first_key (label ∷ name)) (next_is : next ≡ entries ++ record { key = key; position = place; parent = parent } ∷ []) where
+module _ (entries next : List Entry) (final : Table) (place there key parent m last len : ℕ) (octets label : List ℕ) (name : Name) (room more : Bool) (e : Entering entries final place (label ∷ name) (suc m) last) (room_is : room ≡ (nat_lt (length entries + 0) 256 && nat_le place 16383)) (fits : room ≡ true) (there_is : there ≡ place + 1 + length label) (key_is : key ≡ first_key (label ∷ name)) (octets_are : octets ≡ wire_of (label ∷ name)) (next_is : next ≡ entries ++ record { key = key; position = place; parent = parent; octets = long_octets octets } ∷ []) where
   zero_end : (n : ℕ) → n + 0 ≡ n
   zero_end n = omega arith
 
@@ -217,9 +218,10 @@ module _ (entries next : List Entry) (final : Table) (place there key parent m l
   pub entering_next : parent ≡ parent_of final name → Entering next final there name m last
   entering_next p = record {
     table = put;
-    is = next_is ∙ ap (λ (xs : List Entry). xs ++ record { key = key; position = place; parent = parent } ∷ []) e.is
-        ∙ ap (λ (k : ℕ). entries_by final e.table ++ record { key = k; position = place; parent = parent } ∷ []) key_is
-        ∙ ap (λ (q : ℕ). entries_by final e.table ++ record { key = first_key (label ∷ name); position = place; parent = q } ∷ []) p
+    is = next_is ∙ ap (λ (xs : List Entry). xs ++ record { key = key; position = place; parent = parent; octets = long_octets octets } ∷ []) e.is
+        ∙ ap (λ (k : ℕ). entries_by final e.table ++ record { key = k; position = place; parent = parent; octets = long_octets octets } ∷ []) key_is
+        ∙ ap (λ (q : ℕ). entries_by final e.table ++ record { key = first_key (label ∷ name); position = place; parent = q; octets = long_octets octets } ∷ []) p
+        ∙ ap (λ (xs : List ℕ). entries_by final e.table ++ record { key = first_key (label ∷ name); position = place; parent = parent_of final name; octets = long_octets xs } ∷ []) octets_are
         ∙ sym (map-append (entry_of final) e.table (own ∷ []));
     final_is = final_put;
     new = λ j h. ap (reduce min) (nowhere put (drop j name) (new_put j h));
@@ -236,7 +238,7 @@ closed_same table final name more closed = elim (cases_lt (parent_of table name)
 same_by : (table final xs : Table) → All (λ e. parent_of table (drop 1 e.1) ≡ parent_of final (drop 1 e.1)) xs → map (entry_of table) xs ≡ entries_by final xs
 same_by table final [] all = refl
 same_by table final (x ∷ xs) all =
-    ap (λ (p : ℕ). record { key = first_key x.1; position = x.0; parent = p } ∷ map (entry_of table) xs) (All-head (λ (e : ℕ × Name). parent_of table (drop 1 e.1) ≡ parent_of final (drop 1 e.1)) x xs all)
+    ap (λ (p : ℕ). record { key = first_key x.1; position = x.0; parent = p; octets = long_octets (wire_of x.1) } ∷ map (entry_of table) xs) (All-head (λ (e : ℕ × Name). parent_of table (drop 1 e.1) ≡ parent_of final (drop 1 e.1)) x xs all)
     ∙ ap (λ (ys : List Entry). entry_of final x ∷ ys) (same_by table final xs (All-tail (λ (e : ℕ × Name). parent_of table (drop 1 e.1) ≡ parent_of final (drop 1 e.1)) x xs all))
 
 past_if : (t : Bool) (at : ℕ) → 16383 < at → (t && nat_le at 16383) ≡ false
@@ -256,7 +258,7 @@ entering_first entries table at m last name can =
     record {
       table = table;
       is = can.entries_are ∙ same_by table final table (λ k d h. closed_same table final (drop 1 (get_or table k d).1) (entered_more table (take m (starts_of at name))) (λ high.
-          let here : parent_at entries k ≡ parent_of table (drop 1 (get_or table k d).1) = ap (λ (xs : List Entry). parent_at xs k) can.entries_are ∙ ap (λ (x : Entry). x.parent) (get_or-map (entry_of table) table k d (record { key = 0; position = 0; parent = 0 }) h) in
+          let here : parent_at entries k ≡ parent_of table (drop 1 (get_or table k d).1) = ap (λ (xs : List Entry). parent_at xs k) can.entries_are ∙ ap (λ (x : Entry). x.parent) (get_or-map (entry_of table) table k d (record { key = 0; position = 0; parent = 0; octets = [] }) h) in
           let full = can.closed k (omega arith) (omega arith) in
           let size : (length table ≡ 256) ⊎ (16383 < at) = elim full [ inl a ↦ inl (omega arith) | inr b ↦ inr b ] in
           stuck table at m name (room_past table at size)));

@@ -11,7 +11,7 @@ use Rattle.wire_names.proofs.TableLemmas.{target_spells}
 
 -- an entry that stands for none
 abbrev pub no_entry : Entry
-no_entry = record { key = 0; position = 0; parent = 0 }
+no_entry = record { key = 0; position = 0; parent = 0; octets = [] }
 
 pub is_entry : (msg : List ℕ) (xs : List Entry) (i : ℕ) (x : Entry) → IsTable msg xs → i < length xs → x ≡ get_or xs i no_entry → IsEntry msg x
 is_entry msg xs i x table h e = subst (IsEntry msg) (sym e) (table.targets i no_entry h)

@@ -9,6 +9,7 @@ pub mod GrammarLemmas
 pub mod IndexLemmas
 pub mod KeyLemmas
 pub mod LeadsLemmas
+pub mod LongLemmas
 pub mod LongerLemmas
 pub mod LongestLemmas
 pub mod OverwrittenLemmas
@@ -17,7 +18,6 @@ pub mod PassLemmas
 pub mod PlaceLemmas
 pub mod PlainLemmas
 pub mod ReadLemmas
-pub mod RunLemmas
 pub mod StartLemmas
 pub mod TableLemmas
 pub mod TabledLemmas

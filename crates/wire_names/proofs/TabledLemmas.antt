@@ -8,7 +8,7 @@ use Rattle.std.proofs.lemmas.List.{append_assoc, length-append, length-map, get_
 use Rattle.std.proofs.lemmas.List.Elements.{All-nil, All-cons, All-head, All-tail, All-append}
 use Rattle.dns_name.specs.Name.{Name, wire_of, IsName}
 use Rattle.wire_names.specs.Chains.{parent_at}
-use Rattle.wire_names.specs.Table.{Entry, Table, index_from, same_spelling, IsTable, IsEntry, AreEntries, IsClosed, AreInRuns, Follows, first_length, parent_of, entry_of, keyed, enter, entered, position_in, spelt_at, table_of}
+use Rattle.wire_names.specs.Table.{Entry, Table, index_from, same_spelling, IsTable, IsEntry, AreEntries, IsClosed, parent_of, entry_of, keyed, enter, entered, position_in, spelt_at, table_of}
 use Rattle.wire_names.specs.Written.{IsOverwritten, new_entries, written, table_after, starts_of, CanEnter}
 use Rattle.wire_names.proofs.EnterLemmas.{parent_stays, index_behind, past, IsMore, entered_more, absent, parent_other, has_room, longer_apart, stuck, room_past}
 use Rattle.wire_names.proofs.EntryLemmas.{entries_none, entries_some}
@@ -41,7 +41,6 @@ IsTable-longer msg more entries table =
       apart = subst AreApart (sym same) table.apart;
       entries_are = table.entries_are ∙ ap keyed (sym same);
       closed = λ i h high. let c = table.closed i h high in (c.0, elim (c.1) [ inl a ↦ inl a | inr b ↦ inr (omega arith) ]);
-      runs = subst AreInRuns (sym same) table.runs;
     }
 
 pub IsTable-nothing : (msg : List ℕ) → IsTable msg []
@@ -51,7 +50,6 @@ IsTable-nothing msg = record {
   apart = λ i j d lt h. absurd (omega arith);
   entries_are = refl;
   closed = λ i h. absurd (omega arith);
-  runs = λ i d h. absurd (omega arith);
 }
 
 -- each entry of a table is read at its position, which a pointer can name
@@ -75,8 +73,8 @@ targets_by msg table (x ∷ xs) all =
     (record { target = record { low = first.low; read = first.read.reads.read }; label = first.read.label })
     (targets_by msg table xs (All-tail (IsNamed msg) x xs all))
 
-pub tabled : (msg : List ℕ) (table : Table) → length table ≤ 256 → All (IsNamed msg) table → AreApart table → IsClosed msg (keyed table) → AreInRuns table → IsTableOf msg (keyed table) table
-tabled msg table few all apart closed runs =
+pub tabled : (msg : List ℕ) (table : Table) → length table ≤ 256 → All (IsNamed msg) table → AreApart table → IsClosed msg (keyed table) → IsTableOf msg (keyed table) table
+tabled msg table few all apart closed =
     let same = names_by msg table table all in
     let many = length-map table (entry_of table) in
     record {
@@ -86,7 +84,6 @@ tabled msg table few all apart closed runs =
         apart = subst AreApart (sym same) apart;
         entries_are = ap keyed (sym same);
         closed = closed;
-        runs = subst AreInRuns (sym same) runs;
       };
       is = same;
     }
@@ -158,42 +155,6 @@ entered_apart (suc m) place (label ∷ name) table apart new =
     (entered_apart m (place + 1 + length label) name (table ++ (place, label ∷ name) ∷ [])
     (apart_more table (place, label ∷ name) apart (absent table (label ∷ name) (new 0 (omega arith)))) (new_rest table place label name m new))
     (entered_apart m (place + 1 + length label) name table apart (λ j h. new (suc j) (omega arith)))
-
--- names follow each other where another is entered that follows the last
-runs_more : (xs : Table) (y : ℕ × Name) → AreInRuns xs → ((i : ℕ) (d : ℕ × Name) → i + 1 ≡ length xs → Follows (get_or xs i d) y) → AreInRuns (xs ++ y ∷ [])
-runs_more xs y runs last i d h =
-    let both = length-append xs (y ∷ []) in
-    let put = xs ++ y ∷ [] in
-    let here : get_or put i d ≡ get_or xs i d = get_or_append_left xs (y ∷ []) d i (omega arith) in
-    elim (cases_lt (i + 1) (length xs)) [
-      | inl low ↦ (let next : get_or put (i + 1) d ≡ get_or xs (i + 1) d = get_or_append_left xs (y ∷ []) d (i + 1) low in
-          subst (λ (z : ℕ × Name). Follows z (get_or put (i + 1) d)) (sym here) (subst (Follows (get_or xs i d)) (sym next) (runs i d low)))
-      | inr high ↦ (let end : i + 1 ≡ length xs = omega arith in
-          let next : get_or put (i + 1) d ≡ y = ap (λ (n : ℕ). get_or put n d) end ∙ get_or-append_seam xs y [] d in
-          subst (λ (z : ℕ × Name). Follows z (get_or put (i + 1) d)) (sym here) (subst (Follows (get_or xs i d)) (sym next) (last i d end)))
-    ]
-
--- the last name of a table is followed by one at a place, where that is entered
-abbrev IsFollowed : Table → ℕ → Name → Type 0
-IsFollowed table place name = (i : ℕ) (d : ℕ × Name) → i + 1 ≡ length table → has_room table place ≡ true → Follows (get_or table i d) (place, name)
-
-runs_if : (b : Bool) (m place : ℕ) (label : List ℕ) (name : Name) (table : Table) → has_room table place ≡ b → AreInRuns table → IsFollowed table place (label ∷ name) → (AreInRuns (table ++ (place, label ∷ name) ∷ []) → IsFollowed (table ++ (place, label ∷ name) ∷ []) (place + 1 + length label) name → AreInRuns (entered (λ e. e.0) (table ++ (place, label ∷ name) ∷ []) (take m (starts_of (place + 1 + length label) name)))) → AreInRuns (entered (λ e. e.0) table (take (suc m) (starts_of place (label ∷ name))))
-runs_if false m place label name table e runs last rest = subst AreInRuns (sym (stuck table place (suc m) (label ∷ name) e)) runs
-runs_if true m place label name table e runs last rest =
-    let put = table ++ (place, label ∷ name) ∷ [] in
-    let both = length-append table ((place, label ∷ name) ∷ []) in
-    let on = ap (λ (t : Bool). entered (λ e. e.0) (cond t put table) (take m (starts_of (place + 1 + length label) name))) e in
-    subst AreInRuns (sym on)
-    (rest (runs_more table (place, label ∷ name) runs (λ i d h. last i d h e)) (λ i d h room same.
-    let end : i ≡ length table = omega arith in
-    let here : get_or put i d ≡ (place, label ∷ name) = ap (λ (n : ℕ). get_or put n d) end ∙ get_or-append_seam table (place, label ∷ name) [] d in
-    ap (λ (z : ℕ × Name). z.0 + 1 + first_length z.1) (sym here)))
-
-entered_runs : (m place : ℕ) (name : Name) (table : Table) → AreInRuns table → IsFollowed table place name → AreInRuns (entered (λ e. e.0) table (take m (starts_of place name)))
-entered_runs zero place name table runs last = runs
-entered_runs (suc m) place [] table runs last = runs
-entered_runs (suc m) place (label ∷ name) table runs last =
-    runs_if (has_room table place) m place label name table refl runs last (entered_runs m (place + 1 + length label) name (table ++ (place, label ∷ name) ∷ []))
 
 -- a name is found, or no entry spells it
 found_or : (n : ℕ) (table : Table) (name : Name) → n + length table ≤ 256 → (index_from n table name < 258) ⊎ All (λ other. other.1 ≢ name) table
@@ -369,7 +330,7 @@ module _ (msg : List ℕ) (xs : List Entry) (name : Name) (table : IsTable msg x
   below_new = subst (All (λ (y : ℕ × Name). y.0 < length (msg ++ text))) (front.is (length msg)) (λ k d h. read_below (msg ++ text) _ _ (read_new k d h).reads)
 
   keyed_at : (i : ℕ) (d : ℕ × Name) (t : Table) → i < length t → parent_at (keyed t) i ≡ parent_of t (drop 1 (get_or t i d).1)
-  keyed_at i d t h = ap (λ (x : Entry). x.parent) (get_or-map (entry_of t) t i d (record { key = 0; position = 0; parent = 0 }) h)
+  keyed_at i d t h = ap (λ (x : Entry). x.parent) (get_or-map (entry_of t) t i d (record { key = 0; position = 0; parent = 0; octets = [] }) h)
 
   full_table : (i : ℕ) → i < length old → 258 ≤ parent_of old (drop 1 (get_or old i (0, [])).1) → (i + 1 ≡ length old) × ((length old ≡ 256) ⊎ (16383 < length msg))
   full_table i h high =
@@ -378,24 +339,6 @@ module _ (msg : List ℕ) (xs : List Entry) (name : Name) (table : IsTable msg x
       let c = table.closed i (omega arith) (omega arith) in
       let size = c.0 in
       (omega arith, elim (c.1) [ inl a ↦ inl (omega arith) | inr b ↦ inr b ])
-
-  -- where the name behind the first label of the last entry is new, no more is entered
-  followed : 0 < front.k → IsFollowed old (length msg) name
-  followed some i d end room same =
-      let few = front.few in
-      let none = absent_if msg xs name table (omega arith) (front.new 0 some) in
-      let inside : i < length old = omega arith in
-      let here : get_or old i (0, []) ≡ get_or old i d = get_or_default old i (0, []) d inside in
-      let own : parent_of old (drop 1 (get_or old i (0, [])).1) ≡ parent_of old name = ap (λ (z : ℕ × Name). parent_of old (drop 1 z.1)) here ∙ ap (parent_of old) same in
-      let full = room_past old (length msg) (full_table i inside (omega arith)).1 in
-      cc
-
-  runs_after : AreInRuns after
-  runs_after = elim (cases_lt 0 front.k) [
-    | inl some ↦ subst AreInRuns (sym after_is) (entered_runs front.k (length msg) name old table.runs (followed some))
-    | inr none ↦ (let nothing : front.k ≡ 0 = omega arith in
-        subst AreInRuns (sym (after_is ∙ ap (λ (k : ℕ). entered (λ e. e.0) old (take k (starts_of (length msg) name))) nothing)) table.runs)
-  ]
 
   closed_after : IsClosed (msg ++ text) (keyed after)
   closed_after i h high =
@@ -431,7 +374,6 @@ module _ (msg : List ℕ) (xs : List Entry) (name : Name) (table : IsTable msg x
       (entered_all (IsNamed (msg ++ text)) old (new_entries old (length msg) name) (named_by msg text xs table.targets) named_new)
       (subst AreApart (sym after_is) (entered_apart front.k (length msg) name old table.apart front.new))
       closed_after
-      runs_after
 
 -- what a name that is written leaves of the table
 pub after_name : (compress : Bool) (msg : List ℕ) (xs : List Entry) (name : Name) → IsTable msg xs → IsName name → IsTableOf (msg ++ written compress (table_of msg xs) name) (keyed (table_after compress (table_of msg xs) (length msg) name)) (table_after compress (table_of msg xs) (length msg) name)

@@ -1,10 +1,10 @@
 -- Chains of the entries of a table that have one parent, the newest first.
-use Rattle.std.specs.Prelude.{◌≡◌, ℕ, ◌<◌, ◌≤◌, ◌⊎◌, List, length, slice_index_or}
-use Rattle.wire_names.specs.declared.table.Entry.{Entry}
+use Rattle.std.specs.Prelude.{◌≡◌, ℕ, ◌<◌, ◌≤◌, ◌⊎◌, List, [], length, slice_index_or}
+use Rattle.wire_names.specs.Entry.{Entry}
 
 -- the parent of the entry at an index
 abbrev pub parent_at : List Entry → ℕ → ℕ
-parent_at entries i = (slice_index_or entries i (record { key = 0; position = 0; parent = 0 })).parent
+parent_at entries i = (slice_index_or entries i (record { key = 0; position = 0; parent = 0; octets = [] })).parent
 
 -- among so many of the first entries, the newest that has a parent is at an index; none has it where this is 256 (own)
 pub record IsNewest (entries : List Entry) (parent count index : ℕ) : Type 0 where

@@ -1,11 +1,12 @@
 pub mod Chains
 pub mod Cut
+pub mod Entry
 pub mod Examples
 pub mod Leads
+pub mod Long
 pub mod NameAt
 pub mod Parts
 pub mod Place
-pub mod Runs
 pub mod Sizes
 pub mod Spells
 pub mod Starts

@@ -7,7 +7,8 @@ use Rattle.dns_name.specs.Name.{Name, wire_of}
 use Rattle.wire_names.specs.NameAt.{name_at}
 use Rattle.wire_names.specs.Parts.{part_at}
 use Rattle.wire_names.specs.declared.part.Part.TheVariants.{Label}
-pub use Rattle.wire_names.specs.declared.table.Entry.{Entry}
+use Rattle.wire_names.specs.Entry.{long_octets}
+pub use Rattle.wire_names.specs.Entry.{Entry}
 use Rattle.wire_names.specs.Chains.{parent_at}
 
 -- the table: positions of a message, each with the name that is spelt there, in the order in which they were entered
@@ -82,12 +83,13 @@ abbrev pub parent_of : Table → Name → ℕ
 parent_of table [] = 257
 parent_of table (label ∷ name) = index_from 0 table (label ∷ name)
 
--- the entry of a position with its name: the key of its first label, and the parent behind that label (own)
+-- the entry of a position with its name: the key of its first label, the parent behind that label, and its octets where they are many (own)
 abbrev pub entry_of : Table → ℕ × Name → Entry
 entry_of table named = record {
   key = first_key named.1;
   position = named.0;
   parent = parent_of table (drop 1 named.1);
+  octets = long_octets (wire_of named.1);
 }
 
 -- the entries of a table
@@ -127,19 +129,6 @@ AreEntries msg entries = All (IsEntry msg) entries
 abbrev pub IsClosed : List ℕ → List Entry → Type 0
 IsClosed msg entries = (i : ℕ) → i < length entries → 258 ≤ parent_at entries i → (i + 1 ≡ length entries) × ((length entries ≡ 256) ⊎ (16383 < length msg))
 
--- how many octets the first label of a name has; 0 where it has none
-abbrev pub first_length : Name → ℕ
-first_length [] = 0
-first_length (label ∷ name) = length label
-
--- a name that is spelt behind the first label of another one, the next in a table, stands behind that label (own)
-abbrev pub Follows : ℕ × Name → ℕ × Name → Type 0
-Follows named next = drop 1 named.1 ≡ next.1 → next.0 ≡ named.0 + 1 + first_length named.1
-
--- so does each that is the next one (own)
-abbrev pub AreInRuns : Table → Type 0
-AreInRuns table = (i : ℕ) (d : ℕ × Name) → i + 1 < length table → Follows (slice_index_or table i d) (slice_index_or table (i + 1) d)
-
 -- positions of a message that make a table: each name is spelt at one of them alone, and each entry is the one of its position
 pub record IsTable (msg : List ℕ) (entries : List Entry) : Type 0 where
   pub few : length entries ≤ 256
@@ -147,11 +136,10 @@ pub record IsTable (msg : List ℕ) (entries : List Entry) : Type 0 where
   pub apart : AllPairs (λ named other. named.1 ≢ other.1) (table_of msg entries)
   pub entries_are : entries ≡ keyed (table_of msg entries)
   pub closed : IsClosed msg entries
-  pub runs : AreInRuns (table_of msg entries)
 
 -- the position of the entry at an index
 abbrev pub place_at : List Entry → ℕ → ℕ
-place_at entries i = (slice_index_or entries i (record { key = 0; position = 0; parent = 0 })).position
+place_at entries i = (slice_index_or entries i (record { key = 0; position = 0; parent = 0; octets = [] })).position
 
 -- a name is spelt at the position at an index of a table
 pub record IsSpelt (msg : List ℕ) (entries : List Entry) (name : Name) (index : ℕ) : Type 0 where

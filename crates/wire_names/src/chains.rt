@@ -3,7 +3,7 @@
 //! Names can be chosen at will, so a number that is made of labels can be the same for many of them. A chain has the entries of one parent
 //! alone: where the labels of a name are sought one behind the other, all their chains together have each entry once at most.
 ghost use Rattle.std.specs.Prelude.{◌≡◌, ◌+◌, ◌<◌, ◌≤◌, ◌++◌, ◌∷◌, [], ◌⊎◌, List, length, slice_index_or};
-ghost use Rattle.wire_names.specs.declared.table.Entry.{Entry};
+ghost use Rattle.wire_names.specs.Entry.{Entry};
 ghost use Rattle.wire_names.specs.Chains.{AreChained};
 
 use crate::table::MAX_POSITIONS;

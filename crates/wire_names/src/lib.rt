@@ -6,6 +6,7 @@
 mod chains;
 mod key;
 mod laws;
+mod long;
 mod message;
 mod part;
 mod pass;

@@ -1,16 +1,18 @@
 //! The names of a message that pointers can name.
-ghost use Rattle.std.specs.Prelude.{◌≡◌, ℕ, ◌+◌, ◌-◌, ◌*◌, ◌/◌, ◌%◌, ◌<◌, ◌≤◌, ◌^◌, ◌↔◌, ◌⊎◌, ◌++◌, ◌∷◌, ◌&&◌, [], nat_lt, nat_le, length, take, drop, IsTrue, IfSome, IsNone, MatchOption, slice_index_or};
+ghost use Rattle.std.specs.Prelude.{◌≡◌, ℕ, ◌+◌, ◌-◌, ◌*◌, ◌/◌, ◌%◌, ◌<◌, ◌≤◌, ◌^◌, ◌↔◌, ◌⊎◌, ◌++◌, ◌∷◌, ◌&&◌, [], nat_lt, nat_le, List, length, take, drop, IsTrue, IfSome, IsNone, MatchOption, slice_index_or};
 ghost use Rattle.std.specs.Bool.{OnTrue};
 ghost use Rattle.dns_name.specs.Labels.{labels_in, IsWhole};
 ghost use Rattle.wire_names.specs.Chains.{parent_at};
 ghost use Rattle.wire_names.specs.Place.{IsKnown};
-ghost use Rattle.wire_names.specs.Runs.{IsRun, IsBehind};
+ghost use Rattle.wire_names.specs.Entry.{long_octets};
+ghost use Rattle.wire_names.specs.Long.{head_of};
 ghost use Rattle.wire_names.specs.Spells.{Spells};
-ghost use Rattle.wire_names.specs.Table.{Entry, Table, IsTable, IsLabelAt, IsSpelt, HasNoChild, IsChild, spelt_at, keyed, entered};
+ghost use Rattle.wire_names.specs.Table.{Entry, Table, IsTable, IsLabelAt, IsSpelt, HasNoChild, IsChild, first_key, spelt_at, keyed, entered};
 ghost use Rattle.wire_names.specs.Written.{starts_of, CanEnter};
 
 use crate::chains::{Chains, ROOT, UNKNOWN};
 use crate::key::first_key;
+use crate::long::{FEW_OCTETS, Long};
 use crate::part::{Part, differ, label_at, part_at};
 use arrayvec::ArrayVec;
 use dns_name::first_label;
@@ -34,35 +36,37 @@ const SPREAD: u32 = 2_654_435_761;
 /// How many keys in a row have one mark.
 const KEYS_OF_A_MARK: u32 = 524_288;
 
-/// A position of a message where a name begins, the key of the name's first label, and its parent: the index of the entry that spells the
-/// name behind that label, or the root, or what no entry spells.
+/// The head of an entry: a position of a message where a name begins, the key of the name's first label, and its parent: the index of the
+/// entry that spells the name behind that label, or the root, or what no entry spells.
 #[derive(Clone, Copy, Default)]
-pub(crate) struct Entry {
+pub(crate) struct Head {
     pub(crate) key: u32,
     pub(crate) position: u16,
     pub(crate) parent: u16,
 }
 
-/// The entries of a table, in the order in which they were entered, chained by their parents. Contracts see the list of them. The key of each
-/// is marked, so that most often one mark tells that no entry has a label.
+/// The entries of a table, in the order in which they were entered, chained by their parents: their heads, and their octets where these are
+/// many. Contracts see the list of them. The key of each is marked, so that most often one mark tells that no entry has a label.
 #[derive(Drop)]
 pub(crate) struct Positions {
-    entries: ArrayVec<Entry, MAX_POSITIONS>,
+    heads: ArrayVec<Head, MAX_POSITIONS>,
+    longs: [Long; MAX_POSITIONS],
     chains: Chains,
     marks: [bool; MARKS],
 }
 
 impl Model for Positions {
     ghost use Rattle.std.specs.Prelude.{List};
-    ghost use Rattle.wire_names.specs.declared.table.Entry.{Entry};
+    ghost use Rattle.wire_names.specs.Entry.{Entry};
     ghost use Rattle.wire_names.specs.Chains.{AreChained};
+    ghost use Rattle.wire_names.specs.Long.{entries_with};
     ghost use Rattle.wire_names.specs.Table.{AreMarked};
 
     ghost Value = { List Entry };
 
-    ghost view = { λ a. a.entries.items };
+    ghost view = { λ a. entries_with a.heads.items a.longs };
 
-    ghost invariant = { λ a. AreChained a.entries.items a.chains.newest a.chains.older × AreMarked a.entries.items a.marks };
+    ghost invariant = { λ a. AreChained (entries_with a.heads.items a.longs) a.chains.newest a.chains.older × AreMarked (entries_with a.heads.items a.longs) a.marks };
 }
 
 impl Positions {
@@ -71,7 +75,8 @@ impl Positions {
         ensures { result ≡ [] }
     {
         Positions {
-            entries: ArrayVec::new(),
+            heads: ArrayVec::new(),
+            longs: [Long::NONE; MAX_POSITIONS],
             chains: Chains::new(),
             marks: [false; MARKS],
         }
@@ -81,39 +86,54 @@ impl Positions {
     pub(crate) fn clear(&mut self)
         ensures { self.new ≡ [] }
     {
-        if self.entries.len() > FEW {
+        if self.heads.len() > FEW {
             unmark(&mut self.marks);
         }
-        self.entries.clear();
+        self.heads.clear();
         self.chains.clear();
     }
 
     /// How many entries there are.
+    #[tactic(auto, using(crate::proofs::LongLemmas::entries_many))]
     pub(crate) fn count(&self) -> usize
         ensures is { result ≡ length self.now }
         ensures few { result ≤ MAX_POSITIONS }
     {
-        self.entries.len()
+        self.heads.len()
     }
 
-    /// The entry at an index.
-    pub(crate) fn entry(&self, i: usize) -> Entry
+    /// The head of the entry at an index.
+    #[tactic(auto, using(crate::proofs::LongLemmas::entries_many))]
+    pub(crate) fn head(&self, i: usize) -> Head
         requires { i < length self.now }
-        ensures { (d : Entry) → result ≡ slice_index_or self.now i d }
+        ensures { (d : Entry) → result ≡ head_of (slice_index_or self.now i d) }
     {
-        self.entries[i]
+        self.heads[i]
+    }
+
+    /// The octets of the name that the entry at an index spells, where they are many; else, or where there is no such entry, none.
+    #[tactic(auto, using(crate::proofs::LongLemmas::entries_many))]
+    pub(crate) fn long(&self, index: usize) -> &[u8]
+        ensures { index < length self.now → (d : Entry) → result.now ≡ (slice_index_or self.now index d).octets }
+    {
+        if index < self.heads.len() {
+            return self.longs[index].octets();
+        }
+        &[]
     }
 
     /// How many octets the name takes behind the first label of the last entry, where no entry spells it.
+    #[tactic(auto, using(crate::proofs::LongLemmas::entries_many))]
     pub(crate) fn part(&self) -> Option<usize>
         ensures none { IsNone result → 0 < length self.now → parent_at self.now (length self.now - 1) < 258 }
         ensures some { IfSome result (λ size. (0 < length self.now) × (parent_at self.now (length self.now - 1) ≡ 258 + size)) }
     {
-        let index = self.entries.len().checked_sub(1)?;
-        usize::from(self.entry(index).parent).checked_sub(UNKNOWN)
+        let index = self.heads.len().checked_sub(1)?;
+        usize::from(self.head(index).parent).checked_sub(UNKNOWN)
     }
 
     /// The index of the newest entry that has this parent, where it begins with the first label of the name in these octets.
+    #[tactic(auto, using(crate::proofs::LongLemmas::entries_many))]
     pub(crate) fn newest_child(&self, msg: &[u8], octets: &[u8], parent: usize) -> Option<usize>
         requires table { IsTable msg.now self.now }
         requires whole { IsWhole octets.now }
@@ -122,13 +142,14 @@ impl Positions {
         ensures { IfSome result (IsChild msg.now self.now parent (labels_in octets.now)) }
     {
         let i = self.chains.newest_of(parent);
-        if i < self.entries.len() && begins_with(msg, usize::from(self.entry(i).position), octets) {
+        if i < self.heads.len() && begins_with(msg, usize::from(self.head(i).position), octets) {
             return Some(i);
         }
         None
     }
 
     /// The index of the entry that has this parent, and begins with the first label of the name in these octets.
+    #[tactic(auto, using(crate::proofs::LongLemmas::entries_many))]
     pub(crate) fn child(&self, msg: &[u8], octets: &[u8], parent: usize) -> Option<usize>
         requires table { IsTable msg.now self.now }
         requires whole { IsWhole octets.now }
@@ -137,13 +158,13 @@ impl Positions {
         ensures { MatchOption result (HasNoChild msg.now self.now parent (labels_in octets.now)) (IsChild msg.now self.now parent (labels_in octets.now)) }
     {
         let key = first_key(octets);
-        if self.entries.len() > FEW && !self.marks[mark_of(key)] {
+        if self.heads.len() > FEW && !self.marks[mark_of(key)] {
             return None;
         }
         let mut i = self.chains.newest_of(parent);
-        while i < self.entries.len() {
-            let entry = self.entry(i);
-            if entry.key == key && begins_with(msg, usize::from(entry.position), octets) {
+        while i < self.heads.len() {
+            let head = self.head(i);
+            if head.key == key && begins_with(msg, usize::from(head.position), octets) {
                 return Some(i);
             }
             i = self.chains.older_than(i);
@@ -152,135 +173,52 @@ impl Positions {
     }
 
     /// The index of the last entry, where it spells the name in these octets.
+    #[tactic(auto, using(crate::proofs::LongLemmas::entries_many))]
     pub(crate) fn last_spells(&self, msg: &[u8], octets: &[u8]) -> Option<usize>
         requires table { IsTable msg.now self.now }
         requires whole { IsWhole octets.now }
         ensures some { IfSome result (IsSpelt msg.now self.now (labels_in octets.now)) }
         ensures none { IsNone result → IsSpelt msg.now self.now (labels_in octets.now) (length self.now - 1) → ⊥ }
     {
-        let index = self.entries.len().checked_sub(1)?;
-        if spells(msg, usize::from(self.entry(index).position), octets) {
+        let index = self.heads.len().checked_sub(1)?;
+        if spells(msg, usize::from(self.head(index).position), octets) {
             return Some(index);
         }
         None
     }
 
     /// Whether these very octets stand at the position at an index, or, where pointers are followed, the name in them is spelt there.
+    #[tactic(auto, using(crate::proofs::LongLemmas::entries_many))]
     pub(crate) fn stands(&self, msg: &[u8], octets: &[u8], index: usize, follows: bool) -> bool
         requires table { IsTable msg.now self.now }
         requires whole { IsWhole octets.now }
         ensures { OnTrue result (IsSpelt msg.now self.now (labels_in octets.now) index) }
     {
-        if index >= self.entries.len() {
+        if index >= self.heads.len() {
             return false;
         }
-        is_there(
-            msg,
-            usize::from(self.entry(index).position),
-            octets,
-            follows,
-        )
+        is_there(msg, usize::from(self.head(index).position), octets, follows)
     }
 
     /// The parent of the entry at an index; where there is no such entry, one that is none either.
+    #[tactic(auto, using(crate::proofs::LongLemmas::entries_many))]
     pub(crate) fn parent_of(&self, index: usize) -> usize {
-        if index < self.entries.len() {
-            return usize::from(self.entry(index).parent);
+        if index < self.heads.len() {
+            return usize::from(self.head(index).parent);
         }
         UNKNOWN
     }
 
-    /// Whether this is the number, as a parent, of the name in these octets: its labels are compared with those of the entries, from the
-    /// first on, and those behind the last entry, where no entry spells them, with those of the message.
-    #[inline(never)]
-    pub(crate) fn is_parent(&self, msg: &[u8], octets: &[u8], index: usize) -> bool
-        requires table { IsTable msg.now self.now }
+    /// Whether the entry at an index spells the name in these octets, which are many: its own are kept.
+    #[tactic(auto, using(crate::proofs::LongLemmas::entries_many))]
+    pub(crate) fn is_long(&self, octets: &[u8], index: usize) -> bool
         requires whole { IsWhole octets.now }
-        ensures { OnTrue result (IsKnown msg.now self.now (labels_in octets.now) index) }
+        ensures { (msg : List ℕ) → IsTable msg self.now → OnTrue result (IsKnown msg self.now (labels_in octets.now) index) }
     {
-        let mut rest = octets;
-        let mut i = index;
-        while rest.len() > 1 {
-            if i >= self.entries.len() {
-                return false;
-            }
-            let Some((here, last)) = self.behind_run(msg, rest, i) else {
-                return false;
-            };
-            let entry = self.entry(last);
-            if !begins_with(msg, usize::from(entry.position), here) {
-                return false;
-            }
-            let parent = usize::from(entry.parent);
-            if parent >= UNKNOWN {
-                return self.is_last(msg, here, last);
-            }
-            let len = usize::from(here[0]);
-            rest = &here[1 + len..];
-            i = parent;
+        if index >= self.heads.len() || octets.len() <= FEW_OCTETS {
+            return false;
         }
-        i == ROOT
-    }
-
-    /// Whether this is the index of the last entry, and that spells the name in these octets.
-    #[inline(never)]
-    fn is_last(&self, msg: &[u8], octets: &[u8], index: usize) -> bool
-        requires table { IsTable msg.now self.now }
-        requires whole { IsWhole octets.now }
-        requires some { 1 < length octets.now }
-        ensures { OnTrue result (IsKnown msg.now self.now (labels_in octets.now) index) }
-    {
-        match self.last_spells(msg, octets) {
-            Some(last) => last == index,
-            None => false,
-        }
-    }
-
-    /// The octets from the last label on of those that stand one behind the other from the entry at an index on, and the index of its
-    /// entry; None where the octets in front of it are others.
-    #[inline(always)]
-    fn behind_run<'a>(
-        &self,
-        msg: &[u8],
-        octets: &'a [u8],
-        index: usize,
-    ) -> Option<(&'a [u8], usize)>
-        requires table { IsTable msg.now self.now }
-        requires whole { IsWhole octets.now }
-        requires some { 1 < length octets.now }
-        requires within { index < length self.now }
-        ensures { IfSome result (λ r. IsBehind msg.now self.now octets.now index r.0.now r.1) }
-    {
-        let entry = self.entry(index);
-        if usize::from(entry.parent) != index + 1 {
-            return Some((octets, index));
-        }
-        let last = self.run_end(msg, index);
-        let at = usize::from(entry.position);
-        let size = usize::from(self.entry(last).position) - at;
-        if size + 1 >= octets.len() || differ(&octets[..size], &msg[at..at + size]) {
-            return None;
-        }
-        Some((&octets[size..], last))
-    }
-
-    /// The index of the last of those entries from one on that stand one behind the other, each being the parent of the one in front.
-    #[inline(never)]
-    fn run_end(&self, msg: &[u8], index: usize) -> usize
-        requires table { IsTable msg.now self.now }
-        requires within { index < length self.now }
-        ensures within { result < length self.now }
-        ensures up { index ≤ result }
-        ensures run { IsRun msg.now self.now index result }
-    {
-        let mut i = index;
-        while i + 1 < self.entries.len() {
-            if usize::from(self.entry(i).parent) != i + 1 {
-                return i;
-            }
-            i += 1;
-        }
-        i
+        !differ(self.longs[index].octets(), octets)
     }
 
     /// Enters the positions of so many labels of a name whose octets stand at a position: as long as there is room, and none that a
@@ -310,7 +248,7 @@ impl Positions {
             } else {
                 UNKNOWN + behind.len()
             };
-            self.push(place, first_key(rest), parent);
+            self.push(place, rest, parent);
             place = next;
             rest = behind;
         }
@@ -318,32 +256,36 @@ impl Positions {
 
     /// Whether there is room for so many labels of a name of so many octets at a position, and pointers can name them.
     pub(crate) fn has_room_for(&self, at: usize, size: usize, labels: usize) -> bool {
-        labels <= MAX_POSITIONS - self.entries.len()
-            && size <= MAX_TARGET
-            && at <= MAX_TARGET - size
+        labels <= MAX_POSITIONS - self.heads.len() && size <= MAX_TARGET && at <= MAX_TARGET - size
     }
 
     /// Whether there is room for one more position, behind so many that are yet to be entered, and a pointer can name it.
+    #[tactic(auto, using(crate::proofs::LongLemmas::entries_many))]
     fn has_room(&self, more: usize, position: usize) -> bool
         requires { more < 2 }
         ensures { result ≡ (nat_lt (length self.now + more) 256 && nat_le position 16383) }
     {
-        self.entries.len() + more < MAX_POSITIONS && position <= MAX_TARGET
+        self.heads.len() + more < MAX_POSITIONS && position <= MAX_TARGET
     }
 
-    /// Enters a position behind all others.
-    fn push(&mut self, position: usize, key: u32, parent: usize)
+    /// Enters a position behind all others, where the name in these octets begins.
+    #[tactic(auto, using(crate::proofs::LongLemmas::entries_many))]
+    fn push(&mut self, position: usize, octets: &[u8], parent: usize)
+        requires whole { IsWhole octets.now }
+        requires short { length octets.now ≤ 255 }
         requires room { length self.old < 256 }
         requires low { position ≤ 16383 }
         requires parent { (parent ≤ length self.old + 1) ⊎ ((257 ≤ parent) × (parent < 2 ^ 16)) }
-        ensures { self.new ≡ self.old ++ record { key = key; position = position; parent = parent } ∷ [] }
+        ensures { self.new ≡ self.old ++ record { key = first_key (labels_in octets.now); position = position; parent = parent; octets = long_octets octets.now } ∷ [] }
     {
-        let index = self.entries.len();
-        self.entries.push(Entry {
+        let index = self.heads.len();
+        let key = first_key(octets);
+        self.heads.push(Head {
             key,
             position: position as u16,
             parent: parent as u16,
         });
+        self.longs[index].keep(octets);
         self.chains.push(index, parent);
         self.marks[mark_of(key)] = true;
     }

@@ -10,6 +10,7 @@ ghost use Rattle.wire_names.specs.Table.{IsTable, IsSpelt, table_of, place_at};
 ghost use Rattle.wire_names.specs.Written.{pointer_to, written, table_after, WritesOctets};
 
 use crate::chains::ROOT;
+use crate::long::FEW_OCTETS;
 use crate::part::POINTER;
 use crate::recent::{Recents, Suffix};
 use crate::starts::{Starts, starts_of};
@@ -63,9 +64,6 @@ struct Place {
     labels: usize,
     index: usize,
 }
-
-/// How many octets a name takes at most that is looked for through pointers where it is likely to be.
-const FEW_OCTETS: usize = 32;
 
 /// How many octets of a name are found by their labels without it being kept.
 const FEW_OCTETS_MORE: usize = 8;
@@ -227,7 +225,7 @@ impl NameWriter {
         Cut {
             labels,
             len,
-            target: Some(self.positions.entry(index).position),
+            target: Some(self.positions.head(index).position),
             parent: index,
         }
     }
@@ -283,12 +281,14 @@ impl NameWriter {
         ensures all { result.1.labels ≡ result.0.count }
         ensures place { IsPlace msg.now self.now (labels_in octets.now) result.1 }
     {
-        let starts = starts_of(octets, suffix.size.max(1));
-        let labels = starts.count;
-        let rest = starts.rest(octets, labels);
-        if self.positions.is_parent(msg, rest, suffix.index) {
-            let index = suffix.index;
-            return (starts, Place { labels, index });
+        if suffix.index != ROOT {
+            let starts = starts_of(octets, suffix.size.max(1));
+            let labels = starts.count;
+            let rest = starts.rest(octets, labels);
+            if self.positions.is_long(rest, suffix.index) {
+                let index = suffix.index;
+                return (starts, Place { labels, index });
+            }
         }
         let starts = starts_of(octets, 1);
         let labels = starts.count;
@@ -308,10 +308,10 @@ impl NameWriter {
     {
         let known = octets.len().saturating_sub(cut.len);
         if known.saturating_sub(from.size) > FEW_OCTETS_MORE {
-            self.recents.keep(octets, cut.len, cut.parent);
+            self.recents.keep(cut.parent);
         }
         if cut.labels > FEW_LABELS && self.positions.has_room_for(at, cut.len, cut.labels) {
-            self.recents.keep(octets, 0, self.positions.count());
+            self.recents.keep(self.positions.count());
         }
     }
 

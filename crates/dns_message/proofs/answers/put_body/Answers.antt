@@ -2,7 +2,7 @@ use Rattle.std.proofs.Common.{ℕ, List, ◌-◌, length, take, Option, Some, re
 use Rattle.std.specs.Option.{option_copied}
 use Rattle.std.proofs.lemmas.List.{length-take-le}
 use Rattle.dns_rdata.specs.declared.numbers.Rcode.TheVariants.{NoError}
-use Rattle.wire_names.specs.declared.table.Entry.{Entry}
+use Rattle.wire_names.specs.Entry.{Entry}
 use Rattle.dns_message.specs.Encoding.{each}
 use Rattle.dns_message.specs.Encoded.{WritesEncoding}
 use Rattle.dns_message.specs.Octets.{questions, question_octets}

@@ -1,7 +1,9 @@
 use Rattle.std.proofs.Common.{◌≡◌, ◌+◌, ◌-◌, ◌∷◌, [], inl, inr, ℕ, suc, List, length, take, refl, sym, ap, subst, ◌∙◌, arith}
 use Rattle.std.proofs.lemmas.List.{length-append}
 use Rattle.dns_name.specs.Labels.{labels_in}
+use Rattle.dns_name.specs.Name.{wire_of}
 use Rattle.dns_name.proofs.LabelLemmas.{wire_of-labels_in}
+use Rattle.wire_names.specs.Entry.{long_octets}
 use Rattle.wire_names.specs.Table.{entered, parent_of, first_key}
 use Rattle.wire_names.specs.Written.{starts_of}
 use Rattle.wire_names.proofs.EnterLemmas.{Entering, entering_first, entering_done, entering_stuck, entering_label, entering_next, parent_last, parent_next, parent_none}
@@ -74,8 +76,11 @@ loop-i-preserved c =
     let labels = ap length first.labels in
     let m = c.args.count - (c.loop-i.i + 1) in
     let more = ap length c.push.ensures in
-    let behind = length-append c.loop-i.self (record { key = c.first_key.result; position = c.loop-i.place; parent = c.if-i-count.parent } ∷ []) in
-    let key = c.first_key.ensures ∙ ap first_key first.labels in
+    let rest = c.loop-i.rest.now in
+    let number = first_key (labels_in rest) in
+    let behind = length-append c.loop-i.self (record { key = number; position = c.loop-i.place; parent = c.if-i-count.parent; octets = long_octets rest } ∷ []) in
+    let key : number ≡ first_key (c.in-Some.label.now ∷ labels_in c.in-Some.behind.now) = ap first_key first.labels in
+    let octets : rest ≡ wire_of (c.in-Some.label.now ∷ labels_in c.in-Some.behind.now) = sym (wire_of-labels_in rest own.whole) ∙ ap wire_of first.labels in
     let left : c.args.count - c.loop-i.i ≡ suc m = omega arith in
     record {
       whole = first.whole;
@@ -87,11 +92,11 @@ loop-i-preserved c =
           let final = entered (λ named. named.0) table (take c.args.count (starts_of c.args.at (labels_in c.args.octets.now))) in
           let e = entering_label c.loop-i.self final c.loop-i.place _ m c.args.last _ (labels_in c.in-Some.behind.now) c.in-Some.label.now (own.entering table can) first.labels left in
           let parent : c.if-i-count.parent ≡ parent_of final (labels_in c.in-Some.behind.now) = elim c.if-i-count.branch [
-            | then-i-count w ↦ parent_last c.loop-i.self c.push.new.self final c.loop-i.place _ c.first_key.result c.if-i-count.parent m c.args.last 0 c.in-Some.label.now (labels_in c.in-Some.behind.now) c.has_room.result c.has_room.result e c.has_room.ensures c.if-not-has_room.false refl key c.push.ensures (let same = w.if-i-count.true in omega arith) w.parent-is
-            | else-i-count+then-has_room w ↦ (let other = w.if-i-count.false in parent_next c.loop-i.self c.push.new.self final c.loop-i.place _ c.first_key.result c.if-i-count.parent m c.args.last 0 c.in-Some.label.now (labels_in c.in-Some.behind.now) c.has_room.result w.has_room-else-i-count.result e c.has_room.ensures c.if-not-has_room.false refl key c.push.ensures (omega arith) w.has_room-else-i-count.ensures w.if-has_room.true (omega arith) (w.parent-is ∙ ap (λ (n : ℕ). n + 1) w.count.ensures.is))
-            | else-i-count+else-has_room w ↦ (let other = w.if-i-count.false in parent_none c.loop-i.self c.push.new.self final c.loop-i.place _ c.first_key.result c.if-i-count.parent m c.args.last 0 c.in-Some.label.now (labels_in c.in-Some.behind.now) c.has_room.result w.has_room-else-i-count.result e c.has_room.ensures c.if-not-has_room.false refl key c.push.ensures (omega arith) w.has_room-else-i-count.ensures w.if-has_room.false (omega arith) (w.parent-is ∙ ap (λ (xs : List ℕ). 258 + length xs) (sym (wire_of-labels_in c.in-Some.behind.now first.whole))))
+            | then-i-count w ↦ parent_last c.loop-i.self c.push.new.self final c.loop-i.place _ number c.if-i-count.parent m c.args.last 0 rest c.in-Some.label.now (labels_in c.in-Some.behind.now) c.has_room.result c.has_room.result e c.has_room.ensures c.if-not-has_room.false refl key octets c.push.ensures (let same = w.if-i-count.true in omega arith) w.parent-is
+            | else-i-count+then-has_room w ↦ (let other = w.if-i-count.false in parent_next c.loop-i.self c.push.new.self final c.loop-i.place _ number c.if-i-count.parent m c.args.last 0 rest c.in-Some.label.now (labels_in c.in-Some.behind.now) c.has_room.result w.has_room-else-i-count.result e c.has_room.ensures c.if-not-has_room.false refl key octets c.push.ensures (omega arith) w.has_room-else-i-count.ensures w.if-has_room.true (omega arith) (w.parent-is ∙ ap (λ (n : ℕ). n + 1) w.count.ensures.is))
+            | else-i-count+else-has_room w ↦ (let other = w.if-i-count.false in parent_none c.loop-i.self c.push.new.self final c.loop-i.place _ number c.if-i-count.parent m c.args.last 0 rest c.in-Some.label.now (labels_in c.in-Some.behind.now) c.has_room.result w.has_room-else-i-count.result e c.has_room.ensures c.if-not-has_room.false refl key octets c.push.ensures (omega arith) w.has_room-else-i-count.ensures w.if-has_room.false (omega arith) (w.parent-is ∙ ap (λ (xs : List ℕ). 258 + length xs) (sym (wire_of-labels_in c.in-Some.behind.now first.whole))))
           ] in
-          entering_next c.loop-i.self c.push.new.self final c.loop-i.place _ c.first_key.result c.if-i-count.parent m c.args.last 0 c.in-Some.label.now (labels_in c.in-Some.behind.now) c.has_room.result c.has_room.result e c.has_room.ensures c.if-not-has_room.false refl key c.push.ensures parent;
+          entering_next c.loop-i.self c.push.new.self final c.loop-i.place _ number c.if-i-count.parent m c.args.last 0 rest c.in-Some.label.now (labels_in c.in-Some.behind.now) c.has_room.result c.has_room.result e c.has_room.ensures c.if-not-has_room.false refl key octets c.push.ensures parent;
     }
 
 pub returns : goal.returns

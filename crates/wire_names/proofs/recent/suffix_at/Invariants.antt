@@ -1,6 +1,6 @@
 use Rattle.std.proofs.Common.{length}
 use Rattle.dns_name.specs.Labels.{IsWhole}
-use Rattle.wire_names.proofs.recent.Recent.suffix_of.Given as goal
+use Rattle.wire_names.proofs.recent.suffix_at.Given as goal
 
 abbrev pub invariant-loop-label : goal.invariant-loop-label
 invariant-loop-label l = IsWhole l.rest
