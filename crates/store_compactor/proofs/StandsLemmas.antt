@@ -42,6 +42,9 @@ fit_last number (one ∷ bodies) body fit =
 pub some_is : {X : Type 0} (one other : X) → Some one ≡ Some other → one ≡ other
 some_is one other is = cc
 
+pub none_some : {X : Type 0} (one : X) → None ≡ Some one → ⊥
+none_some one is = cc
+
 -- the end of a store, by equal parts
 end_same : (text : List ℕ) (head other : Head) (batches : List (List (List ℕ))) (zone : List Record) (updates : List Update) (trail same : TrailState) (k : ℕ)
     → other ≡ head → same ≡ trail → IsEndOf text head batches zone updates trail k → IsEndOf text other batches zone updates same k
@@ -68,8 +71,8 @@ module _ {D F : Type 0} (written synced : D → List ℕ) where
   stands_alone text batches zone updates k writer wanted stands = record {
     end = stands.end;
     log = stands.log;
-    origin = λ other is. absurd is;
-    next = λ compaction other way is. absurd is;
+    origin = λ other is. absurd (none_some other is);
+    next = λ compaction other way is number. absurd (none_some other is);
   }
 
   -- a writer with the same trail and head, whose log is on the disk, and no text is wanted
@@ -80,8 +83,8 @@ module _ {D F : Type 0} (written synced : D → List ℕ) where
   stands_stopped text batches zone updates k old new wanted stands trail head still = record {
     end = end_same text (head_of old) (head_of new) batches zone updates (trail_of old) (trail_of new) k head trail stands.end;
     log = disk_same (head_of old) (head_of new) (log_of new) (log_of new) (map batch_of batches) head refl (still (head_of old) (map batch_of batches) stands.log);
-    origin = λ other is. absurd is;
-    next = λ compaction other way is. absurd is;
+    origin = λ other is. absurd (none_some other is);
+    next = λ compaction other way is number. absurd (none_some other is);
   }
 
   -- the same of the same writer, of which nothing but its log may be another one
@@ -105,7 +108,7 @@ module _ {D F : Type 0} (written synced : D → List ℕ) where
     end = end_same text (head_of old) (head_of new) batches zone updates (trail_of old) (trail_of new) k head trail stands.end;
     log = disk_same (head_of old) (head_of new) (log_of old) (log_of new) (map batch_of batches) head log stands.log;
     origin = λ other is. ap (λ (w : Wanted). w.origin) (sym (some_is (wanted_of next (head_of new)) other is));
-    next = λ compaction other under is. record {
+    next = λ compaction other under is number. record {
       first = k;
       older = omega arith;
       version = ap (λ (w : Wanted). w.next.version.zone) (sym (some_is (wanted_of next (head_of new)) other is)) ∙ (ap (λ (v : Version). v.zone) begins.version ∙ stands.end.oldest);
@@ -139,8 +142,8 @@ module _ {D F : Type 0} (written synced : D → List ℕ) where
           stands = record {
             end = end_same written_text head (head_of new) rest (replay zone (take first updates)) (drop first updates) (trail_of old) (trail_of new) (k - first) head_is trail left;
             log = disk_same head (head_of new) (log_of new) (log_of new) (map batch_of rest) head_is refl (inl bodies);
-            origin = λ other is. absurd is;
-            next = λ other_compaction other under is. absurd is;
+            origin = λ other is. absurd (none_some other is);
+            next = λ other_compaction other under is same. absurd (none_some other is);
           };
         },
         ap (λ (h : Head). h.origin) head_is ∙ (begun.given ∙ stands.origin wanted refl),

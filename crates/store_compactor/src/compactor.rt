@@ -34,7 +34,7 @@ pub struct StoreCompactor<R: Files<File = File> + Alloc + Clone + Drop, T: Texts
 
 impl<R: Files<File = File> + Alloc + Clone + Drop, T: Texts, N: Notes + Drop> Model
     for StoreCompactor<R, T, N> {
-    ghost use Rattle.std_io.specs.declared.io.error.Error.{Error as IoError};
+    ghost use Rattle.std.specs.declared.io.Error.{Error as IoError};
     ghost use Rattle.store_compactor.specs.Kept.{CompactorState};
 
     ghost Value = { CompactorState IoError };

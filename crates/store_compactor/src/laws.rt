@@ -1,6 +1,6 @@
 //! Laws of stores that are compacted: each is the contract of a function that does nothing.
 ghost use Rattle.std.specs.Prelude.{◌≡◌, ◌⊎◌, ◌+◌, ◌++◌, ℕ, true, List, Option, length};
-ghost use Rattle.std_io.specs.declared.io.error.Error.{Error as IoError};
+ghost use Rattle.std.specs.declared.io.Error.{Error as IoError};
 ghost use Rattle.dns_rdata.specs.Record.{Record};
 ghost use Rattle.dns_message.specs.declared.update.Update.{Update};
 ghost use Rattle.zone_tree.specs.Version.{Version};
