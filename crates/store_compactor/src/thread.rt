@@ -1,5 +1,5 @@
 //! Zone texts that are written on a thread of their own (own).
-ghost use Rattle.std.specs.Prelude.{IfOk};
+ghost use Rattle.std.specs.Prelude.{◌≡◌, IfOk};
 ghost use Rattle.store_compactor.specs.Texts.{wanted_of, IsWritten};
 
 use crate::texts::Texts;
@@ -7,7 +7,7 @@ use compaction::NextText;
 use compaction_files::write_next_text;
 use journal::Head;
 use std::alloc::Global;
-use std::fs::Files;
+use std::fs::{File, Files};
 use std::io;
 use std::random::RandomSource;
 use std::snapshot::Snapshot;
@@ -39,13 +39,19 @@ struct Writing {
 
 /// Who writes the zone texts of a folder, each on a thread of its own.
 #[derive(Drop)]
-pub struct ThreadTexts<R: Files + RandomSource + Clock + Threads + Copy + Send + Drop + 'static> {
+pub struct ThreadTexts<R: Files<File = File> + RandomSource + Clock + Threads + Copy + Send + Drop + 'static>
+where
+    R::Dir: Send,
+{
     rt: R,
     dir: String,
     writing: Option<Writing>,
 }
 
-impl<R: Files + RandomSource + Clock + Threads + Copy + Send + Drop + 'static> ThreadTexts<R> {
+impl<R: Files<File = File> + RandomSource + Clock + Threads + Copy + Send + Drop + 'static> ThreadTexts<R>
+where
+    R::Dir: Send,
+{
     /// Those of a folder. None is being written.
     pub fn new(rt: R, dir: String) -> ThreadTexts<R> {
         ThreadTexts {
@@ -57,7 +63,7 @@ impl<R: Files + RandomSource + Clock + Threads + Copy + Send + Drop + 'static> T
 }
 
 /// Writes the next zone text of a store with this head, at once or a few seconds later: its head, with random octets.
-fn write_text_of<R: Files + RandomSource + Clock>(
+fn write_text_of<R: Files<File = File> + RandomSource + Clock>(
     rt: &R,
     alloc: Global,
     dir: &str,
@@ -76,7 +82,7 @@ fn write_text_of<R: Files + RandomSource + Clock>(
 }
 
 /// The same on a thread, which then says that it is at its end.
-fn write_there<R: Files + RandomSource + Clock + Drop>(
+fn write_there<R: Files<File = File> + RandomSource + Clock + Drop>(
     rt: R,
     alloc: Global,
     dir: String,
@@ -92,7 +98,36 @@ fn write_there<R: Files + RandomSource + Clock + Drop>(
     told
 }
 
-impl<R: Files + RandomSource + Clock + Threads + Copy + Send + Drop + 'static> Texts for ThreadTexts<R> {
+/// Begins to write the next zone text of a store with this head, on a thread.
+fn begin_writing<R: Files<File = File> + RandomSource + Clock + Threads + Copy + Send + Drop + 'static>(
+    rt: R,
+    alloc: Global,
+    dir: String,
+    next: NextText,
+    before: Head,
+    later: bool,
+) -> io::Result<Writing>
+where
+    R::Dir: Send,
+    ensures { IfOk result (λ writing. (writing.handle.promise.next.value ≡ next) × (writing.handle.promise.before.value ≡ before)) }
+{
+    let over = Arc::new(alloc, AtomicBool::new(false))?;
+    let theirs = Arc::try_clone(&over)?;
+    let given = Given {
+        next: Snapshot::of(&next),
+        before: Snapshot::of(&before),
+    };
+    let handle = thread::spawn_with(&rt, given, move || {
+        write_there(rt, alloc, dir, next, before, later, theirs)
+    })?;
+    Ok(Writing { handle, over })
+}
+
+impl<R: Files<File = File> + RandomSource + Clock + Threads + Copy + Send + Drop + 'static> Texts
+    for ThreadTexts<R>
+where
+    R::Dir: Send,
+{
     ghost use Rattle.std.specs.Prelude.{option_map};
     ghost use Rattle.store_compactor.specs.Texts.{wanted_of};
 
@@ -107,18 +142,9 @@ impl<R: Files + RandomSource + Clock + Threads + Copy + Send + Drop + 'static> T
         later: bool,
     ) -> io::Result<()> {
         self.writing = None;
-        let over = Arc::new(alloc, AtomicBool::new(false))?;
-        let theirs = Arc::try_clone(&over)?;
         let dir = self.dir.clone()?;
-        let given = Given {
-            next: Snapshot::of(&next),
-            before: Snapshot::of(before),
-        };
-        let (rt, before) = (self.rt, *before);
-        let handle = thread::spawn_with(&self.rt, given, move || {
-            write_there(rt, alloc, dir, next, before, later, theirs)
-        })?;
-        self.writing = Some(Writing { handle, over });
+        let writing = begin_writing(self.rt, alloc, dir, next, *before, later)?;
+        self.writing = Some(writing);
         Ok(())
     }
 
