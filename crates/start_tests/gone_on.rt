@@ -11,9 +11,15 @@ fn a_store_is_begun(rt: HostRuntime) -> Result<(), Fail> {
     let dir = "start_tests_begun";
     make_folder(&rt, dir)?;
     let line = told(&rt, dir, SEVEN, None)?;
-    assert_eq!(rt; line.as_str(), "begun: text 0, serial 7 to 7, updates 0, torn nowhere");
+    assert_eq!(rt;
+        line.as_str(),
+        "begun: text 0, serial 7 to 7, updates 0, torn nowhere"
+    );
     assert_eq!(rt; zone_served(&rt, dir)?.as_bytes(), SEVEN);
-    assert_eq!(rt; fs::read(&rt, "start_tests_begun/zone-0")?.as_slice(), SEVEN);
+    assert_eq!(rt;
+        fs::read(&rt, "start_tests_begun/zone-0")?.as_slice(),
+        SEVEN
+    );
     assert_eq!(rt; told_beside(&rt, dir)?.as_str(), "held");
     fs::remove_dir_all(&rt, dir)?;
     Ok(())
@@ -26,7 +32,10 @@ fn a_store_is_gone_on_with(rt: HostRuntime) -> Result<(), Fail> {
     make_folder(&rt, dir)?;
     add_a(&rt, dir)?;
     let line = told(&rt, dir, SEVEN, None)?;
-    assert_eq!(rt; line.as_str(), "same: text 0, serial 7 to 8, updates 1, torn nowhere");
+    assert_eq!(rt;
+        line.as_str(),
+        "same: text 0, serial 7 to 8, updates 1, torn nowhere"
+    );
     assert_eq!(rt; zone_served(&rt, dir)?.as_bytes(), WITH_A);
     let update = hex::decode(rt.alloc(), ADD_A.as_bytes())?;
     assert_eq!(rt; first_update(&rt, dir)?, update);
@@ -41,7 +50,10 @@ fn a_torn_end_is_kept(rt: HostRuntime) -> Result<(), Fail> {
     make_folder(&rt, dir)?;
     add_a(&rt, dir)?;
     let whole = fs::read(&rt, "start_tests_torn/journal")?;
-    for (end, place) in [(b"torn".as_slice(), "start_tests_torn/torn-1"), (&[0; 9], "nowhere")] {
+    for (end, place) in [
+        (b"torn".as_slice(), "start_tests_torn/torn-1"),
+        (&[0; 9], "nowhere"),
+    ] {
         let mut octets = whole.to_vec(rt.alloc())?;
         octets.extend_from_slice(end)?;
         fs::write(&rt, "start_tests_torn/journal", octets.as_slice())?;
@@ -50,7 +62,10 @@ fn a_torn_end_is_kept(rt: HostRuntime) -> Result<(), Fail> {
         assert!(rt; line.ends_with(place));
         assert_eq!(rt; fs::read(&rt, "start_tests_torn/journal")?, whole);
     }
-    assert_eq!(rt; fs::read(&rt, "start_tests_torn/torn-1")?.as_slice(), b"torn".as_slice());
+    assert_eq!(rt;
+        fs::read(&rt, "start_tests_torn/torn-1")?.as_slice(),
+        b"torn".as_slice()
+    );
     fs::remove_dir_all(&rt, dir)?;
     Ok(())
 }

@@ -93,8 +93,7 @@ fn line_of(alloc: Global, started: &Started) -> Result<String, AllocError> {
         Some(path) => path.as_str(),
         None => "nowhere",
     };
-    format!(
-        in alloc;
+    format!(in alloc;
         "{word}: text {}, serial {} to {}, updates {}, torn {torn}",
         store.head.number,
         store.first.serial().0,

@@ -94,7 +94,10 @@ fn the_store_before_is_kept(rt: HostRuntime) -> Result<(), Fail> {
     let (text, journal) = read_store(&rt, rt.alloc(), "start_tests_kept/old-1")?;
     assert_eq!(rt; text.as_slice(), SEVEN);
     assert_eq!(rt; journal, before);
-    assert_eq!(rt; zone_served(&rt, "start_tests_kept/old-1")?.as_bytes(), WITH_A);
+    assert_eq!(rt;
+        zone_served(&rt, "start_tests_kept/old-1")?.as_bytes(),
+        WITH_A
+    );
     fs::remove_dir_all(&rt, dir)?;
     Ok(())
 }
