@@ -11,10 +11,12 @@ ghost use Rattle.std.specs.Prelude.{◌≡◌, ◌⊎◌};
 pub mod bound;
 pub mod command;
 pub mod descriptors;
+pub mod kept;
 pub mod log;
 pub mod options;
 pub mod secondaries;
 pub mod serve;
+pub mod store_options;
 pub mod stored;
 pub mod zone_file;
 
@@ -119,6 +121,17 @@ fn tell_fault<R: Print + Eprint>(rt: &R, fault: &CommandFault<'_>) -> io::Result
         }
         CommandFault::SecondaryTwice(word) => {
             eprintln!(rt; "error: --notify takes a secondary once, and '{word}' is there already")?;
+        }
+        CommandFault::Size(word) => {
+            eprintln!(rt;
+                "error: --journal takes a size from 4K to 1024G, as 64M, and '{word}' is none"
+            )?;
+        }
+        CommandFault::Take(word) => {
+            eprintln!(rt; "error: --take takes store or zone, and '{word}' is neither")?;
+        }
+        CommandFault::NoStore(option) => {
+            eprintln!(rt; "error: --{option} is for a store, and no --store is given")?;
         }
     }
     Ok(BAD_COMMAND)

@@ -6,6 +6,7 @@ ghost use Rattle.transfer_core.specs.declared.kept.TheConstants.{KEPT};
 
 use crate::command::{CommandFault, KEEP, MAX_KEEP, number_for, option};
 use crate::secondaries::{Secondary, secondaries_of, with_notify};
+use crate::store_options::{StorePlan, store_of, with_store};
 use clap::{ArgAction, ArgMatches, Command as Parser};
 use commands::Source;
 use dns_name::Name;
@@ -36,6 +37,8 @@ pub struct Serve<'a> {
     pub limits: Limits,
     /// The secondaries that are told of each version; a thread tells them.
     pub secondaries: Vec<Secondary>,
+    /// The folder in which updates last, if there is one.
+    pub store: Option<StorePlan<'a>>,
     ghost few_kept: { keep ≤ KEPT },
     ghost some_workers: { 0 < workers },
     ghost few_threads: { workers * (vec_len listen + 1) ≤ 63 },
@@ -122,7 +125,8 @@ pub fn serve_options<'a>(alloc: Global, parser: Parser<'a>) -> Result<Parser<'a>
         "N",
         "after how many datagrams and connections, together, a worker ends; else never",
     ))?;
-    with_bounds(alloc, with_notify(alloc, parser)?)
+    let parser = with_store(alloc, with_notify(alloc, parser)?)?;
+    with_bounds(alloc, parser)
 }
 
 /// The options that bound connections.
@@ -182,6 +186,7 @@ pub fn serve_of<'a>(
         1000,
     )?;
     let limits = limits_of(found)?;
+    let store = store_of(found)?;
     Ok(Serve {
         zone,
         origin,
@@ -193,6 +198,7 @@ pub fn serve_of<'a>(
         places,
         limits,
         secondaries,
+        store,
     })
 }
 

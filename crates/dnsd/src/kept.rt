@@ -1,0 +1,107 @@
+//! The start of a server whose updates last.
+use crate::options::Serve;
+use crate::store_options::StorePlan;
+use commands::{FAILED, Fault, REFUSED, tell};
+use std::alloc::Global;
+use std::fs::{File, Files};
+use std::io;
+use std::random::RandomSource;
+use store_start::{Given, Refusal, Served, Started, start_store};
+use stored_zone::ToldFault;
+
+/// How many octets that nobody outside knows a journal begins with.
+const SALT: usize = 16;
+
+/// Holds the store of a folder, beside which a zone's text is named, and gives what a server begins with, which standard error tells where it isn't the store begun
+/// from this text; or the program's status, where nothing is served, and standard error then has the reason.
+pub fn start_kept<
+    R: Files<File = File> + Eprint + AllocGlobal + Alloc + RandomSource + Clone + Drop,
+>(rt: &R, plan: StorePlan<'_>, serve: &Serve<'_>, text: &[u8]) -> io::Result<Result<Started, u8>> {
+    let alloc = rt.alloc();
+    let mut random = [0u8; SALT];
+    rt.fill_bytes(&mut random)?;
+    let given = Given {
+        text,
+        origin: &serve.origin,
+        taken: plan.taken,
+    };
+    match start_store(rt, alloc, plan.dir, given, random) {
+        Ok(started) => {
+            tell_started(rt, plan.dir, &started)?;
+            Ok(Ok(started))
+        }
+        Err(refusal) => Ok(Err(tell_refusal(rt, alloc, plan.dir, text, refusal)?)),
+    }
+}
+
+/// Tells which is served, and what was cut off.
+fn tell_started<R: Eprint>(rt: &R, dir: &str, started: &Started) -> io::Result<()> {
+    match &started.served {
+        Served::Begun => eprintln!(rt; "the store '{dir}' is begun from the zone's text")?,
+        Served::Same => {}
+        Served::Store => eprintln!(rt; "the store '{dir}' is served, and not the zone's text")?,
+        Served::StoreThoughOther(serial) => {
+            let serial = serial.0;
+            eprintln!(rt;
+                "the store '{dir}' is served, and not the zone's text: that is another one than the store was begun from, and its serial, {serial}, isn't greater"
+            )?;
+        }
+        Served::Zone(kept) => eprintln!(rt;
+            "the zone's text is served, with which the store '{dir}' is begun anew; the one before is kept as '{kept}'"
+        )?,
+    }
+    match &started.torn {
+        Some(torn) => eprintln!(rt;
+            "the journal of '{dir}' ended with octets that are no whole batch: they are cut off, and kept as '{torn}'"
+        ),
+        None => Ok(()),
+    }
+}
+
+/// Tells why nothing is served, and gives the program's status.
+fn tell_refusal<R: Eprint>(
+    rt: &R,
+    alloc: Global,
+    dir: &str,
+    text: &[u8],
+    refusal: Refusal,
+) -> io::Result<u8> {
+    match refusal {
+        Refusal::Held => {
+            eprintln!(rt; "error: the store '{dir}' is held by another server")?;
+            Ok(REFUSED)
+        }
+        Refusal::NoText(number) => {
+            eprintln!(rt;
+                "error: the journal of '{dir}' belongs to '{dir}/zone-{number}', which isn't there"
+            )?;
+            Ok(REFUSED)
+        }
+        Refusal::NoStart(fault) => {
+            let told = ToldFault { dir, fault };
+            eprintln!(rt; "error: {told}")?;
+            Ok(REFUSED)
+        }
+        Refusal::Newer { has, given } => {
+            let (has, given) = (has.0, given.0);
+            eprintln!(rt;
+                "error: the zone's text is another one than the store '{dir}' was begun from, and has the serial {given}, greater than the store's {has}: --take store serves the store, --take zone the text, and keeps the store before beside it"
+            )?;
+            Ok(REFUSED)
+        }
+        Refusal::Text(fault) => {
+            let mut errors = Vec::new(alloc);
+            let status = tell(alloc, Err(Fault::Zone(fault)), text, &mut errors);
+            rt.eprint(String::from_utf8_lossy(alloc, errors.as_slice())?)?;
+            Ok(status)
+        }
+        Refusal::NoMemory => {
+            eprintln!(rt; "error: out of memory")?;
+            Ok(FAILED)
+        }
+        Refusal::Device(fault) => {
+            eprintln!(rt; "error: the store '{dir}' can't be read or written: {fault}")?;
+            Ok(FAILED)
+        }
+    }
+}
