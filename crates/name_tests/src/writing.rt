@@ -216,3 +216,39 @@ fn names_that_differ_late(rt: HostRuntime) {
     assert!(rt; stands_at(&out, 733, &third, 30, 240));
     assert!(rt; out[943..].starts_with(b"\xc0\xf0"));
 }
+
+/// A name of 121 labels, each of the octet a but for the first, and for the one of this index, which is an A; none where no label has it.
+fn below_deep(first: u8, other: usize) -> [u8; 243] {
+    let mut wire = [1; 243];
+    for k in 0..121usize {
+        wire[2 * k + 1] = if k == other { b'A' } else { b'a' };
+    }
+    wire[1] = first;
+    wire[242] = 0;
+    wire
+}
+
+// RFC 1035, 4.1.4: of names of up to 120 labels, each of one more than the one before, each is a label and a pointer, so that one is read through
+// 119 pointers; of two names below the last each is a label and a pointer to it, at 475, and of one whose 61st label is another what
+// is behind that label, at 235.
+#[test]
+fn names_through_many_pointers(rt: HostRuntime) {
+    let mut out = [0; 1000];
+    let deep = long_name(b'a');
+    let (first, second, third) = (
+        below_deep(b'x', 121),
+        below_deep(b'y', 121),
+        below_deep(b'x', 60),
+    );
+    let mut rows: [Row<'_>; 123] = [(&first, true); 123];
+    for k in 0..120usize {
+        rows[k] = (&deep[252 - 2 * k..], true);
+    }
+    rows[121] = (&second, true);
+    rows[122] = (&third, true);
+    let at = put_all(NameWriter::new(), &mut out, 0, &rows);
+    assert_eq!(rt; at, 611);
+    assert!(rt; out[475..].starts_with(b"\x01a\xc1\xd7\x01x\xc1\xdb\x01y\xc1\xdb"));
+    assert!(rt; stands_at(&out, 487, &third, 0, 122));
+    assert!(rt; out[609..].starts_with(b"\xc0\xeb"));
+}
