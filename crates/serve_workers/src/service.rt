@@ -15,6 +15,7 @@ use crate::notify_job::{NotifyJob, Secondaries};
 use crate::progress::{Muster, Progress, Standing};
 use crate::scratch::Scratch;
 use crate::threads::{SocketJob, TcpJob, run_threads};
+use crate::told_keys::ToldKeys;
 use crate::worker_socket::WorkerSocket;
 use crate::workers::NotStarted;
 use dns_engine::{
@@ -132,7 +133,8 @@ pub fn serve_zone<
     requires kept { plan.keep ≤ KEPT }
 {
     let threads = duties.len();
-    let jobs = jobs_of(rt, alloc, duties, plan)?;
+    let told = Vec::new(alloc);
+    let jobs = jobs_of(rt, alloc, duties, plan, told.as_slice())?;
     let Ok(later) = SharedVersion::all(alloc, later) else {
         return Err(ServeFault::NoMemory);
     };
@@ -277,7 +279,7 @@ fn serve_with<
     ensures count { vec_len back.new ≡ vec_len pairs.entry }
     ensures room { vec_capacity back.new ≡ vec_capacity back.old }
 {
-    match run_threads(rt, alloc, server, muster, pairs, log) {
+    match run_threads(rt, alloc, server, muster, None, pairs, log) {
         Ok(pairs) => {
             let fault = fault_in(&pairs);
             put_readers(pairs, back);
@@ -367,13 +369,14 @@ fn places_of<C: Clock>(
 }
 
 /// The job of a worker, by its number, on listeners that don't wait. An error where they can't be waited on.
-fn tcp_job<'a, R: Clock + Net>(
+fn tcp_job<'a, R: Clock + Net + Wait>(
     rt: &'a R,
     alloc: Global,
     worker: usize,
     listeners: Vec<TcpListener>,
     plan: Plan<'a>,
     standing: Standing<'a>,
+    told: Option<&'a ToldKeys>,
     scratch: Scratch,
 ) -> io::Result<TcpJob<'a, R>>
     ensures number { IfOk result (λ job. job.number ≡ worker) }
@@ -384,15 +387,24 @@ fn tcp_job<'a, R: Clock + Net>(
     let places = places_of(alloc, &mut watch, listeners)?;
     let turns = Turns::new(alloc, plan.places, count)?;
     let plan = plan.connections;
-    Ok(ConnectionsJob::new(worker, watch, places, turns, plan, standing, rt, scratch))
+    let waker = watch.waker()?;
+    let job = ConnectionsJob::new(worker, watch, places, turns, plan, standing, rt, scratch);
+    match told {
+        Some(told) => {
+            told.wake_by(rt, waker);
+            Ok(job.hearing(alloc, told))
+        }
+        None => Ok(job),
+    }
 }
 
-/// The job of a thread. An error where its sockets can't be waited on.
-fn job_of<'a, R: Clock + Net>(
+/// The job of a thread, which is told keys of connections there, if it is. An error where its sockets can't be waited on.
+fn job_of<'a, R: Clock + Net + Wait>(
     rt: &'a R,
     alloc: Global,
     duty: Duty<'a>,
     plan: Plan<'a>,
+    told: Option<&'a ToldKeys>,
     scratch: Scratch,
 ) -> io::Result<SocketJob<'a, R>>
     ensures number { IfOk result (λ job. number_of job ≡ duty.entry.worker) }
@@ -413,7 +425,7 @@ fn job_of<'a, R: Clock + Net>(
             Ok(SocketJob::Datagrams(job))
         }
         Sockets::Connections(listeners) => {
-            let job = tcp_job(rt, alloc, worker, listeners, plan, standing, scratch)?;
+            let job = tcp_job(rt, alloc, worker, listeners, plan, standing, told, scratch)?;
             Ok(SocketJob::Connections(job))
         }
         Sockets::Secondaries(secondaries) => {
@@ -435,12 +447,13 @@ fn fault_of(fault: &io::Error) -> ServeFault
     }
 }
 
-/// The jobs of threads.
-fn jobs_of<'a, R: Clock + Net>(
+/// The jobs of threads, each by its place told keys of these, if there are so many.
+fn jobs_of<'a, R: Clock + Net + Wait>(
     rt: &'a R,
     alloc: Global,
     duties: Vec<Duty<'a>>,
     plan: Plan<'a>,
+    told: &'a [ToldKeys],
 ) -> Result<Vec<SocketJob<'a, R>>, ServeFault>
     ensures numbers { IfOk result (λ jobs. map (λ job. number_of job) jobs.items ≡ map (λ duty. duty.worker) duties.entry.items) }
     ensures kinds { IfOk result (λ jobs. map (λ job. takes_datagrams job) jobs.items ≡ map (λ duty. are_datagrams duty.sockets) duties.entry.items) }
@@ -449,17 +462,19 @@ fn jobs_of<'a, R: Clock + Net>(
     ensures refused { IfErr result (λ fault. (fault ≡ Fault.NoMemory) ⊎ (fault ≡ Fault.Device)) }
 {
     let mut jobs = Vec::new(alloc);
+    let mut place = 0usize;
     for duty in duties {
         let Ok(scratch) = Scratch::new(alloc) else {
             return Err(ServeFault::NoMemory);
         };
-        let job = match job_of(rt, alloc, duty, plan, scratch) {
+        let job = match job_of(rt, alloc, duty, plan, told.get(place), scratch) {
             Ok(job) => job,
             Err(fault) => return Err(fault_of(&fault)),
         };
         if jobs.push(job).is_err() {
             return Err(ServeFault::NoMemory);
         }
+        place = place.saturating_add(1);
     }
     Ok(jobs)
 }

@@ -19,8 +19,9 @@ use std::alloc::Global;
 use std::sync::Wait;
 use std::thread::Threads;
 use std::time::Clock;
+use update_queue::Queue;
 use zone_replies::Replies;
-use zone_service::{Asked, Event, JobEnd, Server, ServiceLog};
+use zone_service::{Asked, Event, Hand, JobEnd, Server, ServiceLog, Waiting};
 
 /// A job on TCP connections of the system's.
 pub type TcpJob<'a, C> = ConnectionsJob<'a, TcpPeer, Watch<'a, C>, TcpPlace, C>;
@@ -90,6 +91,34 @@ impl<'g, 's, Z: FirstZone, N: Naming, L: ServiceLog, C: Clock> SecondariesSeat<'
     }
 }
 
+/// Who answers a worker's datagrams, and hands updates to where they wait, if they do.
+fn hand_datagrams<'g, 's, Z: FirstZone, N: Naming, L: ServiceLog>(
+    asked: Asked<'g, 's, Z, N, L>,
+    updates: Option<&'g Queue<Waiting>>,
+    worker: usize,
+) -> Asked<'g, 's, Z, N, L>
+    ensures { result.reader ≡ asked.entry.reader }
+{
+    match updates {
+        Some(queue) => asked.handing(Hand { queue, worker }),
+        None => asked,
+    }
+}
+
+/// Who answers on a worker's connections, and hands updates to where they wait, if they do.
+fn hand_requests<'g, 's, Z: FirstZone, N: Naming, L: ServiceLog>(
+    replies: Replies<'g, 's, Z, N, L>,
+    updates: Option<&'g Queue<Waiting>>,
+    worker: usize,
+) -> Replies<'g, 's, Z, N, L>
+    ensures { result.reader ≡ replies.entry.reader }
+{
+    match updates {
+        Some(queue) => replies.handing(Hand { queue, worker }),
+        None => replies,
+    }
+}
+
 /// A thread's job, and who answers in it by a reader.
 #[derive(Drop)]
 enum Seat<'g, 's, Z: FirstZone, N: Naming, L, C> {
@@ -102,11 +131,12 @@ enum Seat<'g, 's, Z: FirstZone, N: Naming, L, C> {
 }
 
 impl<'g, 's, Z: FirstZone, N: Naming, L: ServiceLog, C: Clock> Seat<'g, 's, Z, N, L, C> {
-    /// A job with a reader.
+    /// A job with a reader, which hands updates to where they wait, if they do.
     fn of(
         alloc: Global,
         server: &'g Server<'s, Z, N>,
         log: &'g L,
+        updates: Option<&'g Queue<Waiting>>,
         reader: VersionReader<N>,
         job: SocketJob<'g, C>,
     ) -> Seat<'g, 's, Z, N, L, C>
@@ -116,10 +146,12 @@ impl<'g, 's, Z: FirstZone, N: Naming, L: ServiceLog, C: Clock> Seat<'g, 's, Z, N
         match job {
             SocketJob::Datagrams(job) => {
                 let asked = Asked::new(alloc, server, reader, log, peer, nobody());
+                let asked = hand_datagrams(asked, updates, job.number);
                 Seat::Datagrams(DatagramsSeat { asked, job })
             }
             SocketJob::Connections(job) => {
                 let replies = Replies::new(alloc, server, reader, log, peer, nobody());
+                let replies = hand_requests(replies, updates, job.number);
                 Seat::Connections(ConnectionsSeat { replies, job })
             }
             SocketJob::Secondaries(job) => {
@@ -238,6 +270,7 @@ fn put_threads<'g, 's, Z: FirstZone, N: Naming, L: ServiceLog, C: Clock>(
     server: &'g Server<'s, Z, N>,
     muster: &'g Muster,
     log: &'g L,
+    updates: Option<&'g Queue<Waiting>>,
     pairs: Vec<(VersionReader<N>, SocketJob<'g, C>)>,
     threads: &mut Vec<ServerThread<'g, 's, Z, N, L, C>>,
 )
@@ -246,7 +279,7 @@ fn put_threads<'g, 's, Z: FirstZone, N: Naming, L: ServiceLog, C: Clock>(
     ensures pairs { map (λ thread. pair_of thread.seat) threads.new.items ≡ pairs.entry.items }
 {
     for (reader, job) in pairs {
-        let seat = Seat::of(alloc, server, log, reader, job);
+        let seat = Seat::of(alloc, server, log, updates, reader, job);
         threads.push_reserved(ServerThread { seat, muster, log });
     }
 }
@@ -281,6 +314,7 @@ pub(crate) fn run_threads<
     alloc: Global,
     server: &'g Server<'s, Z, N>,
     muster: &'g Muster,
+    updates: Option<&'g Queue<Waiting>>,
     pairs: Vec<(VersionReader<N>, SocketJob<'g, C>)>,
     log: &'g L,
 ) -> Result<Vec<(VersionReader<N>, SocketJob<'g, C>)>, NotStarted<N, SocketJob<'g, C>>>
@@ -296,7 +330,7 @@ pub(crate) fn run_threads<
     let Ok(mut back) = Vec::with_capacity(alloc, count) else {
         return Err(NotStarted(pairs));
     };
-    put_threads(alloc, server, muster, log, pairs, &mut threads);
+    put_threads(alloc, server, muster, log, updates, pairs, &mut threads);
     let (started, done) = do_all(rt, alloc, threads);
     put_back(done, &mut back);
     if started {
