@@ -18,9 +18,11 @@ use Rattle.dns_message.specs.contracts.query.Query as query
 use Rattle.ready_sockets.specs.contracts.peer.TcpPeer as peer
 use Rattle.ready_sockets.specs.contracts.place.TcpPlace as place
 use Rattle.ready_sockets.specs.contracts.watch.Watch as watch
+use Rattle.update_queue.proofs.queue.Queue.TheSendSync as queue
 use Rattle.wire_names.specs.contracts.write.NameWriter as names
 use Rattle.zone_service.proofs.SendLemmas.{server_sync, hand_send}
 use Rattle.zone_service.specs.contracts.asked.Asked as asked
+use Rattle.zone_service.specs.contracts.handing.Waiting as waiting
 use Rattle.zone_replies.proofs.SendLemmas.{replies_send}
 use Rattle.zone_replies.specs.contracts.transfer.Transfer as transfer
 use Rattle.serve_workers.specs.contracts.connections_job.ConnectionsJob as connections
@@ -28,6 +30,7 @@ use Rattle.serve_workers.specs.contracts.hearing.Hearing as hearing
 use Rattle.serve_workers.specs.contracts.notify_job.NotifyJob as telling
 use Rattle.serve_workers.specs.contracts.told_keys.State as state
 use Rattle.serve_workers.specs.contracts.told_keys.ToldKeys as keys
+use Rattle.serve_workers.specs.contracts.updates.Updates as updates
 use Rattle.serve_workers.specs.contracts.workers.Worker as worker
 use Rattle.serve_workers.specs.contracts.threads.ConnectionsSeat as connections_seat
 use Rattle.serve_workers.specs.contracts.threads.DatagramsSeat as datagrams_seat
@@ -58,6 +61,14 @@ told_send = search (option.the_field_send, option.the_send, crossing.crosses, se
 
 told_sync : IsSync keys.the_row
 told_sync = recorded_sync (keys.the_field).row _ _ (keys.the_type).to_one (struct_sync (shape (keys.the_type)) (mutex.the_sync _ told_send, tt))
+
+waiting_send : IsSend waiting.the_row
+waiting_send = search (crossing.crosses, sendable) depth 60 fits 20000
+
+updates_sync : IsSync updates.the_row
+updates_sync =
+    recorded_sync (updates.the_field).row _ _ (updates.the_type).to_one
+    (struct_sync (shape (updates.the_type)) (search (queue.the_sync, waiting_send, crossing.crosses, sendable) depth 60 fits 20000, (search (crossing.crosses, sendable) depth 60 fits 20000, (search (told_sync, crossing.crosses, sendable) depth 60 fits 20000, tt))))
 
 hearing_send : (a : NamedLft) (P : RattleType) → IsSend P → IsSend (hearing.the_field a P).row
 hearing_send a P polls = search (told_sync, option.the_field_send, option.the_send, crossing.crosses, sendable) depth 60 fits 20000
@@ -100,4 +111,4 @@ seat_send a b T N L C g n hears ticks =
 pub thread_send : (a b : NamedLft) (T N L C : RattleType) (g : Ghosts T.Denot) (n : naming.Ghosts N.Denot) → IsSync L → IsSync C → IsSend (thread.the_row a b T N L C n g)
 thread_send a b T N L C g n hears ticks =
     recorded_send (thread.the_field a b T N L C n g).row _ _ (thread.the_type a b T N L C n g).to_one
-    (struct_send (shape (thread.the_type a b T N L C n g)) (seat_send a b T N L C g n hears ticks, (search (crossing.crosses, sendable) depth 60 fits 20000, (search sendable depth 60 fits 20000, tt))))
+    (struct_send (shape (thread.the_type a b T N L C n g)) (seat_send a b T N L C g n hears ticks, (search (crossing.crosses, sendable) depth 60 fits 20000, (search sendable depth 60 fits 20000, (search (updates_sync, option.the_field_send, option.the_send, crossing.crosses, sendable) depth 60 fits 20000, tt)))))

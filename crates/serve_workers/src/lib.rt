@@ -6,12 +6,14 @@
 //! `conversation`, `turns` and `zone_service` have.
 #![tactic(auto)]
 
+mod bringing;
 mod connections_job;
 mod datagrams_job;
 mod ending;
 mod hearing;
 mod held_replies;
 mod interrupted;
+mod judge;
 mod notify_job;
 mod progress;
 mod scratch;
@@ -20,11 +22,13 @@ mod threads;
 mod told;
 mod told_keys;
 mod udp_job;
+mod updates;
 mod worker_socket;
 mod workers;
 
 pub use connections_job::ConnectionsJob;
 pub use datagrams_job::DatagramsJob;
+pub use judge::Handing;
 pub use notify_job::{NotifyJob, NotifySocket, Secondaries};
 pub use progress::{Muster, Progress, Standing};
 pub use scratch::Scratch;
