@@ -7,9 +7,9 @@ use crate::secondaries::{is_routed, put_secondaries, secondaries_for};
 use crate::zone_file::read_zone_file;
 use commands::{DONE, FAILED, Fault, Source, tell};
 use conversation::Allowed;
+use file_disks::FileDisk;
 use line_io::read_zone_text;
 use master_file::read_zone;
-use file_disks::FileDisk;
 use serve_workers::{
     ConnectionPlan, Handing, Muster, Plan, Progress, Secondaries, ServeFault, serve_zone,
 };

@@ -66,8 +66,16 @@ impl<'a, 's, 'b, Z: FirstZone, N: Naming, L: ServiceLog, D: Disk, F: Drop> Judge
     }
 }
 
-impl<'a, 's, 'b, Z: FirstZone, N: Naming, L: ServiceLog, D: Disk, F: Faults<D::Fault> + Drop> Meanwhile
-    for Judge<'a, 's, 'b, Z, N, L, D, F> {
+impl<
+    'a,
+    's,
+    'b,
+    Z: FirstZone,
+    N: Naming,
+    L: ServiceLog,
+    D: Disk,
+    F: Faults<D::Fault> + Drop,
+> Meanwhile for Judge<'a, 's, 'b, Z, N, L, D, F> {
     // Secondaries are told of versions until this is over too.
     fn meanwhile<R: Wait>(&mut self, rt: &R) {
         self.job.serve(rt, &mut self.faults);

@@ -240,7 +240,10 @@ fn serve_parts<
         end_cell(rt, cell, publisher, readers);
         return Err(ServeFault::NoMemory);
     };
-    let (Some(own), Some(reader)) = (readers.pop(), readers.pop()) else {
+    let Some(own) = readers.pop() else {
+        unreachable!()
+    };
+    let Some(reader) = readers.pop() else {
         unreachable!()
     };
     let (cell, publisher) = (NamedCell::of(cell), NamedPublisher::of(publisher));
@@ -311,7 +314,17 @@ fn serve_cell<
             },
         ) => unreachable!(),
     };
-    let served = serve_handing(rt, alloc, &server, plan.muster, judging, reader, pairs, &mut back, log);
+    let served = serve_handing(
+        rt,
+        alloc,
+        &server,
+        plan.muster,
+        judging,
+        reader,
+        pairs,
+        &mut back,
+        log,
+    );
     let (publisher, own) = server.finish();
     back.push_reserved(own);
     (served, publisher, back)

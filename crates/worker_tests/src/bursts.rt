@@ -93,18 +93,9 @@ fn serve<R: Net + Threads + Wait + Clock + Sync>(
     let zone = zone(alloc).ok_or("a zone")?;
     let first = Version::first(zone);
     let later = Vec::new(alloc);
-    Ok(
-        serve_zone::<R, Brand, NoLog, ToldDisk, NoFaults>(
-            rt,
-            alloc,
-            first,
-            later,
-            duties,
-            plan,
-            None,
-            &NoLog,
-        ),
-    )
+    Ok(serve_zone::<R, Brand, NoLog, ToldDisk, NoFaults>(
+        rt, alloc, first, later, duties, plan, None, &NoLog,
+    ))
 }
 
 // Those behind the first 32 are taken without waiting, and the last replies of these are sent when the worker ends.
