@@ -106,7 +106,7 @@ fn tell_fault<R: Print + Eprint>(rt: &R, fault: &CommandFault<'_>) -> io::Result
         }
         CommandFault::Threads(workers, addresses) => {
             eprintln!(rt;
-                "error: --workers {workers} for {addresses} addresses ask for more than 63 threads: each worker has one for TCP, and one for UDP of each address; --notify has one more"
+                "error: --workers {workers} for {addresses} addresses ask for more than 62 threads: each worker has one for TCP, and one for UDP of each address; --notify has one more"
             )?;
         }
         CommandFault::Notify(word) => {

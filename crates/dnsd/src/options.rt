@@ -41,7 +41,7 @@ pub struct Serve<'a> {
     pub store: Option<StorePlan<'a>>,
     ghost few_kept: { keep ≤ KEPT },
     ghost some_workers: { 0 < workers },
-    ghost few_threads: { workers * (vec_len listen + 1) ≤ 63 },
+    ghost few_threads: { workers * (vec_len listen + 1) ≤ 62 },
     ghost some_places: { 0 < places },
     ghost few_places: { places ≤ 100000 },
     ghost idle: { IsPatience limits.idle },
@@ -58,8 +58,8 @@ const WORKERS: &str = "workers";
 /// The most workers.
 const MAX_WORKERS: usize = 31;
 
-/// The most threads of all workers, since each has a reader of the zone's versions, and the engine has one more.
-pub const MAX_THREADS: usize = 63;
+/// The most threads of all workers, since each has a reader of the zone's versions; the engine has one more, and who judges updates another.
+pub const MAX_THREADS: usize = 62;
 
 /// The option for who may update and transfer.
 const ALLOW: &str = "allow";
@@ -102,7 +102,7 @@ pub fn serve_options<'a>(alloc: Global, parser: Parser<'a>) -> Result<Parser<'a>
         alloc,
         WORKERS,
         "N",
-        "how many workers there are, each with a thread for TCP and one for UDP of each address; at most 63 threads",
+        "how many workers there are, each with a thread for TCP and one for UDP of each address; at most 62 threads",
     )
     .default_value("4"))?;
     let parser = parser.arg(option(
@@ -204,7 +204,7 @@ pub fn serve_of<'a>(
 
 /// The most threads of all workers, beside the one that tells secondaries, where there are any.
 fn threads_beside(secondaries: &[Secondary]) -> usize
-    ensures { result ≤ 63 }
+    ensures { result ≤ 62 }
 {
     if secondaries.is_empty() {
         MAX_THREADS

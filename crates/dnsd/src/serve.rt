@@ -7,9 +7,12 @@ use crate::secondaries::{is_routed, put_secondaries, secondaries_for};
 use crate::zone_file::read_zone_file;
 use commands::{DONE, FAILED, Fault, Source, tell};
 use conversation::Allowed;
+use file_disks::FileDisk;
 use line_io::read_zone_text;
 use master_file::read_zone;
-use serve_workers::{ConnectionPlan, Muster, Plan, Progress, Secondaries, ServeFault, serve_zone};
+use serve_workers::{
+    ConnectionPlan, Handing, Muster, Plan, Progress, Secondaries, ServeFault, serve_zone,
+};
 use std::alloc::Global;
 use std::io::{self, BufReader, ErrorKind};
 use std::marker::Brand;
@@ -20,7 +23,11 @@ use std::rt::Files;
 use std::sync::Wait;
 use std::thread::Threads;
 use std::time::Clock;
+use update_job::{NoFaults, Store};
 use zone_tree::{Version, Zone, ZoneRead};
+
+/// How many updates may wait for who judges them (own).
+const WAITING: usize = 1024;
 
 /// Serves a zone, and gives the program's status: 0 where each worker has done what it may, 1 where the zone is refused, 3 at a
 /// device's fault, a thread that can't be started or want of memory.
@@ -216,7 +223,21 @@ fn serve_all<R: Net + Threads + Wait + Clock + Sync>(
     };
     let first = Version::first(zone);
     let later = Vec::new(alloc);
-    serve_zone::<R, Brand, Log>(rt, alloc, first, later, duties, plan, log)
+    let handing = Handing {
+        most: WAITING,
+        store: Store::<FileDisk>::Nowhere,
+        faults: NoFaults,
+    };
+    serve_zone::<R, Brand, Log, FileDisk, NoFaults>(
+        rt,
+        alloc,
+        first,
+        later,
+        duties,
+        plan,
+        Some(handing),
+        log,
+    )
 }
 
 /// How many records a zone has.

@@ -34,6 +34,19 @@ fn journal_on(alloc: Global, plan: &[u8]) -> Result<Store<ToldDisk>, Fail> {
     Ok(Store::Journal(log))
 }
 
+/// Who judges the updates of a queue on a board.
+fn job_on<'a>(
+    alloc: Global,
+    board: Board,
+    store: Store<ToldDisk>,
+    queue: &'a Queue<Added>,
+) -> Result<UpdateJob<'a, Board, ToldDisk>, AllocError> {
+    match UpdateJob::new(alloc, board, store, queue) {
+        Ok(job) => Ok(job),
+        Err(_) => Err(AllocError),
+    }
+}
+
 /// Updates that wait: those that add these octets, and one that is out of form.
 fn put_all<R: Wait>(
     rt: &R,
@@ -70,7 +83,7 @@ fn a_batch_lasts(rt: HostRuntime) -> Result<(), Fail> {
     let queue: Queue<Added> = Queue::new(alloc, 8)?;
     assert!(rt; put_all(&rt, alloc, &queue, &[5, 0, 7, 255])?);
     let store = journal_on(alloc, &[])?;
-    let mut job = UpdateJob::new(alloc, Board::new(alloc, false)?, store, &queue)?;
+    let mut job = job_on(alloc, Board::new(alloc, false)?, store, &queue)?;
     assert!(rt; matches!(job.turn(&rt), Ok(None)));
     let (board, store) = job.into_parts();
     let told = [
@@ -93,7 +106,7 @@ fn a_batch_fails(rt: HostRuntime) -> Result<(), Fail> {
     let queue: Queue<Added> = Queue::new(alloc, 8)?;
     // The append works, and the sync fails; what it left is cut off.
     let store = journal_on(alloc, &[1, 0])?;
-    let mut job = UpdateJob::new(alloc, Board::new(alloc, false)?, store, &queue)?;
+    let mut job = job_on(alloc, Board::new(alloc, false)?, store, &queue)?;
     assert!(rt; put_all(&rt, alloc, &queue, &[5, 0])?);
     assert!(rt; matches!(job.turn(&rt), Ok(Some(LogFault::Disk(DiskFault::Planned)))));
     assert!(rt; put_all(&rt, alloc, &queue, &[6])?);
@@ -118,13 +131,13 @@ fn a_batch_is_overtaken(rt: HostRuntime) -> Result<(), Fail> {
     let alloc: Global = rt.alloc();
     let queue: Queue<Added> = Queue::new(alloc, 8)?;
     let store = journal_on(alloc, &[])?;
-    let mut job = UpdateJob::new(alloc, Board::new(alloc, true)?, store, &queue)?;
+    let mut job = job_on(alloc, Board::new(alloc, true)?, store, &queue)?;
     assert!(rt; put_all(&rt, alloc, &queue, &[5])?);
     assert!(rt; matches!(job.turn(&rt), Ok(None)));
     let (mut board, store) = job.into_parts();
     assert!(rt; matches!(store, Store::Closed));
     board.overtaken = false;
-    let mut job = UpdateJob::new(alloc, board, store, &queue)?;
+    let mut job = job_on(alloc, board, store, &queue)?;
     assert!(rt; put_all(&rt, alloc, &queue, &[6])?);
     assert!(rt; matches!(job.turn(&rt), Ok(Some(LogFault::Stuck))));
     assert!(rt; put_all(&rt, alloc, &queue, &[0])?);
@@ -149,7 +162,7 @@ fn a_queue_is_served_to_its_end(rt: HostRuntime) -> Result<(), Fail> {
     let alloc: Global = rt.alloc();
     let queue: Queue<Added> = Queue::new(alloc, 8)?;
     let store: Store<ToldDisk> = Store::Nowhere;
-    let mut job = UpdateJob::new(alloc, Board::new(alloc, false)?, store, &queue)?;
+    let mut job = job_on(alloc, Board::new(alloc, false)?, store, &queue)?;
     assert!(rt; put_all(&rt, alloc, &queue, &[5, 7])?);
     queue.end(&rt);
     let mut noted = Noted {

@@ -3,3 +3,4 @@ pub mod Ended
 pub mod Lost
 pub mod Numbers
 pub mod Seats
+pub mod Told

@@ -5,10 +5,13 @@ ghost use Rattle.turns.specs.Steps.{Turned};
 ghost use Rattle.serve_workers.specs.Ended.{end_by};
 ghost use Rattle.serve_workers.specs.Lost.{lost_of, lost_since};
 
+use crate::hearing::Hearing;
 use crate::progress::Standing;
 use crate::scratch::Scratch;
+use crate::told_keys::ToldKeys;
 use connections::{Answering, Blocking};
 use crossbeam_utils::CachePadded;
+use std::alloc::Global;
 use std::sync::Wait;
 use std::time::{Clock, Duration};
 use turns::{Arrivals, Plan, Readiness, Remote, Tally, TurnEnd, Turns};
@@ -22,7 +25,7 @@ const SILENCE: u64 = 1;
 #[derive(Drop)]
 pub struct ConnectionsJob<'a, S: Drop, P, L, C> {
     pub(crate) number: usize,
-    poll: P,
+    poll: Hearing<'a, P>,
     places: Vec<L>,
     turns: Turns<S, Transfer>,
     plan: Plan<'a>,
@@ -109,7 +112,7 @@ impl<
     {
         ConnectionsJob {
             number,
-            poll,
+            poll: Hearing::new(poll),
             places,
             turns,
             plan,
@@ -121,6 +124,17 @@ impl<
             end: None,
             scratch: CachePadded::new(scratch),
         }
+    }
+
+    /// The same, where others tell which connections' replies can be had.
+    pub fn hearing(self, alloc: Global, told: &'a ToldKeys) -> ConnectionsJob<'a, S, P, L, C>
+        ensures number { result.number ≡ self.entry.number }
+        ensures plan { result.plan ≡ self.entry.plan }
+        ensures turns { result.turns ≡ self.entry.turns }
+    {
+        let mut hearing = self;
+        hearing.poll.listen(alloc, told);
+        hearing
     }
 
     /// How it has ended; none where it hasn't yet.
@@ -181,6 +195,7 @@ impl<
         if self.standing.is_over() {
             return Some(JobEnd::Done(self.standing.progress.done()));
         }
+        self.poll.hear(rt);
         let Scratch { request, reply } = &mut *self.scratch;
         let taken = self.turns.turn(
             rt,

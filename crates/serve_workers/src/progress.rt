@@ -4,13 +4,14 @@ ghost use Rattle.std.specs.Prelude.{◌≡◌};
 use crossbeam_utils::CachePadded;
 use std::sync::atomic::{AtomicBool, AtomicU64, AtomicUsize, Ordering};
 
-/// What all threads of a server share: how many have begun and have ended, and whether the server is to end.
+/// What all threads of a server share: how many have begun and have ended, whether the server is to end, and whether updates are judged beside them.
 #[derive(Drop)]
 pub struct Muster {
     threads: usize,
     begun: AtomicUsize,
     ended: AtomicUsize,
     is_ending: AtomicBool,
+    is_judging: AtomicBool,
 }
 
 impl Muster {
@@ -23,6 +24,7 @@ impl Muster {
             begun: AtomicUsize::new(0),
             ended: AtomicUsize::new(0),
             is_ending: AtomicBool::new(false),
+            is_judging: AtomicBool::new(false),
         }
     }
 
@@ -36,9 +38,20 @@ impl Muster {
         self.ended.fetch_add(1, Ordering::SeqCst);
     }
 
-    /// Whether all threads but one have ended.
+    /// Updates are judged beside the threads from now on.
+    pub(crate) fn judge(&self) {
+        self.is_judging.store(true, Ordering::SeqCst);
+    }
+
+    /// They are no more.
+    pub(crate) fn judged(&self) {
+        self.is_judging.store(false, Ordering::SeqCst);
+    }
+
+    /// Whether all threads but one have ended, and no update is judged beside them.
     pub(crate) fn has_one_left(&self) -> bool {
         self.ended.load(Ordering::SeqCst).saturating_add(1) >= self.threads
+            && !self.is_judging.load(Ordering::SeqCst)
     }
 
     /// The server is to end, since a thread has ended for a reason of its own.

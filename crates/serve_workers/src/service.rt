@@ -8,19 +8,24 @@ ghost use Rattle.snapshot_cell.specs.declared.tokens.TheConstants.{READERS};
 ghost use Rattle.serve_workers.specs.declared.service.ServeFault.{ServeFault as Fault};
 ghost use Rattle.serve_workers.specs.Numbers.{number_of, takes_datagrams, are_datagrams, HasRights, end_of, fault_by};
 
+use crate::bringing::Bringing;
 use crate::connections_job::ConnectionsJob;
 use crate::datagrams_job::DatagramsJob;
 use crate::ending::{end_cell, end_named};
+use crate::judge::{Handing, Judge, Judging};
 use crate::notify_job::{NotifyJob, Secondaries};
 use crate::progress::{Muster, Progress, Standing};
 use crate::scratch::Scratch;
 use crate::threads::{SocketJob, TcpJob, run_threads};
+use crate::told_keys::ToldKeys;
+use crate::updates::Updates;
 use crate::worker_socket::WorkerSocket;
-use crate::workers::NotStarted;
+use crate::workers::{Idle, Meanwhile, NotStarted};
 use dns_engine::{
     EngineFault, FirstZone, NoEngine, SharedVersion, VersionCell, VersionPublisher, VersionReader,
     ZoneVersions,
 };
+use journal_store::Disk;
 use ready_sockets::{TcpPlace, Watch};
 use snapshot_cell::{
     Cell, NamedCell, NamedPublisher, NamedReader, Naming, NewFault, Parts, Reader,
@@ -34,6 +39,8 @@ use std::thread::Threads;
 use std::time::Clock;
 use thiserror::Error;
 use turns::{Plan as ConnectionPlan, Turns};
+use update_job::{Faults, UpdateJob};
+use update_teller::Teller;
 use zone_service::{JobEnd, Server, ServiceLog};
 use zone_tree::Version;
 
@@ -109,14 +116,56 @@ impl<C: Clock> SocketJob<'_, C> {
     }
 }
 
+/// The updates that threads with these duties hand in, if they do.
+fn updates_for<R: Wait, D: Disk, F: Drop>(
+    rt: &R,
+    alloc: Global,
+    handing: &Option<Handing<D, F>>,
+    duties: &[Duty<'_>],
+    places: usize,
+) -> Result<Updates, ServeFault> {
+    let made = match handing {
+        Some(handing) => Updates::of(rt, alloc, handing.most, duties, places),
+        None => Updates::none(alloc),
+    };
+    match made {
+        Ok(updates) => Ok(updates),
+        Err(_) => Err(ServeFault::NoMemory),
+    }
+}
+
+/// What updates are judged by that threads with these duties hand in, if they do.
+fn judging_for<'a, D: Disk, F: Drop>(
+    alloc: Global,
+    handing: Option<Handing<D, F>>,
+    duties: &[Duty<'_>],
+    updates: &'a Updates,
+) -> Result<Option<Judging<'a, D, F>>, ServeFault> {
+    let Some(Handing { store, faults, .. }) = handing else {
+        return Ok(None);
+    };
+    match Bringing::new(alloc, duties, updates) {
+        Ok(bringing) => Ok(Some(Judging {
+            updates,
+            bringing,
+            store,
+            faults,
+        })),
+        Err(fault) => Err(fault_of(&fault)),
+    }
+}
+
 /// Serves a zone on sockets, whose cell begins with a first version and with those behind it: its threads answer queries in the version that is
-/// published last, and updates, each of which publishes the next one (RFC 1035, 4.2; RFC 2136, 3). It ends once each worker has done what it may, or
-/// a thread has failed; then its cell is ended too. The log is told once all threads have begun, of each change, of connections that are lost, and of
-/// each end of a thread.
+/// published last, and updates, each of which publishes the next one (RFC 1035, 4.2; RFC 2136, 3). Where they hand updates on (`handing`), these are judged in batches on
+/// the thread that this is called on, which waits for the others else, and none of the others waits for a disk; else the thread that an update comes to has it judged. It
+/// ends once each worker has done what it may, or a thread has failed, and each update that was handed on is told; then its cell is ended too. The log is told once all
+/// threads have begun, of each change, of connections that are lost, and of each end of a thread.
 pub fn serve_zone<
     R: Net + Threads + Wait + Clock + Sync,
     Z: FirstZone + Send + Sync,
     L: ServiceLog + Sync,
+    D: Disk,
+    F: Faults<D::Fault> + Drop,
 >(
     rt: &R,
     alloc: Global,
@@ -124,36 +173,41 @@ pub fn serve_zone<
     later: Vec<Version>,
     duties: Vec<Duty<'_>>,
     plan: Plan<'_>,
+    handing: Option<Handing<D, F>>,
     log: &L,
 ) -> Result<(), ServeFault>
     requires first { IsFirst Z.zone first }
     requires follow { AreNext first later.items }
-    requires threads { vec_len duties + 1 ≤ READERS }
+    requires threads { vec_len duties + 2 ≤ READERS }
     requires kept { plan.keep ≤ KEPT }
 {
     let threads = duties.len();
-    let jobs = jobs_of(rt, alloc, duties, plan)?;
+    let updates = updates_for(rt, alloc, &handing, &duties, plan.places)?;
+    let judging = judging_for(alloc, handing, &duties, &updates)?;
+    let jobs = jobs_of(rt, alloc, duties, plan, &updates)?;
     let Ok(later) = SharedVersion::all(alloc, later) else {
         return Err(ServeFault::NoMemory);
     };
     let Some(first) = SharedVersion::new(alloc, first) else {
         return Err(ServeFault::NoMemory);
     };
-    let parts = match Cell::<SharedVersion, ZoneVersions<Z>>::new(alloc, threads + 1, first) {
+    let parts = match Cell::<SharedVersion, ZoneVersions<Z>>::new(alloc, threads + 2, first) {
         Ok(parts) => parts,
         Err(NewFault::TooManyReaders) => unreachable!(),
         Err(NewFault::NoMemory) => return Err(ServeFault::NoMemory),
     };
-    serve_parts::<R, Z, Brand, L>(rt, alloc, parts, later, jobs, plan, log)
+    serve_parts::<R, Z, Brand, L, D, F>(rt, alloc, parts, later, jobs, plan, judging, log)
 }
 
 /// Serves the versions of a cell in which the first one alone is published, and these are to be published behind it, by jobs, with a reader for
-/// each and one for the engine, and ends the cell.
+/// each, one for the engine and one for who judges updates, and ends the cell.
 fn serve_parts<
     R: Threads + Wait + Clock + Sync,
     Z: FirstZone + Send + Sync,
     N: Naming + Send + Sync,
     L: ServiceLog + Sync,
+    D: Disk,
+    F: Faults<D::Fault> + Drop,
 >(
     rt: &R,
     alloc: Global,
@@ -161,13 +215,14 @@ fn serve_parts<
     later: Vec<SharedVersion>,
     jobs: Vec<SocketJob<'_, R>>,
     plan: Plan<'_>,
+    judging: Option<Judging<'_, D, F>>,
     log: &L,
 ) -> Result<(), ServeFault>
     requires named { parts.cell ≡ N.cell }
     requires publisher { (parts.publisher.cell ≡ parts.cell) × (parts.publisher.number ≡ 0) }
     requires notes { parts.publisher.noted ≡ 0 }
     requires readers { All (λ r. (r.cell ≡ parts.cell) × (0 < r.left)) parts.readers.items }
-    requires count { vec_len parts.readers ≡ vec_len jobs + 1 }
+    requires count { vec_len parts.readers ≡ vec_len jobs + 2 }
     requires follow { AreNext parts.publisher.value later.items }
     requires kept { plan.keep ≤ KEPT }
 {
@@ -185,35 +240,43 @@ fn serve_parts<
         end_cell(rt, cell, publisher, readers);
         return Err(ServeFault::NoMemory);
     };
+    let Some(own) = readers.pop() else {
+        unreachable!()
+    };
     let Some(reader) = readers.pop() else {
         unreachable!()
     };
     let (cell, publisher) = (NamedCell::of(cell), NamedPublisher::of(publisher));
-    let (reader, pairs) = (NamedReader::of(reader), pairs_of(readers, jobs, pairs));
-    let (served, publisher, readers) = serve_cell::<R, Z, N, L>(
-        rt, alloc, &cell, publisher, reader, later, pairs, back, plan, log,
+    let (own, reader) = (NamedReader::of(own), NamedReader::of(reader));
+    let pairs = pairs_of(readers, jobs, pairs);
+    let (served, publisher, readers) = serve_cell::<R, Z, N, L, D, F>(
+        rt, alloc, &cell, publisher, own, reader, later, pairs, back, plan, judging, log,
     );
     end_named(rt, cell, publisher, readers);
     served
 }
 
-/// Serves the versions of a cell in which the first one alone is published, and these are to be published behind it, by workers and an engine with
-/// readers of it. The cell's tokens come back: the publisher, and the readers in `back`, which has room for them.
+/// Serves the versions of a cell in which the first one alone is published, and these are to be published behind it, by workers, an engine with a reader of its
+/// `own`, and who judges updates, with readers of it. The cell's tokens come back: the publisher, and the readers in `back`, which has room for them.
 fn serve_cell<
     R: Threads + Wait + Clock + Sync,
     Z: FirstZone + Send + Sync,
     N: Naming + Send + Sync,
     L: ServiceLog + Sync,
+    D: Disk,
+    F: Faults<D::Fault> + Drop,
 >(
     rt: &R,
     alloc: Global,
     cell: &VersionCell<Z, N>,
     publisher: VersionPublisher<Z, N>,
+    own: VersionReader<N>,
     reader: VersionReader<N>,
     later: Vec<SharedVersion>,
     pairs: Vec<(VersionReader<N>, SocketJob<'_, R>)>,
     mut back: Vec<VersionReader<N>>,
     plan: Plan<'_>,
+    judging: Option<Judging<'_, D, F>>,
     log: &L,
 ) -> (
     Result<(), ServeFault>,
@@ -222,26 +285,26 @@ fn serve_cell<
 )
     requires first { publisher.number ≡ 0 }
     requires notes { publisher.noted ≡ 0 }
-    requires grant { 0 < reader.left }
+    requires grant { 0 < own.left }
     requires follow { AreNext publisher.value later.items }
     requires kept { plan.keep ≤ KEPT }
     requires empty { back.items ≡ [] }
-    requires room { vec_len pairs < vec_capacity back }
-    ensures { vec_len result.2 ≡ vec_len pairs.entry + 1 }
+    requires room { vec_len pairs + 1 < vec_capacity back }
+    ensures { vec_len result.2 ≡ vec_len pairs.entry + 2 }
 {
     let count = later.len();
-    let server = match Server::resume(alloc, cell, publisher, reader, plan.keep, later) {
+    let server = match Server::resume(alloc, cell, publisher, own, plan.keep, later) {
         Ok(server) => server,
         Err(
             NoEngine {
                 fault: EngineFault::Spent,
                 publisher,
-                reader,
+                reader: own,
             },
         ) => {
             // A first version alone is always served.
             prove!(0 < count);
-            let readers = all_readers(pairs, reader, back);
+            let readers = all_readers(pairs, reader, own, back);
             return (Err(ServeFault::Spent), publisher, readers);
         }
         Err(
@@ -251,44 +314,115 @@ fn serve_cell<
             },
         ) => unreachable!(),
     };
-    let served = serve_with(rt, alloc, &server, plan.muster, pairs, &mut back, log);
-    let (publisher, reader) = server.finish();
-    back.push_reserved(reader);
+    let served = serve_handing(
+        rt,
+        alloc,
+        &server,
+        plan.muster,
+        judging,
+        reader,
+        pairs,
+        &mut back,
+        log,
+    );
+    let (publisher, own) = server.finish();
+    back.push_reserved(own);
     (served, publisher, back)
 }
 
-/// Serves the versions of a server's cell, by workers with readers, which are then put into `back`, which has room for them.
-fn serve_with<
+/// Serves the versions of a server's cell, by workers with readers, and by who judges updates with one, if they hand them on. The readers are then put into `back`, which
+/// has room for them, and for one more.
+fn serve_handing<
     R: Threads + Wait + Clock + Sync,
     Z: FirstZone + Send + Sync,
     N: Naming + Send + Sync,
     L: ServiceLog + Sync,
+    D: Disk,
+    F: Faults<D::Fault> + Drop,
 >(
     rt: &R,
     alloc: Global,
     server: &Server<'_, Z, N>,
     muster: &Muster,
+    judging: Option<Judging<'_, D, F>>,
+    reader: VersionReader<N>,
     pairs: Vec<(VersionReader<N>, SocketJob<'_, R>)>,
     back: &mut Vec<VersionReader<N>>,
     log: &L,
 ) -> Result<(), ServeFault>
+    requires room { vec_len pairs + 1 < vec_capacity back.old }
+    requires empty { back.old.items ≡ [] }
+    ensures count { vec_len back.new ≡ vec_len pairs.entry + 1 }
+    ensures room { vec_capacity back.new ≡ vec_capacity back.old }
+{
+    let Some(judging) = judging else {
+        let (served, _) = serve_with(rt, alloc, server, muster, None, Idle, pairs, back, log);
+        back.push_reserved(reader);
+        return served;
+    };
+    let Judging {
+        updates,
+        bringing,
+        store,
+        faults,
+    } = judging;
+    let teller = Teller::new(rt, server, reader, log, bringing);
+    let job = match UpdateJob::new(alloc, teller, store, updates.queue()) {
+        Ok(job) => job,
+        Err((teller, _)) => {
+            put_readers(pairs, back);
+            back.push_reserved(teller.into_parts().0);
+            return Err(ServeFault::NoMemory);
+        }
+    };
+    muster.judge();
+    let judge = Judge {
+        job,
+        faults,
+        muster,
+    };
+    let handing = Some(updates);
+    let (served, judge) = serve_with(rt, alloc, server, muster, handing, judge, pairs, back, log);
+    back.push_reserved(judge.into_reader());
+    served
+}
+
+/// Serves the versions of a server's cell, by workers with readers, which are then put into `back`, which has room for them, and does what is done beside them. They hand
+/// updates on, where these are given.
+fn serve_with<
+    R: Threads + Wait + Clock + Sync,
+    Z: FirstZone + Send + Sync,
+    N: Naming + Send + Sync,
+    L: ServiceLog + Sync,
+    M: Meanwhile,
+>(
+    rt: &R,
+    alloc: Global,
+    server: &Server<'_, Z, N>,
+    muster: &Muster,
+    updates: Option<&Updates>,
+    meanwhile: M,
+    pairs: Vec<(VersionReader<N>, SocketJob<'_, R>)>,
+    back: &mut Vec<VersionReader<N>>,
+    log: &L,
+) -> (Result<(), ServeFault>, M)
     requires room { vec_len pairs < vec_capacity back.old }
     requires empty { back.old.items ≡ [] }
     ensures count { vec_len back.new ≡ vec_len pairs.entry }
     ensures room { vec_capacity back.new ≡ vec_capacity back.old }
 {
-    match run_threads(rt, alloc, server, muster, pairs, log) {
-        Ok(pairs) => {
+    match run_threads(rt, alloc, server, muster, updates, meanwhile, pairs, log) {
+        Ok((pairs, beside)) => {
             let fault = fault_in(&pairs);
             put_readers(pairs, back);
             match fault {
-                Some(fault) => Err(fault),
-                None => Ok(()),
+                Some(fault) => (Err(fault), beside),
+                None => (Ok(()), beside),
             }
         }
-        Err(NotStarted(pairs)) => {
+        Err((NotStarted(pairs), beside)) => {
             put_readers(pairs, back);
-            Err(ServeFault::NotStarted)
+            (Err(ServeFault::NotStarted), beside)
         }
     }
 }
@@ -332,18 +466,20 @@ fn put_readers<N: Naming, C: Clock>(
     }
 }
 
-/// The readers of pairs, and one more, in `back`, which has room for them.
+/// The readers of pairs, and two more, in `back`, which has room for them.
 fn all_readers<N: Naming, C: Clock>(
     pairs: Vec<(VersionReader<N>, SocketJob<'_, C>)>,
     reader: VersionReader<N>,
+    own: VersionReader<N>,
     mut back: Vec<VersionReader<N>>,
 ) -> Vec<VersionReader<N>>
     requires empty { back.items ≡ [] }
-    requires room { vec_len pairs < vec_capacity back }
-    ensures { vec_len result ≡ vec_len pairs.entry + 1 }
+    requires room { vec_len pairs + 1 < vec_capacity back }
+    ensures { vec_len result ≡ vec_len pairs.entry + 2 }
 {
     put_readers(pairs, &mut back);
     back.push_reserved(reader);
+    back.push_reserved(own);
     back
 }
 
@@ -367,13 +503,14 @@ fn places_of<C: Clock>(
 }
 
 /// The job of a worker, by its number, on listeners that don't wait. An error where they can't be waited on.
-fn tcp_job<'a, R: Clock + Net>(
+fn tcp_job<'a, R: Clock + Net + Wait>(
     rt: &'a R,
     alloc: Global,
     worker: usize,
     listeners: Vec<TcpListener>,
     plan: Plan<'a>,
     standing: Standing<'a>,
+    told: Option<&'a ToldKeys>,
     scratch: Scratch,
 ) -> io::Result<TcpJob<'a, R>>
     ensures number { IfOk result (λ job. job.number ≡ worker) }
@@ -384,15 +521,24 @@ fn tcp_job<'a, R: Clock + Net>(
     let places = places_of(alloc, &mut watch, listeners)?;
     let turns = Turns::new(alloc, plan.places, count)?;
     let plan = plan.connections;
-    Ok(ConnectionsJob::new(worker, watch, places, turns, plan, standing, rt, scratch))
+    let waker = watch.waker()?;
+    let job = ConnectionsJob::new(worker, watch, places, turns, plan, standing, rt, scratch);
+    match told {
+        Some(told) => {
+            told.wake_by(rt, waker);
+            Ok(job.hearing(alloc, told))
+        }
+        None => Ok(job),
+    }
 }
 
-/// The job of a thread. An error where its sockets can't be waited on.
-fn job_of<'a, R: Clock + Net>(
+/// The job of a thread, which is told keys of connections there, if it is. An error where its sockets can't be waited on.
+fn job_of<'a, R: Clock + Net + Wait>(
     rt: &'a R,
     alloc: Global,
     duty: Duty<'a>,
     plan: Plan<'a>,
+    told: Option<&'a ToldKeys>,
     scratch: Scratch,
 ) -> io::Result<SocketJob<'a, R>>
     ensures number { IfOk result (λ job. number_of job ≡ duty.entry.worker) }
@@ -413,7 +559,7 @@ fn job_of<'a, R: Clock + Net>(
             Ok(SocketJob::Datagrams(job))
         }
         Sockets::Connections(listeners) => {
-            let job = tcp_job(rt, alloc, worker, listeners, plan, standing, scratch)?;
+            let job = tcp_job(rt, alloc, worker, listeners, plan, standing, told, scratch)?;
             Ok(SocketJob::Connections(job))
         }
         Sockets::Secondaries(secondaries) => {
@@ -435,12 +581,13 @@ fn fault_of(fault: &io::Error) -> ServeFault
     }
 }
 
-/// The jobs of threads.
-fn jobs_of<'a, R: Clock + Net>(
+/// The jobs of threads, each told keys as these are told by its place.
+fn jobs_of<'a, R: Clock + Net + Wait>(
     rt: &'a R,
     alloc: Global,
     duties: Vec<Duty<'a>>,
     plan: Plan<'a>,
+    updates: &'a Updates,
 ) -> Result<Vec<SocketJob<'a, R>>, ServeFault>
     ensures numbers { IfOk result (λ jobs. map (λ job. number_of job) jobs.items ≡ map (λ duty. duty.worker) duties.entry.items) }
     ensures kinds { IfOk result (λ jobs. map (λ job. takes_datagrams job) jobs.items ≡ map (λ duty. are_datagrams duty.sockets) duties.entry.items) }
@@ -449,17 +596,19 @@ fn jobs_of<'a, R: Clock + Net>(
     ensures refused { IfErr result (λ fault. (fault ≡ Fault.NoMemory) ⊎ (fault ≡ Fault.Device)) }
 {
     let mut jobs = Vec::new(alloc);
+    let mut place = 0usize;
     for duty in duties {
         let Ok(scratch) = Scratch::new(alloc) else {
             return Err(ServeFault::NoMemory);
         };
-        let job = match job_of(rt, alloc, duty, plan, scratch) {
+        let job = match job_of(rt, alloc, duty, plan, updates.told_at(place), scratch) {
             Ok(job) => job,
             Err(fault) => return Err(fault_of(&fault)),
         };
         if jobs.push(job).is_err() {
             return Err(ServeFault::NoMemory);
         }
+        place = place.saturating_add(1);
     }
     Ok(jobs)
 }

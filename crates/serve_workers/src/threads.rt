@@ -9,8 +9,9 @@ use crate::connections_job::ConnectionsJob;
 use crate::datagrams_job::DatagramsJob;
 use crate::notify_job::NotifyJob;
 use crate::progress::Muster;
+use crate::updates::Updates;
 use crate::worker_socket::WorkerSocket;
-use crate::workers::{NotStarted, Work, do_all, nobody};
+use crate::workers::{Meanwhile, NotStarted, Work, do_all, nobody};
 use dns_engine::{FirstZone, VersionReader};
 use ready_sockets::{TcpPeer, TcpPlace, Watch};
 use serve_core::{Peer, Transport};
@@ -20,7 +21,7 @@ use std::sync::Wait;
 use std::thread::Threads;
 use std::time::Clock;
 use zone_replies::Replies;
-use zone_service::{Asked, Event, JobEnd, Server, ServiceLog};
+use zone_service::{Asked, Event, Hand, JobEnd, Server, ServiceLog};
 
 /// A job on TCP connections of the system's.
 pub type TcpJob<'a, C> = ConnectionsJob<'a, TcpPeer, Watch<'a, C>, TcpPlace, C>;
@@ -90,6 +91,42 @@ impl<'g, 's, Z: FirstZone, N: Naming, L: ServiceLog, C: Clock> SecondariesSeat<'
     }
 }
 
+/// To whom the thread at a place hands updates: its place is the number that replies are brought by.
+fn hand_at(updates: &Updates, place: usize) -> Hand<'_> {
+    Hand {
+        queue: updates.queue(),
+        worker: place,
+    }
+}
+
+/// Who answers the datagrams of the thread at a place, and hands updates to where they wait, if they do.
+fn hand_datagrams<'g, 's, Z: FirstZone, N: Naming, L: ServiceLog>(
+    asked: Asked<'g, 's, Z, N, L>,
+    updates: Option<&'g Updates>,
+    place: usize,
+) -> Asked<'g, 's, Z, N, L>
+    ensures { result.reader ≡ asked.entry.reader }
+{
+    match updates {
+        Some(updates) => asked.handing(hand_at(updates, place)),
+        None => asked,
+    }
+}
+
+/// Who answers on the connections of the thread at a place, and hands updates to where they wait, if they do.
+fn hand_requests<'g, 's, Z: FirstZone, N: Naming, L: ServiceLog>(
+    replies: Replies<'g, 's, Z, N, L>,
+    updates: Option<&'g Updates>,
+    place: usize,
+) -> Replies<'g, 's, Z, N, L>
+    ensures { result.reader ≡ replies.entry.reader }
+{
+    match updates {
+        Some(updates) => replies.handing(hand_at(updates, place)),
+        None => replies,
+    }
+}
+
 /// A thread's job, and who answers in it by a reader.
 #[derive(Drop)]
 enum Seat<'g, 's, Z: FirstZone, N: Naming, L, C> {
@@ -102,11 +139,13 @@ enum Seat<'g, 's, Z: FirstZone, N: Naming, L, C> {
 }
 
 impl<'g, 's, Z: FirstZone, N: Naming, L: ServiceLog, C: Clock> Seat<'g, 's, Z, N, L, C> {
-    /// A job with a reader.
+    /// A job with a reader, of the thread at a place, which hands updates to where they wait, if they do.
     fn of(
         alloc: Global,
         server: &'g Server<'s, Z, N>,
         log: &'g L,
+        updates: Option<&'g Updates>,
+        place: usize,
         reader: VersionReader<N>,
         job: SocketJob<'g, C>,
     ) -> Seat<'g, 's, Z, N, L, C>
@@ -116,10 +155,12 @@ impl<'g, 's, Z: FirstZone, N: Naming, L: ServiceLog, C: Clock> Seat<'g, 's, Z, N
         match job {
             SocketJob::Datagrams(job) => {
                 let asked = Asked::new(alloc, server, reader, log, peer, nobody());
+                let asked = hand_datagrams(asked, updates, place);
                 Seat::Datagrams(DatagramsSeat { asked, job })
             }
             SocketJob::Connections(job) => {
                 let replies = Replies::new(alloc, server, reader, log, peer, nobody());
+                let replies = hand_requests(replies, updates, place);
                 Seat::Connections(ConnectionsSeat { replies, job })
             }
             SocketJob::Secondaries(job) => {
@@ -174,6 +215,15 @@ impl<'g, 's, Z: FirstZone, N: Naming, L: ServiceLog, C: Clock> Seat<'g, 's, Z, N
         }
     }
 
+    /// Its thread hands in no more updates, where it has handed in any.
+    fn leave<R: Wait>(&self, rt: &R, updates: &Updates) {
+        match self {
+            Seat::Datagrams(_) => updates.leave(rt),
+            Seat::Connections(_) => updates.leave(rt),
+            Seat::Secondaries(_) => {}
+        }
+    }
+
     /// Its job's number.
     fn number(&self) -> usize
         ensures { result ≡ seat_number self.now }
@@ -192,6 +242,7 @@ struct ServerThread<'g, 's, Z: FirstZone, N: Naming, L, C> {
     seat: Seat<'g, 's, Z, N, L, C>,
     muster: &'g Muster,
     log: &'g L,
+    updates: Option<&'g Updates>,
 }
 
 /// Whether a job has done what it might.
@@ -224,6 +275,9 @@ impl<
             self.log.tell(rt, Event::Serving);
         }
         let end = self.seat.serve(rt, self.log);
+        if let Some(updates) = self.updates {
+            self.seat.leave(rt, updates);
+        }
         self.muster.leave();
         if !is_done(end) {
             self.muster.end();
@@ -238,6 +292,7 @@ fn put_threads<'g, 's, Z: FirstZone, N: Naming, L: ServiceLog, C: Clock>(
     server: &'g Server<'s, Z, N>,
     muster: &'g Muster,
     log: &'g L,
+    updates: Option<&'g Updates>,
     pairs: Vec<(VersionReader<N>, SocketJob<'g, C>)>,
     threads: &mut Vec<ServerThread<'g, 's, Z, N, L, C>>,
 )
@@ -245,9 +300,16 @@ fn put_threads<'g, 's, Z: FirstZone, N: Naming, L: ServiceLog, C: Clock>(
     requires empty { threads.old.items ≡ [] }
     ensures pairs { map (λ thread. pair_of thread.seat) threads.new.items ≡ pairs.entry.items }
 {
+    let mut place = 0usize;
     for (reader, job) in pairs {
-        let seat = Seat::of(alloc, server, log, reader, job);
-        threads.push_reserved(ServerThread { seat, muster, log });
+        let seat = Seat::of(alloc, server, log, updates, place, reader, job);
+        threads.push_reserved(ServerThread {
+            seat,
+            muster,
+            log,
+            updates,
+        });
+        place = place.saturating_add(1);
     }
 }
 
@@ -265,9 +327,10 @@ fn put_back<'g, Z: FirstZone, N: Naming, L: ServiceLog, C: Clock>(
     }
 }
 
-/// Does each job on a thread of its own, with a reader, and waits for all; then gives the pairs back in their order: each job has ended, and what
-/// its reader has seen published begins with what it had seen. No job begins until each has its thread, and the log is told once all have begun. [`NotStarted`] where a thread was refused, or where there was no memory to keep track of
-/// them: no job has begun, and the pairs come back as they were given.
+/// Does each job on a thread of its own, with a reader, and beside them what is done on this one, and waits for all; then gives the pairs back in their order: each
+/// job has ended, and what its reader has seen published begins with what it had seen. No job begins until each has its thread, and the log is told once all have begun.
+/// [`NotStarted`] where a thread was refused, or where there was no memory to keep track of them: no job has begun, nothing was done beside them, and the pairs come back
+/// as they were given.
 pub(crate) fn run_threads<
     'g,
     's,
@@ -276,32 +339,35 @@ pub(crate) fn run_threads<
     N: Naming + Send + Sync,
     L: ServiceLog + Sync,
     C: Clock + Sync,
+    M: Meanwhile,
 >(
     rt: &R,
     alloc: Global,
     server: &'g Server<'s, Z, N>,
     muster: &'g Muster,
+    updates: Option<&'g Updates>,
+    meanwhile: M,
     pairs: Vec<(VersionReader<N>, SocketJob<'g, C>)>,
     log: &'g L,
-) -> Result<Vec<(VersionReader<N>, SocketJob<'g, C>)>, NotStarted<N, SocketJob<'g, C>>>
-    ensures numbers { IfOk result (λ back. map (λ pair. number_of pair.1) back.items ≡ map (λ pair. number_of pair.1) pairs.entry.items) }
-    ensures done { IfOk result (λ back. All (λ pair. IsSome (end_of pair.1)) back.items) }
-    ensures seen { IfOk result (λ back. Each (λ given pair. BeginsWith pair.0.seen given.0.seen) pairs.entry.items back.items) }
-    ensures none { IfErr result (λ refused. refused.0.items ≡ pairs.entry.items) }
+) -> Result<(Vec<(VersionReader<N>, SocketJob<'g, C>)>, M), (NotStarted<N, SocketJob<'g, C>>, M)>
+    ensures numbers { IfOk result (λ back. map (λ pair. number_of pair.1) back.0.items ≡ map (λ pair. number_of pair.1) pairs.entry.items) }
+    ensures done { IfOk result (λ back. All (λ pair. IsSome (end_of pair.1)) back.0.items) }
+    ensures seen { IfOk result (λ back. Each (λ given pair. BeginsWith pair.0.seen given.0.seen) pairs.entry.items back.0.items) }
+    ensures none { IfErr result (λ refused. refused.0.0.items ≡ pairs.entry.items) }
 {
     let count = pairs.len();
     let Ok(mut threads) = Vec::with_capacity(alloc, count) else {
-        return Err(NotStarted(pairs));
+        return Err((NotStarted(pairs), meanwhile));
     };
     let Ok(mut back) = Vec::with_capacity(alloc, count) else {
-        return Err(NotStarted(pairs));
+        return Err((NotStarted(pairs), meanwhile));
     };
-    put_threads(alloc, server, muster, log, pairs, &mut threads);
-    let (started, done) = do_all(rt, alloc, threads);
+    put_threads(alloc, server, muster, log, updates, pairs, &mut threads);
+    let (started, done, beside) = do_all(rt, alloc, threads, meanwhile);
     put_back(done, &mut back);
     if started {
-        Ok(back)
+        Ok((back, beside))
     } else {
-        Err(NotStarted(back))
+        Err((NotStarted(back), beside))
     }
 }

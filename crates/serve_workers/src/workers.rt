@@ -60,6 +60,20 @@ pub(crate) trait Work: Send + Drop {
         ensures grows { BeginsWith (seen self.new) (seen self.old) };
 }
 
+/// What is done beside works, on the thread that waits for them.
+pub(crate) trait Meanwhile: Drop {
+    /// Does it, once each work has its thread.
+    fn meanwhile<R: Wait>(&mut self, rt: &R);
+}
+
+/// Nothing is done beside works.
+#[derive(Clone, Copy)]
+pub(crate) struct Idle;
+
+impl Meanwhile for Idle {
+    fn meanwhile<R: Wait>(&mut self, _rt: &R) {}
+}
+
 /// Nobody's address.
 pub(crate) fn nobody() -> SocketAddr {
     SocketAddr::V4(SocketAddrV4::new(Ipv4Addr::new(0, 0, 0, 0), 0))
@@ -226,16 +240,26 @@ fn works_of<'s, W: Work>(
     done
 }
 
-/// Does each work on a thread of a scope, and waits for all; then gives the works back in their order. The threads are told by a lock
-/// whether the works may be done. False where a thread was refused, or where there is no memory to keep track of them: none of the
-/// works has then begun.
-fn do_in<'s, E, R: Threads + Wait + Sync, W: Work + 's>(
+/// Does what is done beside works, where they are done.
+fn do_beside<R: Wait, M: Meanwhile>(rt: &R, may: bool, meanwhile: M) -> M {
+    let mut beside = meanwhile;
+    if may {
+        beside.meanwhile(rt);
+    }
+    beside
+}
+
+/// Does each work on a thread of a scope, and beside them what is done on this one, and waits for all; then gives the works back in their order. The threads are
+/// told by a lock whether the works may be done. False where a thread was refused, or where there is no memory to keep track of them: none of the works has then begun,
+/// and nothing is done beside them.
+fn do_in<'s, E, R: Threads + Wait + Sync, W: Work + 's, M: Meanwhile>(
     rt: &'s R,
     alloc: Global,
     scope: &'s Scope<'s, E>,
     may: &'s OnceLock<bool>,
     works: Vec<W>,
-) -> (bool, Vec<W>)
+    meanwhile: M,
+) -> (bool, Vec<W>, M)
     ensures numbers { map W.number result.1.items ≡ map W.number works.items }
     ensures seen { Each (λ given work. BeginsWith (W.seen work) (W.seen given)) works.items result.1.items }
     ensures done { result.0 ≡ true → All W.is_done result.1.items }
@@ -243,28 +267,31 @@ fn do_in<'s, E, R: Threads + Wait + Sync, W: Work + 's>(
 {
     let count = works.len();
     let Ok(begun) = Vec::with_capacity(alloc, count) else {
-        return (false, works);
+        return (false, works, meanwhile);
     };
     let Ok(returned) = Vec::with_capacity(alloc, count) else {
-        return (false, works);
+        return (false, works, meanwhile);
     };
     let Ok(done) = Vec::with_capacity(alloc, count) else {
-        return (false, works);
+        return (false, works, meanwhile);
     };
     let begun = begin_all(rt, scope, may, works, begun);
     let told = may.init(rt, || true);
+    let started = *may.value(&told);
+    let beside = do_beside(rt, started, meanwhile);
     let returned = end_all(rt, begun, returned);
     let done = works_of(&told, returned, done);
-    (*may.value(&told), done)
+    (started, done, beside)
 }
 
-/// Does each work on a thread of its own, and waits for all; then gives the works back in their order. False where a thread was
-/// refused, or where there is no memory to keep track of them: none of the works has then begun.
-pub(crate) fn do_all<R: Threads + Wait + Sync, W: Work>(
+/// Does each work on a thread of its own, and beside them what is done on this one, and waits for all; then gives the works back in their order. False where a
+/// thread was refused, or where there is no memory to keep track of them: none of the works has then begun, and nothing is done beside them.
+pub(crate) fn do_all<R: Threads + Wait + Sync, W: Work, M: Meanwhile>(
     rt: &R,
     alloc: Global,
     works: Vec<W>,
-) -> (bool, Vec<W>)
+    meanwhile: M,
+) -> (bool, Vec<W>, M)
     ensures numbers { map W.number result.1.items ≡ map W.number works.items }
     ensures seen { Each (λ given work. BeginsWith (W.seen work) (W.seen given)) works.items result.1.items }
     ensures done { result.0 ≡ true → All W.is_done result.1.items }
@@ -279,7 +306,7 @@ pub(crate) fn do_all<R: Threads + Wait + Sync, W: Work>(
             ensures seen { Each (λ given work. BeginsWith (W.seen work) (W.seen given)) works.items result.1.items }
             ensures done { result.0 ≡ true → All W.is_done result.1.items }
             ensures none { result.0 ≡ false → result.1.items ≡ works.items }
-        { do_in(rt, alloc, scope, may, works) },
+        { do_in(rt, alloc, scope, may, works, meanwhile) },
     )
 }
 
@@ -355,7 +382,7 @@ pub fn run_workers<
         return Err(NotStarted(pairs));
     };
     put_workers(alloc, server, gate, log, pairs, &mut works);
-    let (started, done) = do_all(rt, alloc, works);
+    let (started, done, _) = do_all(rt, alloc, works, Idle);
     put_pairs(done, &mut back);
     if started {
         Ok(back)

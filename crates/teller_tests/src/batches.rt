@@ -102,8 +102,9 @@ fn tell_three<R: Wait, Z: FirstZone, N: Naming>(
         return (None, Some(reader));
     }
     let teller = Teller::new(rt, server, reader, &log, Bag::new(alloc));
-    let Ok(mut job) = UpdateJob::new(alloc, teller, Store::<ToldDisk>::Nowhere, &queue) else {
-        return (None, None);
+    let mut job = match UpdateJob::new(alloc, teller, Store::<ToldDisk>::Nowhere, &queue) {
+        Ok(job) => job,
+        Err((teller, _)) => return (None, Some(teller.into_parts().0)),
     };
     if !matches!(job.turn(rt), Ok(None)) {
         return (Some(false), None);

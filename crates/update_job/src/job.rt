@@ -1,5 +1,5 @@
 //! Batches of updates (RFC 2136, 3 and 3.5).
-ghost use Rattle.std.specs.Prelude.{◌≡◌, List, drop, IfOk, OnErr};
+ghost use Rattle.std.specs.Prelude.{◌≡◌, List, drop, IfOk, IfErr, OnErr};
 ghost use Rattle.update_job.specs.Done.{BeginsWith, AreDone, code_of, told_of, told_behind};
 ghost use Rattle.update_job.specs.Turned.{IsTold, HasTurned, HasServed};
 
@@ -7,7 +7,7 @@ use crate::faults::Faults;
 use crate::publishing::Publishing;
 use crate::store::Store;
 use journal_store::{Disk, LogFault};
-use std::alloc::{AllocError, Global};
+use std::alloc::Global;
 use std::sync::Wait;
 use update_group::{MOST, judge_group};
 use update_queue::Queue;
@@ -49,21 +49,25 @@ impl<'a, P: Publishing, D: Disk> UpdateJob<'a, P, D>
 where
     P::Asked: Drop,
 {
-    /// Who judges the updates of a queue, which are brought to a store. It takes the memory for a batch.
+    /// Who judges the updates of a queue, which are brought to a store. It takes the memory for a batch; where there is none, what publishes and the store come back.
     pub fn new(
         alloc: Global,
         publishing: P,
         store: Store<D>,
         queue: &'a Queue<P::Asked>,
-    ) -> Result<UpdateJob<'a, P, D>, AllocError>
-        ensures { IfOk result (λ job. (job.publishing ≡ publishing) × (job.store ≡ store)) }
+    ) -> Result<UpdateJob<'a, P, D>, (P, Store<D>)>
+        ensures begun { IfOk result (λ job. (job.publishing ≡ publishing) × (job.store ≡ store)) }
+        ensures given_back { IfErr result (λ back. (back.0 ≡ publishing) × (back.1 ≡ store)) }
     {
+        let Ok(waiting) = Vec::with_capacity(alloc, BATCH) else {
+            return Err((publishing, store));
+        };
         Ok(UpdateJob {
             publishing,
             store,
             queue,
             alloc,
-            waiting: Vec::with_capacity(alloc, BATCH)?,
+            waiting,
         })
     }
 

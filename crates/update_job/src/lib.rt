@@ -11,7 +11,7 @@ mod job;
 mod publishing;
 mod store;
 
-pub use faults::Faults;
+pub use faults::{Faults, NoFaults};
 pub use job::{BATCH, Ended, UpdateJob};
 pub use publishing::Publishing;
 pub use store::Store;

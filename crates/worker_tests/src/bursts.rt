@@ -14,6 +14,8 @@ use std::sync::Wait;
 use std::test::Fail;
 use std::thread::{self, Threads};
 use std::time::{Clock, Duration};
+use told_disks::ToldDisk;
+use update_job::NoFaults;
 use zone_service::NoLog;
 use zone_tree::Version;
 
@@ -91,7 +93,9 @@ fn serve<R: Net + Threads + Wait + Clock + Sync>(
     let zone = zone(alloc).ok_or("a zone")?;
     let first = Version::first(zone);
     let later = Vec::new(alloc);
-    Ok(serve_zone::<R, Brand, NoLog>(rt, alloc, first, later, duties, plan, &NoLog))
+    Ok(serve_zone::<R, Brand, NoLog, ToldDisk, NoFaults>(
+        rt, alloc, first, later, duties, plan, None, &NoLog,
+    ))
 }
 
 // Those behind the first 32 are taken without waiting, and the last replies of these are sent when the worker ends.

@@ -17,6 +17,8 @@ use std::sync::atomic::{AtomicU64, Ordering};
 use std::test::Fail;
 use std::thread::Threads;
 use std::time::Clock;
+use told_disks::ToldDisk;
+use update_job::NoFaults;
 use zone_service::{Event, JobEnd, ServiceLog};
 use zone_tree::Version;
 
@@ -148,7 +150,9 @@ pub(crate) fn served<R: Net + Threads + Wait + Clock + Sync>(
     let zone = zone(alloc)?;
     let first = Version::first(zone);
     let later = Vec::new(alloc);
-    Some(serve_zone::<R, Brand, Counted>(rt, alloc, first, later, duties, plan, log))
+    Some(serve_zone::<R, Brand, Counted, ToldDisk, NoFaults>(
+        rt, alloc, first, later, duties, plan, None, log,
+    ))
 }
 
 /// Serves a zone by two workers, each of which may do so much, and gives what that has come to; None where there were no sockets, or no
