@@ -1,24 +1,23 @@
 -- What becomes of a batch that is judged, brought to a store and published.
-use Rattle.std.proofs.Common.{◌≡◌, refl, ℕ, List, [], ◌∷◌, ◌++◌, Option, None, Some, inl, sym, ap, ◌∙◌, subst, append-nil, append_assoc}
+use Rattle.std.proofs.Common.{◌≡◌, refl, ℕ, List, [], ◌∷◌, ◌++◌, Option, None, Some, inl, inr, length, ◌⊎◌, sym, ap, ◌∙◌, subst, append-nil, append_assoc}
 use Rattle.std.specs.Prelude.{replicate, drop, MatchOption}
 use Rattle.journal_store.specs.declared.log.LogFault.{LogFault}
 use Rattle.update_group.specs.declared.group.Group.{Group}
 use Rattle.update_group.specs.Engine.{IsLast}
 use Rattle.update_group.specs.Group.{servfail, codes_of, versions_of, IsBatch, IsGivenUp, IsGroup, Judged}
 use Rattle.update_group.proofs.GroupLemmas.{judged_long}
-use Rattle.update_job.specs.declared.store.Store.{Store}
-use Rattle.update_job.specs.Stored.{AreStored, IsKept}
 use Rattle.update_job.specs.Done.{BeginsWith, code_of, told_of, told_behind}
 use Rattle.update_job.specs.Turned.{IsTold, HasServed}
 
-module _ {V A D F : Type 0} (passes : V → A → Type 0) (tells : V → A → ℕ → Type 0) (makes : V → A → V → Type 0) (octets : A → List ℕ) (written synced : D → List ℕ) where
+module _ {V A S F : Type 0} (passes : V → A → Type 0) (tells : V → A → ℕ → Type 0) (makes : V → A → V → Type 0) (octets : A → List ℕ)
+    (stores : S → S → List V → List (List ℕ) → Type 0) (keeps closes tends : S → S → Type 0) where
   -- a group that is brought to a store, and published
-  pub told_published : (fault : Option (LogFault F)) (first : V) (published later : List V) (batch : List A) (codes : List ℕ) (before after : Store D F) (group done : Group V) (room : ℕ)
+  pub told_published : (fault : Option (LogFault F)) (first : V) (published later : List V) (batch : List A) (codes : List ℕ) (before after : S) (group done : Group V) (room : ℕ)
       → IsLast published first → IsGroup passes tells makes octets first batch group room
       → MatchOption fault (done ≡ group) (λ _. IsGivenUp group done)
-      → MatchOption fault ((updates : List (List ℕ)) → IsBatch group updates → AreStored written synced before after updates) (λ _. IsKept written synced before after)
+      → MatchOption fault ((updates : List (List ℕ)) → IsBatch group updates → stores before after (versions_of group) updates) (λ _. keeps before after)
       → later ≡ published ++ versions_of done → codes ≡ codes_of done
-      → IsTold passes tells makes octets written synced published later batch codes fault before after
+      → IsTold passes tells makes octets stores keeps closes published later batch codes fault before after
   told_published None first published later batch codes before after group done room last is same stored seen codes_are = inl (inl (record {
     first = first;
     versions = versions_of group;
@@ -41,14 +40,40 @@ module _ {V A D F : Type 0} (passes : V → A → Type 0) (tells : V → A → �
     stored = kept;
   })
 
+  -- a group that is brought to a store, where another one has published meanwhile
+  pub told_overtaken : (fault : Option (LogFault F)) (first : V) (published later : List V) (batch : List A) (codes : List ℕ) (before middle after : S) (group : Group V) (room : ℕ)
+      → IsLast published first → IsGroup passes tells makes octets first batch group room
+      → MatchOption fault ((updates : List (List ℕ)) → IsBatch group updates → stores before middle (versions_of group) updates) (λ _. keeps before middle)
+      → BeginsWith later published → length codes ≡ 0 → closes middle after
+      → IsTold passes tells makes octets stores keeps closes published later batch codes fault before after
+  told_overtaken fault first published later batch codes before middle after group room last is stored seen none closed = inr (record {
+    first = first;
+    judged_codes = codes_of group;
+    versions = versions_of group;
+    updates = is.updates;
+    last = last;
+    judged = is.judged;
+    told = none;
+    seen = seen;
+    middle = middle;
+    brought = brought_or_kept fault stored;
+    closed = closed;
+  })
+    where
+      brought_or_kept : (fault : Option (LogFault F))
+          → MatchOption fault ((updates : List (List ℕ)) → IsBatch group updates → stores before middle (versions_of group) updates) (λ _. keeps before middle)
+          → stores before middle (versions_of group) is.updates ⊎ keeps before middle
+      brought_or_kept None all = inl (all is.updates is.batch)
+      brought_or_kept (Some fault) kept = inr kept
+
   -- the same of the same lists
-  pub served_same : (known : List V) (before : Store D F) (old : Option (List (A × ℕ))) (seen others : List V) (store same : Store D F) (sent all : Option (List (A × ℕ)))
-      → others ≡ seen → same ≡ store → all ≡ sent → HasServed passes tells makes octets written synced known before old seen store sent
-      → HasServed passes tells makes octets written synced known before old others same all
+  pub served_same : (known : List V) (before : S) (old : Option (List (A × ℕ))) (seen others : List V) (store same : S) (sent all : Option (List (A × ℕ)))
+      → others ≡ seen → same ≡ store → all ≡ sent → HasServed passes tells makes octets stores keeps closes F tends known before old seen store sent
+      → HasServed passes tells makes octets stores keeps closes F tends known before old others same all
   served_same known before old seen others store same sent all same_seen same_store same_sent served =
-      subst (λ (l : List V). HasServed passes tells makes octets written synced known before old l same all) (sym same_seen)
-      (subst (λ (s : Store D F). HasServed passes tells makes octets written synced known before old seen s all) (sym same_store)
-      (subst (λ (o : Option (List (A × ℕ))). HasServed passes tells makes octets written synced known before old seen store o) (sym same_sent) served))
+      subst (λ (l : List V). HasServed passes tells makes octets stores keeps closes F tends known before old l same all) (sym same_seen)
+      (subst (λ (s : S). HasServed passes tells makes octets stores keeps closes F tends known before old seen s all) (sym same_store)
+      (subst (λ (o : Option (List (A × ℕ))). HasServed passes tells makes octets stores keeps closes F tends known before old seen store o) (sym same_sent) served))
 
 -- what is told behind others, and then behind these
 pub told_on : {T : Type 0} (old : Option (List T)) (one : T) (more : List T) → told_behind (told_behind old (one ∷ [])) more ≡ told_behind old (one ∷ more)

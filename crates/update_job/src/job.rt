@@ -5,8 +5,8 @@ ghost use Rattle.update_job.specs.Turned.{IsTold, HasTurned, HasServed};
 
 use crate::faults::Faults;
 use crate::publishing::Publishing;
-use crate::store::Store;
-use journal_store::{Disk, LogFault};
+use crate::storing::Storing;
+use journal_store::LogFault;
 use std::alloc::Global;
 use std::sync::Wait;
 use update_group::{MOST, judge_group};
@@ -33,19 +33,19 @@ struct Outcome<F> {
 
 /// Who judges updates on a thread of its own.
 #[derive(Drop)]
-pub struct UpdateJob<'a, P: Publishing, D: Disk>
+pub struct UpdateJob<'a, P: Publishing, S: Storing<P::Version>>
 where
     P::Asked: Drop,
 {
     publishing: P,
-    store: Store<D>,
+    store: S,
     queue: &'a Queue<P::Asked>,
     alloc: Global,
     /// The updates of a batch, for which there is room.
     waiting: Vec<P::Asked>,
 }
 
-impl<'a, P: Publishing, D: Disk> UpdateJob<'a, P, D>
+impl<'a, P: Publishing, S: Storing<P::Version>> UpdateJob<'a, P, S>
 where
     P::Asked: Drop,
 {
@@ -53,9 +53,9 @@ where
     pub fn new(
         alloc: Global,
         publishing: P,
-        store: Store<D>,
+        store: S,
         queue: &'a Queue<P::Asked>,
-    ) -> Result<UpdateJob<'a, P, D>, (P, Store<D>)>
+    ) -> Result<UpdateJob<'a, P, S>, (P, S)>
         ensures begun { IfOk result (λ job. (job.publishing ≡ publishing) × (job.store ≡ store)) }
         ensures given_back { IfErr result (λ back. (back.0 ≡ publishing) × (back.1 ≡ store)) }
     {
@@ -72,7 +72,7 @@ where
     }
 
     /// What publishes, and its store, with which it judges no more.
-    pub fn into_parts(self) -> (P, Store<D>)
+    pub fn into_parts(self) -> (P, S)
         ensures { (result.0 ≡ self.entry.publishing) × (result.1 ≡ self.entry.store) }
     {
         let UpdateJob {
@@ -86,15 +86,17 @@ where
     }
 
     /// Waits for updates, takes as many as wait, up to [`BATCH`], judges them as one batch, and tells each its code: why the batch isn't on the disk, if it
-    /// isn't. [`Ended`] where the queue is ended, and nothing waits.
-    pub fn turn<R: Wait>(&mut self, rt: &R) -> Result<Option<LogFault<D::Fault>>, Ended>
-        ensures turned { IfOk result (λ fault. HasTurned P.passes P.tells P.makes P.octets D.written D.synced (P.seen self.old.publishing) (P.seen self.new.publishing)
+    /// isn't. In front of the batch and behind it the store is tended: so what was to be done for updates to go on is done before they are judged, and nobody
+    /// waits for what is begun behind them. [`Ended`] where the queue is ended, and nothing waits.
+    pub fn turn<R: Wait>(&mut self, rt: &R) -> Result<Option<LogFault<S::Fault>>, Ended>
+        ensures turned { IfOk result (λ fault. HasTurned P.passes P.tells P.makes P.octets S.stored S.kept S.closed S.Fault S.tended (P.seen self.old.publishing) (P.seen self.new.publishing)
             fault self.old.store self.new.store (P.told self.old.publishing) (P.told self.new.publishing)) }
         ensures ended { OnErr result ((self.new.publishing ≡ self.old.publishing) × (self.new.store ≡ self.old.store)) }
     {
         if !self.queue.take(rt, &mut self.waiting) {
             return Err(Ended);
         }
+        self.store.tend(rt, self.alloc);
         let Outcome { codes, fault } = judge_batch(
             rt,
             self.alloc,
@@ -103,12 +105,13 @@ where
             &self.waiting,
         );
         tell_all(rt, &mut self.publishing, &mut self.waiting, &codes);
+        self.store.tend(rt, self.alloc);
         Ok(fault)
     }
 
     /// Judges batches until the queue is ended, and nothing waits. Of each it is noted why it isn't on the disk, or that it is.
-    pub fn serve<R: Wait, N: Faults<D::Fault>>(&mut self, rt: &R, faults: &mut N)
-        ensures { HasServed P.passes P.tells P.makes P.octets D.written D.synced (P.seen self.old.publishing) self.old.store (P.told self.old.publishing)
+    pub fn serve<R: Wait, N: Faults<S::Fault>>(&mut self, rt: &R, faults: &mut N)
+        ensures { HasServed P.passes P.tells P.makes P.octets S.stored S.kept S.closed S.Fault S.tended (P.seen self.old.publishing) self.old.store (P.told self.old.publishing)
             (P.seen self.new.publishing) self.new.store (P.told self.new.publishing) }
     {
         for _ in rt.forever() {
@@ -122,15 +125,15 @@ where
 }
 
 /// Judges a batch in the version published last, brings it to the store, and publishes what it makes. The lock is had to learn that version, and to publish.
-fn judge_batch<R: Wait, P: Publishing, D: Disk>(
+fn judge_batch<R: Wait, P: Publishing, S: Storing<P::Version>>(
     rt: &R,
     alloc: Global,
     publishing: &mut P,
-    store: &mut Store<D>,
+    store: &mut S,
     batch: &[P::Asked],
-) -> Outcome<D::Fault>
+) -> Outcome<S::Fault>
     ensures told { (met : List P.Version) × BeginsWith met (P.seen publishing.old)
-        × IsTold P.passes P.tells P.makes P.octets D.written D.synced met (P.seen publishing.new) batch.now result.codes.items result.fault store.old store.new }
+        × IsTold P.passes P.tells P.makes P.octets S.stored S.kept S.closed met (P.seen publishing.new) batch.now result.codes.items result.fault store.old store.new }
     ensures done { AreDone P.passes P.tells P.makes (P.seen publishing.new) (P.begun publishing.new) result.codes.items batch.now }
     ensures same { P.told publishing.new ≡ P.told publishing.old }
 {
@@ -141,7 +144,7 @@ fn judge_batch<R: Wait, P: Publishing, D: Disk>(
             fault: None,
         };
     };
-    let fault = store.append(alloc, &mut group);
+    let fault = store.append(rt, alloc, &mut group);
     match publishing.publish(rt, group) {
         Ok(codes) => Outcome { codes, fault },
         Err(_) => {

@@ -3,15 +3,18 @@
 //! An [`UpdateJob`] takes the updates that wait in a queue (`update_queue`), judges them one upon the other in versions that nobody sees yet, brings those that
 //! change the zone to the disk by one sync (`update_group`), where there is a journal, publishes what they make, and only then tells each its code. What
 //! publishes, and what brings a code to who asked, a [`Publishing`] says: its lock is had twice for a batch, and for short, so that nobody who takes it waits for
-//! a disk. Where the disk fails each is told SERVFAIL, and nothing is published.
+//! a disk. Where the disk fails each is told SERVFAIL, and nothing is published. Where they are brought a [`Storing`] says, and does between two batches what is to be
+//! done there; a [`Store`] is a journal, or nothing, and does nothing else.
 #![tactic(auto)]
 
 mod faults;
 mod job;
 mod publishing;
 mod store;
+mod storing;
 
 pub use faults::{Faults, NoFaults};
 pub use job::{BATCH, Ended, UpdateJob};
 pub use publishing::Publishing;
 pub use store::Store;
+pub use storing::Storing;

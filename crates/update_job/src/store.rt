@@ -1,9 +1,11 @@
 //! Where updates are brought before they are told (RFC 2136, 3.5).
+use crate::storing::Storing;
 use journal_store::{Disk, Log, LogFault};
 use std::alloc::Global;
+use std::sync::Wait;
 use update_group::Group;
 
-/// Where the updates of batches are brought.
+/// Where the updates of batches are brought, and nothing is done between them.
 #[derive(Drop)]
 pub enum Store<D: Disk> {
     /// Nowhere: they are lost at the program's end.
@@ -14,23 +16,28 @@ pub enum Store<D: Disk> {
     Closed,
 }
 
-impl<D: Disk> Store<D> {
-    ghost use Rattle.std.specs.Prelude.{◌≡◌, ℕ, List, MatchOption};
-    ghost use Rattle.update_group.specs.Group.{IsBatch, IsGivenUp};
+impl<V: Drop, D: Disk> Storing<V> for Store<D> {
+    ghost use Rattle.std.specs.Prelude.{◌≡◌};
     ghost use Rattle.update_job.specs.Stored.{AreStored, IsKept, IsClosed};
 
-    /// Brings the updates of a group that make a version to the disk, as one batch. At a fault each update of the group is told SERVFAIL, and there is no
-    /// version to publish. It takes memory, before anything is written.
-    pub fn append<V: Drop>(
+    type Fault = D::Fault;
+
+    ghost stored = { λ before after versions updates. AreStored D.written D.synced before after updates };
+
+    ghost kept = { IsKept D.written D.synced };
+
+    ghost tended = { λ before after. after ≡ before };
+
+    ghost closed = { IsClosed };
+
+    fn tend<R: Wait>(&mut self, _rt: &R, _alloc: Global) {}
+
+    fn append<R: Wait>(
         &mut self,
+        _rt: &R,
         alloc: Global,
         group: &mut Group<V>,
-    ) -> Option<LogFault<D::Fault>>
-        ensures told { MatchOption result (group.new ≡ group.old) (λ _. IsGivenUp group.old group.new) }
-        ensures stored { MatchOption result
-            ((updates : List (List ℕ)) → IsBatch group.old updates → AreStored D.written D.synced self.old self.new updates)
-            (λ _. IsKept D.written D.synced self.old self.new) }
-    {
+    ) -> Option<LogFault<D::Fault>> {
         match self {
             Store::Nowhere => None,
             Store::Journal(log) => group.append(alloc, log),
@@ -44,10 +51,7 @@ impl<D: Disk> Store<D> {
         }
     }
 
-    /// Takes nothing more, where it was a journal.
-    pub fn close(&mut self)
-        ensures { IsClosed self.old self.new }
-    {
+    fn close(&mut self) {
         match self {
             Store::Nowhere => {}
             _ => *self = Store::Closed,

@@ -3,8 +3,7 @@ use Rattle.std.proofs.Common.{◌∙◌, refl, ap, inl, inr, [], ◌++◌, lengt
 use Rattle.update_group.specs.Group.{codes_of, versions_of}
 use Rattle.update_group.proofs.GroupLemmas.{judged_made, made_still}
 use Rattle.update_job.proofs.DoneLemmas.{all_refused, published_done, done_same}
-use Rattle.update_job.proofs.ToldLemmas.{told_published}
-use Rattle.update_job.proofs.StoreLemmas.{closed_behind}
+use Rattle.update_job.proofs.ToldLemmas.{told_published, told_overtaken}
 use Rattle.update_job.proofs.job.judge_batch.Goals as goal
 
 pub returns-in_default-clause-told : goal.returns-in_default-clause-told
@@ -35,7 +34,7 @@ returns-in-Ok-publish-clause-told g c =
     let seen = g.P.Publishing.seen c.begin-last.new.self in (
       seen,
       c.begin-last.ensures.grows,
-      told_published g.P.Judging.passes g.P.Judging.tells g.P.Judging.makes g.P.Judging.octets g.D.Disk.written g.D.Disk.synced
+      told_published g.P.Judging.passes g.P.Judging.tells g.P.Judging.makes g.P.Judging.octets g.S.Storing.stored g.S.Storing.kept g.S.Storing.closed g.S.Storing.tended
           c.append-fault.result c.begin-last.result.0 seen (g.P.Publishing.seen c.publish.new.self) c.args.batch.now c.in-Ok-publish.codes.items
           c.args.store.now c.append-fault.new.self c.in-Ok.group c.append-fault.new.group c.min.result
           c.begin-last.ensures.last c.in-Ok.ensures c.append-fault.ensures.told c.append-fault.ensures.stored
@@ -53,16 +52,16 @@ returns-in-Ok-publish-clause-done g c =
     c.append-fault.result c.args.batch.now c.in-Ok.group done c.min.result c.in-Ok.ensures c.append-fault.ensures.told)
 
 pub returns-clause-told : goal.returns-clause-told
-returns-clause-told g c = (
-  g.P.Publishing.seen c.begin-last.new.self,
-  c.begin-last.ensures.grows,
-  inr (record {
-    told = ap length c.new-in-Err.ensures.items;
-    seen = c.in-Err.ensures.given_back.1;
-    stored = closed_behind g.D.Disk.written g.D.Disk.synced c.in-Ok.group c.in-Ok.ensures.updates c.in-Ok.ensures.batch
-        c.append-fault.result c.args.store.now c.append-fault.new.self c.close.new.self c.append-fault.ensures.stored c.close.ensures;
-  }),
-)
+returns-clause-told g c =
+    let seen = g.P.Publishing.seen c.begin-last.new.self in (
+      seen,
+      c.begin-last.ensures.grows,
+      told_overtaken g.P.Judging.passes g.P.Judging.tells g.P.Judging.makes g.P.Judging.octets g.S.Storing.stored g.S.Storing.kept g.S.Storing.closed g.S.Storing.tended
+          c.append-fault.result c.begin-last.result.0 seen (g.P.Publishing.seen c.publish.new.self) c.args.batch.now c.new-in-Err.result.items
+          c.args.store.now c.append-fault.new.self c.close.new.self c.in-Ok.group c.min.result
+          c.begin-last.ensures.last c.in-Ok.ensures c.append-fault.ensures.stored
+          c.in-Err.ensures.given_back.1 (ap length c.new-in-Err.ensures.items) c.close.ensures,
+    )
 
 pub returns-clause-done : goal.returns-clause-done
 returns-clause-done g c =

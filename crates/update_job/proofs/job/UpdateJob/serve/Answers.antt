@@ -12,5 +12,5 @@ loop-preserved g c = goes_on c.loop.invariant c.in-Ok.ensures.turned
 
 pub returns-in-Err : goal.returns-in-Err
 returns-in-Err g c =
-    served_same g.P.Judging.passes g.P.Judging.tells g.P.Judging.makes g.P.Judging.octets g.D.Disk.written g.D.Disk.synced _ _ _ _ _ _ _ _ _
+    served_same g.P.Judging.passes g.P.Judging.tells g.P.Judging.makes g.P.Judging.octets g.S.Storing.stored g.S.Storing.kept g.S.Storing.closed g.S.Storing.tended _ _ _ _ _ _ _ _ _
     (ap (λ p. g.P.Publishing.seen p) c.in-Err.ensures.ended.0) c.in-Err.ensures.ended.1 (ap (λ p. g.P.Publishing.told p) c.in-Err.ensures.ended.0) c.loop.invariant

@@ -4,6 +4,6 @@ use Rattle.update_job.proofs.job.UpdateJob.serve.Given as goal
 
 abbrev pub invariant-loop : goal.invariant-loop
 invariant-loop g l =
-    HasServed g.P.Judging.passes g.P.Judging.tells g.P.Judging.makes g.P.Judging.octets g.D.Disk.written g.D.Disk.synced
+    HasServed g.P.Judging.passes g.P.Judging.tells g.P.Judging.makes g.P.Judging.octets g.S.Storing.stored g.S.Storing.kept g.S.Storing.closed g.row.S-Fault.Denot g.S.Storing.tended
     (g.P.Publishing.seen l.fn.self.publishing) l.fn.self.store (g.P.Publishing.told l.fn.self.publishing)
     (g.P.Publishing.seen l.self.publishing) l.self.store (g.P.Publishing.told l.self.publishing)

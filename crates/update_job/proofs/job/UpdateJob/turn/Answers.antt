@@ -14,10 +14,14 @@ returns-clause-turned g c =
       codes = codes;
       met = judged.told.0;
       published = g.P.Publishing.seen c.judge_batch-codes.new.publishing;
+      ready = c.tend.new.self;
+      behind = c.judge_batch-codes.new.store;
+      tended = c.tend.ensures;
       begun = judged.told.1;
       told = judged.told.2;
       seen = c.tell_all.ensures.grows;
-      behind = c.tell_all.ensures.told
+      left = c.tend-2.ensures;
+      sent = c.tell_all.ensures.told
           ∙ (ap (λ o. told_behind o (told_of c.deref-2.result.now batch)) judged.same
           ∙ (ap (λ cs. told_behind before (told_of cs batch)) c.deref-2.ensures.value
           ∙ ap (λ l. told_behind before (told_of codes l)) (sym c.deref.ensures.value)));

@@ -1,6 +1,6 @@
 -- A journal holds what its log does.
 use Rattle.update_job.proofs.StoreLemmas.{journal_stored}
-use Rattle.update_job.proofs.store.Store.append.Goals as goal
+use Rattle.update_job.proofs.store.StoreStoring.append.Goals as goal
 
 pub returns-in-Journal-clause-stored : goal.returns-in-Journal-clause-stored
 returns-in-Journal-clause-stored g c =
