@@ -28,7 +28,8 @@ use std::io::{self, BufRead, BufReader, BufWriter, Write};
 use std::net::{Net, TcpListener, TcpStream};
 use std::process::ExitCode;
 use std::random::RandomSource;
-use std::rt::{Env, Files};
+use std::fs::{File, Files};
+use std::rt::Env;
 use std::sync::Wait;
 use std::thread::Threads;
 use std::time::Clock;
@@ -47,7 +48,7 @@ fn main(rt: HostRuntime) -> ExitCode {
 
 /// Does what the program's words ask for, and gives its status.
 fn run_words<
-    R: Files
+    R: Files<File = File>
         + Env
         + Print
         + Eprint

@@ -1,6 +1,7 @@
 //! Serving a zone on sockets (RFC 1035, 4.2).
 use crate::bound::{Unbound, WorkerSockets, bind_all, duties_of};
 use crate::descriptors;
+use crate::kept::start_kept;
 use crate::log::{Listening, Log, LogLine};
 use crate::options::{MAX_THREADS, Serve};
 use crate::secondaries::{is_routed, put_secondaries, secondaries_for};
@@ -9,7 +10,7 @@ use commands::{DONE, FAILED, Fault, Source, tell};
 use conversation::Allowed;
 use file_disks::FileDisk;
 use line_io::read_zone_text;
-use master_file::read_zone;
+use master_file::{FileFault, read_zone};
 use serve_workers::{
     ConnectionPlan, Handing, Muster, Plan, Progress, Secondaries, ServeFault, serve_zone,
 };
@@ -19,20 +20,69 @@ use std::marker::Brand;
 use std::mem;
 use std::net::{Net, SocketAddr, TcpListener, TcpStream};
 use std::random::RandomSource;
-use std::rt::Files;
+use std::fs::{File, Files};
 use std::sync::Wait;
 use std::thread::Threads;
 use std::time::Clock;
+use store_files::StoreLock;
+use store_start::{Resumed, Started};
 use update_job::{NoFaults, Store};
 use zone_tree::{Version, Zone, ZoneRead};
 
 /// How many updates may wait for who judges them (own).
 const WAITING: usize = 1024;
 
+/// What a server begins with.
+#[derive(Drop)]
+struct Begun {
+    /// The oldest version that it has.
+    first: Version,
+    /// Those behind it.
+    later: Vec<Version>,
+    /// Where updates are brought before they are told.
+    store: Store<FileDisk>,
+    /// What holds the store's folder, where there is one.
+    lock: Option<StoreLock>,
+}
+
+impl Begun {
+    /// A zone, whose updates are lost at the program's end.
+    fn of_zone(alloc: Global, zone: Zone) -> Begun {
+        Begun {
+            first: Version::first(zone),
+            later: Vec::new(alloc),
+            store: Store::Nowhere,
+            lock: None,
+        }
+    }
+
+    /// A store, in which updates last.
+    fn of_store(started: Started) -> Begun {
+        let Started { lock, store, .. } = started;
+        let Resumed {
+            log, first, later, ..
+        } = store;
+        Begun {
+            first,
+            later,
+            store: Store::Journal(log),
+            lock: Some(lock),
+        }
+    }
+
+    /// The version that is served.
+    fn last(&self) -> &Version {
+        match self.later.last() {
+            Some(last) => last,
+            None => &self.first,
+        }
+    }
+}
+
 /// Serves a zone, and gives the program's status: 0 where each worker has done what it may, 1 where the zone is refused, 3 at a
 /// device's fault, a thread that can't be started or want of memory.
 pub fn run_serve<
-    R: Files
+    R: Files<File = File>
         + Eprint
         + Input
         + AllocGlobal
@@ -57,23 +107,32 @@ pub fn run_serve<
             text
         }
     };
-    match read_zone(alloc, text.as_slice(), &serve.origin) {
-        Ok(zone) => {
-            mem::drop(text);
-            serve_on(rt, serve, zone)
-        }
-        Err(fault) => {
-            let mut errors = Vec::new(alloc);
-            let status = tell(alloc, Err(Fault::Zone(fault)), text.as_slice(), &mut errors);
-            rt.eprint(String::from_utf8_lossy(alloc, errors.as_slice())?)?;
-            Ok(status)
-        }
-    }
+    let begun = match serve.store {
+        Some(plan) => match start_kept(rt, plan, serve, text.as_slice())? {
+            Ok(started) => Begun::of_store(started),
+            Err(status) => return Ok(status),
+        },
+        None => match read_zone(alloc, text.as_slice(), &serve.origin) {
+            Ok(zone) => Begun::of_zone(alloc, zone),
+            Err(fault) => return tell_zone(rt, text.as_slice(), fault),
+        },
+    };
+    mem::drop(text);
+    serve_on(rt, serve, begun)
+}
+
+/// Tells why a zone's text is refused, and gives the program's status.
+fn tell_zone<R: Eprint + AllocGlobal>(rt: &R, text: &[u8], fault: FileFault) -> io::Result<u8> {
+    let alloc = rt.alloc();
+    let mut errors = Vec::new(alloc);
+    let status = tell(alloc, Err(Fault::Zone(fault)), text, &mut errors);
+    rt.eprint(String::from_utf8_lossy(alloc, errors.as_slice())?)?;
+    Ok(status)
 }
 
 /// Serves a zone on sockets at addresses, once they stand.
 fn serve_on<
-    R: Files
+    R: Files<File = File>
         + Eprint
         + AllocGlobal
         + Net<Listener = TcpListener, Stream = TcpStream>
@@ -86,9 +145,9 @@ fn serve_on<
         + Sync
         + Drop
         + 'static,
->(rt: &R, serve: &Serve<'_>, zone: Zone) -> io::Result<u8> {
+>(rt: &R, serve: &Serve<'_>, begun: Begun) -> io::Result<u8> {
     match bind_all(rt, rt.alloc(), serve.listen.as_slice(), serve.workers) {
-        Ok((sockets, addresses)) => serve_bound(rt, serve, zone, sockets, addresses),
+        Ok((sockets, addresses)) => serve_bound(rt, serve, begun, sockets, addresses),
         Err(unbound) => {
             tell_unbound(rt, &unbound)?;
             Ok(FAILED)
@@ -125,7 +184,7 @@ fn reason_of(fault: &io::Error) -> Option<&'static str> {
 
 /// Serves a zone on sockets that stand at addresses.
 fn serve_bound<
-    R: Files
+    R: Files<File = File>
         + Eprint
         + AllocGlobal
         + Net<Listener = TcpListener, Stream = TcpStream>
@@ -141,11 +200,13 @@ fn serve_bound<
 >(
     rt: &R,
     serve: &Serve<'_>,
-    zone: Zone,
+    begun: Begun,
     sockets: Vec<WorkerSockets>,
     addresses: Vec<SocketAddr>,
 ) -> io::Result<u8> {
     let (told, listen) = (serve.secondaries.as_slice(), serve.listen.as_slice());
+    let zone = begun.last().zone();
+    let apex = zone.apex().copy();
     let Some(secondaries) = secondaries_for(rt, rt.alloc(), told, listen, zone.apex().copy())?
     else {
         return Ok(FAILED);
@@ -153,11 +214,11 @@ fn serve_bound<
     let listening = Listening {
         addresses,
         serial: zone.serial(),
-        records: records_of(&zone),
+        records: records_of(zone),
     };
-    let log = Log::start(rt, zone.apex().copy(), listening)?;
+    let log = Log::start(rt, apex, listening)?;
     warn(rt, serve, &log);
-    let status = match serve_all(rt, rt.alloc(), serve, zone, sockets, secondaries, &log) {
+    let status = match serve_all(rt, rt.alloc(), serve, begun, sockets, secondaries, &log) {
         Ok(()) => DONE,
         Err(fault) => {
             log.add(rt, LogLine::Fault(fault));
@@ -190,7 +251,7 @@ fn serve_all<R: Net + Threads + Wait + Clock + Sync>(
     rt: &R,
     alloc: Global,
     serve: &Serve<'_>,
-    zone: Zone,
+    begun: Begun,
     sockets: Vec<WorkerSockets>,
     secondaries: Secondaries,
     log: &Log,
@@ -221,14 +282,18 @@ fn serve_all<R: Net + Threads + Wait + Clock + Sync>(
             allowed: Allowed::new(serve.allowed.as_slice()),
         },
     };
-    let first = Version::first(zone);
-    let later = Vec::new(alloc);
+    let Begun {
+        first,
+        later,
+        store,
+        lock,
+    } = begun;
     let handing = Handing {
         most: WAITING,
-        store: Store::<FileDisk>::Nowhere,
+        store,
         faults: NoFaults,
     };
-    serve_zone::<R, Brand, Log, FileDisk, NoFaults>(
+    let served = serve_zone::<R, Brand, Log, Store<FileDisk>, NoFaults>(
         rt,
         alloc,
         first,
@@ -237,7 +302,9 @@ fn serve_all<R: Net + Threads + Wait + Clock + Sync>(
         plan,
         Some(handing),
         log,
-    )
+    );
+    mem::drop(lock);
+    served
 }
 
 /// How many records a zone has.

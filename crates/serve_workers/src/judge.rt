@@ -4,54 +4,53 @@ use crate::bringing::Bringing;
 use crate::progress::Muster;
 use crate::updates::Updates;
 use crate::workers::Meanwhile;
-use dns_engine::{FirstZone, VersionReader};
-use journal_store::Disk;
+use dns_engine::{FirstZone, SharedVersion, VersionReader};
 use snapshot_cell::Naming;
 use std::sync::Wait;
-use update_job::{Faults, Store, UpdateJob};
+use update_job::{Faults, Storing, UpdateJob};
 use update_teller::Teller;
 use zone_service::ServiceLog;
 
 /// How updates are judged beside the threads that they come to.
 #[derive(Drop)]
-pub struct Handing<D: Disk, F> {
+pub struct Handing<S: Storing<SharedVersion>, F> {
     /// How many may wait.
     pub most: usize,
     /// Where they are brought before they are told.
-    pub store: Store<D>,
+    pub store: S,
     /// Who notes why batches aren't there.
     pub faults: F,
 }
 
 /// What updates are judged by.
 #[derive(Drop)]
-pub(crate) struct Judging<'a, D: Disk, F> {
+pub(crate) struct Judging<'a, S: Storing<SharedVersion>, F> {
     /// Those that wait.
     pub(crate) updates: &'a Updates,
     /// What brings the replies.
     pub(crate) bringing: Bringing<'a>,
     /// Where they are brought before they are told.
-    pub(crate) store: Store<D>,
+    pub(crate) store: S,
     /// Who notes why batches aren't there.
     pub(crate) faults: F,
 }
 
 /// Who judges updates until no thread hands in any more.
 #[derive(Drop)]
-pub(crate) struct Judge<'a, 's, 'b, Z: FirstZone, N: Naming, L: ServiceLog, D: Disk, F> {
-    pub(crate) job: UpdateJob<'b, Teller<'a, 's, Z, N, L, Bringing<'b>>, D>,
+pub(crate) struct Judge<'a, 's, 'b, Z: FirstZone, N: Naming, L: ServiceLog, S: Storing<SharedVersion>, F> {
+    pub(crate) job: UpdateJob<'b, Teller<'a, 's, Z, N, L, Bringing<'b>>, S>,
     pub(crate) faults: F,
     pub(crate) muster: &'a Muster,
 }
 
-impl<'a, 's, 'b, Z: FirstZone, N: Naming, L: ServiceLog, D: Disk, F: Drop> Judge<
+impl<'a, 's, 'b, Z: FirstZone, N: Naming, L: ServiceLog, S: Storing<SharedVersion>, F: Drop> Judge<
     'a,
     's,
     'b,
     Z,
     N,
     L,
-    D,
+    S,
     F,
 > {
     /// Its reader, with which it judges no more.
@@ -73,9 +72,9 @@ impl<
     Z: FirstZone,
     N: Naming,
     L: ServiceLog,
-    D: Disk,
-    F: Faults<D::Fault> + Drop,
-> Meanwhile for Judge<'a, 's, 'b, Z, N, L, D, F> {
+    S: Storing<SharedVersion>,
+    F: Faults<S::Fault> + Drop,
+> Meanwhile for Judge<'a, 's, 'b, Z, N, L, S, F> {
     // Secondaries are told of versions until this is over too.
     fn meanwhile<R: Wait>(&mut self, rt: &R) {
         self.job.serve(rt, &mut self.faults);

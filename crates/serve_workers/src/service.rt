@@ -25,7 +25,6 @@ use dns_engine::{
     EngineFault, FirstZone, NoEngine, SharedVersion, VersionCell, VersionPublisher, VersionReader,
     ZoneVersions,
 };
-use journal_store::Disk;
 use ready_sockets::{TcpPlace, Watch};
 use snapshot_cell::{
     Cell, NamedCell, NamedPublisher, NamedReader, Naming, NewFault, Parts, Reader,
@@ -39,7 +38,7 @@ use std::thread::Threads;
 use std::time::Clock;
 use thiserror::Error;
 use turns::{Plan as ConnectionPlan, Turns};
-use update_job::{Faults, UpdateJob};
+use update_job::{Faults, Storing, UpdateJob};
 use update_teller::Teller;
 use zone_service::{JobEnd, Server, ServiceLog};
 use zone_tree::Version;
@@ -117,10 +116,10 @@ impl<C: Clock> SocketJob<'_, C> {
 }
 
 /// The updates that threads with these duties hand in, if they do.
-fn updates_for<R: Wait, D: Disk, F: Drop>(
+fn updates_for<R: Wait, S: Storing<SharedVersion>, F: Drop>(
     rt: &R,
     alloc: Global,
-    handing: &Option<Handing<D, F>>,
+    handing: &Option<Handing<S, F>>,
     duties: &[Duty<'_>],
     places: usize,
 ) -> Result<Updates, ServeFault> {
@@ -135,12 +134,12 @@ fn updates_for<R: Wait, D: Disk, F: Drop>(
 }
 
 /// What updates are judged by that threads with these duties hand in, if they do.
-fn judging_for<'a, D: Disk, F: Drop>(
+fn judging_for<'a, S: Storing<SharedVersion>, F: Drop>(
     alloc: Global,
-    handing: Option<Handing<D, F>>,
+    handing: Option<Handing<S, F>>,
     duties: &[Duty<'_>],
     updates: &'a Updates,
-) -> Result<Option<Judging<'a, D, F>>, ServeFault> {
+) -> Result<Option<Judging<'a, S, F>>, ServeFault> {
     let Some(Handing { store, faults, .. }) = handing else {
         return Ok(None);
     };
@@ -164,8 +163,8 @@ pub fn serve_zone<
     R: Net + Threads + Wait + Clock + Sync,
     Z: FirstZone + Send + Sync,
     L: ServiceLog + Sync,
-    D: Disk,
-    F: Faults<D::Fault> + Drop,
+    S: Storing<SharedVersion>,
+    F: Faults<S::Fault> + Drop,
 >(
     rt: &R,
     alloc: Global,
@@ -173,7 +172,7 @@ pub fn serve_zone<
     later: Vec<Version>,
     duties: Vec<Duty<'_>>,
     plan: Plan<'_>,
-    handing: Option<Handing<D, F>>,
+    handing: Option<Handing<S, F>>,
     log: &L,
 ) -> Result<(), ServeFault>
     requires first { IsFirst Z.zone first }
@@ -196,7 +195,7 @@ pub fn serve_zone<
         Err(NewFault::TooManyReaders) => unreachable!(),
         Err(NewFault::NoMemory) => return Err(ServeFault::NoMemory),
     };
-    serve_parts::<R, Z, Brand, L, D, F>(rt, alloc, parts, later, jobs, plan, judging, log)
+    serve_parts::<R, Z, Brand, L, S, F>(rt, alloc, parts, later, jobs, plan, judging, log)
 }
 
 /// Serves the versions of a cell in which the first one alone is published, and these are to be published behind it, by jobs, with a reader for
@@ -206,8 +205,8 @@ fn serve_parts<
     Z: FirstZone + Send + Sync,
     N: Naming + Send + Sync,
     L: ServiceLog + Sync,
-    D: Disk,
-    F: Faults<D::Fault> + Drop,
+    S: Storing<SharedVersion>,
+    F: Faults<S::Fault> + Drop,
 >(
     rt: &R,
     alloc: Global,
@@ -215,7 +214,7 @@ fn serve_parts<
     later: Vec<SharedVersion>,
     jobs: Vec<SocketJob<'_, R>>,
     plan: Plan<'_>,
-    judging: Option<Judging<'_, D, F>>,
+    judging: Option<Judging<'_, S, F>>,
     log: &L,
 ) -> Result<(), ServeFault>
     requires named { parts.cell ≡ N.cell }
@@ -249,7 +248,7 @@ fn serve_parts<
     let (cell, publisher) = (NamedCell::of(cell), NamedPublisher::of(publisher));
     let (own, reader) = (NamedReader::of(own), NamedReader::of(reader));
     let pairs = pairs_of(readers, jobs, pairs);
-    let (served, publisher, readers) = serve_cell::<R, Z, N, L, D, F>(
+    let (served, publisher, readers) = serve_cell::<R, Z, N, L, S, F>(
         rt, alloc, &cell, publisher, own, reader, later, pairs, back, plan, judging, log,
     );
     end_named(rt, cell, publisher, readers);
@@ -263,8 +262,8 @@ fn serve_cell<
     Z: FirstZone + Send + Sync,
     N: Naming + Send + Sync,
     L: ServiceLog + Sync,
-    D: Disk,
-    F: Faults<D::Fault> + Drop,
+    S: Storing<SharedVersion>,
+    F: Faults<S::Fault> + Drop,
 >(
     rt: &R,
     alloc: Global,
@@ -276,7 +275,7 @@ fn serve_cell<
     pairs: Vec<(VersionReader<N>, SocketJob<'_, R>)>,
     mut back: Vec<VersionReader<N>>,
     plan: Plan<'_>,
-    judging: Option<Judging<'_, D, F>>,
+    judging: Option<Judging<'_, S, F>>,
     log: &L,
 ) -> (
     Result<(), ServeFault>,
@@ -337,14 +336,14 @@ fn serve_handing<
     Z: FirstZone + Send + Sync,
     N: Naming + Send + Sync,
     L: ServiceLog + Sync,
-    D: Disk,
-    F: Faults<D::Fault> + Drop,
+    S: Storing<SharedVersion>,
+    F: Faults<S::Fault> + Drop,
 >(
     rt: &R,
     alloc: Global,
     server: &Server<'_, Z, N>,
     muster: &Muster,
-    judging: Option<Judging<'_, D, F>>,
+    judging: Option<Judging<'_, S, F>>,
     reader: VersionReader<N>,
     pairs: Vec<(VersionReader<N>, SocketJob<'_, R>)>,
     back: &mut Vec<VersionReader<N>>,

@@ -93,7 +93,7 @@ fn serve<R: Net + Threads + Wait + Clock + Sync>(
     let zone = zone(alloc).ok_or("a zone")?;
     let first = Version::first(zone);
     let later = Vec::new(alloc);
-    Ok(serve_zone::<R, Brand, NoLog, ToldDisk, NoFaults>(
+    Ok(serve_zone::<R, Brand, NoLog, Store<ToldDisk>, NoFaults>(
         rt, alloc, first, later, duties, plan, None, &NoLog,
     ))
 }

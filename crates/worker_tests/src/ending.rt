@@ -150,7 +150,7 @@ pub(crate) fn served<R: Net + Threads + Wait + Clock + Sync>(
     let zone = zone(alloc)?;
     let first = Version::first(zone);
     let later = Vec::new(alloc);
-    Some(serve_zone::<R, Brand, Counted, ToldDisk, NoFaults>(
+    Some(serve_zone::<R, Brand, Counted, Store<ToldDisk>, NoFaults>(
         rt, alloc, first, later, duties, plan, None, log,
     ))
 }
