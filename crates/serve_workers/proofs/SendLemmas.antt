@@ -68,7 +68,7 @@ waiting_send = search (crossing.crosses, sendable) depth 60 fits 20000
 updates_sync : IsSync updates.the_row
 updates_sync =
     recorded_sync (updates.the_field).row _ _ (updates.the_type).to_one
-    (struct_sync (shape (updates.the_type)) (search (queue.the_sync, waiting_send, crossing.crosses, sendable) depth 60 fits 20000, (search (crossing.crosses, sendable) depth 60 fits 20000, (search (told_sync, crossing.crosses, sendable) depth 60 fits 20000, tt))))
+    (struct_sync (shape (updates.the_type)) (search (queue.the_field_sync, queue.the_sync, waiting_send, crossing.crosses, sendable) depth 60 fits 20000, (search (crossing.crosses, sendable) depth 60 fits 20000, (search (told_sync, crossing.crosses, sendable) depth 60 fits 20000, tt))))
 
 hearing_send : (a : NamedLft) (P : RattleType) → IsSend P → IsSend (hearing.the_field a P).row
 hearing_send a P polls = search (told_sync, option.the_field_send, option.the_send, crossing.crosses, sendable) depth 60 fits 20000

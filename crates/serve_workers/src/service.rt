@@ -411,7 +411,8 @@ fn serve_with<
     ensures room { vec_capacity back.new ≡ vec_capacity back.old }
 {
     match run_threads(rt, alloc, server, muster, updates, meanwhile, pairs, log) {
-        Ok((pairs, beside)) => {
+        Ok(ended) => {
+            let (pairs, beside) = ended;
             let fault = fault_in(&pairs);
             put_readers(pairs, back);
             match fault {
@@ -419,7 +420,8 @@ fn serve_with<
                 None => (Ok(()), beside),
             }
         }
-        Err((NotStarted(pairs), beside)) => {
+        Err(refused) => {
+            let (NotStarted(pairs), beside) = refused;
             put_readers(pairs, back);
             (Err(ServeFault::NotStarted), beside)
         }

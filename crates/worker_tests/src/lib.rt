@@ -1,4 +1,4 @@
-//! Tests of the workers of `serve_workers`: jobs on datagrams, side by side; datagrams that lie in a socket together; a job on connections over a poll that is made up, and one that hears which replies can be had; and how a server
+//! Tests of the workers of `serve_workers`: jobs on datagrams, side by side; datagrams that lie in a socket together; a job on connections over a poll that is made up, and one that hears which replies can be had; updates that are judged beside the workers; and how a server
 //! ends, over sockets of the system's.
 #![tactic(auto)]
 
@@ -10,6 +10,8 @@ mod counts;
 mod ending;
 #[cfg(test)]
 mod gates;
+#[cfg(test)]
+mod handed;
 #[cfg(test)]
 mod hearing;
 #[cfg(test)]

@@ -1,4 +1,4 @@
--- The engine's reader is the last one, and the others are those of the workers.
+-- The engine's reader is the last one, that of who judges updates the one before it, and the others are those of the workers.
 use Rattle.std.proofs.Common.{◌≡◌, ◌<◌, sym, ◌∙◌, subst}
 use Rattle.std.proofs.lemmas.List.Elements.{All-same, All-take}
 use Rattle.serve_workers.proofs.EachLemmas.{all_last}
@@ -6,10 +6,11 @@ use Rattle.serve_workers.proofs.service.serve_parts.Goals as goal
 
 pub pairs_of-pairs-requires-clause-named : goal.pairs_of-pairs-requires-clause-named
 pairs_of-pairs-requires-clause-named g c =
-    let rest = All-same (λ r. (r.cell ≡ c.args.parts.cell) × (0 < r.left)) _ _ c.in-Some.ensures.rest (All-take (λ r. (r.cell ≡ c.args.parts.cell) × (0 < r.left)) _ c.args.parts.readers.items c.requires.readers) in
+    let behind = All-same (λ r. (r.cell ≡ c.args.parts.cell) × (0 < r.left)) _ _ c.in-Some.ensures.rest (All-take (λ r. (r.cell ≡ c.args.parts.cell) × (0 < r.left)) _ c.args.parts.readers.items c.requires.readers) in
+    let rest = All-same (λ r. (r.cell ≡ c.args.parts.cell) × (0 < r.left)) _ _ c.in-Some-pop.ensures.rest (All-take (λ r. (r.cell ≡ c.args.parts.cell) × (0 < r.left)) _ c.pop.new.self.items behind) in
     λ k d below. (rest k d below).0 ∙ c.requires.named
 
 pub serve_cell-served-requires-clause-grant : goal.serve_cell-served-requires-clause-grant
 serve_cell-served-requires-clause-grant g c κs within =
-    let last = all_last (λ r. (r.cell ≡ c.args.parts.cell) × (0 < r.left)) c.pop.new.self.items c.in-Some.reader (All-same (λ r. (r.cell ≡ c.args.parts.cell) × (0 < r.left)) _ _ (sym c.in-Some.ensures.items) c.requires.readers) in
-    subst (λ r. 0 < r.left) (sym c.of-reader.ensures) last.1
+    let last = all_last (λ r. (r.cell ≡ c.args.parts.cell) × (0 < r.left)) c.pop.new.self.items c.in-Some.own (All-same (λ r. (r.cell ≡ c.args.parts.cell) × (0 < r.left)) _ _ (sym c.in-Some.ensures.items) c.requires.readers) in
+    subst (λ r. 0 < r.left) (sym c.of-own.ensures) last.1

@@ -43,7 +43,7 @@ returns-clause-none g c =
     let lock = c.args.may.now.id in
     let back = each_through _ _ (λ (given : g.row.W.Denot) (back : Returned g.row.W.Denot). IsReturned N V D lock given back.told.of back.told.value back.work) (ended N V D lock (λ h. h.promise.may.now.id) (λ h. h.promise.work.value) (λ b. b.told.of) (λ b. b.told.value) (λ b. b.work)) _ _ _ c.begin_all-begun.ensures.begun c.end_all-returned.ensures.ended in
     let same = each_through _ _ (λ (given work : g.row.W.Denot). IsGivenBack N V D given c.init-told.result.value work) (λ given back work r w. given_along N V D given back.told.value c.init-told.result.value back.work work w.0 w.1 r.1) _ _ _ back c.works_of-done.ensures in
-    λ idle. each_same (λ (given work : g.row.W.Denot). IsGivenBack N V D given c.init-told.result.value work) (λ given work r. r.2 (sym c.value.ensures ∙ idle)) _ _ same
+    λ idle. each_same (λ (given work : g.row.W.Denot). IsGivenBack N V D given c.init-told.result.value work) (λ given work r. r.2 (sym c.value-started.ensures ∙ idle)) _ _ same
 
 pub returns-clause-done : goal.returns-clause-done
 returns-clause-done g c =
@@ -53,7 +53,7 @@ returns-clause-done g c =
     let lock = c.args.may.now.id in
     let back = each_through _ _ (λ (given : g.row.W.Denot) (back : Returned g.row.W.Denot). IsReturned N V D lock given back.told.of back.told.value back.work) (ended N V D lock (λ h. h.promise.may.now.id) (λ h. h.promise.work.value) (λ b. b.told.of) (λ b. b.told.value) (λ b. b.work)) _ _ _ c.begin_all-begun.ensures.begun c.end_all-returned.ensures.ended in
     let same = each_through _ _ (λ (given work : g.row.W.Denot). IsGivenBack N V D given c.init-told.result.value work) (λ given back work r w. given_along N V D given back.told.value c.init-told.result.value back.work work w.0 w.1 r.1) _ _ _ back c.works_of-done.ensures in
-    λ may. each_second (λ (given work : g.row.W.Denot). IsGivenBack N V D given c.init-told.result.value work) D (λ given work r. r.3 (sym c.value.ensures ∙ may)) _ _ same
+    λ may. each_second (λ (given work : g.row.W.Denot). IsGivenBack N V D given c.init-told.result.value work) D (λ given work r. r.3 (sym c.value-started.ensures ∙ may)) _ _ same
 
 pub returns-in_default-clause-seen : goal.returns-in_default-clause-seen
 returns-in_default-clause-seen g c = each_itself _ (λ given. begins_itself (g.W.Work.seen given)) _
