@@ -107,7 +107,7 @@ fn serve<R: Net + Threads + Wait + Clock + Sync>(
     let zone = zone(alloc).ok_or("a zone")?;
     let (first, later) = (Version::first(zone), Vec::new(alloc));
     let handing = Some(handing);
-    Ok(serve_zone::<R, Brand, NoLog, ToldDisk, NoFaults>(
+    Ok(serve_zone::<R, Brand, NoLog, Store<ToldDisk>, NoFaults>(
         rt, alloc, first, later, duties, plan, handing, &NoLog,
     ))
 }
