@@ -15,12 +15,12 @@ use serve_workers::{
     ConnectionPlan, Handing, Muster, Plan, Progress, Secondaries, ServeFault, serve_zone,
 };
 use std::alloc::Global;
+use std::fs::{File, Files};
 use std::io::{self, BufReader, ErrorKind};
 use std::marker::Brand;
 use std::mem;
 use std::net::{Net, SocketAddr, TcpListener, TcpStream};
 use std::random::RandomSource;
-use std::fs::{File, Files};
 use std::sync::Wait;
 use std::thread::Threads;
 use std::time::Clock;
@@ -60,7 +60,10 @@ impl Begun {
     fn of_store(started: Started) -> Begun {
         let Started { lock, store, .. } = started;
         let Resumed {
-            log, first, later, ..
+            log,
+            first,
+            later,
+            ..
         } = store;
         Begun {
             first,

@@ -37,7 +37,16 @@ pub(crate) struct Judging<'a, S: Storing<SharedVersion>, F> {
 
 /// Who judges updates until no thread hands in any more.
 #[derive(Drop)]
-pub(crate) struct Judge<'a, 's, 'b, Z: FirstZone, N: Naming, L: ServiceLog, S: Storing<SharedVersion>, F> {
+pub(crate) struct Judge<
+    'a,
+    's,
+    'b,
+    Z: FirstZone,
+    N: Naming,
+    L: ServiceLog,
+    S: Storing<SharedVersion>,
+    F,
+> {
     pub(crate) job: UpdateJob<'b, Teller<'a, 's, Z, N, L, Bringing<'b>>, S>,
     pub(crate) faults: F,
     pub(crate) muster: &'a Muster,
