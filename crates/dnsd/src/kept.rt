@@ -1,4 +1,7 @@
 //! The start of a server whose updates last.
+ghost use Rattle.std.specs.Prelude.{IfOk};
+ghost use Rattle.dnsd.specs.Servable.{IsServable};
+
 use crate::options::Serve;
 use crate::store_options::StorePlan;
 use commands::{FAILED, Fault, REFUSED, tell};
@@ -16,7 +19,9 @@ const SALT: usize = 16;
 /// from this text; or the program's status, where nothing is served, and standard error then has the reason.
 pub fn start_kept<
     R: Files<File = File> + Eprint + AllocGlobal + Alloc + RandomSource + Clone + Drop,
->(rt: &R, plan: StorePlan<'_>, serve: &Serve<'_>, text: &[u8]) -> io::Result<Result<Started, u8>> {
+>(rt: &R, plan: StorePlan<'_>, serve: &Serve<'_>, text: &[u8]) -> io::Result<Result<Started, u8>>
+    ensures { IfOk result (λ r. IfOk r (λ started. IsServable started.store.first started.store.later.items)) }
+{
     let alloc = rt.alloc();
     let mut random = [0u8; SALT];
     rt.fill_bytes(&mut random)?;

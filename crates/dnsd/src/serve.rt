@@ -1,4 +1,7 @@
 //! Serving a zone on sockets (RFC 1035, 4.2).
+ghost use Rattle.std.specs.Prelude.{◌≡◌};
+ghost use Rattle.dnsd.specs.Servable.{IsServable};
+
 use crate::bound::{Unbound, WorkerSockets, bind_all, duties_of};
 use crate::descriptors;
 use crate::kept::start_kept;
@@ -47,7 +50,9 @@ struct Begun {
 
 impl Begun {
     /// A zone, whose updates are lost at the program's end.
-    fn of_zone(alloc: Global, zone: Zone) -> Begun {
+    fn of_zone(alloc: Global, zone: Zone) -> Begun
+        ensures { IsServable result.first result.later.items }
+    {
         Begun {
             first: Version::first(zone),
             later: Vec::new(alloc),
@@ -57,7 +62,10 @@ impl Begun {
     }
 
     /// A store, in which updates last.
-    fn of_store(started: Started) -> Begun {
+    fn of_store(started: Started) -> Begun
+        ensures first { result.first ≡ started.entry.store.first }
+        ensures later { result.later ≡ started.entry.store.later }
+    {
         let Started { lock, store, .. } = started;
         let Resumed {
             log,
@@ -110,18 +118,22 @@ pub fn run_serve<
             text
         }
     };
-    let begun = match serve.store {
+    match serve.store {
         Some(plan) => match start_kept(rt, plan, serve, text.as_slice())? {
-            Ok(started) => Begun::of_store(started),
-            Err(status) => return Ok(status),
+            Ok(started) => {
+                mem::drop(text);
+                serve_on(rt, serve, Begun::of_store(started))
+            }
+            Err(status) => Ok(status),
         },
         None => match read_zone(alloc, text.as_slice(), &serve.origin) {
-            Ok(zone) => Begun::of_zone(alloc, zone),
-            Err(fault) => return tell_zone(rt, text.as_slice(), fault),
+            Ok(zone) => {
+                mem::drop(text);
+                serve_on(rt, serve, Begun::of_zone(alloc, zone))
+            }
+            Err(fault) => tell_zone(rt, text.as_slice(), fault),
         },
-    };
-    mem::drop(text);
-    serve_on(rt, serve, begun)
+    }
 }
 
 /// Tells why a zone's text is refused, and gives the program's status.
@@ -148,7 +160,9 @@ fn serve_on<
         + Sync
         + Drop
         + 'static,
->(rt: &R, serve: &Serve<'_>, begun: Begun) -> io::Result<u8> {
+>(rt: &R, serve: &Serve<'_>, begun: Begun) -> io::Result<u8>
+    requires { IsServable begun.first begun.later.items }
+{
     match bind_all(rt, rt.alloc(), serve.listen.as_slice(), serve.workers) {
         Ok((sockets, addresses)) => serve_bound(rt, serve, begun, sockets, addresses),
         Err(unbound) => {
@@ -206,7 +220,9 @@ fn serve_bound<
     begun: Begun,
     sockets: Vec<WorkerSockets>,
     addresses: Vec<SocketAddr>,
-) -> io::Result<u8> {
+) -> io::Result<u8>
+    requires { IsServable begun.first begun.later.items }
+{
     let (told, listen) = (serve.secondaries.as_slice(), serve.listen.as_slice());
     let zone = begun.last().zone();
     let apex = zone.apex().copy();
@@ -258,7 +274,9 @@ fn serve_all<R: Net + Threads + Wait + Clock + Sync>(
     sockets: Vec<WorkerSockets>,
     secondaries: Secondaries,
     log: &Log,
-) -> Result<(), ServeFault> {
+) -> Result<(), ServeFault>
+    requires { IsServable begun.first begun.later.items }
+{
     let mut progresses = Vec::new(alloc);
     for _ in 0..serve.workers {
         if progresses.push(Progress::new(serve.most)).is_err() {
