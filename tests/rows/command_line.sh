@@ -65,6 +65,9 @@ row 2 "--allow takes addresses with commas between them, as 127.0.0.1,192.0.2.7,
 
 # a file that isn't there is a device's fault; a refused zone is told by its line
 row 3 "the zone's file 'no/such/zone' can't be read" check no/such/zone
+row 2 "--take takes store or zone, and 'both' is neither" serve --listen 127.0.0.1:0 --store no/such/store --take both "$zone"
+row 2 "--take is for a store, and no --store is given" serve --listen 127.0.0.1:0 --take zone "$zone"
+row 3 "the store 'no/such/store' can't be read or written" serve --listen 127.0.0.1:0 --store no/such/store "$zone"
 row 3 "the zone's file 'no/such/zone' can't be read" serve --listen 127.0.0.1:0 no/such/zone
 input=$'x 300 SOA ns admin 1 7200 900 1209600 300\n'
 row 1 'line 0: ' check -
