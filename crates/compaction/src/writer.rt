@@ -22,14 +22,18 @@ pub struct StoreWriter<D: Disk> {
 
 impl<D: Disk> StoreWriter<D> {
     ghost use Rattle.std.specs.Prelude.{◌≡◌, ◌≢◌, ◌↔◌, ◌⊎◌, ◌<◌, ◌≤◌, ◌+◌, ◌^◌, ⊤, true, false, ℕ, List, [], ◌∷◌, ◌++◌, None, Some, IsTrue, length, All, IfOk, OnOk, OnErr, MatchOption, IfSome};
+    ghost use Rattle.dns_rdata.specs.Record.{Record};
+    ghost use Rattle.dns_message.specs.declared.update.Update.{Update};
     ghost use Rattle.journal.specs.declared.heads.Head.{Head as HeadState};
-    ghost use Rattle.journal.specs.Batch.{IsShort};
+    ghost use Rattle.journal.specs.Batch.{batch_of, IsShort};
+    ghost use Rattle.journal.specs.Recovered.{updates_in};
     ghost use Rattle.journal_store.specs.Log.{Holds, IsStuck, is_stuck};
     ghost use Rattle.update_group.specs.Group.{versions_of, IsBatch, IsGivenUp, logged};
     ghost use Rattle.compaction.specs.declared.marked.Compaction.{Compaction as Kept};
     ghost use Rattle.compaction.specs.declared.step.Step.{Step as TrailStep};
     ghost use Rattle.compaction.specs.Trail.{followed};
-    ghost use Rattle.compaction.specs.Marked.{bodies_of, number_of, IsNextJournal};
+    ghost use Rattle.compaction.specs.End.{IsEndOf};
+    ghost use Rattle.compaction.specs.Marked.{bodies_of, number_of, IsMarked, IsNextJournal};
     ghost use Rattle.compaction.specs.Writer.{log_of, trail_of, head_of, under_way_of, last_of, AreSteps, Adds, Begins, IsOver, IsNextOf};
 
     /// That of a store with this head and this log, whose versions this trail has. No compaction is under way.
@@ -71,6 +75,11 @@ impl<D: Disk> StoreWriter<D> {
         ensures compaction { MatchOption result
             ((updates : List (List ℕ)) → IsBatch group.old updates → Adds (under_way_of self.old) (under_way_of self.new) updates)
             (λ _. under_way_of self.new ≡ under_way_of self.old) }
+        ensures marked { MatchOption result
+            ((updates : List (List ℕ)) → IsBatch group.old updates → All IsShort updates → 0 < length updates → (k : ℕ) (batches : List (List (List ℕ))) (before now : Kept)
+            → under_way_of self.old ≡ Some before → under_way_of self.new ≡ Some now → IsMarked k batches before → k ≤ length (updates_in batches)
+            → IsMarked k (batches ++ updates ∷ []) now)
+            (λ _. ⊤) }
         ensures head { head_of self.new ≡ head_of self.old }
         ensures last { last_of self.new ≡ last_of self.old }
     {
@@ -97,6 +106,8 @@ impl<D: Disk> StoreWriter<D> {
         ensures compaction { MatchOption (under_way_of self.new) ⊤
             (λ now. IfSome (under_way_of self.old) (λ before. (number_of now ≡ number_of before) × (bodies_of now ≡ bodies_of before ++ body.now ∷ []))) }
         ensures some { under_way_of self.old ≡ None → under_way_of self.new ≡ None }
+        ensures marked { (k : ℕ) (batches : List (List (List ℕ))) (batch : List (List ℕ)) (before now : Kept) → under_way_of self.old ≡ Some before → under_way_of self.new ≡ Some now
+            → IsMarked k batches before → k ≤ length (updates_in batches) → All IsShort batch → body.now ≡ batch_of batch → IsMarked k (batches ++ batch ∷ []) now }
         ensures log { log_of self.new ≡ log_of self.old }
         ensures trail { trail_of self.new ≡ trail_of self.old }
         ensures head { head_of self.new ≡ head_of self.old }
@@ -120,6 +131,8 @@ impl<D: Disk> StoreWriter<D> {
     ) -> Result<Option<NextText>, AllocError>
         ensures begun { IfOk result (λ found. MatchOption found (2 ^ 64 ≤ last_of self.old + 1)
             (λ next. Begins (trail_of self.old) (last_of self.old) next (under_way_of self.new))) }
+        ensures marked { IfOk result (λ found. IfSome found (λ _. (text : List ℕ) (head : HeadState) (batches : List (List (List ℕ))) (zone : List Record) (updates : List Update) (k : ℕ)
+            → IsEndOf text head batches zone updates (trail_of self.old) k → IfSome (under_way_of self.new) (IsMarked k batches))) }
         ensures last { IfOk result (λ found. IfSome found (λ next. (last_of self.new ≡ next.number) × ((head_of self.old).number < next.number))) }
         ensures none { IfOk result (λ found. MatchOption found (self.new ≡ self.old) (λ _. ⊤)) }
         ensures same { OnErr result (self.new ≡ self.old) }
@@ -175,6 +188,7 @@ impl<D: Disk> StoreWriter<D> {
     /// number. The compaction is given up.
     pub fn stop(&mut self, number: u64)
         ensures stopped { (head : HeadState) (bodies : List (List ℕ)) → Holds D.written D.synced head (log_of self.old) bodies → IsStuck D.synced head (log_of self.new) bodies }
+        ensures still { (head : HeadState) (bodies : List (List ℕ)) → IsStuck D.synced head (log_of self.old) bodies → IsStuck D.synced head (log_of self.new) bodies }
         ensures stuck { is_stuck (log_of self.new) ≡ true }
         ensures trail { trail_of self.new ≡ trail_of self.old }
         ensures head { head_of self.new ≡ head_of self.old }

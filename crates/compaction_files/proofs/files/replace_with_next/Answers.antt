@@ -10,4 +10,6 @@ returns-in-Ok-clause-goes_on g c =
       is.is_under_way,
       is.number,
       c.switch.ensures.holds (bodies_of is.compaction) is.journal (c.in-Ok.ensures.0 ∙ c.octets.ensures) (c.in-Ok.ensures.1 ∙ c.octets.ensures),
+      c.switch.ensures.head,
+      c.switch.ensures.none,
     )
