@@ -1,0 +1,3 @@
+pub mod StandsLemmas
+pub mod KeptLemmas
+pub mod LawLemmas

@@ -1,0 +1,167 @@
+//! A store that is compacted while updates go on (RFC 2136, 3.5; own).
+use crate::event::Notes;
+use crate::next::{begin_next, is_due};
+use crate::placed::{Placed, put_in_place};
+use crate::texts::Texts;
+use compaction::StoreWriter;
+use dns_engine::SharedVersion;
+use file_disks::FileDisk;
+use journal_store::LogFault;
+use std::alloc::Global;
+use std::fs::{File, Files};
+use std::io;
+use std::marker::Model;
+use std::sync::Wait;
+use update_group::Group;
+use update_job::Storing;
+
+/// A store of a folder, which is compacted between two batches. Contracts see its writer, the text that is wanted, and whether it takes nothing more.
+#[derive(Drop)]
+pub struct StoreCompactor<R: Files<File = File> + Alloc + Clone + Drop, T: Texts, N: Notes + Drop> {
+    files: R,
+    dir: String,
+    writer: StoreWriter<FileDisk>,
+    texts: T,
+    notes: N,
+    /// How many octets a journal has before another one is begun.
+    most: u64,
+    /// How many it had behind the last zone text.
+    had: u64,
+    /// Whether the last zone text came to nothing: the next one is begun a few seconds later.
+    failed: bool,
+    closed: bool,
+}
+
+impl<R: Files<File = File> + Alloc + Clone + Drop, T: Texts, N: Notes + Drop> Model
+    for StoreCompactor<R, T, N> {
+    ghost use Rattle.std.specs.declared.io.Error.{Error as IoError};
+    ghost use Rattle.store_compactor.specs.Kept.{CompactorState};
+
+    ghost Value = { CompactorState IoError };
+
+    ghost view = { λ a. record { writer = a.writer; wanted = T.wanted a.texts; closed = a.closed } };
+}
+
+impl<R: Files<File = File> + Alloc + Clone + Drop, T: Texts, N: Notes + Drop> StoreCompactor<
+    R,
+    T,
+    N,
+> {
+    ghost use Rattle.std.specs.Prelude.{◌≡◌, false};
+    ghost use Rattle.store_compactor.specs.Kept.{IsTended, IsKept};
+
+    /// That of a folder, with its writer, who writes its zone texts, and who notes what becomes of them. A journal with more than `most` octets is compacted.
+    pub fn new(
+        files: R,
+        dir: String,
+        writer: StoreWriter<FileDisk>,
+        texts: T,
+        notes: N,
+        most: u64,
+    ) -> StoreCompactor<R, T, N>
+        ensures { result ≡ record { writer = writer; wanted = T.wanted texts; closed = false } }
+    {
+        StoreCompactor {
+            files,
+            dir,
+            writer,
+            texts,
+            notes,
+            most,
+            had: 0,
+            failed: false,
+            closed: false,
+        }
+    }
+
+    /// Its writer.
+    pub fn writer(&self) -> &StoreWriter<FileDisk>
+        ensures { result.now ≡ self.now.writer }
+    {
+        &self.writer
+    }
+
+    /// Puts the journal of the text in place that was being written, once this is on the disk.
+    fn finish<W: Wait>(&mut self, rt: &W, alloc: Global)
+        ensures { IsTended self.old self.new }
+    {
+        let placed = put_in_place(
+            rt,
+            &self.files,
+            alloc,
+            &self.dir,
+            &mut self.writer,
+            &mut self.texts,
+            &mut self.notes,
+        );
+        match placed {
+            Placed::Nothing => {}
+            Placed::Failed => self.failed = true,
+            Placed::Done => {
+                self.failed = false;
+                self.had = self.writer.log().len();
+            }
+        }
+    }
+
+    /// Begins the next zone text where it is due, and none is being written.
+    fn start<W: Wait>(&mut self, rt: &W, alloc: Global)
+        ensures { IsKept self.old self.new }
+    {
+        if self.texts.is_writing() || !is_due(&self.writer, self.most, self.had) {
+            return;
+        }
+        let begun = begin_next(
+            rt,
+            alloc,
+            &mut self.writer,
+            &mut self.texts,
+            &mut self.notes,
+            self.failed,
+        );
+        self.failed = !begun;
+    }
+}
+
+impl<R: Files<File = File> + Alloc + Clone + Drop, T: Texts, N: Notes + Drop> Storing<SharedVersion>
+    for StoreCompactor<R, T, N> {
+    ghost use Rattle.store_compactor.specs.Kept.{IsTended, IsStored, IsKept, IsClosed};
+
+    type Fault = io::Error;
+
+    ghost stored = { IsStored };
+
+    ghost kept = { IsKept };
+
+    ghost tended = { IsTended };
+
+    ghost closed = { IsClosed };
+
+    fn tend<W: Wait>(&mut self, rt: &W, alloc: Global) {
+        if self.closed {
+            return;
+        }
+        self.finish(rt, alloc);
+        self.start(rt, alloc);
+    }
+
+    fn append<W: Wait>(
+        &mut self,
+        rt: &W,
+        alloc: Global,
+        group: &mut Group<SharedVersion>,
+    ) -> Option<LogFault<io::Error>> {
+        if group.versions().is_empty() {
+            return None;
+        }
+        if self.closed || self.writer.log().is_stuck() {
+            group.give_up();
+            return Some(LogFault::Stuck);
+        }
+        self.writer.append(rt, alloc, group)
+    }
+
+    fn close(&mut self) {
+        self.closed = true;
+    }
+}

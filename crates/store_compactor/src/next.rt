@@ -1,0 +1,53 @@
+//! The next zone text (own).
+ghost use Rattle.std.specs.Prelude.{◌≡◌, ℕ, List};
+ghost use Rattle.dns_rdata.specs.Record.{Record};
+ghost use Rattle.dns_message.specs.declared.update.Update.{Update};
+ghost use Rattle.file_disks.specs.File.{written, synced};
+ghost use Rattle.compaction.specs.Writer.{trail_of, head_of};
+ghost use Rattle.store_compactor.specs.Stands.{Stands};
+
+use crate::event::{CompactionEvent, Notes};
+use crate::texts::Texts;
+use compaction::StoreWriter;
+use file_disks::FileDisk;
+use std::alloc::Global;
+use std::sync::Wait;
+
+/// Whether another zone text is due, of a journal that had so many octets behind the last one: it takes nothing more, or the text before came to nothing, or it has
+/// more than `most` octets, and twice as many as it had.
+pub(crate) fn is_due(writer: &StoreWriter<FileDisk>, most: u64, had: u64) -> bool {
+    let len = writer.log().len();
+    writer.log().is_stuck() || writer.is_compacting() || (len > most && len / 2 > had)
+}
+
+/// Begins the next zone text, at once or a few seconds later: whether it is begun. The journal stays the store's.
+pub(crate) fn begin_next<W: Wait, T: Texts, N: Notes>(
+    rt: &W,
+    alloc: Global,
+    writer: &mut StoreWriter<FileDisk>,
+    texts: &mut T,
+    notes: &mut N,
+    later: bool,
+) -> bool
+    ensures trail { trail_of writer.new ≡ trail_of writer.old }
+    ensures head { head_of writer.new ≡ head_of writer.old }
+    ensures stands { (text : List ℕ) (batches : List (List (List ℕ))) (zone : List Record) (updates : List Update) (k : ℕ)
+        → Stands written synced text batches zone updates k writer.old (T.wanted texts.old)
+        → Stands written synced text batches zone updates k writer.new (T.wanted texts.new) }
+{
+    let Ok(Some(next)) = writer.begin_compaction(rt, alloc) else {
+        notes.note(rt, CompactionEvent::NotBegun);
+        return false;
+    };
+    let number = next.number;
+    match texts.write(rt, alloc, next, writer.head(), later) {
+        Ok(()) => {
+            notes.note(rt, CompactionEvent::Begun(number));
+            true
+        }
+        Err(fault) => {
+            notes.note(rt, CompactionEvent::NoText(fault));
+            false
+        }
+    }
+}
