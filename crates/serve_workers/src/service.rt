@@ -9,18 +9,10 @@ ghost use Rattle.serve_workers.specs.declared.service.ServeFault.{ServeFault as 
 ghost use Rattle.serve_workers.specs.Numbers.{number_of, takes_datagrams, are_datagrams, HasRights, end_of, fault_by};
 
 use crate::bringing::Bringing;
-use crate::connections_job::ConnectionsJob;
-use crate::datagrams_job::DatagramsJob;
 use crate::ending::{end_cell, end_named};
 use crate::judge::{Handing, Judge, Judging};
-use crate::notify_job::{NotifyJob, Secondaries};
-use crate::progress::{Muster, Progress, Standing};
-use crate::scratch::Scratch;
 use crate::threads::{SocketJob, TcpJob, run_threads};
-use crate::told_keys::ToldKeys;
 use crate::updates::Updates;
-use crate::worker_socket::WorkerSocket;
-use crate::workers::{Idle, Meanwhile, NotStarted};
 use dns_engine::{
     EngineFault, FirstZone, NoEngine, SharedVersion, VersionCell, VersionPublisher, VersionReader,
     ZoneVersions,
@@ -40,6 +32,10 @@ use thiserror::Error;
 use turns::{Plan as ConnectionPlan, Turns};
 use update_job::{Faults, Storing, UpdateJob};
 use update_teller::Teller;
+use worker_jobs::{
+    ConnectionsJob, DatagramsJob, Idle, Meanwhile, Muster, NotStarted, NotifyJob, Progress,
+    Scratch, Secondaries, Standing, ToldKeys, WorkerSocket,
+};
 use zone_service::{JobEnd, Server, ServiceLog};
 
 /// How a zone is served.

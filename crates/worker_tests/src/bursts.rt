@@ -92,7 +92,10 @@ fn serve<R: Net + Threads + Wait + Clock + Sync>(
     };
     let duties = Vec::from_array(alloc, [duty])?;
     let zone = zone(alloc).ok_or("a zone")?;
-    let first = SharedVersion::new(alloc, Version::first(zone)).ok_or("memory")?;
+    let version = Version::first(zone);
+    let Some(first) = SharedVersion::new(alloc, version) else {
+        return Err(Fail::from("no memory"));
+    };
     let later = Vec::new(alloc);
     Ok(serve_zone::<R, Brand, NoLog, Store<ToldDisk>, NoFaults>(
         rt, alloc, first, later, duties, plan, None, &NoLog,

@@ -149,7 +149,10 @@ pub(crate) fn served<R: Net + Threads + Wait + Clock + Sync>(
         },
     };
     let zone = zone(alloc)?;
-    let first = SharedVersion::new(alloc, Version::first(zone))?;
+    let version = Version::first(zone);
+    let Some(first) = SharedVersion::new(alloc, version) else {
+        return None;
+    };
     let later = Vec::new(alloc);
     Some(serve_zone::<R, Brand, Counted, Store<ToldDisk>, NoFaults>(
         rt, alloc, first, later, duties, plan, None, log,
