@@ -1,6 +1,7 @@
 //! A server ends with its threads: each having done what it may, or all since one of them has failed.
 
 use conversation::Allowed;
+use dns_engine::SharedVersion;
 use links::Limits;
 use played_zones::zone;
 use serve_workers::{
@@ -148,7 +149,10 @@ pub(crate) fn served<R: Net + Threads + Wait + Clock + Sync>(
         },
     };
     let zone = zone(alloc)?;
-    let first = Version::first(zone);
+    let version = Version::first(zone);
+    let Some(first) = SharedVersion::new(alloc, version) else {
+        return None;
+    };
     let later = Vec::new(alloc);
     Some(serve_zone::<R, Brand, Counted, Store<ToldDisk>, NoFaults>(
         rt, alloc, first, later, duties, plan, None, log,
