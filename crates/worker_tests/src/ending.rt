@@ -5,7 +5,7 @@ use dns_engine::SharedVersion;
 use links::Limits;
 use played_zones::zone;
 use serve_workers::{
-    ConnectionPlan, Duty, Muster, Plan, Progress, ServeFault, Sockets, serve_zone,
+    ConnectionPlan, Duty, Handing, Muster, Plan, Progress, ServeFault, Sockets, serve_zone,
 };
 use sockets::{Turn, bind_datagrams, bind_listener};
 use std::alloc::Global;
@@ -154,8 +154,13 @@ pub(crate) fn served<R: Net + Threads + Wait + Clock + Sync>(
         return None;
     };
     let later = Vec::new(alloc);
+    let handing = Some(Handing {
+        most: 8,
+        store: Store::<ToldDisk>::Nowhere,
+        faults: NoFaults,
+    });
     Some(serve_zone::<R, Brand, Counted, Store<ToldDisk>, NoFaults>(
-        rt, alloc, first, later, duties, plan, None, log,
+        rt, alloc, first, later, duties, plan, handing, log,
     ))
 }
 

@@ -3,7 +3,7 @@ use Rattle.std.proofs.Common.{◌∙◌}
 use Rattle.std.specs.Vec.Iter.{drain_items}
 use Rattle.update_job.proofs.DoneLemmas.{rest_done}
 use Rattle.update_job.proofs.ToldLemmas.{told_next, begins_on}
-use Rattle.update_job.proofs.job.tell_all.Goals as goal
+use Rattle.update_job.proofs.job.tell_first.Goals as goal
 
 pub loop-asked-preserved : goal.loop-asked-preserved
 loop-asked-preserved g c =
