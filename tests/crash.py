@@ -1,7 +1,7 @@
 #!/usr/bin/env python3
 """Kills a server whose updates last, at a random moment while updates come at full rate, and starts it again, so many times. After each start the zone has every
 update that was answered NOERROR, and none that wasn't sent; its serial has gone up by one for each update that it has. Each update adds a record of its own, and takes
-away the one that was added so many updates before, so that the zone stays of one size. A journal isn't made shorter, so each few times a new folder is begun.
+away the one that was added so many updates before, so that the zone stays of one size. Each few times a new folder is begun; `-- --journal 20000` has its journal begun anew many times before.
 Usage: tests/crash.py PROGRAM [--times N] [--seed N] [--outstanding N] [--anew N] [-- OPTION ..], by default 1,000 times, 32 updates outstanding, a new folder each 20 times; the
 options are given to `serve`. It prints a line each hundred times, and its status is 1 where something is lost, or there that wasn't sent. It needs python3 alone."""
 import argparse
