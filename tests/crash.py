@@ -5,19 +5,25 @@ the serial that was held before the kill is at most as far back as versions are 
 comes has to make the zone in whole of what was held (RFC 1995). A new folder is begun each few times.
   --disk         the folder is left as a power cut could have left it, by tests/crash_disk.py: of what wasn't synced, whatever chance keeps. In half of the times the server
                  is killed in front of one of its calls to the disk, also while it starts. No start may end by itself
-Usage: tests/crash.py PROGRAM [--disk] [--times N] [--seed N] [--outstanding N] [--anew N] [--save DIR] [-- OPTION ..], by default 1,000 times, 32
-updates outstanding, a new folder each 20 times. The options are given to `serve`. It prints a line each hundred times, and its status is 1 where something is lost, or there that wasn't sent, or another check failed; DIR then gets a copy of the
-folder as the start found it. It needs Linux and python3; --disk a C compiler, `cc` or $CC. A thousand times take some four
+  --secondaries  NSD and BIND follow the server, by NOTIFY and by refreshes of two seconds. In each round both hold the serial, then at most as many updates come as
+                 versions are kept, and the server is killed and started again on its port: both have to reach the new serial, and never by a transfer in whole; at the end
+                 they hold the zone record by record
+Usage: tests/crash.py PROGRAM [--disk] [--secondaries] [--times N] [--seed N] [--outstanding N] [--anew N] [--port N] [--save DIR] [-- OPTION ..], by default 1,000 times, 32
+updates outstanding, a new folder each 20 times; of secondaries 100 times in one folder, ports 15853 to 15855, and no round is begun behind five minutes. The options are given
+to `serve`. It prints a line each hundred times, and its status is 1 where something is lost, or there that wasn't sent, or another check failed; DIR then gets a copy of the
+folder as the start found it. It needs Linux and python3; --disk a C compiler, `cc` or $CC; --secondaries bash and Debian's nsd and bind9. A thousand times take some four
 minutes of two processors."""
 import argparse
 import os
 import random
 import shutil
+import signal
 import sys
 import tempfile
 import time
 
 import crash_disk
+import crash_secondaries
 import crash_server
 import crash_zone
 
@@ -52,7 +58,7 @@ class Trial:
         others = f", {self.others} of folders other than they were left" if self.disk else ""
         return f"{self.total} updates answered NOERROR, {self.starts} starts{others}, {self.changed} transfers of what changed, {self.wrong} wrong"
 
-    def begin(self, number):
+    def begin(self, number, is_calm=False):
         """A new folder, with nothing in it."""
         self.end()
         if self.folder:
@@ -61,21 +67,20 @@ class Trial:
         os.mkdir(self.folder)
         self.disk = crash_disk.Disk(self.library, self.folder, self.chance.random()) if self.args.disk else None
         self.next, self.held = 1, None
-        self.held = self.start()
+        self.held = self.start(is_calm)
 
     def end(self):
         if self.server is not None:
             self.server.kill()
         self.server = None
 
-    def start(self):
-        """Starts the server, and again where a kill that was meant came in it: the serial and the records that it has."""
-        is_last = False
+    def start(self, is_calm=False):
+        """Starts the server, and again where a kill that was meant came in it, which comes in no calm start: the serial and the records that it has."""
         while True:
             faults = {}
             if self.disk:
                 self.others += self.disk.cut()
-                if not is_last and self.chance.random() < 0.5:
+                if not is_calm and self.chance.random() < 0.5:
                     faults = {"END": self.chance.choice((self.chance.randint(1, 40), self.chance.randint(1, 400)))}
             if self.args.save:
                 shutil.rmtree(f"{self.room}/found", ignore_errors=True)
@@ -83,22 +88,24 @@ class Trial:
             environment = self.disk.environment(**faults) if self.disk else None
             self.starts += 1
             try:
-                self.server = crash_server.Served(self.args.program, self.folder, self.zone, self.options, environment=environment)
+                self.server = crash_server.Served(self.args.program, self.folder, self.zone, self.options, self.args.port, environment)
                 return crash_zone.zone(self.server.port)
             except (crash_server.NotServed, OSError) as fault:
                 self.end()
-                if not faults or getattr(fault, "status", -9) != -9:
+                if not faults or getattr(fault, "status", -signal.SIGKILL) != -signal.SIGKILL:
                     self.tell(f"the server doesn't serve: {fault}")
                     raise NoStart from fault
-                is_last = True
+                is_calm = True
 
-    def round(self):
+    def round(self, longest=0.002):
         """Updates come, the server is killed and started again, and has what was answered."""
-        few = self.chance.random() < 1 / 3
-        moment = self.chance.uniform(0.0, 0.002 if few else 0.15)
+        few = self.args.secondaries or self.chance.random() < 1 / 3
+        moment = self.chance.uniform(0.0, longest if few else 0.15)
         first = self.next
-        self.next, answered = crash_server.sent_until_killed(self.server, first, moment, self.args.outstanding, self.keep if few else None)
+        self.next, answered, status = crash_server.sent_until_killed(self.server, first, moment, self.args.outstanding, self.keep if few else None)
         self.server = None
+        if status is not None and not (self.disk and status == -signal.SIGKILL):
+            self.tell(f"the server ended by itself, with status {status}")
         self.total += len(answered)
         now = self.start()
         self.check(first, answered, now)
@@ -121,7 +128,8 @@ class Trial:
             whole = crash_zone.is_whole(records)
             got = crash_zone.applied(self.held, records)
         except (OSError, ValueError) as fault:
-            self.tell(f"what changed since {self.held[0]}: {fault}")
+            if not (self.disk and self.server.was_killed()):
+                self.tell(f"what changed since {self.held[0]}: {fault}")
             return
         back = now[0] - self.held[0]
         self.changed += not whole
@@ -149,15 +157,22 @@ def main():
     parser = argparse.ArgumentParser()
     parser.add_argument("program")
     parser.add_argument("--disk", action="store_true")
-    for word, number in (("times", 1000), ("seed", 1), ("outstanding", 32), ("anew", 20)):
+    parser.add_argument("--secondaries", action="store_true")
+    parser.add_argument("--times", type=int)
+    for word, number in (("seed", 1), ("outstanding", 32), ("anew", 20), ("port", 0)):
         parser.add_argument(f"--{word}", type=int, default=number)
     parser.add_argument("--save")
     args = parser.parse_args(own[: own.index("--")] if "--" in own else own)
+    if args.secondaries:
+        args.port = args.port or 15853
     began = time.monotonic()
     with tempfile.TemporaryDirectory(prefix="crash-") as room:
         trial = Trial(args, options, room)
         try:
-            plain(trial, args.times, args.anew)
+            if args.secondaries:
+                crash_secondaries.followed(trial, args.times or 100)
+            else:
+                plain(trial, args.times or 1000, args.anew)
         finally:
             trial.end()
     print(f"crash: seed {args.seed}, {time.monotonic() - began:.0f} s: {trial.told()}")

@@ -1,6 +1,7 @@
 """A server of tests/crash.py, and updates that are sent to it until it is killed."""
 import os
 import selectors
+import signal
 import socket
 import struct
 import subprocess
@@ -58,10 +59,20 @@ class Served:
     def has_ended(self):
         return self.process.poll() is not None
 
+    def was_killed(self):
+        """Whether it has ended, within a second, by a kill."""
+        try:
+            return self.process.wait(1) == -signal.SIGKILL
+        except subprocess.TimeoutExpired:
+            return False
+
     def kill(self):
+        """Kills it. Its status, where it had ended by itself."""
+        status = self.process.poll()
         self.process.kill()
         self.process.wait()
         self.process.stderr.close()
+        return status
 
 
 class Sender:
@@ -96,7 +107,8 @@ class Sender:
 
 
 def sent_until_killed(server, first, moment, outstanding, most=None):
-    """Sends updates until the server is killed after a while, or has ended by itself: the number behind the last that was sent, and those answered NOERROR."""
+    """Sends updates until the server is killed after a while, or has ended by itself: the number behind the last that was sent, those answered NOERROR, and the server's
+    status where it had ended."""
     sender = Sender(server.port, first, outstanding, most)
     chooser = selectors.DefaultSelector()
     chooser.register(sender.client, selectors.EVENT_READ)
@@ -106,9 +118,9 @@ def sent_until_killed(server, first, moment, outstanding, most=None):
         if chooser.select(min(0.01, max(0.0, end - time.monotonic()))):
             sender.receive()
         server.drain()
-    server.kill()
+    status = server.kill()
     while sender.receive():
         pass
     chooser.close()
     sender.client.close()
-    return sender.next, sender.answered
+    return sender.next, sender.answered, status
