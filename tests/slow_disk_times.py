@@ -1,0 +1,116 @@
+"""How long plain queries over UDP and transfers of what changed over TCP take, while updates come to a server whose syncs are slow, and while none come."""
+import multiprocessing
+import socket
+import struct
+import time
+
+import crash_server
+import crash_zone
+
+CLIENTS, OUTSTANDING = 4, 8
+PAUSE = 0.002
+
+
+def updates_from(port, first, end, answered):
+    """A client that sends updates of every CLIENTSth number until it is told to end, and tells how many were answered NOERROR."""
+    client = socket.socket(socket.AF_INET, socket.SOCK_DGRAM)
+    client.connect(("127.0.0.1", port))
+    client.settimeout(0.2)
+    number, waiting, count = first, set(), 0
+    while not end.is_set() or waiting:
+        while len(waiting) < OUTSTANDING and not end.is_set():
+            client.send(crash_zone.update(number, CLIENTS * 100))
+            waiting.add(number & 0xFFFF)
+            number += CLIENTS
+        try:
+            reply = client.recv(2000)
+        except TimeoutError:
+            if end.is_set():
+                break
+            continue
+        waiting.discard(struct.unpack(">H", reply[:2])[0])
+        count += reply[3] & 15 == 0
+    answered.put((number, count))
+
+
+class Asker:
+    """Asks by turns for the SOA over UDP, and for what changed since the serial that came last, on a connection that stays."""
+
+    def __init__(self, port):
+        self.datagrams = socket.socket(socket.AF_INET, socket.SOCK_DGRAM)
+        self.datagrams.connect(("127.0.0.1", port))
+        self.datagrams.settimeout(20)
+        self.stream = socket.create_connection(("127.0.0.1", port), timeout=20)
+        self.reader = self.stream.makefile("rb")
+        self.serial = 0
+        self.ixfr()
+
+    def query(self):
+        began = time.perf_counter()
+        self.datagrams.send(crash_zone.question(crash_zone.SOA))
+        self.datagrams.recv(2000)
+        return time.perf_counter() - began
+
+    def ixfr(self):
+        request = crash_zone.question(crash_zone.IXFR, self.serial)
+        began, records = time.perf_counter(), []
+        self.stream.sendall(struct.pack(">H", len(request)) + request)
+        for message in crash_zone.frames_of(self.reader):
+            records += crash_zone.records_of(message)
+            if len(records) == 1 or crash_zone.is_closed(records):
+                break
+        took = time.perf_counter() - began
+        self.serial = crash_zone.serial_of(records[0])
+        return took
+
+    def times(self, seconds):
+        end, queries, transfers = time.monotonic() + seconds, [], []
+        while time.monotonic() < end:
+            queries.append(self.query())
+            transfers.append(self.ixfr())
+            time.sleep(PAUSE)
+        return queries, transfers
+
+
+def beside_updates(server, asker, first, seconds):
+    """The times while updates come, how many of these were answered, and the next number."""
+    end, answered = multiprocessing.Event(), multiprocessing.Queue()
+    clients = [multiprocessing.Process(target=updates_from, args=(server.port, first + at, end, answered)) for at in range(CLIENTS)]
+    for client in clients:
+        client.start()
+    time.sleep(0.2)
+    times = asker.times(seconds)
+    end.set()
+    said = [answered.get() for _ in clients]
+    for client in clients:
+        client.join()
+    server.drain()
+    return times, sum(count for _, count in said), max(number for number, _ in said)
+
+
+def at_99(times):
+    return 1000 * sorted(times)[int(len(times) * 0.99)]
+
+
+def compared(trial, seconds, turns, within):
+    """By turns, without updates and with some; the 99th percentiles of both have to be alike."""
+    folder = trial.folder()
+    server = crash_server.Served(trial.program, folder, trial.zone, trial.options, environment={**trial.preloaded(folder), "DISK_SLOW": "1000"})
+    calm, busy, answered, number = ([], []), ([], []), 0, 1
+    asker = Asker(server.port)
+    for _ in range(turns):
+        for all_times, times in zip(calm, asker.times(seconds)):
+            all_times += times
+        beside, count, number = beside_updates(server, asker, number, seconds)
+        answered += count
+        for all_times, times in zip(busy, beside):
+            all_times += times
+    server.kill()
+    for name, without, with_updates in (("plain queries over UDP", calm[0], busy[0]), ("transfers of what changed over TCP", calm[1], busy[1])):
+        first, second = at_99(without), at_99(with_updates)
+        trial.tell(
+            second <= first + within,
+            f"99 in 100 of {len(without)} and {len(with_updates)} {name} take at most {first:.2f} ms without updates and {second:.2f} ms beside {answered}, "
+            f"over a disk whose sync takes a second; the longest {1000 * max(without):.1f} and {1000 * max(with_updates):.1f} ms",
+        )
+    trial.tell(answered >= turns * (seconds - 1), f"{answered} updates were answered NOERROR in {turns} times {seconds} seconds")
