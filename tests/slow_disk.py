@@ -1,14 +1,14 @@
 #!/usr/bin/env python3
 """Tries a running `dnsd serve --store` over disks that are slow, full, read-only, or faulty.
 - Over a disk whose sync takes a second (tests/disk.c), the 99th percentile of plain queries' times over UDP, and of transfers of what changed over TCP, is as without updates
-  while 32 updates are outstanding: within 5 ms, or what --within says.
+  while 32 updates are outstanding: within 5 ms, or what --within says. Of 200 updates that come at once over a disk whose sync takes 20 ms each is told NOERROR.
 - The folder's disk is full; it becomes read-only, as the files are made immutable, and as the system makes it where it meets a fault (an image of ext4 whose mount is
   aborted: a plain `mount -o remount,ro` is refused while a file is open for writing): updates are told SERVFAIL, queries and transfers go on, and the zone
   is the one of what was answered NOERROR. A start over the folder while it is so serves or ends with status 3; one behind that has all that was answered, and takes updates.
 - Each of the first 40 writes, cuts, syncs and renames, or as many as --faults says, fails in turn: the same. A start over the same folder, and over one that a power cut could
   have left there, has all that was answered NOERROR; of what was told SERVFAIL it may have some, and nothing that wasn't sent.
 With --goes-on the server has also to take updates again by itself, within 20 seconds from the end of the fault.
-Usage: tests/slow_disk.py PROGRAM [--seconds N] [--turns N] [--within MS] [--faults N] [--first N] [--count N] [--only times|full|immutable|aborted|faults] [--goes-on] [-- OPTION ..], by default
+Usage: tests/slow_disk.py PROGRAM [--seconds N] [--turns N] [--within MS] [--faults N] [--first N] [--count N] [--only times|bursts|full|immutable|aborted|faults] [--goes-on] [-- OPTION ..], by default
 3 turns of 5 seconds; --first is the first call that fails, and --count how many in a row do. The options are given to `serve`. It prints a line a check, and its status is 1 where one failed; some two minutes, with --goes-on as long again for each five seconds
 that the server waits. It needs Linux, python3 and a C compiler, `cc` or $CC. What is full or read-only wants root, for mount, chattr and mkfs.ext4, and is left out with a line else."""
 import argparse
@@ -29,6 +29,7 @@ import slow_disk_times
 GOES_ON = 20
 MANY = 1 << 24
 SERVFAIL = 2
+BURST = 200
 
 
 class Trial:
@@ -242,6 +243,26 @@ def aborted(trial):
     store.tell("a file system that is read-only behind a fault")
 
 
+def bursts(trial):
+    """Many updates at once over a disk whose sync takes 20 ms: each waits for its turn, and is taken."""
+    folder, codes = trial.folder(), {}
+    server = crash_server.Served(trial.program, folder, trial.zone, trial.options, environment={**trial.preloaded(folder), "DISK_SLOW": "20"})
+    with socket.socket(socket.AF_INET, socket.SOCK_DGRAM) as client:
+        client.settimeout(10)
+        client.connect(("127.0.0.1", server.port))
+        for first in range(1, 1 + 10 * BURST, BURST):
+            for number in range(first, first + BURST):
+                client.send(crash_zone.update(number, MANY))
+            for _ in range(BURST):
+                code = client.recv(2000)[3] & 15
+                codes[code] = codes.get(code, 0) + 1
+            server.drain()
+    serial, records = crash_zone.zone(server.port)
+    server.kill()
+    is_right = list(codes) == [0] and serial - 1 == len(crash_zone.numbers_of(records)) == 10 * BURST
+    trial.tell(is_right, f"10 bursts of {BURST} updates at once, over a disk whose sync takes 20 ms: codes {codes}, serial {serial}")
+
+
 def failing(trial, number):
     """The call of a number fails, whether it comes at the start or later."""
     folder = trial.folder()
@@ -296,15 +317,15 @@ def main():
     parser.add_argument("program")
     for word, number in (("seconds", 5), ("turns", 3), ("within", 5), ("faults", 40), ("first", 1), ("count", 1)):
         parser.add_argument(f"--{word}", type=int, default=number)
-    parser.add_argument("--only", choices=("times", "full", "immutable", "aborted", "faults"))
+    parser.add_argument("--only", choices=("times", "bursts", "full", "immutable", "aborted", "faults"))
     parser.add_argument("--goes-on", action="store_true")
     args = parser.parse_args(own[: own.index("--")] if "--" in own else own)
     with tempfile.TemporaryDirectory(prefix="slow-disk-") as room:
         trial = Trial(args, options, room)
-        for part in (full, immutable, aborted, faults):
+        for part in (bursts, full, immutable, aborted, faults):
             if args.only in (None, part.__name__):
                 try:
-                    if part is not faults and os.geteuid():
+                    if part not in (bursts, faults) and os.geteuid():
                         raise Unable("it wants root")
                     part(trial)
                 except Unable as reason:
