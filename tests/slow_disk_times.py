@@ -7,42 +7,80 @@ import time
 import crash_server
 import crash_zone
 
+# half of the clients are by UDP, half by TCP
 CLIENTS, OUTSTANDING = 4, 8
-PAUSE = 0.002
+PAUSE, WAIT = 0.002, 2.5
 
 
-def updates_from(port, first, end, answered):
-    """A client that sends updates of every CLIENTSth number until it is told to end, and tells how many were answered NOERROR."""
-    client = socket.socket(socket.AF_INET, socket.SOCK_DGRAM)
-    client.connect(("127.0.0.1", port))
-    client.settimeout(0.2)
-    number, waiting, count = first, set(), 0
-    while not end.is_set() or waiting:
-        while len(waiting) < OUTSTANDING and not end.is_set():
-            client.send(crash_zone.update(number, CLIENTS * 100))
-            waiting.add(number & 0xFFFF)
-            number += CLIENTS
+class Datagrams:
+    def __init__(self, port):
+        self.socket = socket.socket(socket.AF_INET, socket.SOCK_DGRAM)
+        self.socket.connect(("127.0.0.1", port))
+        self.socket.settimeout(WAIT)
+
+    def send(self, message):
+        self.socket.send(message)
+
+    def receive(self):
+        """A reply; none where none comes for a while."""
         try:
-            reply = client.recv(2000)
+            return self.socket.recv(2000)
         except TimeoutError:
-            if end.is_set():
-                break
-            continue
-        waiting.discard(struct.unpack(">H", reply[:2])[0])
-        count += reply[3] & 15 == 0
-    answered.put((number, count))
+            return None
+
+
+class Stream:
+    """A connection, on which further messages are sent before the replies to the first come (RFC 7766, 6.2.1.1)."""
+
+    def __init__(self, port):
+        self.socket = socket.create_connection(("127.0.0.1", port))
+        self.socket.settimeout(WAIT)
+        self.octets = b""
+
+    def send(self, message):
+        self.socket.sendall(struct.pack(">H", len(message)) + message)
+
+    def receive(self):
+        while len(self.octets) < 2 or len(self.octets) < 2 + struct.unpack(">H", self.octets[:2])[0]:
+            try:
+                more = self.socket.recv(65536)
+            except TimeoutError:
+                return None
+            if not more:
+                raise ConnectionError("the connection of updates ended")
+            self.octets += more
+        end = 2 + struct.unpack(">H", self.octets[:2])[0]
+        reply, self.octets = self.octets[2:end], self.octets[end:]
+        return reply
+
+
+def updates_from(way, port, first, end, answered):
+    """A client that sends updates of every CLIENTSth number until it is told to end, and tells how many were answered NOERROR, and with another code."""
+    client, number, outstanding, codes = way(port), first, 0, []
+    while not end.is_set():
+        while outstanding < OUTSTANDING:
+            client.send(crash_zone.update(number, CLIENTS * 100))
+            outstanding, number = outstanding + 1, number + CLIENTS
+        reply = client.receive()
+        if reply is not None:
+            outstanding -= 1
+            codes.append(reply[3] & 15)
+    answered.put((number, codes.count(0), len(codes) - codes.count(0)))
 
 
 class Asker:
     """Asks by turns for the SOA over UDP, and for what changed since the serial that came last, on a connection that stays."""
 
     def __init__(self, port):
+        self.port, self.serial = port, 0
         self.datagrams = socket.socket(socket.AF_INET, socket.SOCK_DGRAM)
         self.datagrams.connect(("127.0.0.1", port))
         self.datagrams.settimeout(20)
-        self.stream = socket.create_connection(("127.0.0.1", port), timeout=20)
+        self.connect()
+
+    def connect(self):
+        self.stream = socket.create_connection(("127.0.0.1", self.port), timeout=20)
         self.reader = self.stream.makefile("rb")
-        self.serial = 0
         self.ixfr()
 
     def query(self):
@@ -64,6 +102,7 @@ class Asker:
         return took
 
     def times(self, seconds):
+        self.connect()
         end, queries, transfers = time.monotonic() + seconds, [], []
         while time.monotonic() < end:
             queries.append(self.query())
@@ -73,9 +112,10 @@ class Asker:
 
 
 def beside_updates(server, asker, first, seconds):
-    """The times while updates come, how many of these were answered, and the next number."""
+    """The times while updates come, how many of these were answered NOERROR and otherwise, and the next number."""
     end, answered = multiprocessing.Event(), multiprocessing.Queue()
-    clients = [multiprocessing.Process(target=updates_from, args=(server.port, first + at, end, answered)) for at in range(CLIENTS)]
+    ways = [(Datagrams, Stream)[at % 2] for at in range(CLIENTS)]
+    clients = [multiprocessing.Process(target=updates_from, args=(way, server.port, first + at, end, answered)) for at, way in enumerate(ways)]
     for client in clients:
         client.start()
     time.sleep(0.2)
@@ -85,7 +125,9 @@ def beside_updates(server, asker, first, seconds):
     for client in clients:
         client.join()
     server.drain()
-    return times, sum(count for _, count in said), max(number for number, _ in said)
+    # what is outstanding still is brought to the disk
+    time.sleep(WAIT)
+    return times, sum(good for _, good, _ in said), sum(other for _, _, other in said), max(number for number, _, _ in said)
 
 
 def at_99(times):
@@ -96,13 +138,13 @@ def compared(trial, seconds, turns, within):
     """By turns, without updates and with some; the 99th percentiles of both have to be alike."""
     folder = trial.folder()
     server = crash_server.Served(trial.program, folder, trial.zone, trial.options, environment={**trial.preloaded(folder), "DISK_SLOW": "1000"})
-    calm, busy, answered, number = ([], []), ([], []), 0, 1
+    calm, busy, answered, refused, number = ([], []), ([], []), 0, 0, 1
     asker = Asker(server.port)
     for _ in range(turns):
         for all_times, times in zip(calm, asker.times(seconds)):
             all_times += times
-        beside, count, number = beside_updates(server, asker, number, seconds)
-        answered += count
+        beside, good, other, number = beside_updates(server, asker, number, seconds)
+        answered, refused = answered + good, refused + other
         for all_times, times in zip(busy, beside):
             all_times += times
     server.kill()
@@ -113,4 +155,4 @@ def compared(trial, seconds, turns, within):
             f"99 in 100 of {len(without)} and {len(with_updates)} {name} take at most {first:.2f} ms without updates and {second:.2f} ms beside {answered}, "
             f"over a disk whose sync takes a second; the longest {1000 * max(without):.1f} and {1000 * max(with_updates):.1f} ms",
         )
-    trial.tell(answered >= turns * (seconds - 1), f"{answered} updates were answered NOERROR in {turns} times {seconds} seconds")
+    trial.tell(answered >= turns * (seconds - 1) and not refused, f"{answered} updates were answered NOERROR in {turns} times {seconds} seconds, by UDP and TCP, and {refused} otherwise")
