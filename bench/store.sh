@@ -1,22 +1,23 @@
 #!/usr/bin/env bash
-# Measures what it costs `dnsd serve --store` to keep updates, beside BIND's named with its journal on the same disk, in one run by turns, over a zone of 100,000
-# records; and a restart with 100,000 updates in the journal of a zone of nearly 1,000,000 records, beside the plain load of that zone. In front of each turn stands how
+# Measures what it costs `dnsd serve --store` to keep updates, beside BIND's named with its journal on the same disk, in one run, each a second by turns, over a zone of 100,000
+# records; and a restart with 100,000 updates in the journal of a zone of nearly 1,000,000 records, beside the plain load of that zone. Beside each round stands how
 # long an append of 4 KiB and its fdatasync take on the same disk. Of each figure the middle of all rounds is held against these bounds, and the status is 1 where one
 # doesn't hold:
 # - one update outstanding, by UDP: at least 3 times as many a second as named takes where that append takes less than 150 microseconds, else at least 1.8 times;
 # - 32 outstanding: at least 10 times;
 # - a restart, up to the line `listening on`: at most 1.5 times the plain load and 12 microseconds an update. So too its processor time.
-# Each update adds an address at a name of its own, or deletes one that was added (bench/sending.c); dnsd writes a line of each to a file, named none.
+# Each update adds an address at a name of its own, or deletes one that was added (bench/sending.c). The logs of both go nowhere: a file that grows on the
+# same disk would be written with each sync.
 # Usage: [DNSD=PROGRAM] bench/store.sh [--rounds N] [--seconds N] [--records N] [--replayed N] [--large N] [--port N] [--only rates|restart] [-- OPTION ..]
-#   by default 3 rounds of 5 seconds a figure, 100000 records, 100000 updates replayed on 999000 records (a zone takes no more than 1,000,000), port 15953; the options
+#   by default 9 rounds of a second a figure, of restarts a third of them, 100000 records, 100000 updates replayed on 999000 records (a zone takes no more than 1,000,000), ports 15953 and 15954; the options
 #   are given to `serve --store`: where it shortens its journal, one that lets it grow to all of the updates
 # It needs python3, a C compiler (`cc` or $CC), and Debian's dnsperf and bind9; TMPDIR on the disk that is meant (some 200 MB). `make dnsd` builds the program.
 set -euo pipefail
 cd "$(dirname "$0")/.."
 . bench/program.sh
 . bench/servers.sh
-rounds=3
-seconds=5
+rounds=9
+seconds=1
 records=100000
 replayed=100000
 large=999000
@@ -60,9 +61,11 @@ PY
 start_store() {
     rm -rf "$work/store"
     mkdir "$work/store"
-    start_dnsd 4 --store "$work/store" ${options[@]+"${options[@]}"}
+    "$program" serve --listen "127.0.0.1:$port" --store "$work/store" ${options[@]+"${options[@]}"} "$work/zone" 2>/dev/null &
+    server=$!
 }
 
+# named on a port.
 start_named() {
     rm -rf "$work/named"
     mkdir "$work/named"
@@ -70,7 +73,7 @@ start_named() {
     cat >"$work/named.conf" <<end
 options {
     directory "$work/named"; pid-file none; session-keyfile none;
-    listen-on port $port { 127.0.0.1; }; listen-on-v6 { none; };
+    listen-on port $1 { 127.0.0.1; }; listen-on-v6 { none; };
     recursion no; notify no; dnssec-validation no;
 };
 logging { category default { null; }; };
@@ -81,11 +84,11 @@ end
     server=$!
 }
 
-# Updates a second of the server that runs, so many outstanding, each told NOERROR: OUTSTANDING
-rate() { "$work/sending" "$port" "$1" "$seconds" 0 | cut -d ' ' -f 3; }
+# Updates a second of the server on a port, so many outstanding, each told NOERROR: PORT OUTSTANDING
+rate() { "$work/sending" "$1" "$2" "$seconds" 0 | cut -d ' ' -f 3; }
 
-# The middle of the numbers of a file.
-middle() { cut -d ' ' -f 1 "$1" | sort -g | awk '{ at[NR] = $1 } END { print at[int((NR + 1) / 2)] }'; }
+# The middle of the first numbers of a file's lines, or of standard input.
+middle() { cut -d ' ' -f 1 "${1:--}" | sort -g | awk '{ at[NR] = $1 } END { print at[int((NR + 1) / 2)] }'; }
 
 status=0
 # Prints a figure with its bound, and whether it holds: WORDS FIGURE BOUND, where the figure has to be at least the bound; with a fourth word at most.
@@ -93,27 +96,34 @@ hold() {
     if awk -v f="$2" -v b="$3" -v most="${4:-}" 'BEGIN { exit !(most ? f <= b : f >= b) }'; then echo "holds  $1"; else echo "FAILED $1"; status=1; fi
 }
 
+# Both servers run all the time, and are sent updates by turns, so that they find the disk alike; a round's figures stand beside one another.
 rates() {
-    local name outstanding sync least
+    local name outstanding sync least own others ratio
+    declare -A at=([store]=$port [named]=$((port + 1)))
     make_zone "$records"
+    start_named $((port + 1))
+    second=$server port=$((port + 1))
+    wait_for
+    port=${at[store]}
+    start_store
+    wait_for
     for _ in $(seq "$rounds"); do
         synced >>"$work/syncs"
-        for name in store named; do
-            for outstanding in 1 32; do
-                "start_$name"
-                wait_for
-                rate "$outstanding" >>"$work/$name.$outstanding"
-                echo "$name, $outstanding outstanding: $(tail -1 "$work/$name.$outstanding") updates a second; a sync of 4 KiB, middle, tenth and nine tenths: $(tail -1 "$work/syncs") us"
-                stop
-            done
+        for outstanding in 1 32; do
+            for name in store named; do rate "${at[$name]}" "$outstanding" >>"$work/$name.$outstanding"; done
+            paste "$work/store.$outstanding" "$work/named.$outstanding" | tail -1 | awk -v o=$outstanding -v s="$(tail -1 "$work/syncs")" '{
+                printf "%d outstanding: dnsd %d updates a second, named %d, %.2f times; a sync of 4 KiB, middle, tenth and nine tenths: %s us\n", o, $1, $2, $1 / $2, s
+            }'
         done
     done
+    stop
     sync=$(middle "$work/syncs")
     least=$(awk -v s="$sync" 'BEGIN { print (s < 150 ? 3 : 1.8) }')
     for outstanding in 1 32; do
         [ "$outstanding" = 1 ] || least=10
-        read -r own others ratio < <(awk -v a="$(middle "$work/store.$outstanding")" -v b="$(middle "$work/named.$outstanding")" 'BEGIN { printf "%d %d %.2f\n", a, b, a / b }')
-        hold "$outstanding outstanding, $records records, a sync of 4 KiB in $sync us: dnsd $own updates a second, named $others, $ratio times; at least $least" "$ratio" "$least"
+        own=$(middle "$work/store.$outstanding") others=$(middle "$work/named.$outstanding")
+        ratio=$(paste "$work/store.$outstanding" "$work/named.$outstanding" | awk '{ printf "%.2f\n", $1 / $2 }' | middle)
+        hold "$outstanding outstanding, $records records, a sync of 4 KiB in $sync us: dnsd $own updates a second, named $others, $ratio times in the middle of $rounds rounds; at least $least" "$ratio" "$least"
     done
 }
 
@@ -145,7 +155,7 @@ restart() {
     "$work/sending" "$port" 32 0 "$replayed" >/dev/null
     stop
     echo "a journal of $(stat -c %s "$work/store/journal") octets"
-    for _ in $(seq "$rounds"); do
+    for _ in $(seq $(((rounds + 2) / 3))); do
         plain=$(started_in)
         own=$(started_in --store "$work/store" ${options[@]+"${options[@]}"})
         serial=${own##* }
