@@ -1,6 +1,6 @@
 #!/usr/bin/env python3
 """Kills a server whose updates last, at a random moment while updates come at full rate, and starts it again, so many times. After each start the zone has every
-update that was answered NOERROR, and none that wasn't sent; its serial has gone up by one for each update that it has. In a third of the times so few updates come that
+update that was answered NOERROR, and none that wasn't sent; its serial has gone up by one for each update that it has, and no zone texts are left over. In a third of the times so few updates come that
 the serial that was held before the kill is at most as far back as versions are kept: then a transfer of what changed since has to come as that, over TCP, and whatever
 comes has to make the zone in whole of what was held (RFC 1995). A new folder is begun each few times.
   --disk         the folder is left as a power cut could have left it, by tests/crash_disk.py: of what wasn't synced, whatever chance keeps. In half of the times the server
@@ -28,6 +28,8 @@ import crash_server
 import crash_zone
 
 KEPT = 8
+# the store's own, the one before, and the next one while it is written
+TEXTS = 3
 
 
 class NoStart(Exception):
@@ -120,6 +122,9 @@ class Trial:
         strange = sorted(n for n in there if n not in before and not first <= n < self.next)
         if lost or strange or not len(answered) <= made <= sent:
             self.tell(f"lost {lost[:5]}, not sent {strange[:5]}, {made} versions of {len(answered)} answered and {sent} sent")
+        texts = sorted(name for name in os.listdir(self.folder) if name.startswith("zone-"))
+        if len(texts) > TEXTS:
+            self.tell(f"the folder has {len(texts)} zone texts: {texts}")
 
     def check_changes(self, now):
         """What changed since the serial that was held is told as that where its version is kept, and gives the zone."""

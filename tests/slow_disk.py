@@ -8,8 +8,8 @@
 - Each of the first 40 writes, cuts, syncs and renames, or as many as --faults says, fails in turn: the same. A start over the same folder, and over one that a power cut could
   have left there, has all that was answered NOERROR; of what was told SERVFAIL it may have some, and nothing that wasn't sent.
 With --goes-on the server has also to take updates again by itself, within 20 seconds from the end of the fault.
-Usage: tests/slow_disk.py PROGRAM [--seconds N] [--turns N] [--within MS] [--faults N] [--first N] [--count N] [--only times|bursts|full|immutable|aborted|faults] [--goes-on] [-- OPTION ..], by default
-3 turns of 5 seconds; --first is the first call that fails, and --count how many in a row do. The options are given to `serve`. It prints a line a check, and its status is 1 where one failed; some two minutes, with --goes-on as long again for each five seconds
+Usage: tests/slow_disk.py PROGRAM [--seconds N] [--turns N] [--within MS] [--records N] [--faults N] [--first N] [--count N] [--only times|bursts|full|immutable|aborted|faults] [--goes-on] [-- OPTION ..], by default
+3 turns of 5 seconds over a zone of 1000 records; --first is the first call that fails, and --count how many in a row do. The options are given to `serve`. It prints a line a check, and its status is 1 where one failed; some two minutes, with --goes-on as long again for each five seconds
 that the server waits. It needs Linux, python3 and a C compiler, `cc` or $CC. What is full or read-only wants root, for mount, chattr and mkfs.ext4, and is left out with a line else."""
 import argparse
 import contextlib
@@ -315,7 +315,7 @@ def main():
     options = own[own.index("--") + 1 :] if "--" in own else []
     parser = argparse.ArgumentParser()
     parser.add_argument("program")
-    for word, number in (("seconds", 5), ("turns", 3), ("within", 5), ("faults", 40), ("first", 1), ("count", 1)):
+    for word, number in (("seconds", 5), ("turns", 3), ("within", 5), ("records", 1000), ("faults", 40), ("first", 1), ("count", 1)):
         parser.add_argument(f"--{word}", type=int, default=number)
     parser.add_argument("--only", choices=("times", "bursts", "full", "immutable", "aborted", "faults"))
     parser.add_argument("--goes-on", action="store_true")

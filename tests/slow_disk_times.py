@@ -10,6 +10,7 @@ import crash_zone
 # half of the clients are by UDP, half by TCP
 CLIENTS, OUTSTANDING = 4, 8
 PAUSE, WAIT = 0.002, 2.5
+BACK = 4
 
 
 class Datagrams:
@@ -69,7 +70,7 @@ def updates_from(way, port, first, end, answered):
 
 
 class Asker:
-    """Asks by turns for the SOA over UDP, and for what changed since the serial that came last, on a connection that stays."""
+    """Asks by turns for the SOA over UDP, and for what changed in the last four versions that came, on a connection that stays."""
 
     def __init__(self, port):
         self.port, self.serial = port, 0
@@ -90,7 +91,8 @@ class Asker:
         return time.perf_counter() - began
 
     def ixfr(self):
-        request = crash_zone.question(crash_zone.IXFR, self.serial)
+        """The time; none where the zone came in whole, since more versions than are kept had come meanwhile."""
+        request = crash_zone.question(crash_zone.IXFR, max(0, self.serial - BACK))
         began, records = time.perf_counter(), []
         self.stream.sendall(struct.pack(">H", len(request)) + request)
         for message in crash_zone.frames_of(self.reader):
@@ -99,14 +101,16 @@ class Asker:
                 break
         took = time.perf_counter() - began
         self.serial = crash_zone.serial_of(records[0])
-        return took
+        return None if crash_zone.is_whole(records) else took
 
     def times(self, seconds):
         self.connect()
         end, queries, transfers = time.monotonic() + seconds, [], []
         while time.monotonic() < end:
             queries.append(self.query())
-            transfers.append(self.ixfr())
+            took = self.ixfr()
+            if took is not None:
+                transfers.append(took)
             time.sleep(PAUSE)
         return queries, transfers
 
@@ -136,10 +140,18 @@ def at_99(times):
 
 def compared(trial, seconds, turns, within):
     """By turns, without updates and with some; the 99th percentiles of both have to be alike."""
-    folder = trial.folder()
-    server = crash_server.Served(trial.program, folder, trial.zone, trial.options, environment={**trial.preloaded(folder), "DISK_SLOW": "1000"})
-    calm, busy, answered, refused, number = ([], []), ([], []), 0, 0, 1
-    asker = Asker(server.port)
+    folder, zone = trial.folder(), f"{trial.zone}.large"
+    with open(zone, "w") as file:
+        file.write(crash_zone.TEXT)
+        file.writelines(f"h{number} A 192.0.2.{number % 256}\n" for number in range(trial.args.records))
+    server = crash_server.Served(trial.program, folder, zone, trial.options, environment={**trial.preloaded(folder), "DISK_SLOW": "1000"})
+    calm, busy, answered, refused = ([], []), ([], []), 0, 0
+    # versions to be told of
+    for number in range(1, 1 + 2 * BACK):
+        first = Datagrams(server.port)
+        first.send(crash_zone.update(number))
+        first.receive()
+    asker, number = Asker(server.port), 1 + 2 * BACK
     for _ in range(turns):
         for all_times, times in zip(calm, asker.times(seconds)):
             all_times += times
