@@ -1,8 +1,9 @@
 #!/usr/bin/env python3
 """Kills a server whose updates last, at a random moment while updates come at full rate, and starts it again, so many times. After each start the zone has every
-update that was answered NOERROR, and none that wasn't sent; its serial has gone up by one for each update that it has, and no zone texts are left over. In a third of the times so few updates come that
-the serial that was held before the kill is at most as far back as versions are kept: then a transfer of what changed since has to come as that, over TCP, and whatever
-comes has to make the zone in whole of what was held (RFC 1995). A new folder is begun each few times.
+update that was answered NOERROR, and none that wasn't sent; its serial has gone up by one for each update that it has, and no zone texts are left over. In a third of the
+times so few updates come that the serial that was held before the kill is at most as far back as versions are kept: then a transfer of what changed since has to come as
+that, over TCP, and whatever comes has to make the zone in whole of what was held (RFC 1995). In a quarter of the times updates come by TCP, else by UDP. A new folder is
+begun each few times.
   --disk         the folder is left as a power cut could have left it, by tests/crash_disk.py: of what wasn't synced, whatever chance keeps. In half of the times the server
                  is killed in front of one of its calls to the disk, also while it starts. No start may end by itself
   --secondaries  NSD and BIND follow the server, by NOTIFY and by refreshes of two seconds. In each round both hold the serial, then at most as many updates come as
@@ -30,6 +31,7 @@ import crash_zone
 KEPT = 8
 # the store's own, the one before, and the next one while it is written
 TEXTS = 3
+CONNECTIONS = 16
 
 
 class NoStart(Exception):
@@ -104,7 +106,9 @@ class Trial:
         few = self.args.secondaries or self.chance.random() < 1 / 3
         moment = self.chance.uniform(0.0, longest if few else 0.15)
         first = self.next
-        self.next, answered, status = crash_server.sent_until_killed(self.server, first, moment, self.args.outstanding, self.keep if few else None)
+        connections = CONNECTIONS if self.chance.random() < 1 / 4 else 0
+        sender = crash_server.Sender(self.server.port, first, self.args.outstanding, self.keep if few else None, connections)
+        self.next, answered, status = crash_server.sent_until_killed(self.server, sender, moment)
         self.server = None
         if status is not None and not (self.disk and status == -signal.SIGKILL):
             self.tell(f"the server ended by itself, with status {status}")

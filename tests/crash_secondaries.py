@@ -119,7 +119,7 @@ def filled(trial):
         sender.send()
         sender.receive()
         trial.server.drain()
-    sender.client.close()
+    sender.close()
     trial.next = sender.next
     trial.held = crash_zone.zone(trial.server.port)
 

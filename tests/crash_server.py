@@ -1,4 +1,5 @@
 """A server of tests/crash.py, and updates that are sent to it until it is killed."""
+import contextlib
 import os
 import selectors
 import signal
@@ -75,43 +76,77 @@ class Served:
         return status
 
 
-class Sender:
-    """Sends updates of numbers from one on, so many outstanding and at most so many in all, and keeps which were answered NOERROR."""
+def connected(port, count):
+    """So many connections, or fewer where the server has ended."""
+    made = []
+    with contextlib.suppress(ConnectionError):
+        while len(made) < count:
+            made.append(socket.create_connection(("127.0.0.1", port)))
+    return made
 
-    def __init__(self, port, first, outstanding, most=None):
-        self.client = socket.socket(socket.AF_INET, socket.SOCK_DGRAM)
-        self.client.connect(("127.0.0.1", port))
-        self.client.setblocking(False)
-        self.first, self.next, self.outstanding, self.most = first, first, outstanding, most
-        self.waiting, self.answered = {}, set()
+
+class Sender:
+    """Sends updates of numbers from one on, so many outstanding and at most so many in all, and keeps which were answered NOERROR: by UDP, or with a count of
+    connections by TCP, one outstanding on each."""
+
+    def __init__(self, port, first, outstanding, most=None, connections=0):
+        self.first, self.next, self.most = first, first, most
+        self.waiting, self.answered, self.octets = {}, set(), {}
+        if connections:
+            self.sockets = connected(port, connections)
+        else:
+            self.sockets = [socket.socket(socket.AF_INET, socket.SOCK_DGRAM)]
+            self.sockets[0].connect(("127.0.0.1", port))
+        self.is_framed, self.outstanding = connections > 0, 1 if connections else outstanding
+        for client in self.sockets:
+            client.setblocking(False)
+            self.waiting[client] = {}
+            self.octets[client] = b""
 
     def send(self):
-        while len(self.waiting) < self.outstanding and (self.most is None or self.next < self.first + self.most):
-            try:
-                self.client.send(crash_zone.update(self.next))
-            except (BlockingIOError, ConnectionRefusedError):
-                return
-            self.waiting[self.next & 0xFFFF] = self.next
-            self.next += 1
+        for client in self.sockets:
+            while len(self.waiting[client]) < self.outstanding and (self.most is None or self.next < self.first + self.most):
+                message = crash_zone.update(self.next)
+                try:
+                    client.send(struct.pack(">H", len(message)) + message if self.is_framed else message)
+                except (BlockingIOError, ConnectionError):
+                    break
+                self.waiting[client][self.next & 0xFFFF] = self.next
+                self.next += 1
+
+    def reply_of(self, client):
+        """The next reply, if one is there."""
+        try:
+            octets = client.recv(2000)
+        except (BlockingIOError, ConnectionError):
+            return None
+        if not self.is_framed:
+            return octets
+        octets = self.octets[client] + octets
+        end = 2 + struct.unpack(">H", octets[:2])[0] if len(octets) >= 2 else 2
+        self.octets[client] = octets if len(octets) < end else octets[end:]
+        return octets[2:end] if 2 < end <= len(octets) else None
 
     def receive(self):
-        """Whether a reply was there to be taken."""
-        try:
-            reply = self.client.recv(2000)
-        except (BlockingIOError, ConnectionRefusedError):
-            return False
-        number = self.waiting.pop(struct.unpack(">H", reply[:2])[0], None)
-        if number is not None and reply[3] & 15 == 0:
-            self.answered.add(number)
-        return True
+        """Whether replies were there to be taken."""
+        replies = [(client, reply) for client in self.sockets if (reply := self.reply_of(client))]
+        for client, reply in replies:
+            number = self.waiting[client].pop(struct.unpack(">H", reply[:2])[0], None)
+            if number is not None and reply[3] & 15 == 0:
+                self.answered.add(number)
+        return bool(replies)
+
+    def close(self):
+        for client in self.sockets:
+            client.close()
 
 
-def sent_until_killed(server, first, moment, outstanding, most=None):
+def sent_until_killed(server, sender, moment):
     """Sends updates until the server is killed after a while, or has ended by itself: the number behind the last that was sent, those answered NOERROR, and the server's
     status where it had ended."""
-    sender = Sender(server.port, first, outstanding, most)
     chooser = selectors.DefaultSelector()
-    chooser.register(sender.client, selectors.EVENT_READ)
+    for client in sender.sockets:
+        chooser.register(client, selectors.EVENT_READ)
     end = time.monotonic() + moment
     while time.monotonic() < end and not server.has_ended():
         sender.send()
@@ -122,5 +157,5 @@ def sent_until_killed(server, first, moment, outstanding, most=None):
     while sender.receive():
         pass
     chooser.close()
-    sender.client.close()
+    sender.close()
     return sender.next, sender.answered, status

@@ -155,9 +155,15 @@ static ssize_t written(int file, const void *octets, size_t size, off_t at) {
     return done;
 }
 
+/* The names by which programs for files of any size call the same. */
+__attribute__((alias("open"))) int open64(const char *, int, ...);
+__attribute__((alias("openat"))) int openat64(int, const char *, int, ...);
+
 ssize_t write(int file, const void *octets, size_t size) { return written(file, octets, size, -1); }
 
 ssize_t pwrite(int file, const void *octets, size_t size, off_t at) { return written(file, octets, size, at); }
+
+__attribute__((alias("pwrite"))) ssize_t pwrite64(int, const void *, size_t, off_t);
 
 int ftruncate(int file, off_t size) {
     if (!is_seen(file)) return syscall(SYS_ftruncate, file, size);
@@ -168,6 +174,8 @@ int ftruncate(int file, off_t size) {
     pthread_mutex_unlock(&lock);
     return is;
 }
+
+__attribute__((alias("ftruncate"))) int ftruncate64(int, off_t);
 
 /* Other threads go on while a file is synced: what they write meanwhile may be left out. */
 static int synced(long call, int file) {
