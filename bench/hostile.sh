@@ -2,7 +2,8 @@
 # Lets `dnsd serve` of four workers run for a while under all at once that is hostile to it:
 # - the dearest messages, updates and transfers of bench/worst.py (bench/hostile_dear.py), over sets that the zone has for them: each kind once a second, and each of
 #   the seven that hold updates up for more than 20 ms once in ten seconds; what they change is undone, and they change nothing in the last minute; the zone in whole
-#   once a second, of which 2,000 names have 112 labels, of half of them with the octet 1, and what changed in five to eight versions four times a second;
+#   once a second, of which 2,000 names have 112 labels, of half of them with the octet 1, and what changed in five to eight versions four times a second, over 24
+#   connections by turns, so that each worker sends of them;
 # - mutated requests over UDP and TCP (tests/mutate.c), 500 connections that send an octet a second or never read and 500 that are idle;
 # - 5,000 updates a second, of which a third are refused, but for four pauses of 4 seconds in the first minute, in which what the kept versions changed is as large as
 #   at the end; in the last minute one a second;

@@ -1,6 +1,7 @@
 #!/usr/bin/env python3
 """The dear messages and transfers of bench/hostile.sh: those of bench/worst.py, over the sets that its zone has for them, which `bench/hostile_dear.py`
 prints as lines of its text. What an update of these changes is undone by the one behind it, so that the zone has at the end what it had."""
+import itertools
 import os
 import socket
 import struct
@@ -19,6 +20,8 @@ DEPTH = 118
 ZERO = lambda number: b""
 # which of the dear updates deletes all sets of an owner
 WIDEST = 5
+# the connections that transfers are asked over: each is one worker's, and so many lead to all of them
+CONNECTIONS = 24
 
 
 def dear_zone():
@@ -228,26 +231,28 @@ def transferred(client, request, is_whole):
             return serials, count
 
 
-def changed_lately(client, widths):
-    """What changed in so many versions before the last one, by turns: how many records each brought, None where the zone came in whole, or nothing."""
-    for width in widths:
-        reply, _ = client.ask(Message(rtype=SOA).octets())
-        serial = next(struct.unpack(">I", data[-20:-16])[0] for rtype, data in records_of(reply) if rtype == SOA)
-        serials, count = transferred(client, worst.ixfr_request((serial - width) % 2**32), False)
-        yield count if len(serials) > 2 else None
+def changed_lately(client, width):
+    """What changed in so many versions before the last one: how many records it brought, None where the zone came in whole, or nothing."""
+    reply, _ = client.ask(Message(rtype=SOA).octets())
+    serial = next(struct.unpack(">I", data[-20:-16])[0] for rtype, data in records_of(reply) if rtype == SOA)
+    serials, count = transferred(client, worst.ixfr_request((serial - width) % 2**32), False)
+    return count if len(serials) > 2 else None
 
 
 def transfers(port, rate, end, told):
-    """The zone in whole, and what changed in the last versions, so many times a second."""
-    client, began = Client(port), time.time()
+    """The zone in whole, and what changed in the last versions, so many times a second, over connections by turns."""
+    clients, began = itertools.cycle([Client(port) for _ in range(CONNECTIONS)]), time.time()
     whole, changed = 0, []
     for _ in paced(end, rate):
+        client = next(clients)
         try:
             serials, count = transferred(client, worst.axfr_request(), True)
             if len(serials) != 2 or count < 2 * TEXTS + 2000:
                 told.put(("wrong", f"a transfer in whole has {count} records, of which {len(serials)} are the SOA"))
             whole += 1
-            changed += changed_lately(client, (5, 8, 5, 8))
+            for width in (5, 8, 5, 8):
+                client = next(clients)
+                changed.append(changed_lately(client, width))
         except (OSError, struct.error):
             client.close()
             told.put(("count", "transfers whose connection ended", 1))

@@ -188,4 +188,5 @@ def main():
     sys.exit(1 if trial.wrong else 0)
 
 
-main()
+if __name__ == "__main__":
+    main()

@@ -11,10 +11,10 @@ const OPEN_FILES: &str = "Max open files";
 /// How many descriptors are wanted beside those of connections and sockets, at most (own).
 const BESIDE: usize = 32;
 
-/// How many descriptors so many workers may want.
+/// How many descriptors so many workers may want: of each address a listener and a socket of datagrams, which is shared with who judges updates, each its own.
 pub fn wanted(workers: usize, places: usize, addresses: usize) -> usize {
     places
-        .saturating_add(addresses.saturating_mul(2))
+        .saturating_add(addresses.saturating_mul(3))
         .saturating_add(2)
         .saturating_mul(workers)
         .saturating_add(BESIDE)

@@ -48,6 +48,8 @@ pub(crate) struct Board {
     pub(crate) told: Vec<(Option<u8>, u8)>,
     /// Whether another one publishes when a batch is judged.
     pub(crate) overtaken: bool,
+    /// How many versions of a batch find room at most.
+    pub(crate) most: usize,
 }
 
 impl Board {
@@ -59,6 +61,7 @@ impl Board {
             begun: 0,
             told: Vec::with_capacity(alloc, ROOM)?,
             overtaken,
+            most: ROOM,
         })
     }
 
@@ -131,7 +134,7 @@ impl Publishing for Board {
     fn begin<R: Wait>(&mut self, _rt: &R) -> (Sum, usize) {
         let room = self.before.capacity() - self.before.len();
         self.begun = self.before.len() + 1;
-        (self.last, room)
+        (self.last, room.min(self.most))
     }
 
     fn publish<R: Wait>(&mut self, _rt: &R, group: Group<Sum>) -> Result<Vec<u8>, Group<Sum>>

@@ -99,6 +99,36 @@ fn a_batch_lasts(rt: HostRuntime) -> Result<(), Fail> {
     Ok(())
 }
 
+// What finds no room in a batch waits for the next one, and isn't told SERVFAIL; but one is judged where there is no room at all.
+#[test]
+fn a_batch_is_as_long_as_there_is_room(rt: HostRuntime) -> Result<(), Fail> {
+    let alloc: Global = rt.alloc();
+    let queue: Queue<Added> = Queue::new(alloc, 8)?;
+    let store = journal_on(alloc, &[])?;
+    let mut board = Board::new(alloc, false)?;
+    board.most = 2;
+    let mut job = job_on(alloc, board, store, &queue)?;
+    assert!(rt; put_all(&rt, alloc, &queue, &[5, 6, 7])?);
+    queue.end(&rt);
+    assert!(rt; matches!(job.turn(&rt), Ok(None)));
+    let (mut board, store) = job.into_parts();
+    let told = [(Some(5), 0), (Some(6), 0)];
+    assert_eq!(rt; board.told.as_slice(), told.as_slice());
+    assert!(rt; board.published() == 3);
+    board.most = 0;
+    let queue: Queue<Added> = Queue::new(alloc, 8)?;
+    assert!(rt; put_all(&rt, alloc, &queue, &[8])?);
+    queue.end(&rt);
+    let mut job = job_on(alloc, board, store, &queue)?;
+    assert!(rt; matches!(job.turn(&rt), Ok(None)) && matches!(job.turn(&rt), Ok(None)));
+    assert!(rt; matches!(job.turn(&rt), Err(Ended)));
+    let (board, store) = job.into_parts();
+    let told = [(Some(5), 0), (Some(6), 0), (Some(8), 2), (None, 1)];
+    assert_eq!(rt; board.told.as_slice(), told.as_slice());
+    assert_eq!(rt; found_in(alloc, &store)?.as_slice(), [5, 6].as_slice());
+    Ok(())
+}
+
 // Where the disk fails each is told SERVFAIL, and nothing is published; and so behind it, where the sync failed.
 #[test]
 fn a_batch_fails(rt: HostRuntime) -> Result<(), Fail> {

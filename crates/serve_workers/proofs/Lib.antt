@@ -1,5 +1,1 @@
 pub mod SendLemmas
-pub mod EachLemmas
-pub mod ListLemmas
-pub mod TurnedLemmas
-pub mod ToldLemmas

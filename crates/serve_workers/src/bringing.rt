@@ -2,14 +2,13 @@
 ghost use Rattle.std.specs.Prelude.{None};
 
 use crate::service::{Duty, Sockets};
-use crate::told_keys::ToldKeys;
 use crate::updates::Updates;
-use crate::worker_socket::is_sent;
 use std::alloc::Global;
 use std::io;
 use std::net::{SocketAddr, UdpSocket};
 use std::sync::Wait;
 use update_teller::Replying;
+use worker_jobs::{ToldKeys, is_sent};
 
 /// How replies get to a thread.
 #[derive(Drop)]

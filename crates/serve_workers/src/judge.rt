@@ -1,14 +1,13 @@
 //! Who judges updates, while threads hand them in (RFC 2136, 3).
 
 use crate::bringing::Bringing;
-use crate::progress::Muster;
 use crate::updates::Updates;
-use crate::workers::Meanwhile;
 use dns_engine::{FirstZone, SharedVersion, VersionReader};
 use snapshot_cell::Naming;
 use std::sync::Wait;
 use update_job::{Faults, Storing, UpdateJob};
 use update_teller::Teller;
+use worker_jobs::{Meanwhile, Muster};
 use zone_service::ServiceLog;
 
 /// How updates are judged beside the threads that they come to.

@@ -9,18 +9,10 @@ ghost use Rattle.serve_workers.specs.declared.service.ServeFault.{ServeFault as 
 ghost use Rattle.serve_workers.specs.Numbers.{number_of, takes_datagrams, are_datagrams, HasRights, end_of, fault_by};
 
 use crate::bringing::Bringing;
-use crate::connections_job::ConnectionsJob;
-use crate::datagrams_job::DatagramsJob;
 use crate::ending::{end_cell, end_named};
 use crate::judge::{Handing, Judge, Judging};
-use crate::notify_job::{NotifyJob, Secondaries};
-use crate::progress::{Muster, Progress, Standing};
-use crate::scratch::Scratch;
 use crate::threads::{SocketJob, TcpJob, run_threads};
-use crate::told_keys::ToldKeys;
 use crate::updates::Updates;
-use crate::worker_socket::WorkerSocket;
-use crate::workers::{Idle, Meanwhile, NotStarted};
 use dns_engine::{
     EngineFault, FirstZone, NoEngine, SharedVersion, VersionCell, VersionPublisher, VersionReader,
     ZoneVersions,
@@ -40,8 +32,11 @@ use thiserror::Error;
 use turns::{Plan as ConnectionPlan, Turns};
 use update_job::{Faults, Storing, UpdateJob};
 use update_teller::Teller;
+use worker_jobs::{
+    ConnectionsJob, DatagramsJob, Idle, Meanwhile, Muster, NotStarted, NotifyJob, Progress,
+    Scratch, Secondaries, Standing, ToldKeys, WorkerSocket,
+};
 use zone_service::{JobEnd, Server, ServiceLog};
-use zone_tree::Version;
 
 /// How a zone is served.
 #[derive(Clone, Copy)]
@@ -168,8 +163,8 @@ pub fn serve_zone<
 >(
     rt: &R,
     alloc: Global,
-    first: Version,
-    later: Vec<Version>,
+    first: SharedVersion,
+    later: Vec<SharedVersion>,
     duties: Vec<Duty<'_>>,
     plan: Plan<'_>,
     handing: Option<Handing<S, F>>,
@@ -184,12 +179,6 @@ pub fn serve_zone<
     let updates = updates_for(rt, alloc, &handing, &duties, plan.places)?;
     let judging = judging_for(alloc, handing, &duties, &updates)?;
     let jobs = jobs_of(rt, alloc, duties, plan, &updates)?;
-    let Ok(later) = SharedVersion::all(alloc, later) else {
-        return Err(ServeFault::NoMemory);
-    };
-    let Some(first) = SharedVersion::new(alloc, first) else {
-        return Err(ServeFault::NoMemory);
-    };
     let parts = match Cell::<SharedVersion, ZoneVersions<Z>>::new(alloc, threads + 2, first) {
         Ok(parts) => parts,
         Err(NewFault::TooManyReaders) => unreachable!(),

@@ -1,17 +1,11 @@
 //! The threads of a server: each has a job on sockets, and who answers in it.
 ghost use Rattle.std.specs.Prelude.{◌≡◌, ◌≤◌, [], All, map, vec_len, vec_capacity, Some, IsSome, IfOk, IfErr};
 ghost use Rattle.conversation.specs.Served.{BeginsWith};
-ghost use Rattle.serve_workers.specs.GivenBack.{Each};
+ghost use Rattle.worker_jobs.specs.GivenBack.{Each};
 ghost use Rattle.serve_workers.specs.Numbers.{number_of, end_of};
 ghost use Rattle.serve_workers.specs.Seats.{seat_number, seat_seen, seat_end, pair_of};
 
-use crate::connections_job::ConnectionsJob;
-use crate::datagrams_job::DatagramsJob;
-use crate::notify_job::NotifyJob;
-use crate::progress::Muster;
 use crate::updates::Updates;
-use crate::worker_socket::WorkerSocket;
-use crate::workers::{Meanwhile, NotStarted, Work, do_all, nobody};
 use dns_engine::{FirstZone, VersionReader};
 use ready_sockets::{TcpPeer, TcpPlace, Watch};
 use serve_core::{Peer, Transport};
@@ -20,6 +14,10 @@ use std::alloc::Global;
 use std::sync::Wait;
 use std::thread::Threads;
 use std::time::Clock;
+use worker_jobs::{
+    ConnectionsJob, DatagramsJob, Meanwhile, Muster, NotStarted, NotifyJob, Work, WorkerSocket,
+    do_all, nobody,
+};
 use zone_replies::Replies;
 use zone_service::{Asked, Event, Hand, JobEnd, Server, ServiceLog};
 

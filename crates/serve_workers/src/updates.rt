@@ -1,11 +1,11 @@
 //! Updates that threads hand to who judges them (RFC 2136, 3; own).
 
 use crate::service::{Duty, Sockets};
-use crate::told_keys::ToldKeys;
 use std::alloc::{AllocError, Global};
 use std::sync::Wait;
 use std::sync::atomic::{AtomicUsize, Ordering};
 use update_queue::Queue;
+use worker_jobs::ToldKeys;
 use zone_service::Waiting;
 
 /// The updates that threads hand in, and what tells these the keys of connections whose replies can be had, by their places.

@@ -6,7 +6,6 @@ use crate::streams::serve_streams;
 use conversation::{Allowed, Answering, Gate};
 use dns_engine::{FirstZone, Naming, SharedVersion, VersionReader, ZoneVersions};
 use played_zones::{NamedParts, asker, end, named_parts, parts_of, server_of, zone};
-use serve_workers::{Job, run_workers};
 use snapshot_cell::Parts;
 use std::alloc::Global;
 use std::marker::Brand;
@@ -15,6 +14,7 @@ use std::sync::Wait;
 use std::sync::atomic::{AtomicU64, Ordering};
 use std::thread::{self, Threads};
 use told_streams::{Datagram, Tray, answer_tray};
+use worker_jobs::{Job, run_workers};
 use zone_service::{NoLog, Server, ServiceLog};
 use zone_tree::Zone;
 

@@ -6,12 +6,12 @@ use conversation::Allowed;
 use links::Limits;
 use played_zones::{Kept, asker};
 use serve_core::{Peer, Transport};
-use serve_workers::{ConnectionsJob, Muster, Progress, Scratch, Standing, ToldKeys};
 use std::alloc::Global;
 use std::net::SocketAddr;
 use std::sync::Wait;
 use std::time::Clock;
 use turns::{Arrivals, NotWatched, Plan, Readiness, Refusal, Remote, Turns};
+use worker_jobs::{ConnectionsJob, Muster, Progress, Scratch, Standing, ToldKeys};
 use zone_replies::Transfer;
 
 /// A minute, in nanoseconds.

@@ -4,13 +4,13 @@ use conversation::{Answering, Gate};
 use dns_engine::{FirstZone, Naming, VersionReader};
 use played_zones::{asker, zone};
 use serve_core::{Peer, Transport};
-use serve_workers::{Job, run_workers};
 use std::alloc::Global;
 use std::marker::Brand;
 use std::process::Abort;
 use std::sync::Wait;
 use std::thread::Threads;
 use told_streams::{Tape, answer_tape};
+use worker_jobs::{Job, run_workers};
 use zone_replies::Replies;
 use zone_service::{NoLog, Server, ServiceLog};
 

@@ -6,7 +6,6 @@ use conversation::Allowed;
 use links::Limits;
 use played_zones::{Kept, asker};
 use serve_core::{Peer, Transport};
-use serve_workers::{ConnectionsJob, Muster, Progress, Scratch, Standing};
 use std::alloc::Global;
 use std::io;
 use std::net::SocketAddr;
@@ -14,6 +13,7 @@ use std::sync::Wait;
 use std::sync::atomic::{AtomicU64, Ordering};
 use std::time::{Clock, Duration};
 use turns::{Arrivals, NotWatched, Plan, Readiness, Refusal, Remote, Turns};
+use worker_jobs::{ConnectionsJob, Muster, Progress, Scratch, Standing};
 use zone_replies::Transfer;
 use zone_service::JobEnd;
 

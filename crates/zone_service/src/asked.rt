@@ -1,5 +1,5 @@
 //! A server as one who answers datagrams.
-ghost use Rattle.std.specs.Prelude.{◌≡◌, ◌≤◌, ◌⊎◌, true, length, IfOk, IfSome, OnErr};
+ghost use Rattle.std.specs.Prelude.{◌≡◌, ◌≤◌, ◌⊎◌, true, length, Some, IfOk, IfSome, OnErr};
 ghost use Rattle.dns_message.specs.Message.{message_limit};
 ghost use Rattle.zone_tree.specs.Version.{Version};
 ghost use Rattle.zone_service.specs.Known.{learned_by};
@@ -72,6 +72,7 @@ impl<'a, 's, Z: FirstZone, N: Naming, L: ServiceLog> Asked<'a, 's, Z, N, L> {
     pub fn handing(self, hand: Hand<'a>) -> Asked<'a, 's, Z, N, L>
         ensures reader { result.reader ≡ self.entry.reader }
         ensures peer { result.peer ≡ self.entry.peer }
+        ensures hand { result.hand ≡ Some hand.entry }
     {
         let mut handing = self;
         handing.hand = Some(hand);

@@ -4,7 +4,7 @@ use Rattle.std.proofs.lemmas.List.{map_push}
 use Rattle.std.proofs.lemmas.List.Elements.{All-push}
 use Rattle.std.specs.Vec.Iter.{into_iter_items}
 use Rattle.serve_workers.specs.Numbers.{number_of, takes_datagrams, are_datagrams, HasRights}
-use Rattle.serve_workers.proofs.ListLemmas.{map_more, put_well}
+use Rattle.worker_jobs.proofs.ListLemmas.{map_more, put_well}
 use Rattle.serve_workers.proofs.service.jobs_of.Goals as goal
 
 pub loop-duty-preserved : goal.loop-duty-preserved

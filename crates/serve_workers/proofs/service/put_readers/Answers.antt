@@ -1,8 +1,8 @@
 -- One reader more is put.
 use Rattle.std.proofs.Common.{rules, ◌≡◌, ◌∷◌, [], ◌++◌, map, refl, sym, ap, ◌∙◌, append_assoc}
 use Rattle.std.specs.Vec.Iter.{into_iter_items}
-use Rattle.serve_workers.proofs.EachLemmas.{all_taken}
-use Rattle.serve_workers.proofs.ListLemmas.{map_more}
+use Rattle.worker_jobs.proofs.EachLemmas.{all_taken}
+use Rattle.worker_jobs.proofs.ListLemmas.{map_more}
 use Rattle.serve_workers.proofs.service.put_readers.Goals as goal
 
 pub loop-pair-init : goal.loop-pair-init

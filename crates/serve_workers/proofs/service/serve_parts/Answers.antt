@@ -1,7 +1,7 @@
 -- The engine's reader is the last one, that of who judges updates the one before it, and the others are those of the workers.
 use Rattle.std.proofs.Common.{◌≡◌, ◌<◌, sym, ◌∙◌, subst}
 use Rattle.std.proofs.lemmas.List.Elements.{All-same, All-take}
-use Rattle.serve_workers.proofs.EachLemmas.{all_last}
+use Rattle.worker_jobs.proofs.EachLemmas.{all_last}
 use Rattle.serve_workers.proofs.service.serve_parts.Goals as goal
 
 pub pairs_of-pairs-requires-clause-named : goal.pairs_of-pairs-requires-clause-named

@@ -2,7 +2,7 @@
 use Rattle.std.proofs.Common.{◌≡◌, length, vec_len, arith, sym, ap, ◌∙◌}
 use Rattle.std.proofs.lemmas.List.{length-map}
 use Rattle.serve_workers.specs.Numbers.{number_of}
-use Rattle.serve_workers.proofs.ListLemmas.{length_alike}
+use Rattle.worker_jobs.proofs.ListLemmas.{length_alike}
 use Rattle.serve_workers.proofs.service.serve_with.Goals as goal
 
 pub put_readers-requires-clause-room : goal.put_readers-requires-clause-room

@@ -2,8 +2,8 @@
 use Rattle.std.proofs.Common.{rules, ◌≡◌, ◌∷◌, [], ◌++◌, map, refl, sym, ap, ◌∙◌, append_assoc}
 use Rattle.std.specs.Vec.Iter.{into_iter_items}
 use Rattle.serve_workers.specs.Seats.{pair_of}
-use Rattle.serve_workers.proofs.EachLemmas.{all_taken}
-use Rattle.serve_workers.proofs.ListLemmas.{map_more}
+use Rattle.worker_jobs.proofs.EachLemmas.{all_taken}
+use Rattle.worker_jobs.proofs.ListLemmas.{map_more}
 use Rattle.serve_workers.proofs.threads.put_back.Goals as goal
 
 pub loop-seat-init : goal.loop-seat-init

@@ -1,7 +1,7 @@
 -- One pair more is put.
 use Rattle.std.proofs.Common.{rules}
 use Rattle.serve_workers.specs.Seats.{pair_of}
-use Rattle.serve_workers.proofs.ListLemmas.{map_more}
+use Rattle.worker_jobs.proofs.ListLemmas.{map_more}
 use Rattle.serve_workers.proofs.threads.put_threads.Goals as goal
 
 pub loop-reader-preserved : goal.loop-reader-preserved

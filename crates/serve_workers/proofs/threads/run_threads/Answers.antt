@@ -6,7 +6,7 @@ use Rattle.std.proofs.Common.{IsSome}
 use Rattle.serve_workers.specs.Numbers.{end_of}
 use Rattle.serve_workers.specs.Seats.{pair_of}
 use Rattle.serve_workers.proofs.SendLemmas.{thread_send}
-use Rattle.serve_workers.proofs.EachLemmas.{numbers_along, each_put, all_put}
+use Rattle.worker_jobs.proofs.EachLemmas.{numbers_along, each_put, all_put}
 use Rattle.serve_workers.proofs.threads.run_threads.Goals as goal
 
 pub do_all-started-requires-send-W : goal.do_all-started-requires-send-W

@@ -1,0 +1,5 @@
+pub mod SendLemmas
+pub mod EachLemmas
+pub mod ListLemmas
+pub mod TurnedLemmas
+pub mod ToldLemmas

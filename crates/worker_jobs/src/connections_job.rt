@@ -1,0 +1,241 @@
+//! A worker's job on connections (RFC 7766, 6.2).
+ghost use Rattle.std.specs.Prelude.{◌≡◌, ◌⊎◌, Some};
+ghost use Rattle.connections.specs.Asked.{EachGrows};
+ghost use Rattle.turns.specs.Steps.{Turned};
+ghost use Rattle.worker_jobs.specs.Ended.{end_by};
+ghost use Rattle.worker_jobs.specs.Lost.{lost_of, lost_since};
+
+use crate::hearing::Hearing;
+use crate::progress::Standing;
+use crate::scratch::Scratch;
+use crate::told_keys::ToldKeys;
+use connections::{Answering, Blocking};
+use crossbeam_utils::CachePadded;
+use std::alloc::Global;
+use std::sync::Wait;
+use std::time::{Clock, Duration};
+use turns::{Arrivals, Plan, Readiness, Remote, Tally, TurnEnd, Turns};
+use zone_replies::Transfer;
+use zone_service::{Event, JobEnd, Losses, ServiceLog};
+
+/// How many seconds pass at least between two lines on connections that are lost (own).
+const SILENCE: u64 = 1;
+
+/// A worker's job on connections: turns over those that come at places.
+#[derive(Drop)]
+pub struct ConnectionsJob<'a, S: Drop, P, L, C> {
+    /// The number of its worker.
+    pub number: usize,
+    poll: Hearing<'a, P>,
+    places: Vec<L>,
+    turns: Turns<S, Transfer>,
+    plan: Plan<'a>,
+    standing: Standing<'a>,
+    clock: &'a C,
+    /// Which connections were lost when that was told last, and when it was.
+    told: Losses,
+    told_at: Duration,
+    /// How many connections that ended are counted.
+    counted: u64,
+    end: Option<JobEnd>,
+    scratch: CachePadded<Scratch>,
+}
+
+/// How many connections are lost so far.
+fn losses_in(tally: Tally) -> Losses
+    ensures { result ≡ lost_of tally }
+{
+    Losses {
+        failed: tally.ends.device,
+        starved: tally.ends.spent.saturating_add(tally.ends.no_memory),
+        idle: tally.ends.idle,
+        unfinished: tally.ends.message,
+        untaken: tally.ends.reply,
+        evicted: tally.evicted,
+        turned_away: tally.turned_away,
+        no_room: tally.no_room,
+    }
+}
+
+/// How many more there are than before.
+fn losses_since(before: Losses, now: Losses) -> Losses
+    ensures { result ≡ lost_since before now }
+{
+    Losses {
+        failed: now.failed.saturating_sub(before.failed),
+        starved: now.starved.saturating_sub(before.starved),
+        idle: now.idle.saturating_sub(before.idle),
+        unfinished: now.unfinished.saturating_sub(before.unfinished),
+        untaken: now.untaken.saturating_sub(before.untaken),
+        evicted: now.evicted.saturating_sub(before.evicted),
+        turned_away: now.turned_away.saturating_sub(before.turned_away),
+        no_room: now.no_room.saturating_sub(before.no_room),
+    }
+}
+
+/// How a job ends of which no more turn can be taken.
+fn end_of(end: TurnEnd) -> JobEnd
+    ensures { result ≡ end_by end }
+{
+    match end {
+        TurnEnd::Device => JobEnd::Device,
+        TurnEnd::NoMemory => JobEnd::NoMemory,
+    }
+}
+
+/// How many connections have ended.
+fn ended_in(tally: Tally) -> u64 {
+    tally.ends.total().saturating_add(tally.evicted)
+}
+
+impl<
+    'a,
+    S: Blocking + Remote + Drop,
+    P: Readiness<S>,
+    L: Arrivals<Stream = S>,
+    C: Clock,
+> ConnectionsJob<'a, S, P, L, C> {
+    /// The job of a worker, by its number: turns over the connections that come at places, which the poll watches. The clock is what lines of
+    /// the log are held back by.
+    pub fn new(
+        number: usize,
+        poll: P,
+        places: Vec<L>,
+        turns: Turns<S, Transfer>,
+        plan: Plan<'a>,
+        standing: Standing<'a>,
+        clock: &'a C,
+        scratch: Scratch,
+    ) -> ConnectionsJob<'a, S, P, L, C>
+        ensures number { result.number ≡ number }
+        ensures plan { result.plan ≡ plan.entry }
+        ensures turns { result.turns ≡ turns }
+    {
+        ConnectionsJob {
+            number,
+            poll: Hearing::new(poll),
+            places,
+            turns,
+            plan,
+            standing,
+            clock,
+            told: Losses::default(),
+            told_at: Duration::from_secs(0),
+            counted: 0,
+            end: None,
+            scratch: CachePadded::new(scratch),
+        }
+    }
+
+    /// The same, where others tell which connections' replies can be had.
+    pub fn hearing(self, alloc: Global, told: &'a ToldKeys) -> ConnectionsJob<'a, S, P, L, C>
+        ensures number { result.number ≡ self.entry.number }
+        ensures plan { result.plan ≡ self.entry.plan }
+        ensures turns { result.turns ≡ self.entry.turns }
+    {
+        let mut hearing = self;
+        hearing.poll.listen(alloc, told);
+        hearing
+    }
+
+    /// How it has ended; none where it hasn't yet.
+    pub fn end(&self) -> Option<JobEnd>
+        ensures { result ≡ self.now.end }
+    {
+        self.end
+    }
+
+    /// Counts the connections that have ended.
+    fn count(&mut self, tally: Tally)
+        ensures number { self.new.number ≡ self.old.number }
+        ensures plan { self.new.plan ≡ self.old.plan }
+        ensures turns { self.new.turns ≡ self.old.turns }
+    {
+        let ended = ended_in(tally);
+        if ended > self.counted {
+            self.standing.progress.add(ended - self.counted);
+            self.counted = ended;
+        }
+    }
+
+    /// Tells of connections that are lost, once a second at most.
+    fn tell<R: Wait, O: ServiceLog>(&mut self, rt: &R, log: &O, tally: Tally)
+        ensures told { (self.new.told ≡ self.old.told) ⊎ (self.new.told ≡ lost_of tally) }
+        ensures number { self.new.number ≡ self.old.number }
+        ensures plan { self.new.plan ≡ self.old.plan }
+        ensures turns { self.new.turns ≡ self.old.turns }
+    {
+        let lost = losses_in(tally);
+        if lost == self.told {
+            return;
+        }
+        let now = self.clock.monotonic().unwrap_or(self.told_at);
+        if now.saturating_sub(self.told_at) < Duration::from_secs(SILENCE) {
+            return;
+        }
+        let losses = losses_since(self.told, lost);
+        self.told = lost;
+        self.told_at = now;
+        let worker = self.number;
+        log.tell(rt, Event::Lost { worker, losses });
+    }
+
+    /// Takes a turn, unless the worker is over; an end where it is, or the turn is the last.
+    #[tactic(auto, using(connections::proofs::AskedLemmas::each_itself))]
+    fn turn<R: Wait, A: Answering<Transfer>, O: ServiceLog>(
+        &mut self,
+        rt: &R,
+        answering: &mut A,
+        log: &O,
+    ) -> Option<JobEnd>
+        ensures grows { EachGrows (A.seen answering.new) (A.seen answering.old) }
+        ensures turned { Turned S.origin S.octets A.is_reply self.old.plan.allowed.addresses.now self.old.plan.limits (A.seen answering.old) self.old.turns.links (A.seen answering.new) self.new.turns.links }
+        ensures number { self.new.number ≡ self.old.number }
+        ensures plan { self.new.plan ≡ self.old.plan }
+    {
+        if self.standing.is_over() {
+            return Some(JobEnd::Done(self.standing.progress.done()));
+        }
+        self.poll.hear(rt);
+        let Scratch { request, reply } = &mut *self.scratch;
+        let taken = self.turns.turn(
+            rt,
+            &mut self.poll,
+            self.plan,
+            self.places.as_mut_slice(),
+            answering,
+            request,
+            reply,
+        );
+        let tally = self.turns.tally();
+        self.count(tally);
+        self.tell(rt, log, tally);
+        match taken {
+            Ok(()) => None,
+            Err(end) => Some(end_of(end)),
+        }
+    }
+
+    /// Serves connections by turns until the worker is over, or no more turn can be taken: in each, connections take places, each of them is
+    /// answered as the peer of its own address, on its own stream, and those whose peers take too long are ended (RFC 7766, 6.2).
+    pub fn serve<R: Wait, A: Answering<Transfer>, O: ServiceLog>(
+        &mut self,
+        rt: &R,
+        answering: &mut A,
+        log: &O,
+    ) -> JobEnd
+        ensures grows { EachGrows (A.seen answering.new) (A.seen answering.old) }
+        ensures turned { Turned S.origin S.octets A.is_reply self.old.plan.allowed.addresses.now self.old.plan.limits (A.seen answering.old) self.old.turns.links (A.seen answering.new) self.new.turns.links }
+        ensures number { self.new.number ≡ self.old.number }
+        ensures plan { self.new.plan ≡ self.old.plan }
+        ensures end { self.new.end ≡ Some result }
+    {
+        for _ in rt.forever() {
+            if let Some(end) = self.turn(rt, answering, log) {
+                self.end = Some(end);
+                return end;
+            }
+        }
+        unreachable!()
+    }
+}

@@ -1,0 +1,82 @@
+//! A worker's job on a socket of datagrams (RFC 1035, 4.2.1).
+ghost use Rattle.std.specs.Prelude.{◌≡◌, ◌-◌, ◌^◌, Some, IfSome};
+ghost use Rattle.zone_service.specs.declared.service_log.JobEnd.{JobEnd as EndOfJob};
+ghost use Rattle.conversation.specs.Served.{Grows};
+ghost use Rattle.worker_jobs.specs.Ended.{EndsSo, JobEndsBy};
+
+use crate::progress::Standing;
+use crate::scratch::Scratch;
+use crate::udp_job::UdpJob;
+use conversation::{Allowed, Answering, Datagrams, OpenGate};
+use std::sync::Wait;
+use zone_service::JobEnd;
+
+/// A worker's job on datagrams: to answer those that come until the worker is over.
+#[derive(Drop)]
+pub struct DatagramsJob<'a, D> {
+    /// The number of its worker.
+    pub number: usize,
+    job: UdpJob<'a, D>,
+    standing: Standing<'a>,
+    end: Option<JobEnd>,
+}
+
+/// How a job has ended, by how its datagrams have: where none can be received any more, one that was to end has done what it might.
+fn end_of(end: JobEnd, standing: Standing<'_>) -> JobEnd
+    ensures { EndsSo end result }
+{
+    match end {
+        JobEnd::Device => {
+            if standing.is_over() {
+                return JobEnd::Done(standing.progress.done());
+            }
+            JobEnd::Device
+        }
+        JobEnd::Done(count) => JobEnd::Done(count),
+        JobEnd::Spent => JobEnd::Spent,
+        JobEnd::NoMemory => JobEnd::NoMemory,
+    }
+}
+
+impl<'a, D: Datagrams> DatagramsJob<'a, D> {
+    /// The job of a worker, by its number, on datagrams, of which none can be received once the worker is over.
+    pub fn new(
+        number: usize,
+        datagrams: D,
+        allowed: Allowed<'a>,
+        standing: Standing<'a>,
+        scratch: Scratch,
+    ) -> DatagramsJob<'a, D>
+        ensures number { result.number ≡ number }
+        ensures allowed { result.job.allowed ≡ allowed.entry }
+        ensures most { result.job.most ≡ 2 ^ 64 - 1 }
+    {
+        DatagramsJob {
+            number,
+            job: UdpJob::new(number, datagrams, allowed, u64::MAX, scratch),
+            standing,
+            end: None,
+        }
+    }
+
+    /// How it has ended; none where it hasn't yet.
+    pub fn end(&self) -> Option<JobEnd>
+        ensures { result ≡ self.now.end }
+    {
+        self.end
+    }
+
+    /// Answers the datagrams that come until none can be received any more, and gives how that ended; fewer where no version can be loaded. Each
+    /// peer may update and transfer by its own address (RFC 1035, 4.2.1).
+    pub fn serve<R: Wait, A: Answering>(&mut self, rt: &R, answering: &mut A) -> JobEnd
+        ensures served { IfSome (D.datagrams self.old.job.datagrams) (λ o. (end : EndOfJob) × EndsSo end result × JobEndsBy A.is_reply self.old.job.allowed.addresses.now end (A.seen answering.old) o (D.failed self.old.job.datagrams) self.old.job.most (A.seen answering.new) (D.datagrams self.new.job.datagrams) (D.failed self.new.job.datagrams)) }
+        ensures grows { Grows (A.seen answering.new) (A.seen answering.old) }
+        ensures end { self.new.end ≡ Some result }
+        ensures number { self.new.number ≡ self.old.number }
+    {
+        let served = self.job.serve(rt, answering, &OpenGate);
+        let end = end_of(served, self.standing);
+        self.end = Some(end);
+        end
+    }
+}

@@ -1,0 +1,125 @@
+//! Workers that take datagrams (RFC 1035, 4.2.1).
+ghost use Rattle.std.specs.Prelude.{◌≡◌, Some, IfSome, IsSome};
+ghost use Rattle.zone_service.specs.declared.service_log.JobEnd.{JobEnd as EndOfJob};
+ghost use Rattle.conversation.specs.Served.{Grows};
+ghost use Rattle.worker_jobs.specs.Ended.{job_end, JobEndsBy};
+
+use crate::scratch::Scratch;
+use crate::workers::Job;
+use conversation::{Allowed, Answering, Datagrams, DatagramsEnd, Gate, serve_udp};
+use crossbeam_utils::CachePadded;
+use serve_core::Transport;
+use std::sync::Wait;
+use zone_service::{Event, JobEnd, ServiceLog};
+
+/// How a job has ended that answers so many requests.
+fn job_end_of(end: DatagramsEnd, most: u64) -> JobEnd
+    ensures { result ≡ job_end end most }
+{
+    match end {
+        DatagramsEnd::Done => JobEnd::Done(most),
+        DatagramsEnd::Device => JobEnd::Device,
+        DatagramsEnd::Spent => JobEnd::Spent,
+    }
+}
+
+/// A worker's job on datagrams: to answer those that come, so many.
+#[derive(Drop)]
+pub struct UdpJob<'a, D> {
+    number: usize,
+    datagrams: D,
+    allowed: Allowed<'a>,
+    most: u64,
+    end: Option<JobEnd>,
+    scratch: CachePadded<Scratch>,
+}
+
+impl<'a, D: Datagrams> UdpJob<'a, D> {
+    /// The job of a worker, by its number: to answer so many requests by datagrams.
+    pub fn new(
+        number: usize,
+        datagrams: D,
+        allowed: Allowed<'a>,
+        most: u64,
+        scratch: Scratch,
+    ) -> UdpJob<'a, D>
+        ensures number { result.number ≡ number }
+        ensures allowed { result.allowed ≡ allowed.entry }
+        ensures most { result.most ≡ most }
+    {
+        UdpJob {
+            number,
+            datagrams,
+            allowed,
+            most,
+            end: None,
+            scratch: CachePadded::new(scratch),
+        }
+    }
+
+    /// How it has ended; none where it hasn't yet.
+    pub fn end(&self) -> Option<JobEnd>
+        ensures { result ≡ self.now.end }
+    {
+        self.end
+    }
+
+    /// Answers the datagrams that come, so many, and gives how that ended; fewer where one can't be received, or no version can be
+    /// loaded. Each peer may update and transfer by its own address (RFC 1035, 4.2.1).
+    pub fn serve<R: Wait, A: Answering, G: Gate>(
+        &mut self,
+        rt: &R,
+        answering: &mut A,
+        gate: &G,
+    ) -> JobEnd
+        ensures served { IfSome (D.datagrams self.old.datagrams) (λ o. JobEndsBy A.is_reply self.old.allowed.addresses.now result (A.seen answering.old) o (D.failed self.old.datagrams) self.old.most (A.seen answering.new) (D.datagrams self.new.datagrams) (D.failed self.new.datagrams)) }
+        ensures grows { Grows (A.seen answering.new) (A.seen answering.old) }
+        ensures end { self.new.end ≡ Some result }
+        ensures same { self.new.number ≡ self.old.number }
+    {
+        let Scratch { request, reply } = &mut *self.scratch;
+        let end = serve_udp(
+            rt,
+            answering,
+            &mut self.datagrams,
+            self.allowed,
+            self.most,
+            gate,
+            request,
+            reply,
+        );
+        let end = job_end_of(end, self.most);
+        self.end = Some(end);
+        end
+    }
+}
+
+impl<D: Datagrams + Send + Drop> Job for UdpJob<'_, D> {
+    ghost number = { λ job. job.number };
+
+    ghost is_done = { λ job. IsSome job.end };
+
+    fn run<R: Wait, A: Answering, G: Gate, L: ServiceLog>(
+        &mut self,
+        rt: &R,
+        answering: &mut A,
+        gate: &G,
+        log: &L,
+    )
+        ensures served { IfSome (D.datagrams self.old.datagrams) (λ o. (end : EndOfJob) × (self.new.end ≡ Some end) × JobEndsBy A.is_reply self.old.allowed.addresses.now end (A.seen answering.old) o (D.failed self.old.datagrams) self.old.most (A.seen answering.new) (D.datagrams self.new.datagrams) (D.failed self.new.datagrams)) }
+        ensures grows { Grows (A.seen answering.new) (A.seen answering.old) }
+        ensures number { self.new.number ≡ self.old.number }
+        ensures done { IsSome self.new.end }
+    {
+        let end = self.serve(rt, answering, gate);
+        let (worker, transport) = (self.number, Transport::Udp);
+        log.tell(
+            rt,
+            Event::End {
+                worker,
+                transport,
+                end,
+            },
+        );
+    }
+}

@@ -1,0 +1,235 @@
+//! A worker's socket of datagrams (RFC 1035, 4.2.1).
+//!
+//! While few datagrams come it waits for each, and sends its reply at once: two calls of the system a query. Where more are there already, it takes
+//! them without waiting, and sends their replies one behind another once none is left, or a few have come: who asks is then woken once for
+//! many replies.
+ghost use Rattle.std.specs.Prelude.{◌≡◌, ◌≢◌, ◌≤◌, None, length, IfOk, IfErr, IfSome};
+ghost use Rattle.std.specs.IoError.{error_kind};
+ghost use Rattle.std.specs.Io.{WritesAtMost};
+ghost use Rattle.conversation.specs.Datagrams.{count_of};
+
+use crate::held_replies::{HeldReplies, MOST};
+use crate::interrupted::is_interrupted;
+use crate::progress::Standing;
+use conversation::Datagrams;
+use std::alloc::Global;
+use std::io::{self, ErrorKind};
+use std::net::{SocketAddr, UdpSocket};
+use std::time::Duration;
+
+/// How many seconds a datagram is waited for, until the thread looks whether it is to end (own).
+const LOOK: u64 = 1;
+
+/// How many datagrams are waited for, one behind another, until it is tried whether one is there already (own).
+const WAITS: u32 = 32;
+
+/// A datagram of more octets may take long, so that no reply is held back beside it (own).
+const LONG: usize = 512;
+
+/// Whether a receiving has only taken too long, or was interrupted, so that it is begun again.
+fn is_passing(fault: &io::Error) -> bool {
+    match fault.kind() {
+        ErrorKind::WouldBlock => true,
+        ErrorKind::TimedOut => true,
+        ErrorKind::Interrupted => true,
+        _ => false,
+    }
+}
+
+/// Sends a datagram, and gives how many of its octets are sent. A sending that a signal interrupts is begun again.
+fn send_to(socket: &UdpSocket, octets: &[u8], to: SocketAddr) -> io::Result<usize>
+    ensures bound { WritesAtMost result octets.now }
+    ensures again { IfErr result (λ fault. error_kind fault ≢ ErrorKind.Interrupted) }
+{
+    for _ in 0..u64::MAX {
+        match socket.send_to(octets, to) {
+            Ok(sent) => return Ok(sent),
+            Err(fault) => {
+                if !is_interrupted(&fault) {
+                    return Err(fault);
+                }
+            }
+        }
+    }
+    Err(io::Error::from(ErrorKind::TimedOut))
+}
+
+/// Sends a reply, and gives whether it is sent in whole.
+pub fn is_sent(socket: &UdpSocket, octets: &[u8], to: SocketAddr) -> bool {
+    match send_to(socket, octets, to) {
+        Ok(sent) => sent == octets.len(),
+        Err(_) => false,
+    }
+}
+
+/// How datagrams are received.
+#[derive(Clone, Copy)]
+enum Mode {
+    /// Each is waited for, as so many were before it.
+    Waiting(u32),
+    /// None is waited for; so many have come since replies were sent last.
+    Taking(u32),
+}
+
+/// A worker's socket of datagrams, with the count of its failures.
+#[derive(Drop)]
+pub struct WorkerSocket<'a> {
+    socket: UdpSocket,
+    standing: Standing<'a>,
+    mode: Mode,
+    held: HeldReplies,
+    /// How many replies that were held back failed to be sent, and aren't counted yet.
+    lost: u64,
+    faults: u64,
+}
+
+impl<'a> WorkerSocket<'a> {
+    /// A socket of a worker's thread, which waits for datagrams from now on; with no failure counted yet.
+    pub fn new(
+        alloc: Global,
+        socket: UdpSocket,
+        standing: Standing<'a>,
+    ) -> io::Result<WorkerSocket<'a>>
+        ensures { IfOk result (λ socket. socket.faults ≡ 0) }
+    {
+        socket.set_nonblocking(false)?;
+        socket.set_read_timeout(Some(Duration::from_secs(LOOK)))?;
+        Ok(WorkerSocket {
+            socket,
+            standing,
+            mode: Mode::Waiting(0),
+            held: HeldReplies::new(alloc)?,
+            lost: 0,
+            faults: 0,
+        })
+    }
+
+    /// Counts a failure.
+    fn count(&mut self)
+        ensures { self.new.faults ≡ count_of self.old.faults 1 }
+    {
+        self.faults = self.faults.saturating_add(1);
+    }
+
+    /// Sends the replies that are held back.
+    fn send_held(&mut self)
+        ensures { self.new.faults ≡ self.old.faults }
+    {
+        let lost = self.held.send(&self.socket);
+        self.lost = self.lost.saturating_add(lost);
+    }
+
+    /// Before a datagram is received: where many have been waited for, the next isn't; where many have been taken, their replies are sent.
+    fn prepare(&mut self) -> io::Result<()>
+        ensures { self.new.faults ≡ self.old.faults }
+    {
+        match self.mode {
+            Mode::Waiting(WAITS) => {
+                self.socket.set_nonblocking(true)?;
+                self.mode = Mode::Taking(0);
+            }
+            Mode::Taking(MOST) => {
+                self.send_held();
+                self.mode = Mode::Taking(0);
+            }
+            _ => {}
+        }
+        Ok(())
+    }
+
+    /// A datagram of so many octets has come.
+    fn note(&mut self, len: usize)
+        ensures { self.new.faults ≡ self.old.faults }
+    {
+        match self.mode {
+            Mode::Waiting(count) => self.mode = Mode::Waiting(count.saturating_add(1)),
+            Mode::Taking(count) => self.mode = Mode::Taking(count.saturating_add(1)),
+        }
+        if len > LONG {
+            self.send_held();
+        }
+    }
+
+    /// None has come: the next one is waited for, once the replies that are held back are sent.
+    fn wait(&mut self) -> io::Result<()>
+        ensures { self.new.faults ≡ self.old.faults }
+    {
+        if let Mode::Taking(_) = self.mode {
+            self.send_held();
+            self.socket.set_nonblocking(false)?;
+            self.mode = Mode::Waiting(0);
+        }
+        Ok(())
+    }
+
+    /// Receives a datagram to the front of a buffer, and gives how many octets it has there and who sent it; none where the socket has failed, or
+    /// the thread is to end.
+    fn next(&mut self, buf: &mut [u8]) -> Option<(usize, SocketAddr)>
+        ensures bound { IfSome result (λ received. received.0 ≤ length buf.new) }
+        ensures same { self.new.faults ≡ self.old.faults }
+    {
+        for _tried in 0..u64::MAX {
+            if self.standing.is_over() {
+                return None;
+            }
+            self.prepare().ok()?;
+            match self.socket.recv_from(buf) {
+                Ok(received) => {
+                    self.note(received.0);
+                    return Some(received);
+                }
+                Err(fault) if is_passing(&fault) => self.wait().ok()?,
+                Err(_) => return None,
+            }
+        }
+        None
+    }
+}
+
+impl Datagrams for WorkerSocket<'_> {
+    ghost datagrams = { λ _. None };
+
+    ghost failed = { λ socket. socket.faults };
+
+    // A thread that is to end is told by a receiving that fails.
+    fn receive(&mut self, buf: &mut [u8]) -> Option<(usize, SocketAddr)> {
+        match self.next(buf) {
+            Some(received) => {
+                self.standing.progress.add(1);
+                Some(received)
+            }
+            None => {
+                self.count();
+                None
+            }
+        }
+    }
+
+    // A failure of one that was held back is counted by a later call.
+    fn send(&mut self, octets: &[u8], to: SocketAddr) {
+        let is_held = match self.mode {
+            Mode::Taking(_) => self.held.hold(octets, to),
+            Mode::Waiting(_) => false,
+        };
+        if !is_held {
+            self.send_held();
+            if !is_sent(&self.socket, octets, to) {
+                self.lost = self.lost.saturating_add(1);
+            }
+        }
+        if self.lost > 0 {
+            self.lost -= 1;
+            self.count();
+        }
+    }
+
+    fn flush(&mut self) {
+        self.send_held();
+        self.faults = self.faults.saturating_add(self.lost);
+        self.lost = 0;
+    }
+
+    fn faults(&self) -> u64 {
+        self.faults
+    }
+}

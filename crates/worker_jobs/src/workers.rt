@@ -1,0 +1,392 @@
+//! Workers: jobs, each on a thread of its own.
+ghost use Rattle.std.specs.Prelude.{◌≡◌, ℕ, ◌≤◌, true, false, [], List, All, map, vec_len, vec_capacity, IfOk, IfErr, MatchResult};
+ghost use Rattle.zone_tree.specs.Version.{Version};
+ghost use Rattle.conversation.specs.Served.{BeginsWith, Grows};
+ghost use Rattle.worker_jobs.specs.GivenBack.{Each, IsReturned};
+
+use conversation::{Answering, Gate};
+use dns_engine::{FirstZone, VersionReader};
+use serve_core::{Peer, Transport};
+use snapshot_cell::Naming;
+use std::alloc::Global;
+use std::net::{Ipv4Addr, SocketAddr, SocketAddrV4};
+use std::snapshot::Snapshot;
+use std::sync::{OnceLock, OnceToken, Wait};
+use std::thread::{self, Promise, PromisedHandle, Scope, Threads};
+use zone_service::{Asked, Server, ServiceLog};
+
+/// What a worker does.
+pub trait Job: Send + Drop {
+    /// The job's number, which stays.
+    ghost number: { Self → ℕ };
+
+    /// What holds of a job that has been done.
+    ghost is_done: { Self → Type 0 };
+
+    /// Does it, by one who answers each peer that it is turned to. Each request goes through the gate; the log is told how the job
+    /// ends.
+    fn run<R: Wait, A: Answering, G: Gate, L: ServiceLog>(
+        &mut self,
+        rt: &R,
+        answering: &mut A,
+        gate: &G,
+        log: &L,
+    )
+        ensures number { number self.new ≡ number self.old }
+        ensures done { is_done self.new }
+        ensures grows { Grows (A.seen answering.new) (A.seen answering.old) };
+}
+
+/// Not all jobs could be started, since a thread was refused, or there was no memory to keep track of them: the pairs come back, and
+/// none of the jobs has begun.
+#[derive(Drop)]
+pub struct NotStarted<N: Naming, J>(pub Vec<(VersionReader<N>, J)>);
+
+/// What is done on a thread.
+pub trait Work: Send + Drop {
+    /// The work's number, which stays.
+    ghost number: { Self → ℕ };
+
+    /// The versions that its reader has seen published, the first one first.
+    ghost seen: { Self → List Version };
+
+    /// What holds of a work that has been done.
+    ghost is_done: { Self → Type 0 };
+
+    /// Does it.
+    fn work<R: Wait>(&mut self, rt: &R)
+        ensures number { number self.new ≡ number self.old }
+        ensures done { is_done self.new }
+        ensures grows { BeginsWith (seen self.new) (seen self.old) };
+}
+
+/// What is done beside works, on the thread that waits for them.
+pub trait Meanwhile: Drop {
+    /// Does it, once each work has its thread.
+    fn meanwhile<R: Wait>(&mut self, rt: &R);
+}
+
+/// Nothing is done beside works.
+#[derive(Clone, Copy)]
+pub struct Idle;
+
+impl Meanwhile for Idle {
+    fn meanwhile<R: Wait>(&mut self, _rt: &R) {}
+}
+
+/// Nobody's address.
+pub fn nobody() -> SocketAddr {
+    SocketAddr::V4(SocketAddrV4::new(Ipv4Addr::new(0, 0, 0, 0), 0))
+}
+
+/// A job with who answers in it by a reader, and the gate and the log that it is done with.
+#[derive(Drop)]
+struct Worker<'g, 's, Z: FirstZone, N: Naming, J, G, L> {
+    asked: Asked<'g, 's, Z, N, L>,
+    job: J,
+    gate: &'g G,
+    log: &'g L,
+}
+
+impl<
+    'g,
+    's,
+    Z: FirstZone + Send + Sync,
+    N: Naming + Send + Sync,
+    J: Job,
+    G: Gate + Sync,
+    L: ServiceLog + Sync,
+> Work for Worker<'g, 's, Z, N, J, G, L> {
+    ghost number = { λ worker. J.number worker.job };
+
+    ghost seen = { λ worker. worker.asked.reader.seen };
+
+    ghost is_done = { λ worker. J.is_done worker.job };
+
+    fn work<R: Wait>(&mut self, rt: &R) {
+        self.job.run(rt, &mut self.asked, self.gate, self.log);
+    }
+}
+
+/// A work that its thread gives back, and what the thread was told: whether the works may be done.
+#[derive(Drop)]
+struct Returned<'m, W> {
+    work: W,
+    told: OnceToken<'m, bool>,
+}
+
+/// A work that is given to a thread, and what tells the thread whether the works may be done.
+#[derive(Drop)]
+struct Given<'m, W> {
+    may: &'m OnceLock<bool>,
+    work: Snapshot<W>,
+}
+
+impl<'m, W: Work> Promise<Returned<'m, W>> for Given<'m, W> {
+    ghost kept_by = { λ given back. IsReturned W.number W.seen W.is_done given.may.now.id given.work.value back.told.of back.told.value back.work };
+}
+
+/// Does a work once all threads have been started; not at all where one was refused.
+fn do_one<'m, R: Wait, W: Work>(rt: &R, may: &'m OnceLock<bool>, mut work: W) -> Returned<'m, W>
+    ensures { IsReturned W.number W.seen W.is_done may.entry.now.id work result.told.of result.told.value result.work }
+{
+    may.wait(rt);
+    let told = may.init(rt, || false);
+    if *may.value(&told) {
+        work.work(rt);
+    }
+    Returned { work, told }
+}
+
+/// A work whose thread is started, or that is given back since its thread was refused.
+type Begun<'m, W> = Result<PromisedHandle<Returned<'m, W>, Given<'m, W>>, Returned<'m, W>>;
+
+/// Starts a thread for a work. Where it is refused, no work may be done from then on.
+fn begin<'s, E, R: Threads + Wait + Sync, W: Work + 's>(
+    rt: &'s R,
+    scope: &'s Scope<'s, E>,
+    may: &'s OnceLock<bool>,
+    work: W,
+) -> Begun<'s, W>
+    ensures { MatchResult result
+        (λ handle. (handle.promise.may.now.id ≡ may.entry.now.id) × (handle.promise.work.value ≡ work))
+        (λ back. IsReturned W.number W.seen W.is_done may.entry.now.id work back.told.of back.told.value back.work) }
+{
+    let given = Given {
+        may,
+        work: Snapshot::of(&work),
+    };
+    match scope.spawn_with(given, move || do_one(rt, may, work)) {
+        Ok(handle) => Ok(handle),
+        Err(refused) => {
+            let _ = may.init(rt, || false);
+            let again = refused.value;
+            Err(again())
+        }
+    }
+}
+
+/// Starts a thread for each work, and puts what has begun into `begun`, which has room for it.
+fn begin_all<'s, E, R: Threads + Wait + Sync, W: Work + 's>(
+    rt: &'s R,
+    scope: &'s Scope<'s, E>,
+    may: &'s OnceLock<bool>,
+    works: Vec<W>,
+    mut begun: Vec<Begun<'s, W>>,
+) -> Vec<Begun<'s, W>>
+    requires room { vec_len works ≤ vec_capacity begun }
+    requires empty { begun.items ≡ [] }
+    requires len { vec_len begun ≡ 0 }
+    ensures count { vec_len result ≡ vec_len works }
+    ensures begun { Each (λ given one. MatchResult one
+        (λ handle. (handle.promise.may.now.id ≡ may.entry.now.id) × (handle.promise.work.value ≡ given))
+        (λ back. IsReturned W.number W.seen W.is_done may.entry.now.id given back.told.of back.told.value back.work)) works.items result.items }
+{
+    for work in works {
+        begun.push_reserved(begin(rt, scope, may, work));
+    }
+    begun
+}
+
+/// Waits for a work.
+fn end<'s, R: Threads, W: Work>(rt: &R, begun: Begun<'s, W>) -> Returned<'s, W>
+    ensures { MatchResult begun.entry
+        (λ handle. IsReturned W.number W.seen W.is_done handle.promise.may.now.id handle.promise.work.value result.told.of result.told.value result.work)
+        (λ back. result ≡ back) }
+{
+    match begun {
+        Ok(handle) => handle.join(rt),
+        Err(returned) => returned,
+    }
+}
+
+/// Waits for each work, and puts what comes back into `returned`, which has room for it.
+fn end_all<'s, R: Threads, W: Work>(
+    rt: &R,
+    begun: Vec<Begun<'s, W>>,
+    mut returned: Vec<Returned<'s, W>>,
+) -> Vec<Returned<'s, W>>
+    requires room { vec_len begun ≤ vec_capacity returned }
+    requires empty { returned.items ≡ [] }
+    requires len { vec_len returned ≡ 0 }
+    ensures count { vec_len result ≡ vec_len begun.entry }
+    ensures ended { Each (λ one back. MatchResult one
+        (λ handle. IsReturned W.number W.seen W.is_done handle.promise.may.now.id handle.promise.work.value back.told.of back.told.value back.work)
+        (λ given. back ≡ given)) begun.entry.items result.items }
+{
+    for one in begun {
+        returned.push_reserved(end(rt, one));
+    }
+    returned
+}
+
+/// Puts the works that came back into `done`, which has room for them.
+fn works_of<'s, W: Work>(
+    told: &OnceToken<'s, bool>,
+    returned: Vec<Returned<'s, W>>,
+    mut done: Vec<W>,
+) -> Vec<W>
+    requires room { vec_len returned ≤ vec_capacity done }
+    requires empty { done.items ≡ [] }
+    requires len { vec_len done ≡ 0 }
+    requires told { All (λ back. back.told.of ≡ told.now.of) returned.items }
+    ensures { Each (λ back work. (back.told.value ≡ told.now.value) × (work ≡ back.work)) returned.entry.items result.items }
+{
+    for back in returned {
+        let Returned { work, told: own } = back;
+        own.agrees(told);
+        done.push_reserved(work);
+    }
+    done
+}
+
+/// Does what is done beside works, where they are done.
+fn do_beside<R: Wait, M: Meanwhile>(rt: &R, may: bool, meanwhile: M) -> M {
+    let mut beside = meanwhile;
+    if may {
+        beside.meanwhile(rt);
+    }
+    beside
+}
+
+/// Does each work on a thread of a scope, and beside them what is done on this one, and waits for all; then gives the works back in their order. The threads are
+/// told by a lock whether the works may be done. False where a thread was refused, or where there is no memory to keep track of them: none of the works has then begun,
+/// and nothing is done beside them.
+fn do_in<'s, E, R: Threads + Wait + Sync, W: Work + 's, M: Meanwhile>(
+    rt: &'s R,
+    alloc: Global,
+    scope: &'s Scope<'s, E>,
+    may: &'s OnceLock<bool>,
+    works: Vec<W>,
+    meanwhile: M,
+) -> (bool, Vec<W>, M)
+    ensures numbers { map W.number result.1.items ≡ map W.number works.items }
+    ensures seen { Each (λ given work. BeginsWith (W.seen work) (W.seen given)) works.items result.1.items }
+    ensures done { result.0 ≡ true → All W.is_done result.1.items }
+    ensures none { result.0 ≡ false → result.1.items ≡ works.items }
+{
+    let count = works.len();
+    let Ok(begun) = Vec::with_capacity(alloc, count) else {
+        return (false, works, meanwhile);
+    };
+    let Ok(returned) = Vec::with_capacity(alloc, count) else {
+        return (false, works, meanwhile);
+    };
+    let Ok(done) = Vec::with_capacity(alloc, count) else {
+        return (false, works, meanwhile);
+    };
+    let begun = begin_all(rt, scope, may, works, begun);
+    let told = may.init(rt, || true);
+    let started = *may.value(&told);
+    let beside = do_beside(rt, started, meanwhile);
+    let returned = end_all(rt, begun, returned);
+    let done = works_of(&told, returned, done);
+    (started, done, beside)
+}
+
+/// Does each work on a thread of its own, and beside them what is done on this one, and waits for all; then gives the works back in their order. False where a
+/// thread was refused, or where there is no memory to keep track of them: none of the works has then begun, and nothing is done beside them.
+pub fn do_all<R: Threads + Wait + Sync, W: Work, M: Meanwhile>(
+    rt: &R,
+    alloc: Global,
+    works: Vec<W>,
+    meanwhile: M,
+) -> (bool, Vec<W>, M)
+    ensures numbers { map W.number result.1.items ≡ map W.number works.items }
+    ensures seen { Each (λ given work. BeginsWith (W.seen work) (W.seen given)) works.items result.1.items }
+    ensures done { result.0 ≡ true → All W.is_done result.1.items }
+    ensures none { result.0 ≡ false → result.1.items ≡ works.items }
+{
+    let may = &OnceLock::new();
+    thread::scope(
+        thread::scope_env(),
+        rt,
+        |scope|
+            ensures numbers { map W.number result.1.items ≡ map W.number works.items }
+            ensures seen { Each (λ given work. BeginsWith (W.seen work) (W.seen given)) works.items result.1.items }
+            ensures done { result.0 ≡ true → All W.is_done result.1.items }
+            ensures none { result.0 ≡ false → result.1.items ≡ works.items }
+        { do_in(rt, alloc, scope, may, works, meanwhile) },
+    )
+}
+
+/// Puts the workers of pairs into `works`, which has room for them.
+fn put_workers<'g, 's, Z: FirstZone, N: Naming, J: Drop, G, L: ServiceLog>(
+    alloc: Global,
+    server: &'g Server<'s, Z, N>,
+    gate: &'g G,
+    log: &'g L,
+    pairs: Vec<(VersionReader<N>, J)>,
+    works: &mut Vec<Worker<'g, 's, Z, N, J, G, L>>,
+)
+    requires room { vec_len pairs ≤ vec_capacity works.old }
+    requires empty { works.old.items ≡ [] }
+    ensures pairs { map (λ worker. (worker.asked.reader, worker.job)) works.new.items ≡ pairs.items }
+{
+    for (reader, job) in pairs {
+        let peer = Peer::over(Transport::Udp, false);
+        works.push_reserved(Worker {
+            asked: Asked::new(alloc, server, reader, log, peer, nobody()),
+            job,
+            gate,
+            log,
+        });
+    }
+}
+
+/// Puts the pairs of workers into `back`, which has room for them.
+fn put_pairs<Z: FirstZone, N: Naming, J: Drop, G, L: ServiceLog>(
+    done: Vec<Worker<'_, '_, Z, N, J, G, L>>,
+    back: &mut Vec<(VersionReader<N>, J)>,
+)
+    requires room { vec_len done ≤ vec_capacity back.old }
+    requires empty { back.old.items ≡ [] }
+    ensures pairs { back.new.items ≡ map (λ worker. (worker.asked.reader, worker.job)) done.entry.items }
+{
+    for Worker { asked, job, .. } in done {
+        back.push_reserved((asked.into_reader(), job));
+    }
+}
+
+/// Does each job on a thread of its own, with a reader, and waits for all; then gives the pairs back in their order: each job with the
+/// reader that it was given, of which what it has seen published begins with what it had seen. No job begins until each has its
+/// thread. [`NotStarted`] where a thread was refused, or where there was no memory to keep track of them: no job has begun, and the
+/// pairs come back as they were given.
+pub fn run_workers<
+    'g,
+    's,
+    R: Threads + Wait + Sync,
+    Z: FirstZone + Send + Sync,
+    N: Naming + Send + Sync,
+    J: Job,
+    G: Gate + Sync,
+    L: ServiceLog + Sync,
+>(
+    rt: &R,
+    alloc: Global,
+    server: &'g Server<'s, Z, N>,
+    pairs: Vec<(VersionReader<N>, J)>,
+    gate: &'g G,
+    log: &'g L,
+) -> Result<Vec<(VersionReader<N>, J)>, NotStarted<N, J>>
+    ensures numbers { IfOk result (λ back. map (λ pair. J.number pair.1) back.items ≡ map (λ pair. J.number pair.1) pairs.items) }
+    ensures done { IfOk result (λ back. All (λ pair. J.is_done pair.1) back.items) }
+    ensures seen { IfOk result (λ back. Each (λ given pair. BeginsWith pair.0.seen given.0.seen) pairs.items back.items) }
+    ensures none { IfErr result (λ refused. refused.0.items ≡ pairs.items) }
+{
+    let count = pairs.len();
+    let Ok(mut works) = Vec::with_capacity(alloc, count) else {
+        return Err(NotStarted(pairs));
+    };
+    let Ok(mut back) = Vec::with_capacity(alloc, count) else {
+        return Err(NotStarted(pairs));
+    };
+    put_workers(alloc, server, gate, log, pairs, &mut works);
+    let (started, done, _) = do_all(rt, alloc, works, Idle);
+    put_pairs(done, &mut back);
+    if started {
+        Ok(back)
+    } else {
+        Err(NotStarted(back))
+    }
+}
