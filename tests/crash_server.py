@@ -16,24 +16,23 @@ class NotServed(Exception):
 
     def __init__(self, status, said):
         super().__init__(f"status {status}: {said.strip()}")
-        self.status = status
+        self.status, self.said = status, said
 
 
 class Served:
-    """A running server over a store, on a port of 127.0.0.1; of port 0 on one that is free."""
+    """A running server over a store, on a port of 127.0.0.1; of port 0 on one that is free. What it told up to the line of its port is `said`."""
 
-    def __init__(self, program, folder, zone, options, port=0, environment=None):
+    def __init__(self, program, folder, zone, options, port=0, environment=None, tries=50):
         words = [program, "serve", "--listen", f"127.0.0.1:{port}", "--store", folder, *options, zone]
-        said, tries = "", 0
         while True:
             self.process = subprocess.Popen(words, stderr=subprocess.PIPE, text=True, env={**os.environ, **(environment or {})})
-            line, said = self.listening()
+            line, self.said = self.listening()
             if line:
                 break
             # the port that the system picks for one transport may be taken for the other, and one that was given may be in use for a moment
-            tries += 1
-            if "another program listens there" not in said or tries > 50:
-                raise NotServed(self.process.returncode, said)
+            tries -= 1
+            if "another program listens there" not in self.said or tries <= 0:
+                raise NotServed(self.process.returncode, self.said)
             time.sleep(0.1 if port else 0)
         self.port = int(line.split(": ")[0].rsplit(":", 1)[1])
         os.set_blocking(self.process.stderr.fileno(), False)
