@@ -5,7 +5,7 @@ times so few updates come that the serial that was held before the kill is at mo
 that, over TCP, and whatever comes has to make the zone in whole of what was held (RFC 1995). In a quarter of the times updates come by TCP, else by UDP. A new folder is
 begun each few times.
   --disk         the folder is left as a power cut could have left it, by tests/crash_disk.py: of what wasn't synced, whatever chance keeps. In half of the times the server
-                 is killed in front of one of its calls to the disk, also while it starts. No start may end by itself
+                 is killed in front of one of its calls to the disk, also while it starts, and in an eighth a call fails. No other start may end by itself
   --secondaries  NSD and BIND follow the server, by NOTIFY and by refreshes of two seconds. In each round both hold the serial, then at most as many updates come as
                  versions are kept, and the server is killed and started again on its port: both have to reach the new serial, and never by a transfer in whole; at the end
                  they hold the zone record by record
@@ -32,6 +32,8 @@ KEPT = 8
 # the store's own, the one before, and the next one while it is written
 TEXTS = 3
 CONNECTIONS = 16
+# with which status a start ends that is killed, or meets a fault of the disk
+MEANT = {"END": -signal.SIGKILL, "FAIL": 3}
 
 
 class NoStart(Exception):
@@ -78,14 +80,19 @@ class Trial:
             self.server.kill()
         self.server = None
 
+    def faults(self):
+        """What the library does to the next server: in half of the times it is killed in front of one of its calls, in an eighth some of these fail."""
+        call, way = self.chance.choice((self.chance.randint(1, 40), self.chance.randint(1, 400))), self.chance.random()
+        return {"END": call} if way < 0.5 else {"FAIL": call, "COUNT": self.chance.randint(1, 3)} if way < 0.625 else {}
+
     def start(self, is_calm=False):
         """Starts the server, and again where a kill that was meant came in it, which comes in no calm start: the serial and the records that it has."""
         while True:
             faults = {}
             if self.disk:
                 self.others += self.disk.cut()
-                if not is_calm and self.chance.random() < 0.5:
-                    faults = {"END": self.chance.choice((self.chance.randint(1, 40), self.chance.randint(1, 400)))}
+                if not is_calm:
+                    faults = self.faults()
             if self.args.save:
                 shutil.rmtree(f"{self.room}/found", ignore_errors=True)
                 shutil.copytree(self.folder, f"{self.room}/found")
@@ -95,8 +102,9 @@ class Trial:
                 self.server = crash_server.Served(self.args.program, self.folder, self.zone, self.options, self.args.port, environment)
                 return crash_zone.zone(self.server.port)
             except (crash_server.NotServed, OSError) as fault:
+                status = getattr(fault, "status", None) or self.server.was_killed() and -signal.SIGKILL
                 self.end()
-                if not faults or getattr(fault, "status", -signal.SIGKILL) != -signal.SIGKILL:
+                if status not in [MEANT[word] for word in faults if word in MEANT]:
                     self.tell(f"the server doesn't serve: {fault}")
                     raise NoStart from fault
                 is_calm = True
