@@ -8,9 +8,10 @@
 - Each of the first 40 writes, cuts, syncs and renames, or as many as --faults says, fails in turn: the same. A start over the same folder, and over one that a power cut could
   have left there, has all that was answered NOERROR; of what was told SERVFAIL it may have some, and nothing that wasn't sent.
 With --goes-on the server has also to take updates again by itself, within 20 seconds from the end of the fault.
-Usage: tests/slow_disk.py PROGRAM [--seconds N] [--turns N] [--within MS] [--records N] [--faults N] [--first N] [--count N] [--only times|bursts|full|immutable|aborted|faults] [--goes-on] [-- OPTION ..], by default
-3 turns of 5 seconds over a zone of 1000 records; --first is the first call that fails, and --count how many in a row do. The options are given to `serve`. It prints a line a check, and its status is 1 where one failed; some two minutes, with --goes-on as long again for each five seconds
-that the server waits. It needs Linux, python3 and a C compiler, `cc` or $CC. What is full or read-only wants root, for mount, chattr and mkfs.ext4, and is left out with a line else."""
+Usage: tests/slow_disk.py PROGRAM [--only times|bursts|full|immutable|aborted|faults] [--seconds N] [--turns N] [--within MS] [--records N] [--faults N] [--first N] [--count N]
+[--goes-on] [-- OPTION ..], by default 3 turns of 5 seconds over a zone of 1000 records; --first is the first call that fails, and --count how many in a row do. The options are
+given to `serve`. It prints a line a check, and its status is 1 where one failed. It takes two minutes, most of them waiting, and with --goes-on some seconds more for each call
+that fails. It needs Linux, python3 and a C compiler, `cc` or $CC. What is full or read-only wants root, for mount, chattr and mkfs.ext4, and is left out with a line else."""
 import argparse
 import contextlib
 import os
@@ -124,7 +125,8 @@ class Store:
             return
         serial, records = crash_zone.zone(self.server.port)
         there = crash_zone.numbers_of(records)
-        self.expect(self.answered <= there <= set(range(1, self.sent + 1)), f"{name}: lost {sorted(self.answered - there)[:5]}, not sent {sorted(n for n in there if n > self.sent)[:5]}")
+        lost, strange = sorted(self.answered - there), sorted(number for number in there if number > self.sent)
+        self.expect(not lost and not strange, f"{name}: lost {lost[:5]}, not sent {strange[:5]}")
         self.expect(serial == 1 + len(there), f"{name}: serial {serial} with {len(there)} updates")
         self.answered = there
         self.expect(self.update() == 0, f"{name}: an update isn't taken")
