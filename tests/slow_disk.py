@@ -7,8 +7,9 @@
   is the one of what was answered NOERROR. A start over the folder while it is so serves or ends with status 3; one behind that has all that was answered, and takes updates.
 - Each of the first 40 writes, cuts, syncs and renames, or as many as --faults says, fails in turn: the same. A start over the same folder, and over one that a power cut could
   have left there, has all that was answered NOERROR; of what was told SERVFAIL it may have some, and nothing that wasn't sent.
+- With the option --journal behind `--`: on a disk with room for three zone texts, 4,000 updates, whose journal is longer than the disk, are all told NOERROR.
 With --goes-on the server has also to take updates again by itself, within 20 seconds from the end of the fault.
-Usage: tests/slow_disk.py PROGRAM [--only times|bursts|full|immutable|aborted|faults] [--seconds N] [--turns N] [--within MS] [--records N] [--faults N] [--first N] [--count N]
+Usage: tests/slow_disk.py PROGRAM [--only times|bursts|full|cramped|immutable|aborted|faults] [--seconds N] [--turns N] [--within MS] [--records N] [--faults N] [--first N] [--count N]
 [--goes-on] [-- OPTION ..], by default 3 turns of 5 seconds over a zone of 1000 records; --first is the first call that fails, and --count how many in a row do. The options are
 given to `serve`. It prints a line a check, and its status is 1 where one failed. It takes two minutes, most of them waiting, and with --goes-on some seconds more for each call
 that fails. It needs Linux, python3 and a C compiler, `cc` or $CC. What is full or read-only wants root, for mount, chattr and mkfs.ext4, and is left out with a line else."""
@@ -31,6 +32,7 @@ GOES_ON = 20
 MANY = 1 << 24
 SERVFAIL = 2
 BURST = 200
+CRAMPED = 4000
 
 
 class Trial:
@@ -73,14 +75,14 @@ class Store:
         if not is_right:
             self.wrong.append(what)
 
-    def update(self):
-        """Sends the next update: its code; none where no reply comes within ten seconds."""
+    def update(self, behind=MANY):
+        """Sends the next update, which deletes the record of so many before: its code; none where no reply comes within ten seconds."""
         self.sent += 1
         with socket.socket(socket.AF_INET, socket.SOCK_DGRAM) as client:
             client.settimeout(10)
             client.connect(("127.0.0.1", self.server.port))
             try:
-                client.send(crash_zone.update(self.sent, MANY))
+                client.send(crash_zone.update(self.sent, behind))
                 code = client.recv(2000)[3] & 15
             except OSError:
                 code = None
@@ -209,6 +211,28 @@ def full(trial):
     store.tell("a full disk")
 
 
+def cramped(trial):
+    """A small tmpfs, which many times the octets of the zone text and the journal go through: where the journal is kept short there is always room."""
+    if "--journal" not in trial.options:
+        raise Unable("it wants the option --journal, as -- --journal 4K")
+    folder, number = trial.folder(), 0
+    store = Store(trial, folder)
+    with mounted(folder, "-t", "tmpfs", "-o", "size=64k", "tmpfs"):
+        try:
+            store.start()
+            while number < CRAMPED and not store.wrong:
+                number += 1
+                store.expect(store.update(CRAMPED // 20) == 0, f"update {number} isn't taken, beside {sorted(os.listdir(folder))}")
+            store.end()
+            store.start()
+            serial, records = crash_zone.zone(store.server.port)
+            wanted = set(range(number + 1 - CRAMPED // 20, number + 1))
+            store.expect(serial == number + 1 and crash_zone.numbers_of(records) == wanted, f"a start has serial {serial} and {len(records)} records")
+        finally:
+            store.end()
+    store.tell("a small disk, with a journal that is kept short")
+
+
 def immutable(trial):
     """The folder and its files are made immutable, and not so again."""
     store = Store(trial, trial.folder())
@@ -319,12 +343,12 @@ def main():
     parser.add_argument("program")
     for word, number in (("seconds", 5), ("turns", 3), ("within", 5), ("records", 1000), ("faults", 40), ("first", 1), ("count", 1)):
         parser.add_argument(f"--{word}", type=int, default=number)
-    parser.add_argument("--only", choices=("times", "bursts", "full", "immutable", "aborted", "faults"))
+    parser.add_argument("--only", choices=("times", "bursts", "full", "cramped", "immutable", "aborted", "faults"))
     parser.add_argument("--goes-on", action="store_true")
     args = parser.parse_args(own[: own.index("--")] if "--" in own else own)
     with tempfile.TemporaryDirectory(prefix="slow-disk-") as room:
         trial = Trial(args, options, room)
-        for part in (bursts, full, immutable, aborted, faults):
+        for part in (bursts, full, cramped, immutable, aborted, faults):
             if args.only in (None, part.__name__):
                 try:
                     if part not in (bursts, faults) and os.geteuid():
