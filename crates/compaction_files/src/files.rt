@@ -9,14 +9,23 @@ use journal::Head;
 use std::alloc::Global;
 use std::fs::{File, Files};
 use std::io;
-use store_files::{PairFault, drop_others, replace_journal, write_text};
+use store_files::{NewText, PairFault, drop_others, replace_journal};
 
-/// Writes the next zone text of a store with this head, to a file that no other text has: it is on the disk, and its name; and the head of its journal, with random
-/// octets that nobody outside knows. It takes memory.
-pub fn write_next_text<R: Files>(
+/// The file of a next zone text, which no other text has. It takes memory.
+pub fn create_next_text<R: Files<File = File>>(
     rt: &R,
     alloc: Global,
     dir: &str,
+    next: &NextText,
+) -> io::Result<NewText> {
+    NewText::create(rt, alloc, dir, next.number)
+}
+
+/// Writes the next zone text of a store with this head, to its file: it is on the disk, and its name; and the head of its journal, with random octets that nobody outside
+/// knows. It takes memory, and nothing else: a thread of its own writes it while updates go on.
+pub fn write_next_text(
+    alloc: Global,
+    file: NewText,
     next: &NextText,
     before: &Head,
     random: [u8; 16],
@@ -24,7 +33,7 @@ pub fn write_next_text<R: Files>(
     ensures { IfOk result (λ head. BeginsText next.now.version.zone next.now.number random before.now.origin head) }
 {
     let (text, head) = next_text(alloc, next, before, random)?;
-    write_text(rt, alloc, dir, next.number, text.as_bytes())?;
+    file.write(text.as_bytes())?;
     Ok(head)
 }
 

@@ -1,6 +1,6 @@
 -- What each call makes of a store that is compacted.
 use Rattle.std.proofs.Common.{◌≡◌, ◌==◌, ◌⊎◌, ℕ, ◌^◌, ◌<◌, ◌≤◌, Bool, true, false, List, [], ◌∷◌, ◌++◌, length, take, drop, map, Option, None, Some, inl, inr, refl, sym, ap, ◌∙◌, subst, append-nil, arith}
-use Rattle.std.specs.Prelude.{All, Result, Ok, Err, IfOk, IfErr, IfSome, MatchOption, ⊤}
+use Rattle.std.specs.Prelude.{All, Result, Ok, Err, IfOk, IfErr, IfSome, MatchOption, option_map, ⊤}
 use Rattle.std.proofs.lemmas.Bool.Decides.{nat_tests}
 use Rattle.std.proofs.lemmas.List.{map-append, take-append-le, length-map}
 use Rattle.dns_rdata.specs.Record.{Record}
@@ -321,6 +321,12 @@ module _ {F : Type 0} where
   appended None group before old new wanted closed is free on some stored trail way marks head = λ updates batch.
       subst (λ (s : CompactorState F). IsStored s (record { writer = new; wanted = wanted; closed = closed }) (versions_of group) updates) is
       (stored_some group old new wanted closed free on some updates batch (stored updates batch) (trail updates batch) (way updates batch) (marks updates batch) head)
+
+-- what is told of a text, and what was wanted
+pub taken_told : {X E : Type 0} (f : X → Wanted) (old new : Option X) (writing : X) (result : Result Head E) → old ≡ Some writing → new ≡ None → IfOk result (IsWritten (f writing))
+    → (option_map f new ≡ None) × IfOk result (λ head. (text : Wanted) × (option_map f old ≡ Some text) × IsWritten text head)
+taken_told f old new writing (Ok head) is none told = (ap (option_map f) none, (f writing, ap (option_map f) is, told))
+taken_told f old new writing (Err fault) is none told = (ap (option_map f) none, tt)
 
 -- whether nothing is there
 pub none_there : {X : Type 0} (list same : List X) → same ≡ list → true ≡ (length same == 0) → length list ≡ 0

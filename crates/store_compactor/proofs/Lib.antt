@@ -1,3 +1,4 @@
 pub mod StandsLemmas
 pub mod KeptLemmas
 pub mod LawLemmas
+pub mod SendLemmas

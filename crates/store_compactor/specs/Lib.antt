@@ -1,3 +1,4 @@
 pub mod Texts
 pub mod Stands
 pub mod Kept
+pub mod Threads

@@ -2,7 +2,7 @@
 //!
 //! A store is a folder that one process holds ([`open_store`]). `zone-N` has a zone text, and is never changed; `journal` begins with a head that names its N
 //! and the text's sum (`journal`), and is appended to (`journal_store`); `lock` has no octets, and a lock of its own, since `journal` is replaced.
-//! [`write_text`] and [`replace_journal`], or [`write_pair`], write the next of each, and one rename decides which journal a start finds. [`read_store`]
+//! [`NewText`] and [`replace_journal`], or [`write_pair`], write the next of each, and one rename decides which journal a start finds. [`read_store`]
 //! reads a store that another process may hold. What a system does with these calls no contract knows: that of the journal's file is told by its notes
 //! (`file_disks`).
 #![tactic(auto)]
@@ -16,5 +16,5 @@ mod read;
 
 pub use kept::{drop_others, keep_pair, keep_torn};
 pub use open::{Opened, Pair, StoreLock, open_store};
-pub use pair::{PairFault, replace_journal, write_pair, write_text};
+pub use pair::{NewText, PairFault, remove_text, replace_journal, write_pair};
 pub use read::read_store;

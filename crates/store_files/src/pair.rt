@@ -2,13 +2,13 @@
 ghost use Rattle.std.specs.Prelude.{◌≡◌, IfOk};
 ghost use Rattle.file_disks.specs.File.{written, synced};
 
-use crate::files::{sync_folder, write_synced};
+use crate::files::sync_folder;
 use crate::names::{JOURNAL, NEW_JOURNAL, path_of, text_path};
 use file_disks::FileDisk;
 use journal_store::Disk;
 use std::alloc::Global;
 use std::fs::{self, File, Files, OpenOptions};
-use std::io;
+use std::io::{self, Write};
 
 /// Why a journal isn't the store's.
 #[derive(Debug, Drop)]
@@ -38,16 +38,58 @@ pub fn write_pair<R: Files<File = File>>(
 }
 
 /// Writes a zone text of a number that the store's journal doesn't name: it is on the disk, and its name. It takes memory.
-pub fn write_text<R: Files>(
+fn write_text<R: Files<File = File>>(
     rt: &R,
     alloc: Global,
     dir: &str,
     number: u64,
     text: &[u8],
 ) -> io::Result<()> {
-    let path = text_path(alloc, dir, number)?;
-    write_synced(fs::create(rt, path.as_str())?, text)?;
-    sync_folder(rt, dir)
+    NewText::create(rt, alloc, dir, number)?.write(text)
+}
+
+/// Removes a zone text of a number that no journal names. It takes memory.
+pub fn remove_text<R: Files>(rt: &R, alloc: Global, dir: &str, number: u64) -> io::Result<()> {
+    fs::remove_file(rt, text_path(alloc, dir, number)?.as_str())
+}
+
+/// The file of a zone text that is to be written, and its folder: who has them needs no names, and may be another thread.
+#[derive(Drop)]
+pub struct NewText {
+    file: File,
+    folder: File,
+}
+
+impl NewText {
+    /// That of a zone text of a number that the store's journal doesn't name. It takes memory.
+    pub fn create<R: Files<File = File>>(
+        rt: &R,
+        alloc: Global,
+        dir: &str,
+        number: u64,
+    ) -> io::Result<NewText> {
+        let path = text_path(alloc, dir, number)?;
+        let folder = File::open(rt, dir)?;
+        let file = File::create(rt, path.as_str())?;
+        Ok(NewText { file, folder })
+    }
+
+    /// Writes the text: it is on the disk, and its name. At an error what was written is cut off, so that it takes no room of a full disk.
+    pub fn write(self, text: &[u8]) -> io::Result<()> {
+        let NewText { mut file, folder } = self;
+        let written = write_all_synced(&mut file, text);
+        if written.is_err() {
+            let _ = file.set_len(0);
+            return written;
+        }
+        folder.sync_all()
+    }
+}
+
+/// Writes octets to a file, and brings them to the disk.
+fn write_all_synced(file: &mut File, octets: &[u8]) -> io::Result<()> {
+    file.write_all(octets)?;
+    file.sync_all()
 }
 
 /// Makes a journal the store's whose zone text is on the disk: its octets are on the disk before the one rename, and then the name. It takes memory.
