@@ -14,7 +14,8 @@ import subprocess
 import sys
 import tempfile
 
-from crash import APEX, Served, ZONE, update
+import crash_zone
+from crash_server import NotServed, Served
 
 # the octets of a journal's head, and those of a frame beside its body
 HEAD, FRAME = 156, 44
@@ -26,14 +27,14 @@ class Store:
     def __init__(self, program, room, batches):
         self.program, self.room, self.zone = program, room, f"{room}/zone"
         with open(self.zone, "w") as file:
-            file.write(ZONE)
+            file.write(crash_zone.TEXT)
         os.mkdir(f"{room}/store")
         server = Served(program, f"{room}/store", self.zone, [])
         client = socket.socket(socket.AF_INET, socket.SOCK_DGRAM)
         client.connect(("127.0.0.1", server.port))
         client.settimeout(5)
         for number in range(1, batches + 1):
-            client.send(update(number))
+            client.send(crash_zone.update(number))
             if client.recv(2000)[3] & 15:
                 sys.exit("turned: an update isn't taken")
         server.kill()
@@ -71,27 +72,19 @@ class Store:
 def zone_of(words):
     """The numbers of the records that `dnsd zone` prints, with its status and what it says."""
     ran = subprocess.run(words, capture_output=True, text=True)
-    numbers = {int(name) for name in re.findall(r"^n(\d+)\.t\. ", ran.stdout, re.M)}
+    numbers = {int(name) for name in re.findall(r"^n(\d+)\.example\.test\. ", ran.stdout, re.M)}
     return numbers, ran.returncode, ran.stderr
 
 
 def started(store, folder):
     """What a server that begins with a folder holds, with what it says; no zone where it doesn't serve."""
-    words = [store.program, "serve", "--listen", "127.0.0.1:0", "--store", folder, store.zone]
-    process = subprocess.Popen(words, stderr=subprocess.PIPE, text=True)
-    said, port = "", None
-    while line := process.stderr.readline():
-        said += line
-        if line.startswith("listening on"):
-            port = int(line.split(": ")[0].rsplit(":", 1)[1])
-            break
-    if port is None:
-        return None, process.wait(), said
-    server = Served.__new__(Served)
-    server.process, server.port = process, port
-    _, numbers = server.zone()
+    try:
+        server = Served(store.program, folder, store.zone, [], tries=1)
+    except NotServed as fault:
+        return None, fault.status, fault.said
+    _, records = crash_zone.zone(server.port)
     server.kill()
-    return numbers, 0, said
+    return crash_zone.numbers_of(records), 0, server.said
 
 
 class Findings:
