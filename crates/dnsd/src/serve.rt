@@ -1,7 +1,6 @@
 //! Serving a zone on sockets (RFC 1035, 4.2).
-ghost use Rattle.std.specs.Prelude.{◌+◌, ◌≤◌, vec_len};
-ghost use Rattle.snapshot_cell.specs.declared.tokens.TheConstants.{READERS};
-ghost use Rattle.dns_engine.specs.Held.{KEPT};
+ghost use Rattle.std.specs.Prelude.{◌≤◌, vec_len};
+ghost use Rattle.transfer_core.specs.declared.kept.TheConstants.{KEPT};
 ghost use Rattle.dnsd.specs.Begun.{CanBegin};
 
 use crate::begin::{Beginning, Begun, KeptIn, begin};
@@ -285,7 +284,7 @@ fn serve_duties<
     log: &Log,
 ) -> Result<(), ServeFault>
     requires begun { CanBegin begun }
-    requires threads { vec_len duties + 2 ≤ READERS }
+    requires threads { vec_len duties ≤ 62 }
     requires kept { plan.keep ≤ KEPT }
 {
     let failing = AtomicBool::new(false);
