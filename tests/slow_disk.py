@@ -269,30 +269,38 @@ def aborted(trial):
     store.tell("a file system that is read-only behind a fault")
 
 
-def bursts(trial):
-    """Many updates at once over a disk whose sync takes 20 ms: each waits for its turn, and is taken."""
-    folder, codes = trial.folder(), {}
-    server = crash_server.Served(trial.program, folder, trial.zone, trial.options, environment={**trial.preloaded(folder), "DISK_SLOW": "20"})
+def burst(server, first):
+    """How many of a burst's updates were told each code."""
+    codes = {}
     with socket.socket(socket.AF_INET, socket.SOCK_DGRAM) as client:
         client.settimeout(10)
         client.connect(("127.0.0.1", server.port))
-        for first in range(1, 1 + 10 * BURST, BURST):
-            for number in range(first, first + BURST):
-                client.send(crash_zone.update(number, MANY))
-            for _ in range(BURST):
-                code = client.recv(2000)[3] & 15
-                codes[code] = codes.get(code, 0) + 1
-            server.drain()
-    serial, records = crash_zone.zone(server.port)
-    server.kill()
-    is_right = list(codes) == [0] and serial - 1 == len(crash_zone.numbers_of(records)) == 10 * BURST
-    trial.tell(is_right, f"10 bursts of {BURST} updates at once, over a disk whose sync takes 20 ms: codes {codes}, serial {serial}")
+        for number in range(first, first + BURST):
+            client.send(crash_zone.update(number, MANY))
+        for _ in range(BURST):
+            code = client.recv(2000)[3] & 15
+            codes[code] = codes.get(code, 0) + 1
+    server.drain()
+    return codes
 
 
-def failing(trial, number):
-    """The call of a number fails, whether it comes at the start or later."""
+def bursts(trial):
+    """Many updates at once over a disk whose sync takes 20 ms: each waits for its turn, and is taken."""
     folder = trial.folder()
-    store, disk = Store(trial, folder), crash_disk.Disk(trial.library, folder, number)
+    server = crash_server.Served(trial.program, folder, trial.zone, trial.options, environment={**trial.preloaded(folder), "DISK_SLOW": "20"})
+    try:
+        codes = [burst(server, first) for first in range(1, 1 + 10 * BURST, BURST)]
+        serial, records = crash_zone.zone(server.port)
+    finally:
+        server.kill()
+    taken, others = sum(told.pop(0, 0) for told in codes), [told for told in codes if told]
+    is_right = not others and taken == 10 * BURST == serial - 1 == len(crash_zone.numbers_of(records))
+    trial.tell(is_right, f"10 bursts of {BURST} updates at once, over a disk whose sync takes 20 ms: {taken} NOERROR, others {others[:3]}, serial {serial}")
+
+
+def failing(trial, store, number):
+    """The call of a number fails, whether it comes at the start or later."""
+    folder, disk = store.folder, crash_disk.Disk(trial.library, store.folder, number)
     try:
         store.start(disk.environment(FAIL=number, COUNT=trial.args.count))
         if store.update_until(SERVFAIL, 60):
@@ -315,15 +323,18 @@ def failing(trial, number):
         store.end()
         store.answered, store.sent = answered, sent
     shutil.rmtree(folder)
-    return store
 
 
 def faults(trial):
     """Each of the first calls fails in turn."""
     stores, wrong = [], 0
     for number in range(trial.args.first, trial.args.first + trial.args.faults):
-        store = failing(trial, number)
+        store = Store(trial, trial.folder())
         stores.append(store)
+        try:
+            failing(trial, store, number)
+        finally:
+            store.end()
         if store.wrong:
             wrong += 1
             store.tell(f"call {number} fails")

@@ -138,28 +138,36 @@ def at_99(times):
     return 1000 * sorted(times)[int(len(times) * 0.99)]
 
 
+def measured(server, seconds, turns):
+    """By turns, without updates and with some: the times of queries and transfers of both, and how many updates were answered NOERROR and otherwise."""
+    calm, busy, answered, refused = ([], []), ([], []), 0, 0
+    # versions to be told of
+    first = Datagrams(server.port)
+    for number in range(1, 1 + 2 * BACK):
+        first.send(crash_zone.update(number))
+        first.receive()
+    asker, number = Asker(server.port), 1 + 2 * BACK
+    for _ in range(turns):
+        without = asker.times(seconds)
+        beside, good, other, number = beside_updates(server, asker, number, seconds)
+        answered, refused = answered + good, refused + other
+        for kind in (0, 1):
+            calm[kind].extend(without[kind])
+            busy[kind].extend(beside[kind])
+    return calm, busy, answered, refused
+
+
 def compared(trial, seconds, turns, within):
-    """By turns, without updates and with some; the 99th percentiles of both have to be alike."""
+    """The 99th percentiles without updates and beside some have to be alike."""
     folder, zone = trial.folder(), f"{trial.zone}.large"
     with open(zone, "w") as file:
         file.write(crash_zone.TEXT)
         file.writelines(f"h{number} A 192.0.2.{number % 256}\n" for number in range(trial.args.records))
     server = crash_server.Served(trial.program, folder, zone, trial.options, environment={**trial.preloaded(folder), "DISK_SLOW": "1000"})
-    calm, busy, answered, refused = ([], []), ([], []), 0, 0
-    # versions to be told of
-    for number in range(1, 1 + 2 * BACK):
-        first = Datagrams(server.port)
-        first.send(crash_zone.update(number))
-        first.receive()
-    asker, number = Asker(server.port), 1 + 2 * BACK
-    for _ in range(turns):
-        for all_times, times in zip(calm, asker.times(seconds)):
-            all_times += times
-        beside, good, other, number = beside_updates(server, asker, number, seconds)
-        answered, refused = answered + good, refused + other
-        for all_times, times in zip(busy, beside):
-            all_times += times
-    server.kill()
+    try:
+        calm, busy, answered, refused = measured(server, seconds, turns)
+    finally:
+        server.kill()
     for name, without, with_updates in (("plain queries over UDP", calm[0], busy[0]), ("transfers of what changed over TCP", calm[1], busy[1])):
         first, second = at_99(without), at_99(with_updates)
         trial.tell(

@@ -82,9 +82,10 @@ def started(store, folder):
         server = Served(store.program, folder, store.zone, [], tries=1)
     except NotServed as fault:
         return None, fault.status, fault.said
-    _, records = crash_zone.zone(server.port)
-    server.kill()
-    return crash_zone.numbers_of(records), 0, server.said
+    try:
+        return crash_zone.numbers_of(crash_zone.zone(server.port)[1]), 0, server.said
+    finally:
+        server.kill()
 
 
 class Findings:
