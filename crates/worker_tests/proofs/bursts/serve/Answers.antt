@@ -5,9 +5,9 @@ use Rattle.worker_tests.proofs.bursts.serve.Goals as goal
 
 pub serve_zone-requires-clause-first : goal.serve_zone-requires-clause-first
 serve_zone-requires-clause-first g c = λ _ _. record {
-  number = ap (λ (v : Version). v.number) (c.in-Some.ensures ∙ c.version-first.ensures);
+  number = ap (λ (v : Version). v.number) (c.in-Some.ensures ∙ c.first-version.ensures);
   zone = refl;
-  changes = ap (λ (v : Version). v.changes) (c.in-Some.ensures ∙ c.version-first.ensures);
+  changes = ap (λ (v : Version). v.changes) (c.in-Some.ensures ∙ c.first-version.ensures);
 }
 
 pub serve_zone-requires-clause-follow : goal.serve_zone-requires-clause-follow
