@@ -1,5 +1,8 @@
--- What is begun with may be.
+-- A server begins with the versions that it is given.
 use Rattle.dnsd.proofs.serve.serve_all.Goals as goal
 
-pub serve_duties-requires-clause-begun : goal.serve_duties-requires-clause-begun
-serve_duties-requires-clause-begun g c = c.requires
+pub serve_zone-served-requires-clause-first : goal.serve_zone-served-requires-clause-first
+serve_zone-served-requires-clause-first g c = λ _ _. c.requires.0
+
+pub serve_zone-served-requires-clause-follow : goal.serve_zone-served-requires-clause-follow
+serve_zone-served-requires-clause-follow g c = λ _ _. c.requires.1
