@@ -2,6 +2,8 @@
 #![tactic(auto)]
 
 #[cfg(test)]
+mod before;
+#[cfg(test)]
 mod damage;
 #[cfg(test)]
 mod refusals;
