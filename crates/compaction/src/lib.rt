@@ -15,7 +15,6 @@ mod body;
 mod laws;
 mod marked;
 mod next;
-mod start;
 mod step;
 mod steps;
 mod texts;
@@ -29,7 +28,6 @@ pub use laws::{
 };
 pub use marked::{Compaction, next_text};
 pub use next::{NextJournal, NextText};
-pub use start::updates_behind;
 pub use step::Step;
 pub use steps::{group_steps, steps_of};
 pub use together::update_stored;

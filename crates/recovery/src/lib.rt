@@ -3,7 +3,8 @@
 //! [`recover_zone`] reads the zone text and the journal that belongs to it, and takes the journal's updates one after another by the very call
 //! that took them first. What a [`Start`] has is what an engine has that took them just then: the newest versions, each with what it changed. It
 //! takes all of them or none: what it doesn't take is told by name and by place ([`StartFault`]). What a crash may leave behind the last batch is
-//! told with the zone ([`Ending`]). Where batches that were on the disk are damaged, [`recover_before`] has what stands in front of them.
+//! told with the zone ([`Ending`]). [`start_of`] takes a journal that has been read. Where batches that were on the disk are damaged,
+//! [`recover_before`] has what stands in front of them.
 //! No file is here, and nothing is written.
 #![tactic(auto)]
 
@@ -22,4 +23,4 @@ pub use laws::{
     what_is_replayed_is_held, what_is_resumed_is_held, what_was_synced_is_replayed_first,
 };
 pub use newest::Newest;
-pub use start::{Ending, Start, recover_zone};
+pub use start::{Ending, Start, recover_zone, start_of};

@@ -1,5 +1,7 @@
 //! A start (own).
-ghost use Rattle.std.specs.Prelude.{◌≡◌, IfOk, IfErr};
+ghost use Rattle.std.specs.Prelude.{◌≡◌, map, IfOk, IfErr};
+ghost use Rattle.journal.specs.Head.{salt_of};
+ghost use Rattle.journal.specs.Recovered.{IsRecovered};
 ghost use Rattle.recovery.specs.Private.{ending_of};
 ghost use Rattle.recovery.specs.Start.{IsStarted, IsStartFault};
 
@@ -7,7 +9,7 @@ use crate::fault::StartFault;
 use crate::newest::Newest;
 use crate::replayed::replay_all;
 use dns_name::Name;
-use journal::{Head, SUM, recover};
+use journal::{Head, Recovered, SUM, recover};
 use master_file::read_zone;
 use std::alloc::Global;
 
@@ -47,6 +49,21 @@ pub fn recover_zone(alloc: Global, text: &[u8], journal: &[u8]) -> Result<Start,
     ensures refused { IfErr result (λ fault. IsStartFault text.now journal.now fault) }
 {
     let found = recover(alloc, text, journal)?;
+    start_of(alloc, text, journal, &found)
+}
+
+/// The start of a zone text and its journal, of which this is what was recovered: the journal isn't read again. It takes memory.
+pub fn start_of(
+    alloc: Global,
+    text: &[u8],
+    journal: &[u8],
+    found: &Recovered<'_>,
+) -> Result<Start, StartFault>
+    requires salt { found.now.salt ≡ salt_of found.now.head }
+    requires recovered { IsRecovered text.now journal.now found.now.head (map (λ update. update.now) found.now.updates.items) found.now.number found.now.end found.now.torn }
+    ensures started { IfOk result (λ start. IsStarted text.now journal.now start) }
+    ensures refused { IfErr result (λ fault. IsStartFault text.now journal.now fault) }
+{
     let zone = read_zone(alloc, text, &Name::root())?;
     if zone.serial().0 != found.head.serial {
         return Err(StartFault::OtherSerial);

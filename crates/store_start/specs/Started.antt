@@ -15,7 +15,7 @@ use Rattle.file_disks.specs.File.{written, synced}
 use Rattle.recovery.specs.declared.start.Start.{Start}
 use Rattle.recovery.specs.Replay.{first_version}
 use Rattle.recovery.specs.Rebased.{versions_in, rebased}
-use Rattle.recovery.specs.Start.{IsStarted, IsStartFault}
+use Rattle.recovery.specs.Start.{IsStarted, IsSound, IsStartFault}
 use Rattle.stores.specs.declared.choices.Take.{Take}
 use Rattle.stores.specs.declared.choices.Choice.{Choice}
 use Rattle.stores.specs.declared.choices.Choice.TheVariants.{Same as IsSame, Store as IsStore, Zone as IsZone, StoreThoughOther as IsOlder, RefuseNewer}
@@ -35,6 +35,13 @@ pub record IsNewStore {F : Type 0} (zone : List Record) (number : ℕ) (random g
   pub begun : IsBegun zone number random origin text head
   pub from : IsText origin given
   pub empty : Holds written synced head log []
+
+-- updates are the last ones of a zone text's journal, so many, as they were received
+pub record AreLastUpdates (text octets : List ℕ) (count : ℕ) (updates : List (List ℕ)) : Type 0 where
+  pub head : Head
+  pub all : List (List ℕ)
+  pub sound : IsSound text octets head all
+  pub last : updates ≡ drop (length all - count) all
 
 -- a store goes on of whose zone text and journal a start has this: the log on the disk has the journal's batches, and nothing behind them; the versions are the newest,
 -- the oldest as the first of its zone, and the updates are those that made the others

@@ -1,16 +1,14 @@
 //! A store that is gone on with (own).
-ghost use Rattle.std.specs.Prelude.{◌≡◌, IfOk, IfErr};
+ghost use Rattle.std.specs.Prelude.{◌≡◌, length, map, IfOk, IfErr};
 ghost use Rattle.file_disks.specs.File.{written};
 ghost use Rattle.recovery.specs.Start.{IsStarted};
-ghost use Rattle.store_start.specs.Started.{GoesOn, IsNoStore};
+ghost use Rattle.store_start.specs.Started.{AreLastUpdates, GoesOn, IsOwnFault};
 
 use crate::refusal::Refusal;
-use crate::updates::last_updates;
 use file_disks::FileDisk;
 use journal::Head;
 use journal_store::Log;
 use recovery::Start;
-use std::alloc::Global;
 use store_files::Pair;
 use zone_tree::Version;
 
@@ -29,16 +27,18 @@ pub struct Resumed {
     pub updates: Vec<Vec<u8>>,
 }
 
-/// Goes on with a zone text and its journal, of which a start has this: what stands behind the journal's last batch is cut off. It takes memory.
-pub fn resume_pair(alloc: Global, pair: Pair, start: Start) -> Result<Resumed, Refusal>
+/// Goes on with a zone text and its journal, of which a start has this, and the last updates of which made its versions behind the oldest one: what stands behind the
+/// journal's last batch is cut off.
+pub fn resume_pair(pair: Pair, start: Start, updates: Vec<Vec<u8>>) -> Result<Resumed, Refusal>
     requires noted { written pair.disk ≡ pair.journal.items }
     requires started { IsStarted pair.text.items pair.journal.items start }
+    requires updates { AreLastUpdates pair.text.items pair.journal.items (length start.newest.older.items) (map (λ update. update.items) updates.items) }
     ensures resumed { IfOk result (λ resumed. GoesOn pair.text.items pair.journal.items start resumed) }
-    ensures refused { IfErr result (λ refusal. IsNoStore pair.text.items pair.journal.items refusal) }
+    ensures refused { IfErr result IsOwnFault }
 {
     let Pair {
-        text,
-        journal,
+        text: _,
+        journal: _,
         disk,
     } = pair;
     let Start {
@@ -49,7 +49,6 @@ pub fn resume_pair(alloc: Global, pair: Pair, start: Start) -> Result<Resumed, R
         ending: _,
         newest,
     } = start;
-    let updates = last_updates(alloc, &text, &journal, newest.older.len())?;
     let log = Log::resume(disk, &salt, number, end as u64)?;
     let (first, later) = newest.rebased();
     Ok(Resumed {

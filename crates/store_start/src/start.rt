@@ -1,19 +1,20 @@
 //! A start over a folder (own).
-ghost use Rattle.std.specs.Prelude.{◌≡◌, ℕ, IfOk, IfErr};
+ghost use Rattle.std.specs.Prelude.{◌≡◌, ℕ, length, map, IfOk, IfErr};
 ghost use Rattle.zone_tree.specs.Version.{zone_serial};
 ghost use Rattle.file_disks.specs.File.{written};
 ghost use Rattle.recovery.specs.Start.{IsStarted};
 ghost use Rattle.stores.specs.Choice.{IsChoice};
-ghost use Rattle.store_start.specs.Started.{GoesOn, IsBegunStore, IsOwnFault, IsNoStore, IsNoText, IsKept, IsServed, IsRefused};
+ghost use Rattle.store_start.specs.Started.{AreLastUpdates, GoesOn, IsBegunStore, IsOwnFault, IsNoText, IsKept, IsServed, IsRefused};
 
 use crate::begin::begin_with;
 use crate::refusal::Refusal;
 use crate::resume::{Resumed, resume_pair};
+use crate::updates::start_with_updates;
 use dns_name::Name;
 use dns_rdata::Serial;
 use journal::Head;
 use master_file::read_zone;
-use recovery::{Ending, Start, recover_zone};
+use recovery::{Ending, Start};
 use std::alloc::Global;
 use std::fs::{File, Files};
 use store_files::{Opened, Pair, StoreLock, drop_others, keep_pair, keep_torn, open_store};
@@ -102,10 +103,10 @@ fn start_found<R: Files<File = File> + Alloc + Clone + Drop>(
     ensures served { IfOk result (λ started. IsServed given.entry.text.now given.entry.origin.now given.entry.taken random started) }
     ensures refused { IfErr result (λ refusal. IsRefused given.entry.text.now given.entry.origin.now given.entry.taken refusal) }
 {
-    let start = recover_zone(alloc, &pair.text, &pair.journal)?;
+    let (start, updates) = start_with_updates(alloc, &pair.text, &pair.journal)?;
     match choice_of(alloc, &start, given)? {
-        Choice::Same => go_on(rt, alloc, dir, lock, pair, start, Served::Same),
-        Choice::Store => go_on(rt, alloc, dir, lock, pair, start, Served::Store),
+        Choice::Same => go_on(rt, alloc, dir, lock, pair, start, updates, Served::Same),
+        Choice::Store => go_on(rt, alloc, dir, lock, pair, start, updates, Served::Store),
         Choice::StoreThoughOther(serial) => {
             go_on(
                 rt,
@@ -114,6 +115,7 @@ fn start_found<R: Files<File = File> + Alloc + Clone + Drop>(
                 lock,
                 pair,
                 start,
+                updates,
                 Served::StoreThoughOther(serial),
             )
         }
@@ -143,7 +145,7 @@ fn choice_of(alloc: Global, start: &Start, given: Given<'_>) -> Result<Choice, R
     )?)
 }
 
-/// Goes on with a store of which a start has this.
+/// Goes on with a store of which a start has this, and the last updates of which made its versions behind the oldest one.
 fn go_on<R: Files<File = File> + Alloc + Clone + Drop>(
     rt: &R,
     alloc: Global,
@@ -151,16 +153,18 @@ fn go_on<R: Files<File = File> + Alloc + Clone + Drop>(
     lock: StoreLock,
     pair: Pair,
     start: Start,
+    updates: Vec<Vec<u8>>,
     served: Served,
 ) -> Result<Started, Refusal>
     requires noted { written pair.disk ≡ pair.journal.items }
     requires started { IsStarted pair.text.items pair.journal.items start }
+    requires updates { AreLastUpdates pair.text.items pair.journal.items (length start.newest.older.items) (map (λ update. update.items) updates.items) }
     ensures store { IfOk result (λ started. GoesOn pair.text.items pair.journal.items start started.store) }
     ensures served { IfOk result (λ started. started.served ≡ served) }
-    ensures refused { IfErr result (λ refusal. IsNoStore pair.text.items pair.journal.items refusal) }
+    ensures refused { IfErr result IsOwnFault }
 {
     let torn = keep_end(rt, alloc, dir, &pair.journal, start.ending)?;
-    let store = resume_pair(alloc, pair, start)?;
+    let store = resume_pair(pair, start, updates)?;
     drop_others(rt, dir, store.head.number)?;
     Ok(Started {
         lock,

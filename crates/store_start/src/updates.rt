@@ -1,30 +1,39 @@
-//! The updates of the versions that a start has (own).
-ghost use Rattle.std.specs.Prelude.{◌≡◌, ◌-◌, ℕ, Bool, List, length, drop, map, IfOk, IfErr};
-ghost use Rattle.journal.specs.declared.heads.Head.{Head};
-ghost use Rattle.journal.specs.Recovered.{IsRecovered};
-ghost use Rattle.store_start.specs.Started.{IsNoStore};
+//! A start, and the updates of the versions that it has (own).
+ghost use Rattle.std.specs.Prelude.{◌≡◌, ◌-◌, length, drop, map, IfOk, IfErr};
+ghost use Rattle.recovery.specs.Start.{IsStarted};
+ghost use Rattle.store_start.specs.Started.{AreLastUpdates, IsNoStore};
 
 use crate::refusal::Refusal;
-use compaction::updates_behind;
-use recovery::StartFault;
+use journal::recover;
+use recovery::{Start, StartFault, start_of};
 use std::alloc::{AllocError, Global};
 
-/// The last of the updates of a zone text's journal, so many, as they were received. It takes memory.
-pub(crate) fn last_updates(
+/// What a start has of a zone text and its journal, which is read once; and the updates that made its versions behind the oldest one, as they were received. It takes
+/// memory.
+pub(crate) fn start_with_updates(
     alloc: Global,
     text: &[u8],
     journal: &[u8],
-    count: usize,
-) -> Result<Vec<Vec<u8>>, Refusal>
-    ensures last { IfOk result (λ updates. (head : Head) × (all : List (List ℕ)) × (number : ℕ) × (end : ℕ) × (torn : Bool)
-        × IsRecovered text.now journal.now head all number end torn × (map (λ update. update.items) updates.items ≡ drop (length all - count) all)) }
+) -> Result<(Start, Vec<Vec<u8>>), Refusal>
+    ensures started { IfOk result (λ r. IsStarted text.now journal.now r.0) }
+    ensures updates { IfOk result (λ r. AreLastUpdates text.now journal.now (length r.0.newest.older.items) (map (λ update. update.items) r.1.items)) }
     ensures refused { IfErr result (λ refusal. IsNoStore text.now journal.now refusal) }
 {
-    let found = match updates_behind(alloc, text, journal, count) {
+    let found = match recover(alloc, text, journal) {
         Ok(found) => found,
         Err(why) => return Err(Refusal::from(StartFault::from(why))),
     };
-    Ok(owned(alloc, &found)?)
+    let start = start_of(alloc, text, journal, &found)?;
+    let updates = last_updates(alloc, &found.updates, start.newest.older.len())?;
+    Ok((start, updates))
+}
+
+/// The last of these updates, so many. It takes memory.
+fn last_updates(alloc: Global, all: &[&[u8]], count: usize) -> Result<Vec<Vec<u8>>, AllocError>
+    ensures { IfOk result (λ last. map (λ update. update.items) last.items ≡ drop (length all.now - count) (map (λ update. update.now) all.now)) }
+{
+    let first = all.len().saturating_sub(count);
+    owned(alloc, &all[first..])
 }
 
 /// Octets, each in a vector of its own. It takes memory.
