@@ -1,8 +1,8 @@
 #!/usr/bin/env python3
 """Turns each octet of a small journal in turn, and cuts it at each length, and each octet of the zone text that it belongs to: a start of each such store serves a zone
 that some of the updates made, taken from the first on (RFC 2136, 3.5), or is refused with a line that says why, and then nothing in the folder has changed. What is
-cut, or turned in the last batch, is told as torn and cut off; what is turned in an earlier one is told as damage, with the octet, and `dnsd zone --before-fault` prints
-the zone in front of it.
+cut, or turned in the last batch or in the room behind it, is told as torn and cut off; what is turned in an earlier one is told as damage, with the octet, and
+`dnsd zone --before-fault` prints the zone in front of it.
 Usage: tests/turned.py PROGRAM [--batches N]. It prints what it found, and its status is 1 where a start wasn't so. It needs python3 alone."""
 import argparse
 import os
@@ -42,15 +42,18 @@ class Store:
         self.files = {name: self.read(f"{room}/store", name) for name in ("journal", "zone-0")}
         # where each batch begins, by the lengths in front of them, and where the last one ends
         self.begins = self.batches_of(self.files["journal"], batches)
+        # the room behind it, zeros
+        self.space = self.files["journal"][self.begins[-1] :]
+        self.files["journal"] = self.files["journal"][: self.begins[-1]]
 
     @staticmethod
     def batches_of(journal, batches):
         begins = [HEAD]
-        while begins[-1] < len(journal):
+        while any(journal[begins[-1] :]):
             (length,) = struct.unpack_from(">I", journal, begins[-1])
             begins.append(begins[-1] + FRAME + length)
-        if len(begins) != batches + 1 or begins[-1] != len(journal):
-            sys.exit(f"turned: {len(journal)} octets aren't {batches} batches")
+        if len(begins) != batches + 1 or begins[-1] >= len(journal):
+            sys.exit(f"turned: {len(journal)} octets aren't {batches} batches with room behind them")
         return begins
 
     @staticmethod
@@ -144,6 +147,20 @@ def turned_journal(store, findings):
                 findings.is_wrong(where, f"{numbers} in front of the fault")
 
 
+def turned_room(store, findings):
+    """The journal with its room is read whole; an octet in it that is none of zeros is told as torn."""
+    journal, space = store.files["journal"], store.space
+    wanted = len(store.begins) - 1
+    if "no whole batch" in tried(store, findings, "journal", journal + space, "a journal with its room", wanted):
+        findings.is_wrong("a journal with its room", "it is told as torn")
+    for at in (0, len(space) // 2, len(space) - 1):
+        octets = bytearray(space)
+        octets[at] ^= 1 << at % 8
+        where = f"octet {at} of the room turned"
+        if "no whole batch" not in tried(store, findings, "journal", journal + bytes(octets), where, wanted):
+            findings.is_wrong(where, "the end isn't told as torn")
+
+
 def cut_journal(store, findings):
     journal, begins = store.files["journal"], store.begins
     for length in range(len(journal)):
@@ -171,6 +188,7 @@ def main():
     with tempfile.TemporaryDirectory(prefix="turned-") as room:
         store, findings = Store(os.path.abspath(args.program), room, args.batches), Findings()
         turned_journal(store, findings)
+        turned_room(store, findings)
         cut_journal(store, findings)
         turned_text(store, findings)
         sizes = ", ".join(f"{name} of {len(octets)} octets" for name, octets in store.files.items())

@@ -24,10 +24,17 @@ const CUT: u64 = 3;
 /// That was tried, and failed.
 const NOT_CUT: u64 = 4;
 
+/// How many octets of room are made at once behind what is appended: zeros, with which a sync needn't bring the file's new length to the disk each time (own).
+const ROOM: u64 = 65_536;
+
 /// A file as a disk. That its name is in its folder, on the disk, is for who made it to see to.
 #[derive(Drop)]
 pub struct FileDisk {
     file: File,
+    /// Where its octets end.
+    end: u64,
+    /// How long the file is: behind its octets is room.
+    len: u64,
     calls: CallList,
 }
 
@@ -40,7 +47,12 @@ impl FileDisk {
         file.sync_all()?;
         let mut calls = CallList::new();
         calls.note(&[BEGUN, 0], &[]);
-        Ok(FileDisk { file, calls })
+        Ok(FileDisk {
+            file,
+            end: 0,
+            len: 0,
+            calls,
+        })
     }
 
     /// A file that stands, and its octets as the disk has them: it is brought to the disk, and the kernel lets go of its pages, which a failed
@@ -59,14 +71,38 @@ impl FileDisk {
         file.read_to_end(&mut octets)?;
         let mut calls = CallList::new();
         calls.note(&[BEGUN, 0], &octets);
-        Ok((FileDisk { file, calls }, octets))
+        let len = octets.len() as u64;
+        let disk = FileDisk {
+            file,
+            end: len,
+            len,
+            calls,
+        };
+        Ok((disk, octets))
     }
-}
 
-/// Writes octets behind all that a file has.
-fn write_behind(file: &mut File, octets: &[u8]) -> io::Result<()> {
-    file.seek(SeekFrom::End(0))?;
-    file.write_all(octets)
+    /// Writes octets behind all that it has, in room that is made ahead; those that it is begun with have none behind them.
+    fn write_behind(&mut self, octets: &[u8]) -> io::Result<()>
+        ensures { self.new.calls ≡ self.old.calls }
+    {
+        let end = self.end.saturating_add(octets.len() as u64);
+        if self.len < end && self.end > 0 {
+            self.make_long(end.saturating_add(ROOM))?;
+        }
+        self.file.seek(SeekFrom::Start(self.end))?;
+        self.file.write_all(octets)?;
+        self.end = end;
+        Ok(())
+    }
+
+    /// Makes the file so long.
+    fn make_long(&mut self, len: u64) -> io::Result<()>
+        ensures { self.new.calls ≡ self.old.calls }
+    {
+        self.file.set_len(len)?;
+        self.len = len;
+        Ok(())
+    }
 }
 
 impl Disk for FileDisk {
@@ -79,7 +115,7 @@ impl Disk for FileDisk {
     ghost synced = { file_synced };
 
     fn append(&mut self, octets: &[u8]) -> io::Result<()> {
-        write_behind(&mut self.file, octets)?;
+        self.write_behind(octets)?;
         self.calls.note(&[APPENDED, 0], octets);
         Ok(())
     }
@@ -91,9 +127,12 @@ impl Disk for FileDisk {
     }
 
     fn cut(&mut self, len: u64) -> io::Result<()> {
-        let told = self.file.set_len(len);
+        let told = self.make_long(len);
         match told {
-            Ok(()) => self.calls.note(&[CUT, len], &[]),
+            Ok(()) => {
+                self.end = len;
+                self.calls.note(&[CUT, len], &[]);
+            }
             Err(_) => self.calls.note(&[NOT_CUT, len], &[]),
         }
         told

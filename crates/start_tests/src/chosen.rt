@@ -19,6 +19,8 @@ fn the_store_is_served(rt: HostRuntime) -> Result<(), Fail> {
     let dir = "start_tests_store";
     make_folder(&rt, dir)?;
     add_a(&rt, dir)?;
+    // A start has cut off the room behind the batch.
+    told(&rt, dir, SEVEN, None)?;
     let journal = fs::read(&rt, "start_tests_store/journal")?;
     let cases = [
         Case {

@@ -49,6 +49,8 @@ fn a_torn_end_is_kept(rt: HostRuntime) -> Result<(), Fail> {
     let dir = "start_tests_torn";
     make_folder(&rt, dir)?;
     add_a(&rt, dir)?;
+    // A start has cut off the room behind the batch.
+    told(&rt, dir, SEVEN, None)?;
     let whole = fs::read(&rt, "start_tests_torn/journal")?;
     for (end, place) in [
         (b"torn".as_slice(), "start_tests_torn/torn-1"),

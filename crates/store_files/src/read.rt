@@ -1,9 +1,9 @@
 //! How a store is read (own).
-ghost use Rattle.std.specs.Prelude.{◌≡◌, ◌↔◌, IsTrue, ℕ, MatchOption};
-ghost use Rattle.journal_store.specs.Disk.{BeginsWith};
+ghost use Rattle.std.specs.Prelude.{◌↔◌, IsTrue, ℕ, MatchOption};
 ghost use Rattle.journal.specs.Head.{IsHeadFault};
 ghost use Rattle.journal.specs.declared.heads.HeadFault.{HeadFault};
 ghost use Rattle.store_files.specs.Names.{Names};
+ghost use Rattle.store_files.specs.Still.{IsInFront, StandsStill};
 
 use crate::files::read_there;
 use crate::names::{JOURNAL, path_of, text_path};
@@ -51,12 +51,27 @@ pub(crate) fn read_text<R: Files>(
     }
 }
 
-/// Whether octets of a journal that were read stand still where they stood when it is read again. Else it was cut behind a batch that failed, or replaced: what was
-/// read may be the front of what failed with what came behind it, and is no journal.
-fn stands_still(octets: &[u8], again: &[u8]) -> bool
-    ensures { IsTrue result ↔ BeginsWith again.now octets.now }
+/// What stands in front of the zeros that octets end with.
+fn in_front_of_zeros(octets: &[u8]) -> &[u8]
+    ensures { IsInFront octets.now result.now }
 {
-    again.starts_with(octets)
+    let mut front = octets;
+    while let Some((last, before)) = front.split_last() {
+        if *last != 0 {
+            break;
+        }
+        front = before;
+    }
+    front
+}
+
+/// Whether octets of a journal that were read stand still where they stood when it is read again, but for zeros at their end: these are room, which the next
+/// batches are written over. Else it was cut behind a batch that failed, or replaced: what was read may be the front of what failed with what came behind it,
+/// and is no journal.
+fn stands_still(octets: &[u8], again: &[u8]) -> bool
+    ensures { IsTrue result ↔ StandsStill octets.now again.now }
+{
+    again.starts_with(in_front_of_zeros(octets))
 }
 
 /// The zone text and the journal of a store that another process may hold; None where they change meanwhile. It takes memory.

@@ -1,5 +1,7 @@
 //! Folders, and pairs that are written to them.
-use journal::{Head, SUM, TextSum, write_head};
+use file_disks::FileDisk;
+use journal::{Head, SUM, TextSum, put_update, write_head};
+use journal_store::{Disk, Log};
 use std::alloc::{AllocError, Global};
 use std::test::Fail;
 use std::{fs, io};
@@ -45,4 +47,28 @@ pub fn found_in(rt: &HostRuntime, dir: &str) -> Result<(StoreLock, Pair), Fail> 
         Opened::Found(lock, pair) => Ok((lock, pair)),
         _ => Err(Fail::from("no pair is found")),
     }
+}
+
+/// A store anew, whose text of six octets has the number 5, and the log of its journal.
+pub fn begun_log(rt: &HostRuntime, dir: &str) -> Result<Log<FileDisk>, Fail> {
+    make_folder(rt, dir)?;
+    let (head, salt) = begun(rt.alloc(), 5, b"a text")?;
+    match write_pair(rt, rt.alloc(), dir, 5, b"a text", &head) {
+        Ok(disk) => Ok(Log::resume(disk, &salt, 0, head.len() as u64)?),
+        Err(_) => Err(Fail::from("no pair")),
+    }
+}
+
+/// The batch of one update.
+pub fn batch_of(alloc: Global, update: &[u8]) -> Result<Vec<u8>, AllocError> {
+    let mut batch = Vec::new(alloc);
+    if update.len() < 65_536 {
+        put_update(&mut batch, update)?;
+    }
+    Ok(batch)
+}
+
+/// Whether a batch is appended.
+pub fn append(alloc: Global, log: &mut Log<FileDisk>, batch: &[u8]) -> bool {
+    batch.len() < 1 << 32 && log.append(alloc, batch).is_ok()
 }

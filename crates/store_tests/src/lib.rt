@@ -9,3 +9,5 @@ mod held;
 mod others;
 #[cfg(test)]
 mod pairs;
+#[cfg(test)]
+mod room;

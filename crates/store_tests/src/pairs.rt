@@ -1,7 +1,5 @@
 //! Pairs that replace one another, and journals that are appended to.
-use crate::folders::{begun, found_in, journal_of, make_folder, put_pair};
-use journal::put_update;
-use journal_store::{Disk, Log};
+use crate::folders::{append, batch_of, begun_log, found_in, journal_of, make_folder, put_pair};
 use std::fs;
 use std::test::Fail;
 use store_files::{Opened, PairFault, open_store, read_store, write_pair};
@@ -57,23 +55,18 @@ fn half_a_pair_is_none(rt: HostRuntime) -> Result<(), Fail> {
 }
 
 // The file of a pair that is written is the store's journal: a batch that is appended to it is read by the journal's name, by who reads it meanwhile and by the
-// next start.
+// next start. Behind it is room, zeros.
 #[test]
 fn a_batch_is_appended(rt: HostRuntime) -> Result<(), Fail> {
     let alloc = rt.alloc();
     let dir = "store_tests_batch";
-    make_folder(&rt, dir)?;
-    let (head, salt) = begun(alloc, 5, b"a text")?;
-    let Ok(disk) = write_pair(&rt, alloc, dir, 5, b"a text", &head) else {
-        return Err(Fail::from("no pair"));
-    };
-    let mut log = Log::resume(disk, &salt, 0, head.len() as u64)?;
-    let mut body = Vec::new(alloc);
-    put_update(&mut body, b"an update")?;
+    let mut log = begun_log(&rt, dir)?;
+    let body = batch_of(alloc, b"an update")?;
     assert_eq!(rt; body.len(), 11);
-    assert!(rt; log.append(alloc, &body).is_ok());
+    assert!(rt; append(alloc, &mut log, &body));
     let (_, journal) = read_store(&rt, alloc, dir)?;
-    assert_eq!(rt; journal.len(), 156 + 44 + 11);
+    let room = journal.get(156 + 44 + 11..).unwrap_or(&[]);
+    assert!(rt; !room.is_empty() && room.iter().all(|octet| *octet == 0));
     let (_, pair) = found_in(&rt, dir)?;
     assert_eq!(rt; pair.journal.as_slice(), journal.as_slice());
     fs::remove_dir_all(&rt, dir)?;
