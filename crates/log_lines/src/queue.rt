@@ -1,9 +1,12 @@
 //! Lines that threads add, and one writes.
 use crate::backlog::{Backlog, Told};
 use std::alloc::{AllocError, Global};
-use std::mem;
 use std::sync::{Condvar, Mutex, Wait};
 use std::time::{Clock, Duration};
+use std::{mem, thread};
+
+/// How long the first line waits for others, so that the thread that writes wakes once for all of them (own).
+const GATHERED_MILLIS: u64 = 1;
 
 /// What lines are written to.
 pub trait Sink<T> {
@@ -48,13 +51,16 @@ impl<T: Drop> LogQueue<T> {
     /// Adds a line, as [`Backlog::add`] does.
     pub fn add<R: Wait>(&self, rt: &R, line: T) {
         let mut state = self.state.lock(rt);
+        let is_first = state.backlog.is_empty();
         state.backlog.add(line);
         mem::drop(state);
-        self.added.notify_one();
+        if is_first {
+            self.added.notify_one();
+        }
     }
 
     /// Writes the lines to a sink, in the order in which they were added, until the queue is closed and nothing is left to be written.
-    pub fn write_to<R: Wait, S: Sink<T>>(&self, rt: &R, sink: &mut S) {
+    pub fn write_to<R: Wait + Clock, S: Sink<T>>(&self, rt: &R, sink: &mut S) {
         for _ in rt.forever() {
             let Some(told) = self.next(rt) else {
                 break;
@@ -66,12 +72,22 @@ impl<T: Drop> LogQueue<T> {
     }
 
     /// What is to be written next, once there is something; none where the queue is closed and nothing is left.
-    fn next<R: Wait>(&self, rt: &R) -> Option<Told<T>> {
-        let guard = self.state.lock(rt);
-        let mut state = self.added.wait_while(rt, guard, |state| {
+    fn next<R: Wait + Clock>(&self, rt: &R) -> Option<Told<T>> {
+        self.gather(rt);
+        self.state.lock(rt).backlog.take()
+    }
+
+    /// Waits, where nothing is to be written, until there is something, and then for what is added a moment later.
+    fn gather<R: Wait + Clock>(&self, rt: &R) {
+        let state = self.state.lock(rt);
+        if !state.backlog.is_empty() || state.closed {
+            return;
+        }
+        let state = self.added.wait_while(rt, state, |state| {
             state.backlog.is_empty() && !state.closed
         });
-        state.backlog.take()
+        mem::drop(state);
+        thread::sleep(rt, Duration::from_millis(GATHERED_MILLIS));
     }
 
     /// Ends the writing once nothing is left, and waits for that, at most so long: false where lines are still to be written then.
