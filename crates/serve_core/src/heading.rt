@@ -6,8 +6,9 @@ ghost use Rattle.serve_core.specs.Heading.{reply_opt, header_alone, heading_of_u
 ghost use Rattle.serve_core.specs.Transport.{limit_of, room_of};
 
 use crate::transport::Transport;
-use dns_message::{Edns, Head, Opt, Question, Reply, Update, write_reply};
+use dns_message::{Edns, Head, Opt, Question, Reply, Update, write_reply_by};
 use dns_rdata::Rcode;
+use wire_names::NameWriter;
 
 /// What the reply to a request repeats of it, where it has a code and no record.
 #[derive(Drop)]
@@ -99,7 +100,23 @@ pub fn write_code(heading: &Heading, rcode: Rcode, transport: Transport, out: &m
     ensures octets { take result out.new ≡ fit (coded heading.now rcode) (limit_of transport None) }
     ensures len { result ≤ limit_of transport None }
 {
-    write_reply(&coded(heading, rcode), transport.limit(None), out)
+    let mut names = NameWriter::new();
+    write_code_by(&mut names, heading, rcode, transport, out)
+}
+
+/// Writes a code, as [`write_code`] does, by a writer of names that the caller keeps: what it has of another message is forgotten.
+pub fn write_code_by(
+    names: &mut NameWriter,
+    heading: &Heading,
+    rcode: Rcode,
+    transport: Transport,
+    out: &mut [u8],
+) -> usize
+    requires { room_of transport ≤ length out.old }
+    ensures octets { take result out.new ≡ fit (coded heading.now rcode) (limit_of transport None) }
+    ensures len { result ≤ limit_of transport None }
+{
+    write_reply_by(names, &coded(heading, rcode), transport.limit(None), out)
 }
 
 /// A code, and no record but an OPT.

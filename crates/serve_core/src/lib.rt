@@ -15,7 +15,7 @@ mod served;
 mod transfer;
 mod transport;
 
-pub use heading::{Heading, reply_opt, write_code};
+pub use heading::{Heading, reply_opt, write_code, write_code_by};
 pub use peer::Peer;
 pub use replies::replies_by_cases;
 pub use served::{Responded, respond};

@@ -20,6 +20,7 @@ use std::sync::Wait;
 use update_desk::Done;
 use update_group::{Group, Judgement, Judging};
 use update_job::Publishing;
+use wire_names::NameWriter;
 use zone_service::{Serials, Server, ServiceLog, Told, Waiting, Way, tell_update, write_done};
 
 /// Who publishes the versions of batches in a server, and tells those whose updates waited, with a reader, of which contracts know what it has seen published.
@@ -29,8 +30,9 @@ pub struct Teller<'a, 's, Z: FirstZone, N: Naming, L, P: Replying + Drop> {
     reader: VersionReader<N>,
     log: &'a L,
     replying: P,
-    /// What the reply to a datagram is written into.
+    /// What the reply to a datagram is written into, and by.
     out: [u8; UDP_LIMIT],
+    names: NameWriter,
     /// The number of the last version that the reader has seen.
     last: u64,
     /// The number of the version that the last batch was begun with.
@@ -78,6 +80,7 @@ impl<'a, 's, Z: FirstZone, N: Naming, L: ServiceLog, P: Replying + Drop> Teller<
             log,
             replying,
             out: [0u8; UDP_LIMIT],
+            names: NameWriter::new(),
             last: begun.number,
             begun: begun.number,
             serials: Serials {
@@ -98,6 +101,7 @@ impl<'a, 's, Z: FirstZone, N: Naming, L: ServiceLog, P: Replying + Drop> Teller<
             log: _,
             replying,
             out: _,
+            names: _,
             last: _,
             begun: _,
             serials: _,
@@ -205,7 +209,7 @@ impl<'a, 's, Z: FirstZone, N: Naming, L: ServiceLog, P: Replying + Drop> Publish
                 let peer = Peer::over(Transport::Udp, true);
                 let serials = Some(serials);
                 tell_update(rt, self.log, peer, to, Told { code, serials });
-                let len = write_done(&asked, code, peer, &mut self.out);
+                let len = write_done(&mut self.names, &asked, code, peer, &mut self.out);
                 self.replying.send(worker, to, &self.out[..len]);
             }
         }

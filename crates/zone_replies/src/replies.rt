@@ -188,7 +188,7 @@ impl<'a, 's, Z: FirstZone, N: Naming, L: ServiceLog> Replies<'a, 's, Z, N, L> {
             after: done.after,
         });
         tell_update(rt, self.log, self.peer, self.from, Told { code, serials });
-        write_done(&done.asked, code, self.peer, out)
+        write_done(&mut NameWriter::new(), &done.asked, code, self.peer, out)
     }
 
     /// Takes an update of a peer that may update up: it is told to be made later, or gets a reply at once where nobody judges it.

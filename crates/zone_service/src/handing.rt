@@ -15,12 +15,13 @@ use dns_engine::{FirstZone, VersionReader};
 use dns_message::Update;
 use dns_rdata::Rcode;
 use lasting_engine::Asked;
-use serve_core::{Heading, Peer, write_code};
+use serve_core::{Heading, Peer, write_code, write_code_by};
 use snapshot_cell::Naming;
 use std::alloc::Global;
 use std::net::SocketAddr;
 use std::sync::Wait;
 use update_queue::Queue;
+use wire_names::NameWriter;
 
 /// Where the reply to an update goes that waits to be judged.
 #[derive(Clone, Copy)]
@@ -202,13 +203,20 @@ pub fn hand_over<R: Wait, Z: FirstZone, N: Naming>(
     Some(refuse(&heading, peer, out))
 }
 
-/// Writes what is told of an update that has waited to the front of `out`, and gives how many octets it has (RFC 2136, 3.8).
-pub fn write_done(asked: &Asked, code: Rcode, peer: Peer, out: &mut [u8]) -> usize
+/// Writes what is told of an update that has waited to the front of `out`, by a writer of names that the caller keeps, and gives how many octets it has (RFC 2136, 3.8).
+pub fn write_done(
+    names: &mut NameWriter,
+    asked: &Asked,
+    code: Rcode,
+    peer: Peer,
+    out: &mut [u8],
+) -> usize
     requires { room_of peer.transport ≤ length out.old }
     ensures octets { take result out.new ≡ fit (coded (heading_of_update asked.now.update) code) (limit_of peer.transport None) }
     ensures len { result ≤ limit_of peer.transport None }
 {
-    write_code(
+    write_code_by(
+        names,
         &Heading::of_update(asked.update()),
         code,
         peer.transport,
