@@ -16,7 +16,7 @@ use journal::Head;
 use std::alloc::Global;
 use std::fs::{File, Files};
 use std::sync::Wait;
-use store_files::PairFault;
+use store_files::{PairFault, remove_text};
 
 /// What has become of a text.
 #[derive(Clone, Copy, PartialEq, Eq)]
@@ -76,7 +76,10 @@ fn replace<W: Wait, R: Files<File = File> + Alloc + Clone + Drop, N: Notes>(
 {
     let number = head.number;
     match replace_with_next(files, alloc, dir, writer, head) {
-        Ok(false) => Placed::Nothing,
+        Ok(false) => {
+            drop_text(rt, files, alloc, dir, notes, number);
+            Placed::Nothing
+        }
         Ok(true) => {
             notes.note(rt, CompactionEvent::Replaced(number));
             if let Err(fault) = drop_old_texts(files, dir, writer) {
@@ -86,11 +89,26 @@ fn replace<W: Wait, R: Files<File = File> + Alloc + Clone + Drop, N: Notes>(
         }
         Err(PairFault::Before(fault)) => {
             notes.note(rt, CompactionEvent::NotReplaced(fault));
+            drop_text(rt, files, alloc, dir, notes, number);
             Placed::Failed
         }
         Err(PairFault::Unknown(fault)) => {
             notes.note(rt, CompactionEvent::Unknown(fault));
             Placed::Failed
         }
+    }
+}
+
+/// Removes the text of a number that no journal names, and none will: another one is begun.
+fn drop_text<W: Wait, R: Files, N: Notes>(
+    rt: &W,
+    files: &R,
+    alloc: Global,
+    dir: &str,
+    notes: &mut N,
+    number: u64,
+) {
+    if let Err(fault) = remove_text(files, alloc, dir, number) {
+        notes.note(rt, CompactionEvent::NotRemoved(fault));
     }
 }
