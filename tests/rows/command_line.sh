@@ -66,6 +66,13 @@ row 2 "--allow takes addresses with commas between them, as 127.0.0.1,192.0.2.7,
 # a file that isn't there is a device's fault; a refused zone is told by its line
 row 3 "the zone's file 'no/such/zone' can't be read" check no/such/zone
 row 2 "--take takes store or zone, and 'both' is neither" serve --listen 127.0.0.1:0 --store no/such/store --take both "$zone"
+for word in 4095 3K 1025G 18446744073709551616 1T K M1 64MB -1 1.5M ''; do
+    row 2 "--journal takes a size from 4K to 1024G, as 100000, 500K or 64M, and '$word' is none" serve --listen 127.0.0.1:0 --store no/such/store "--journal=$word" "$zone"
+done
+for word in 4096 100000 4K 4k 64M 64m 1024G 1099511627776; do
+    row 3 "the store 'no/such/store' can't be read or written" serve --listen 127.0.0.1:0 --store no/such/store --journal "$word" "$zone"
+done
+row 2 "--journal is for a store, and no --store is given" serve --listen 127.0.0.1:0 --journal 64M "$zone"
 row 2 "--take is for a store, and no --store is given" serve --listen 127.0.0.1:0 --take zone "$zone"
 row 3 "the store 'no/such/store' can't be read or written" serve --listen 127.0.0.1:0 --store no/such/store "$zone"
 row 3 "the zone's file 'no/such/zone' can't be read" serve --listen 127.0.0.1:0 no/such/zone

@@ -64,6 +64,8 @@ pub enum CommandFault<'a> {
     Secondaries(&'a str),
     /// The word is for a secondary that another word is for.
     SecondaryTwice(&'a str),
+    /// The word is no size of a journal.
+    Size(&'a str),
     /// The word is neither of the two that can be taken.
     Take(&'a str),
     /// The option is one for a store, and none is named.

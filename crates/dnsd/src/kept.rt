@@ -1,6 +1,6 @@
 //! The start of a server whose updates last.
 ghost use Rattle.std.specs.Prelude.{IfOk};
-ghost use Rattle.dnsd.specs.Servable.{IsServable};
+ghost use Rattle.store_service.specs.Resumed.{IsGiven};
 
 use crate::options::Serve;
 use crate::store_options::StorePlan;
@@ -17,10 +17,11 @@ const SALT: usize = 16;
 
 /// Holds the store of a folder, beside which a zone's text is named, and gives what a server begins with, which standard error tells where it isn't the store begun
 /// from this text; or the program's status, where nothing is served, and standard error then has the reason.
+#[tactic(auto, using(crate::proofs::GivenLemmas::given))]
 pub fn start_kept<
     R: Files<File = File> + Eprint + AllocGlobal + Alloc + RandomSource + Clone + Drop,
 >(rt: &R, plan: StorePlan<'_>, serve: &Serve<'_>, text: &[u8]) -> io::Result<Result<Started, u8>>
-    ensures { IfOk result (λ r. IfOk r (λ started. IsServable started.store.first started.store.later.items)) }
+    ensures { IfOk result (λ r. IfOk r (λ started. IsGiven started.store)) }
 {
     let alloc = rt.alloc();
     let mut random = [0u8; SALT];

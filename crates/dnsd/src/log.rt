@@ -9,6 +9,7 @@ use std::net::SocketAddr;
 use std::sync::{Arc, Wait};
 use std::thread::{self, Threads};
 use std::time::{Clock, Duration};
+use store_service::{StoreEvent, StoreLog};
 use zone_service::{Event, ServiceLog};
 
 /// How many lines wait at most to be written (own).
@@ -40,8 +41,12 @@ pub enum LogLine {
     },
     /// Secondaries are told from addresses that routing picks.
     Routed,
+    /// Updates are lost at the program's end.
+    NoStore,
     /// Something has happened.
     Event(Event),
+    /// Something has happened to the store.
+    Store(StoreEvent),
     /// The zone isn't served any more.
     Fault(ServeFault),
 }
@@ -55,6 +60,8 @@ pub struct Listening {
     pub serial: Serial,
     /// How many records the zone has.
     pub records: usize,
+    /// Whether updates may come, and are lost at the program's end.
+    pub loses_updates: bool,
 }
 
 /// The log: its lines wait for a thread that writes them, so that who adds one doesn't wait for standard error.
@@ -99,7 +106,11 @@ impl<E: Eprint> Sink<LogLine> for ErrorLines<E> {
             Some(LogLine::Routed) => eprintln!(self.rt;
                 "some secondaries are told from the address that routing picks, since no other of their family is listened on; name it as --notify ADDR@FROM"
             ),
+            Some(LogLine::NoStore) => eprintln!(self.rt;
+                "updates are lost at the server's end: --store DIR keeps them"
+            ),
             Some(LogLine::Event(event)) => eprintln!(self.rt; "{event}"),
+            Some(LogLine::Store(event)) => eprintln!(self.rt; "{event}"),
             Some(LogLine::Fault(fault)) => eprintln!(self.rt; "error: {fault}"),
             None => Ok(()),
         };
@@ -108,7 +119,7 @@ impl<E: Eprint> Sink<LogLine> for ErrorLines<E> {
 
 impl Log {
     /// Starts the log of the zone with this apex, on a thread of its own; want of memory, or a thread that is refused, starts none.
-    pub fn start<R: Eprint + AllocGlobal + Threads + Wait + Copy + Send + Drop + 'static>(
+    pub fn start<R: Eprint + AllocGlobal + Threads + Wait + Clock + Copy + Send + Drop + 'static>(
         rt: &R,
         apex: Name,
         listening: Listening,
@@ -137,12 +148,13 @@ impl Log {
 }
 
 impl Log {
-    /// Tells at which addresses the zone is served.
+    /// Tells at which addresses the zone is served, and whether its updates are lost.
     fn add_listening<R: Wait>(&self, rt: &R) {
         let Listening {
             addresses,
             serial,
             records,
+            loses_updates,
         } = &self.listening;
         for address in addresses.iter() {
             self.add(
@@ -154,6 +166,9 @@ impl Log {
                 },
             );
         }
+        if *loses_updates {
+            self.add(rt, LogLine::NoStore);
+        }
     }
 }
 
@@ -163,5 +178,11 @@ impl ServiceLog for Log {
             Event::Serving => self.add_listening(rt),
             other => self.add(rt, LogLine::Event(other)),
         }
+    }
+}
+
+impl StoreLog for Log {
+    fn tell_store<R: Wait>(&self, rt: &R, event: StoreEvent) {
+        self.add(rt, LogLine::Store(event));
     }
 }

@@ -8,6 +8,7 @@
 
 ghost use Rattle.std.specs.Prelude.{◌≡◌, ◌⊎◌};
 
+pub mod begin;
 pub mod bound;
 pub mod command;
 pub mod descriptors;
@@ -122,6 +123,11 @@ fn tell_fault<R: Print + Eprint>(rt: &R, fault: &CommandFault<'_>) -> io::Result
         }
         CommandFault::SecondaryTwice(word) => {
             eprintln!(rt; "error: --notify takes a secondary once, and '{word}' is there already")?;
+        }
+        CommandFault::Size(word) => {
+            eprintln!(rt;
+                "error: --journal takes a size from 4K to 1024G, as 100000, 500K or 64M, and '{word}' is none"
+            )?;
         }
         CommandFault::Take(word) => {
             eprintln!(rt; "error: --take takes store or zone, and '{word}' is neither")?;

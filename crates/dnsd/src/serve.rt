@@ -1,7 +1,9 @@
 //! Serving a zone on sockets (RFC 1035, 4.2).
-ghost use Rattle.std.specs.Prelude.{◌≡◌};
-ghost use Rattle.dnsd.specs.Servable.{IsServable};
+ghost use Rattle.std.specs.Prelude.{◌≤◌, vec_len};
+ghost use Rattle.transfer_core.specs.declared.kept.TheConstants.{KEPT};
+ghost use Rattle.dnsd.specs.Begun.{CanBegin};
 
+use crate::begin::{Beginning, Begun, BegunStore, KeptIn, begin};
 use crate::bound::{Unbound, WorkerSockets, bind_all, duties_of};
 use crate::descriptors;
 use crate::kept::start_kept;
@@ -11,11 +13,10 @@ use crate::secondaries::{is_routed, put_secondaries, secondaries_for};
 use crate::zone_file::read_zone_file;
 use commands::{DONE, FAILED, Fault, Source, tell};
 use conversation::Allowed;
-use file_disks::FileDisk;
 use line_io::read_zone_text;
 use master_file::{FileFault, read_zone};
 use serve_workers::{
-    ConnectionPlan, Handing, Muster, Plan, Progress, Secondaries, ServeFault, serve_zone,
+    ConnectionPlan, Duty, Handing, Muster, Plan, Progress, Secondaries, ServeFault, serve_zone,
 };
 use std::alloc::Global;
 use std::fs::{File, Files};
@@ -25,70 +26,15 @@ use std::mem;
 use std::net::{Net, SocketAddr, TcpListener, TcpStream};
 use std::random::RandomSource;
 use std::sync::Wait;
+use std::sync::atomic::AtomicBool;
 use std::thread::Threads;
 use std::time::Clock;
-use store_files::StoreLock;
-use store_start::{Resumed, Started};
-use update_job::{NoFaults, Store};
-use zone_tree::{Version, Zone, ZoneRead};
+use store_compactor::{Texts, ThreadTexts};
+use store_service::StoreFaults;
+use zone_tree::{Zone, ZoneRead};
 
 /// How many updates may wait for who judges them (own).
 const WAITING: usize = 1024;
-
-/// What a server begins with.
-#[derive(Drop)]
-struct Begun {
-    /// The oldest version that it has.
-    first: Version,
-    /// Those behind it.
-    later: Vec<Version>,
-    /// Where updates are brought before they are told.
-    store: Store<FileDisk>,
-    /// What holds the store's folder, where there is one.
-    lock: Option<StoreLock>,
-}
-
-impl Begun {
-    /// A zone, whose updates are lost at the program's end.
-    fn of_zone(alloc: Global, zone: Zone) -> Begun
-        ensures { IsServable result.first result.later.items }
-    {
-        Begun {
-            first: Version::first(zone),
-            later: Vec::new(alloc),
-            store: Store::Nowhere,
-            lock: None,
-        }
-    }
-
-    /// A store, in which updates last.
-    fn of_store(started: Started) -> Begun
-        ensures first { result.first ≡ started.store.first }
-        ensures later { result.later ≡ started.store.later }
-    {
-        let Started { lock, store, .. } = started;
-        let Resumed {
-            log,
-            first,
-            later,
-            ..
-        } = store;
-        Begun {
-            first,
-            later,
-            store: Store::Journal(log),
-            lock: Some(lock),
-        }
-    }
-
-    /// The version that is served.
-    fn last(&self) -> &Version {
-        match self.later.last() {
-            Some(last) => last,
-            None => &self.first,
-        }
-    }
-}
 
 /// Serves a zone, and gives the program's status: 0 where each worker has done what it may, 1 where the zone is refused, 3 at a
 /// device's fault, a thread that can't be started or want of memory.
@@ -122,14 +68,19 @@ pub fn run_serve<
         Some(plan) => match start_kept(rt, plan, serve, text.as_slice())? {
             Ok(started) => {
                 mem::drop(text);
-                serve_on(rt, serve, Begun::of_store(started))
+                let kept = BegunStore {
+                    dir: format!(in alloc; "{}", plan.dir)?,
+                    journal: plan.journal,
+                    started,
+                };
+                serve_on(rt, serve, Begun::Store(kept))
             }
             Err(status) => Ok(status),
         },
         None => match read_zone(alloc, text.as_slice(), &serve.origin) {
             Ok(zone) => {
                 mem::drop(text);
-                serve_on(rt, serve, Begun::of_zone(alloc, zone))
+                serve_on(rt, serve, Begun::Zone(zone))
             }
             Err(fault) => tell_zone(rt, text.as_slice(), fault),
         },
@@ -161,7 +112,7 @@ fn serve_on<
         + Drop
         + 'static,
 >(rt: &R, serve: &Serve<'_>, begun: Begun) -> io::Result<u8>
-    requires { IsServable begun.first begun.later.items }
+    requires { CanBegin begun }
 {
     match bind_all(rt, rt.alloc(), serve.listen.as_slice(), serve.workers) {
         Ok((sockets, addresses)) => serve_bound(rt, serve, begun, sockets, addresses),
@@ -221,10 +172,10 @@ fn serve_bound<
     sockets: Vec<WorkerSockets>,
     addresses: Vec<SocketAddr>,
 ) -> io::Result<u8>
-    requires { IsServable begun.first begun.later.items }
+    requires { CanBegin begun }
 {
     let (told, listen) = (serve.secondaries.as_slice(), serve.listen.as_slice());
-    let zone = begun.last().zone();
+    let zone = begun.zone();
     let apex = zone.apex().copy();
     let Some(secondaries) = secondaries_for(rt, rt.alloc(), told, listen, zone.apex().copy())?
     else {
@@ -234,6 +185,7 @@ fn serve_bound<
         addresses,
         serial: zone.serial(),
         records: records_of(zone),
+        loses_updates: serve.store.is_none() && !serve.allowed.is_empty(),
     };
     let log = Log::start(rt, apex, listening)?;
     warn(rt, serve, &log);
@@ -266,7 +218,18 @@ fn warn<R: Files + AllocGlobal + Wait>(rt: &R, serve: &Serve<'_>, log: &Log) {
 }
 
 /// Serves a zone on workers' sockets.
-fn serve_all<R: Net + Threads + Wait + Clock + Sync>(
+fn serve_all<
+    R: Files<File = File>
+        + AllocGlobal
+        + Net
+        + Threads
+        + Wait
+        + Clock
+        + RandomSource
+        + Copy
+        + Sync
+        + Drop,
+>(
     rt: &R,
     alloc: Global,
     serve: &Serve<'_>,
@@ -275,14 +238,11 @@ fn serve_all<R: Net + Threads + Wait + Clock + Sync>(
     secondaries: Secondaries,
     log: &Log,
 ) -> Result<(), ServeFault>
-    requires { IsServable begun.first begun.later.items }
+    requires { CanBegin begun }
 {
-    let mut progresses = Vec::new(alloc);
-    for _ in 0..serve.workers {
-        if progresses.push(Progress::new(serve.most)).is_err() {
-            return Err(ServeFault::NoMemory);
-        }
-    }
+    let Some(progresses) = progresses_of(alloc, serve.workers, serve.most) else {
+        return Err(ServeFault::NoMemory);
+    };
     let telling = Progress::new(u64::MAX);
     let Some(mut duties) = duties_of(alloc, sockets, progresses.as_slice()) else {
         return Err(ServeFault::NoMemory);
@@ -303,18 +263,57 @@ fn serve_all<R: Net + Threads + Wait + Clock + Sync>(
             allowed: Allowed::new(serve.allowed.as_slice()),
         },
     };
-    let Begun {
+    let dir = serve.store.map_or("", |plan| plan.dir);
+    let Ok(dir) = format!(in alloc; "{dir}") else {
+        return Err(ServeFault::NoMemory);
+    };
+    let texts = ThreadTexts::new(*rt, dir);
+    serve_duties(rt, alloc, serve.keep, begun, texts, duties, plan, log)
+}
+
+/// What so many workers have done, each of which ends after so much; None where there is no memory.
+fn progresses_of(alloc: Global, workers: usize, most: u64) -> Option<Vec<Progress>> {
+    let mut progresses = Vec::new(alloc);
+    for _ in 0..workers {
+        progresses.push(Progress::new(most)).ok()?;
+    }
+    Some(progresses)
+}
+
+/// Serves a zone by threads with these duties, whose store has its zone texts written by these.
+fn serve_duties<
+    R: Files<File = File> + AllocGlobal + Net + Threads + Wait + Clock + Copy + Sync + Drop,
+    T: Texts,
+>(
+    rt: &R,
+    alloc: Global,
+    keep: usize,
+    begun: Begun,
+    texts: T,
+    duties: Vec<Duty<'_>>,
+    plan: Plan<'_>,
+    log: &Log,
+) -> Result<(), ServeFault>
+    requires begun { CanBegin begun }
+    requires threads { vec_len duties ≤ 62 }
+    requires kept { plan.keep ≤ KEPT }
+{
+    let failing = AtomicBool::new(false);
+    let Ok(beginning) = begin(rt, alloc, keep, begun, texts, log, &failing) else {
+        return Err(ServeFault::NoMemory);
+    };
+    let Beginning {
         first,
         later,
         store,
         lock,
-    } = begun;
+    } = beginning;
     let handing = Handing {
         most: WAITING,
         store,
-        faults: NoFaults,
+        faults: StoreFaults::new(log, &failing),
     };
-    let served = serve_zone::<R, Brand, Log, Store<FileDisk>, NoFaults>(
+    let served = serve_zone::<R, Brand, Log, KeptIn<'_, R, T>, StoreFaults<'_, Log>>(
         rt,
         alloc,
         first,

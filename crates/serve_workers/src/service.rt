@@ -37,7 +37,6 @@ use worker_jobs::{
     Scratch, Secondaries, Standing, ToldKeys, WorkerSocket,
 };
 use zone_service::{JobEnd, Server, ServiceLog};
-use zone_tree::Version;
 
 /// How a zone is served.
 #[derive(Clone, Copy)]
@@ -164,8 +163,8 @@ pub fn serve_zone<
 >(
     rt: &R,
     alloc: Global,
-    first: Version,
-    later: Vec<Version>,
+    first: SharedVersion,
+    later: Vec<SharedVersion>,
     duties: Vec<Duty<'_>>,
     plan: Plan<'_>,
     handing: Option<Handing<S, F>>,
@@ -180,12 +179,6 @@ pub fn serve_zone<
     let updates = updates_for(rt, alloc, &handing, &duties, plan.places)?;
     let judging = judging_for(alloc, handing, &duties, &updates)?;
     let jobs = jobs_of(rt, alloc, duties, plan, &updates)?;
-    let Ok(later) = SharedVersion::all(alloc, later) else {
-        return Err(ServeFault::NoMemory);
-    };
-    let Some(first) = SharedVersion::new(alloc, first) else {
-        return Err(ServeFault::NoMemory);
-    };
     let parts = match Cell::<SharedVersion, ZoneVersions<Z>>::new(alloc, threads + 2, first) {
         Ok(parts) => parts,
         Err(NewFault::TooManyReaders) => unreachable!(),

@@ -1,6 +1,7 @@
 //! Datagrams that lie in a socket together: each gets its reply, whether it was waited for or taken beside others.
 
 use conversation::Allowed;
+use dns_engine::SharedVersion;
 use links::Limits;
 use played_zones::zone;
 use serve_workers::{
@@ -91,7 +92,10 @@ fn serve<R: Net + Threads + Wait + Clock + Sync>(
     };
     let duties = Vec::from_array(alloc, [duty])?;
     let zone = zone(alloc).ok_or("a zone")?;
-    let first = Version::first(zone);
+    let version = Version::first(zone);
+    let Some(first) = SharedVersion::new(alloc, version) else {
+        return Err(Fail::from("no memory"));
+    };
     let later = Vec::new(alloc);
     Ok(serve_zone::<R, Brand, NoLog, Store<ToldDisk>, NoFaults>(
         rt, alloc, first, later, duties, plan, None, &NoLog,

@@ -1,10 +1,11 @@
 //! A server ends with its threads: each having done what it may, or all since one of them has failed.
 
 use conversation::Allowed;
+use dns_engine::SharedVersion;
 use links::Limits;
 use played_zones::zone;
 use serve_workers::{
-    ConnectionPlan, Duty, Muster, Plan, Progress, ServeFault, Sockets, serve_zone,
+    ConnectionPlan, Duty, Handing, Muster, Plan, Progress, ServeFault, Sockets, serve_zone,
 };
 use sockets::{Turn, bind_datagrams, bind_listener};
 use std::alloc::Global;
@@ -148,10 +149,18 @@ pub(crate) fn served<R: Net + Threads + Wait + Clock + Sync>(
         },
     };
     let zone = zone(alloc)?;
-    let first = Version::first(zone);
+    let version = Version::first(zone);
+    let Some(first) = SharedVersion::new(alloc, version) else {
+        return None;
+    };
     let later = Vec::new(alloc);
+    let handing = Some(Handing {
+        most: 8,
+        store: Store::<ToldDisk>::Nowhere,
+        faults: NoFaults,
+    });
     Some(serve_zone::<R, Brand, Counted, Store<ToldDisk>, NoFaults>(
-        rt, alloc, first, later, duties, plan, None, log,
+        rt, alloc, first, later, duties, plan, handing, log,
     ))
 }
 

@@ -1,6 +1,7 @@
 //! Updates that are handed to who judges them beside the threads that they come to: each is told its code, and seen by a query that comes behind its reply.
 
 use conversation::Allowed;
+use dns_engine::SharedVersion;
 use links::Limits;
 use played_zones::zone;
 use serve_workers::{
@@ -105,7 +106,10 @@ fn serve<R: Net + Threads + Wait + Clock + Sync>(
     };
     let duties = Vec::from_array(alloc, [duty])?;
     let zone = zone(alloc).ok_or("a zone")?;
-    let first = Version::first(zone);
+    let version = Version::first(zone);
+    let Some(first) = SharedVersion::new(alloc, version) else {
+        return Err(Fail::from("no memory"));
+    };
     let later = Vec::new(alloc);
     let handing = Some(handing);
     Ok(serve_zone::<R, Brand, NoLog, Store<ToldDisk>, NoFaults>(

@@ -1,5 +1,5 @@
 -- The first version is published, and the others may be published behind it.
-use Rattle.std.proofs.Common.{◌≡◌, List, sym, ap, ◌∙◌, subst}
+use Rattle.std.proofs.Common.{◌≡◌, sym, ap, subst}
 use Rattle.zone_tree.specs.Version.{Version}
 use Rattle.snapshot_cell.specs.Tokens.{PublisherState}
 use Rattle.dns_engine.specs.Versions.{AreNext}
@@ -7,5 +7,5 @@ use Rattle.serve_workers.proofs.service.serve_zone.Goals as goal
 
 pub serve_parts-requires-clause-follow : goal.serve_parts-requires-clause-follow
 serve_parts-requires-clause-follow g c =
-    let first : c.in-Ok-new.parts.publisher.value ≡ c.args.first = ap (λ (p : PublisherState Version). p.value) c.in-Ok-new.ensures.publisher ∙ c.in-Some.ensures in
-    λ _ _. subst (λ (v : Version). AreNext v c.in-Ok.later.items) (sym first) (subst (λ (l : List Version). AreNext c.args.first l) (sym c.in-Ok.ensures) c.requires.follow)
+    let first : c.in-Ok.parts.publisher.value ≡ c.args.first = ap (λ (p : PublisherState Version). p.value) c.in-Ok.ensures.publisher in
+    λ _ _. subst (λ (v : Version). AreNext v c.args.later.items) (sym first) c.requires.follow
