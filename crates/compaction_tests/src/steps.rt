@@ -1,0 +1,143 @@
+//! The steps of compactions, in their order.
+use crate::found::{expect, is_there};
+use crate::updates::{begin, check, send};
+use compaction::{NextText, StoreWriter};
+use compaction_files::{create_next_text, drop_old_texts, replace_with_next, write_next_text};
+use file_disks::FileDisk;
+use journal::Head;
+use std::alloc::Global;
+use std::fs;
+use std::sync::Wait;
+use std::test::Fail;
+
+/// The folder of the test.
+const DIR: &str = "compaction_tests_steps";
+
+/// What a start finds in front of the updates that are sent while a text is written, and behind them.
+#[derive(Drop)]
+struct Lines {
+    front: &'static str,
+    behind: &'static str,
+}
+
+/// Begins a compaction.
+fn begin_text<R: Wait>(
+    rt: &R,
+    alloc: Global,
+    writer: &mut StoreWriter<FileDisk>,
+) -> Result<NextText, Fail> {
+    match writer.begin_compaction(rt, alloc)? {
+        Some(next) => Ok(next),
+        None => Err(Fail::from("no number is left")),
+    }
+}
+
+/// Sends two updates, of the numbers from this one on.
+fn send_two<R: Wait>(
+    rt: &R,
+    alloc: Global,
+    writer: &mut StoreWriter<FileDisk>,
+    number: u16,
+) -> Result<(), Fail> {
+    let kept = send(rt, alloc, writer, number, number.saturating_add(2))?;
+    check(kept, "two updates")
+}
+
+/// A compaction up to its text, while two updates are sent, of the numbers from this one on.
+fn write_text<R: Wait>(
+    rt: &R,
+    files: &HostRuntime,
+    writer: &mut StoreWriter<FileDisk>,
+    number: u16,
+    lines: Lines,
+) -> Result<Head, Fail> {
+    let alloc = files.alloc();
+    let next = begin_text(rt, alloc, writer)?;
+    let file = create_next_text(files, alloc, DIR, &next)?;
+    expect(files, DIR, writer.trail(), lines.front)?;
+    send_two(rt, alloc, writer, number)?;
+    expect(files, DIR, writer.trail(), lines.behind)?;
+    let head = write_next_text(alloc, file, &next, writer.head(), [9; 16])?;
+    let done = drop_old_texts(files, DIR, writer)?;
+    check(!done, "texts go while one is written")?;
+    expect(files, DIR, writer.trail(), lines.behind)?;
+    Ok(head)
+}
+
+/// Puts the journal of a text in place, and removes the texts that aren't needed any more: what a start finds behind that.
+fn put_in_place(
+    files: &HostRuntime,
+    writer: &mut StoreWriter<FileDisk>,
+    head: Head,
+    line: &'static str,
+) -> Result<(), Fail> {
+    let done = replace_with_next(files, files.alloc(), DIR, writer, head)?;
+    check(done, "no journal is in place")?;
+    expect(files, DIR, writer.trail(), line)?;
+    let done = replace_with_next(files, files.alloc(), DIR, writer, head)?;
+    check(!done, "a journal is in place again")?;
+    check(drop_old_texts(files, DIR, writer)?, "texts stay")?;
+    expect(files, DIR, writer.trail(), line)
+}
+
+/// A first compaction, with updates in front of each step.
+fn compact_first<R: Wait>(
+    rt: &R,
+    files: &HostRuntime,
+    writer: &mut StoreWriter<FileDisk>,
+) -> Result<(), Fail> {
+    expect(
+        files,
+        DIR,
+        writer.trail(),
+        "text 0, batches 0, serials 7 to 7",
+    )?;
+    check(send(rt, files.alloc(), writer, 1, 4)?, "three updates")?;
+    let lines = Lines {
+        front: "text 0, batches 1, serials 7 to 10",
+        behind: "text 0, batches 2, serials 7 to 12",
+    };
+    let head = write_text(rt, files, writer, 4, lines)?;
+    put_in_place(files, writer, head, "text 1, batches 2, serials 7 to 12")?;
+    check(is_there(files, DIR, "zone-0")?, "the text before goes")
+}
+
+/// A second one, and an update behind it. A start keeps eight older versions: the text begins with the oldest of these, of serial 10.
+fn compact_again<R: Wait>(
+    rt: &R,
+    files: &HostRuntime,
+    writer: &mut StoreWriter<FileDisk>,
+) -> Result<(), Fail> {
+    check(send(rt, files.alloc(), writer, 6, 12)?, "six updates")?;
+    let lines = Lines {
+        front: "text 1, batches 3, serials 10 to 18",
+        behind: "text 1, batches 4, serials 12 to 20",
+    };
+    let head = write_text(rt, files, writer, 12, lines)?;
+    put_in_place(files, writer, head, "text 2, batches 2, serials 12 to 20")?;
+    check(send(rt, files.alloc(), writer, 14, 15)?, "an update")?;
+    expect(
+        files,
+        DIR,
+        writer.trail(),
+        "text 2, batches 3, serials 13 to 21",
+    )
+}
+
+// Two compactions: a start behind each step has what was sent. At the end the store's text and the one before it are there, and nothing else that compactions have left.
+#[test]
+fn each_step_keeps_the_versions(rt: HostRuntime) -> Result<(), Fail> {
+    let mut writer = begin(&rt, DIR)?;
+    compact_first(&rt, &rt, &mut writer)?;
+    compact_again(&rt, &rt, &mut writer)?;
+    for (name, stays) in [
+        ("zone-0", false),
+        ("zone-1", true),
+        ("zone-2", true),
+        ("journal.new", false),
+    ] {
+        assert_eq!(rt; is_there(&rt, DIR, name)?, stays, "{name}");
+    }
+    fs::remove_dir_all(&rt, DIR)?;
+    Ok(())
+}

@@ -1,0 +1,145 @@
+//! Stores that are begun in folders, and updates that are brought to them.
+ghost use Rattle.lasting_engine.specs.Asked.{passes, tells, makes, octets_of};
+
+use compaction::{StoreWriter, Trail};
+use dns_engine::{KEPT, SharedVersion};
+use dns_name::Name;
+use file_disks::FileDisk;
+use journal::{TextSum, write_head};
+use journal_store::Log;
+use lasting_engine::{Asked, judge_asked};
+use master_file::read_zone;
+use std::alloc::Global;
+use std::fs;
+use std::sync::Wait;
+use std::test::Fail;
+use store_files::write_pair;
+use stores::begin_store;
+use update_group::{Group, Judgement, Judging, judge_group};
+use zone_tree::{Version, Zone};
+
+/// The zone text that a store begins with, of serial 7.
+const ZONE: &[u8] = b"example. 3600 IN SOA ns.example. host.example. 7 1 1 1 1
+example. 3600 IN NS ns.example.
+";
+
+/// An A record of 192.0.2.1 at a.example, added by an update that Python put together (RFC 2136, 2).
+const ADD: &str =
+    "000128000001000000010000076578616d706c6500000600010161076578616d706c6500000100010000012c0004c0000201";
+
+/// Fails with words where something doesn't hold.
+pub(crate) fn check(holds: bool, words: &str) -> Result<(), Fail> {
+    if holds {
+        Ok(())
+    } else {
+        Err(Fail::from(words))
+    }
+}
+
+/// The rules by which an update is judged, with no engine.
+struct Rules;
+
+impl Judging for Rules {
+    type Version = SharedVersion;
+
+    type Asked = Asked;
+
+    ghost octets = { octets_of };
+
+    ghost passes = { passes };
+
+    ghost tells = { tells };
+
+    ghost makes = { makes };
+
+    fn judge(
+        &self,
+        alloc: Global,
+        version: &SharedVersion,
+        asked: &Asked,
+    ) -> Judgement<SharedVersion> {
+        judge_asked(alloc, version, asked)
+    }
+
+    fn octets_of<'a>(&self, asked: &'a Asked) -> &'a [u8] {
+        asked.octets()
+    }
+}
+
+/// The log of a store that begins in a folder with a zone, and its trail, which keeps as many versions as one may.
+fn begin_with(rt: &HostRuntime, dir: &str, zone: Zone) -> Result<StoreWriter<FileDisk>, Fail> {
+    let alloc = rt.alloc();
+    let (text, head) = begin_store(alloc, &zone, 0, [7; 16], TextSum::of(ZONE))?;
+    let (octets, salt) = write_head(alloc, &head)?;
+    let disk = write_pair(rt, alloc, dir, 0, text.as_bytes(), &octets)?;
+    let log = Log::resume(disk, &salt, 0, octets.len() as u64)?;
+    let Some(first) = SharedVersion::new(alloc, Version::first(zone)) else {
+        return Err(Fail::from("no memory for a version"));
+    };
+    let trail = Trail::of(alloc, first, KEPT)?;
+    Ok(StoreWriter::of(head, log, trail))
+}
+
+/// Who writes a store that begins in a folder of its own.
+pub(crate) fn begin(rt: &HostRuntime, dir: &str) -> Result<StoreWriter<FileDisk>, Fail> {
+    let _ = fs::remove_dir_all(rt, dir);
+    fs::create_dir(rt, dir)?;
+    let zone = read_zone(rt.alloc(), ZONE, &Name::root())?;
+    begin_with(rt, dir, zone)
+}
+
+/// The update that adds the address of a number at a.example: 192.0, and the number's two octets.
+fn update_of(alloc: Global, number: u16) -> Result<Asked, Fail> {
+    let mut octets = hex::decode(alloc, ADD.as_bytes())?;
+    octets.truncate(octets.len().saturating_sub(2));
+    octets.extend_from_slice(&number.to_be_bytes())?;
+    match Asked::read(alloc, octets, true) {
+        Some(asked) => Ok(asked),
+        None => Err(Fail::from("an update isn't read")),
+    }
+}
+
+/// The updates that add the addresses of the numbers from one on up to another.
+fn updates_of(alloc: Global, from: u16, to: u16) -> Result<Vec<Asked>, Fail> {
+    let mut asked = Vec::new(alloc);
+    for number in from..to {
+        asked.push(update_of(alloc, number)?)?;
+    }
+    Ok(asked)
+}
+
+/// The version that a trail ends with.
+fn last_of(trail: &Trail) -> &SharedVersion {
+    match trail.steps().last() {
+        Some(step) => step.version(),
+        None => trail.oldest(),
+    }
+}
+
+/// The updates that add the addresses of the numbers from one on up to another, judged behind a trail: each makes a version.
+pub(crate) fn group_of(
+    alloc: Global,
+    trail: &Trail,
+    from: u16,
+    to: u16,
+) -> Result<Group<SharedVersion>, Fail> {
+    let asked = updates_of(alloc, from, to)?;
+    let group = judge_group(&Rules, alloc, last_of(trail), &asked, 64)?;
+    check(
+        group.versions().len() == asked.len(),
+        "an update makes no version",
+    )?;
+    Ok(group)
+}
+
+/// Brings them to a store, as one batch: whether it is kept.
+pub(crate) fn send<R: Wait>(
+    rt: &R,
+    alloc: Global,
+    writer: &mut StoreWriter<FileDisk>,
+    from: u16,
+    to: u16,
+) -> Result<bool, Fail> {
+    let mut group = group_of(alloc, writer.trail(), from, to)?;
+    Ok(writer.append(rt, alloc, &mut group).is_none())
+}

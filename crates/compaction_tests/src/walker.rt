@@ -1,0 +1,203 @@
+//! A store whose compactions come in any order, and whose files can't always be written.
+use crate::found::{found_in, has_trail};
+use crate::random::Random;
+use crate::updates::{begin, check, send};
+use compaction::{NextText, StoreWriter};
+use compaction_files::{create_next_text, drop_old_texts, replace_with_next, write_next_text};
+use file_disks::FileDisk;
+use journal::Head;
+use std::fs;
+use std::sync::Wait;
+use std::test::Fail;
+use store_files::PairFault;
+
+/// The folder of the test.
+pub(crate) const DIR: &str = "compaction_tests_walk";
+
+/// Its journal.
+const JOURNAL: &str = "compaction_tests_walk/journal";
+
+/// Its journal that isn't renamed yet.
+const NEW_JOURNAL: &str = "compaction_tests_walk/journal.new";
+
+/// Where its journal is put aside.
+const ASIDE: &str = "compaction_tests_walk/aside";
+
+/// A store that is written, and what is known of it by who walks.
+#[derive(Drop)]
+pub(crate) struct Walker {
+    writer: StoreWriter<FileDisk>,
+    random: Random,
+    /// The number of the address that is added next.
+    next: u16,
+    /// How many updates are kept.
+    kept: u32,
+    /// The greatest number that a text was given.
+    given: u64,
+    /// Whether a compaction is under way.
+    under_way: bool,
+    /// The head of its text, once that is written.
+    head: Option<Head>,
+    /// Whether nobody knows which of two journals a start finds.
+    stuck: bool,
+}
+
+impl Walker {
+    /// A store that begins.
+    pub(crate) fn begin(files: &HostRuntime, seed: u64) -> Result<Walker, Fail> {
+        Ok(Walker {
+            writer: begin(files, DIR)?,
+            random: Random(seed),
+            next: 1,
+            kept: 0,
+            given: 0,
+            under_way: false,
+            head: None,
+            stuck: false,
+        })
+    }
+
+    /// Takes a step.
+    pub(crate) fn step<R: Wait>(&mut self, rt: &R, files: &HostRuntime) -> Result<(), Fail> {
+        match self.random.below(10) {
+            0 => self.write_text(rt, files),
+            1 => self.write_late(rt, files),
+            2 => self.fail_to_create(rt, files),
+            3 => self.replace(rt, files),
+            4 => self.fail_to_lay(rt, files),
+            5 => self.fail_to_rename(rt, files),
+            6 => self.drop_old(files),
+            _ => self.send(rt, files),
+        }
+    }
+
+    /// Fails where a start of the folder hasn't the versions of the trail, or another last one than that of the updates that are kept.
+    pub(crate) fn expect_all(&self, files: &HostRuntime) -> Result<(), Fail> {
+        let start = found_in(files, DIR)?;
+        let all = has_trail(files.alloc(), &start, self.writer.trail())?;
+        check(all, "versions are lost")?;
+        let serial = start.newest.last.serial().0;
+        check(serial == self.kept.wrapping_add(7), "updates are lost")
+    }
+
+    /// Sends up to three updates as one batch.
+    fn send<R: Wait>(&mut self, rt: &R, files: &HostRuntime) -> Result<(), Fail> {
+        let from = self.next;
+        let count = 1 + (self.random.below(3) & 3) as u16;
+        self.next = from.saturating_add(count);
+        let kept = send(rt, files.alloc(), &mut self.writer, from, self.next)?;
+        if kept {
+            self.kept = self.kept.wrapping_add(u32::from(count));
+        }
+        check(kept != self.stuck, "a batch")
+    }
+
+    /// Begins a compaction, in place of the one that is under way, if one is.
+    fn begin_text<R: Wait>(&mut self, rt: &R, files: &HostRuntime) -> Result<NextText, Fail> {
+        let Some(next) = self.writer.begin_compaction(rt, files.alloc())? else {
+            return Err(Fail::from("no number is left"));
+        };
+        self.given = self.given.wrapping_add(1);
+        self.under_way = true;
+        self.head = None;
+        check(next.number == self.given, "a number is given again")?;
+        Ok(next)
+    }
+
+    /// Writes a text that is begun: the head of its journal.
+    fn write(&self, files: &HostRuntime, next: &NextText) -> Result<Head, Fail> {
+        let file = create_next_text(files, files.alloc(), DIR, next)?;
+        let before = self.writer.head();
+        Ok(write_next_text(files.alloc(), file, next, before, [9; 16])?)
+    }
+
+    /// Begins a compaction, and writes its text.
+    fn write_text<R: Wait>(&mut self, rt: &R, files: &HostRuntime) -> Result<(), Fail> {
+        let next = self.begin_text(rt, files)?;
+        self.head = Some(self.write(files, &next)?);
+        Ok(())
+    }
+
+    /// The head of the text that is written, if one is; else one is written.
+    fn written<R: Wait>(&mut self, rt: &R, files: &HostRuntime) -> Result<Head, Fail> {
+        if self.head.is_none() {
+            self.write_text(rt, files)?;
+        }
+        match self.head {
+            Some(head) => Ok(head),
+            None => Err(Fail::from("no text is written")),
+        }
+    }
+
+    /// Writes a text late, behind that of a later one: it gets no journal.
+    fn write_late<R: Wait>(&mut self, rt: &R, files: &HostRuntime) -> Result<(), Fail> {
+        let early = self.begin_text(rt, files)?;
+        self.write_text(rt, files)?;
+        let head = self.write(files, &early)?;
+        let done = replace_with_next(files, files.alloc(), DIR, &mut self.writer, head)?;
+        check(!done, "a text that is written late has a journal")
+    }
+
+    /// Begins a compaction whose text can't be written: a folder has its name.
+    fn fail_to_create<R: Wait>(&mut self, rt: &R, files: &HostRuntime) -> Result<(), Fail> {
+        let next = self.begin_text(rt, files)?;
+        let path = format!(in files.alloc(); "{DIR}/zone-{}", next.number)?;
+        fs::create_dir(files, path.as_str())?;
+        let told = create_next_text(files, files.alloc(), DIR, &next);
+        check(told.is_err(), "a folder is written")?;
+        fs::remove_dir(files, path.as_str())?;
+        Ok(())
+    }
+
+    /// Puts the journal of a text in place.
+    fn replace<R: Wait>(&mut self, rt: &R, files: &HostRuntime) -> Result<(), Fail> {
+        let head = self.written(rt, files)?;
+        self.head = None;
+        self.under_way = false;
+        self.stuck = false;
+        let done = replace_with_next(files, files.alloc(), DIR, &mut self.writer, head)?;
+        check(done, "no journal is in place")
+    }
+
+    /// The same, where the journal can't be written: the store is as it was, and the same is tried again later.
+    fn fail_to_lay<R: Wait>(&mut self, rt: &R, files: &HostRuntime) -> Result<(), Fail> {
+        let head = self.written(rt, files)?;
+        let _ = fs::remove_file(files, NEW_JOURNAL);
+        fs::create_dir(files, NEW_JOURNAL)?;
+        let told = replace_with_next(files, files.alloc(), DIR, &mut self.writer, head);
+        fs::remove_dir(files, NEW_JOURNAL)?;
+        check(matches!(told, Err(PairFault::Before(_))), "it is laid")
+    }
+
+    /// The same, where the journal can't be renamed: nobody knows which of the two a start finds, and it is one of them.
+    fn fail_to_rename<R: Wait>(&mut self, rt: &R, files: &HostRuntime) -> Result<(), Fail> {
+        let head = self.written(rt, files)?;
+        self.head = None;
+        self.under_way = false;
+        self.stuck = true;
+        fs::rename(files, JOURNAL, ASIDE)?;
+        fs::create_dir(files, JOURNAL)?;
+        let told = replace_with_next(files, files.alloc(), DIR, &mut self.writer, head);
+        fs::remove_dir(files, JOURNAL)?;
+        check(matches!(told, Err(PairFault::Unknown(_))), "it is renamed")?;
+        self.find_either(files)
+    }
+
+    /// Puts one of two journals in place, which a start then finds.
+    fn find_either(&mut self, files: &HostRuntime) -> Result<(), Fail> {
+        let found = if self.random.below(2) == 0 {
+            ASIDE
+        } else {
+            NEW_JOURNAL
+        };
+        fs::rename(files, found, JOURNAL)?;
+        Ok(())
+    }
+
+    /// Removes the texts that aren't needed: none where one may be that isn't the store's.
+    fn drop_old(&mut self, files: &HostRuntime) -> Result<(), Fail> {
+        let done = drop_old_texts(files, DIR, &self.writer)?;
+        let settled = !self.under_way && !self.stuck;
+        check(done == settled, "texts that are needed")
+    }
+}
