@@ -3,7 +3,7 @@
 update that was answered NOERROR, and none that wasn't sent; its serial has gone up by one for each update that it has, and no zone texts are left over. In a third of the
 times so few updates come that the serial that was held before the kill is at most as far back as versions are kept: then a transfer of what changed since has to come as
 that, over TCP, and whatever comes has to make the zone in whole of what was held (RFC 1995). In a quarter of the times updates come by TCP, else by UDP. A new folder is
-begun each few times.
+begun each few times; `-- --journal 20000` has its journal begun anew many times before.
   --disk         the folder is left as a power cut could have left it, by tests/crash_disk.py: of what wasn't synced, whatever chance keeps. In half of the times the server
                  is killed in front of one of its calls to the disk, also while it starts, and in an eighth a call fails. No other start may end by itself
   --secondaries  NSD and BIND follow the server, by NOTIFY and by refreshes of two seconds. In each round both hold the serial, then at most as many updates come as

@@ -49,12 +49,14 @@ class Served:
         return None, said
 
     def drain(self):
-        """What the log has had since, which nobody needs."""
+        """What the log has had since."""
+        said = b""
         try:
-            while os.read(self.process.stderr.fileno(), 1 << 16):
-                pass
+            while more := os.read(self.process.stderr.fileno(), 1 << 16):
+                said += more
         except BlockingIOError:
             pass
+        return said.decode()
 
     def has_ended(self):
         return self.process.poll() is not None

@@ -6,7 +6,7 @@
   aborted: a plain `mount -o remount,ro` is refused while a file is open for writing): updates are told SERVFAIL, queries and transfers go on, and the zone
   is the one of what was answered NOERROR. A start over the folder while it is so serves or ends with status 3; one behind that has all that was answered, and takes updates.
 - Each of the first 40 writes, cuts, syncs and renames, or as many as --faults says, fails in turn: the same. A start over the same folder, and over one that a power cut could
-  have left there, has all that was answered NOERROR; of what was told SERVFAIL it may have some, and nothing that wasn't sent.
+  have left there, has all that was answered NOERROR; of what was told SERVFAIL it may have some, and nothing that wasn't sent. The log has a line when updates aren't kept any more, and none for each of them, and one when they are again.
 - With the option --journal behind `--`: on a disk with room for three zone texts, 4,000 updates, whose journal is longer than the disk, are all told NOERROR.
 With --goes-on the server has also to take updates again by itself, within 20 seconds from the end of the fault.
 Usage: tests/slow_disk.py PROGRAM [--only times|bursts|full|cramped|immutable|aborted|faults] [--seconds N] [--turns N] [--within MS] [--records N] [--faults N] [--first N] [--count N]
@@ -61,9 +61,10 @@ class Store:
 
     def __init__(self, trial, folder):
         self.trial, self.folder, self.server = trial, folder, None
-        self.sent, self.answered, self.wrong = 0, set(), []
+        self.sent, self.answered, self.wrong, self.log = 0, set(), [], ""
 
     def start(self, environment=None):
+        self.log = ""
         self.server = crash_server.Served(self.trial.program, self.folder, self.trial.zone, self.trial.options, environment=environment)
 
     def end(self):
@@ -86,7 +87,7 @@ class Store:
                 code = client.recv(2000)[3] & 15
             except OSError:
                 code = None
-        self.server.drain()
+        self.log += self.server.drain()
         if code == 0:
             self.answered.add(self.sent)
         self.expect(code in (0, SERVFAIL), f"update {self.sent} is told {code}")
@@ -104,6 +105,12 @@ class Store:
                 return True
             time.sleep(0.5)
         return False
+
+    def has_told(self, name, faults, ends):
+        """So many lines of the log tell that updates aren't kept, and so many that they are again."""
+        self.log += self.server.drain()
+        told = self.log.count("updates aren't kept: "), self.log.count("updates are kept again")
+        self.expect(told == (faults, ends), f"{name}: the log tells {told[0]} times that updates aren't kept, and {told[1]} that they are again")
 
     def asks(self, name):
         """Queries are answered, and a transfer is the zone with what was answered, and nothing else."""
@@ -155,11 +162,14 @@ def faulty(trial, store, begin, end):
     store.expect(store.update_until(SERVFAIL, 2000), "no update is told SERVFAIL")
     store.asks("beside the fault")
     store.expect(not store.update_until(0, 3), "an update is taken beside the fault")
+    time.sleep(0.1)
+    store.has_told("beside the fault", 1, 0)
     if trial.args.goes_on and end:
         end()
         store.expect(store.goes_on(), f"no update is taken {GOES_ON} s behind the fault")
         store.expect(not store.update_until(SERVFAIL, 10), "an update isn't taken when it goes on")
         store.asks("when it goes on")
+        store.has_told("when it goes on", 1, 1)
         begin()
         store.update_until(SERVFAIL, 2000)
     store.end()
