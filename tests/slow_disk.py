@@ -7,7 +7,7 @@
   is the one of what was answered NOERROR. A start over the folder while it is so serves or ends with status 3; one behind that has all that was answered, and takes updates.
 - Each of the first 40 writes, cuts, syncs and renames, or as many as --faults says, fails in turn: the same. A start over the same folder, and over one that a power cut could
   have left there, has all that was answered NOERROR; of what was told SERVFAIL it may have some, and nothing that wasn't sent. The log has a line when updates aren't kept any more, and none for each of them, and one when they are again.
-- With the option --journal behind `--`: on a disk with room for three zone texts, 4,000 updates, whose journal is longer than the disk, are all told NOERROR.
+- With the option --journal behind `--`: on a small disk 8,000 updates, whose journal would be three times as long as it, are all told NOERROR.
 With --goes-on the server has also to take updates again by itself, within 20 seconds from the end of the fault.
 Usage: tests/slow_disk.py PROGRAM [--only times|bursts|full|cramped|immutable|aborted|faults] [--seconds N] [--turns N] [--within MS] [--records N] [--faults N] [--first N] [--count N]
 [--goes-on] [-- OPTION ..], by default 3 turns of 5 seconds over a zone of 1000 records; --first is the first call that fails, and --count how many in a row do. The options are
@@ -32,7 +32,7 @@ GOES_ON = 20
 MANY = 1 << 24
 SERVFAIL = 2
 BURST = 200
-CRAMPED = 4000
+CRAMPED = 8000
 
 
 class Trial:
@@ -227,7 +227,7 @@ def cramped(trial):
         raise Unable("it wants the option --journal, as -- --journal 4K")
     folder, number = trial.folder(), 0
     store = Store(trial, folder)
-    with mounted(folder, "-t", "tmpfs", "-o", "size=64k", "tmpfs"):
+    with mounted(folder, "-t", "tmpfs", "-o", "size=256k", "tmpfs"):
         try:
             store.start()
             while number < CRAMPED and not store.wrong:
