@@ -4,15 +4,17 @@ Usage: tests/gate_times.py record LOG COMMAND [WORD..]   runs the command, which
                                                          that it made to LOG; its status is the command's
        tests/gate_times.py show LOG.. [--cores N]        prints a table of the crates in these logs, dearest first, their sums, and how long
                                                          so many cores (2) need for the same checks, in the order that `rt ci` takes
-A line of a log is: the crate, what was checked (proof, tests or edits), processor seconds, seconds of the clock, and when the check began,
-in seconds from the start of the run. Later logs replace what earlier ones say of a crate. It reads /proc, twice a second."""
+A line of a log is: the crate, what was done (proof, tests, edits, or program: a proved program is compiled), processor seconds, seconds of
+the clock, and when it began, in seconds from the start of the run; the last line has what the run took besides, for tests and programs as
+they ran among others. Later logs replace what earlier ones say of a crate. It reads /proc, twice a second."""
 import os
-import re
+import resource
 import subprocess
 import sys
 import time
 
 TICKS = os.sysconf("SC_CLK_TCK")
+KINDS = ("proof", "tests", "edits", "program")
 TOP = os.path.join(os.path.dirname(os.path.abspath(__file__)), "..")
 
 
@@ -39,45 +41,56 @@ def words_of(pid):
 
 
 def checked_by(words):
-    """The crate that a process checks, and what of it: None where it checks none, or only compiles what was proved."""
-    if "--crate-name" not in words or not os.path.basename(words[0]).startswith("rattle") or "--crate-checked" in words:
+    """The crate that a process works on, and what it does; None for another process."""
+    if "--crate-name" not in words or os.path.basename(words[0]) != "rattle":
         return None
     name = words[words.index("--crate-name") + 1]
+    if "--crate-checked" in words:
+        return name, "program"
     if "--test" in words:
         return name, "tests"
-    is_edit = words[1] == "check" and "-o" not in words
-    return name, "edits" if is_edit else "proof"
+    return name, "edits" if words[1] == "check" and "-o" not in words else "proof"
+
+
+class Checks:
+    """The checks below a process: what each is, its processor seconds, and when it was seen first and last."""
+
+    def __init__(self, top):
+        self.top, self.start, self.seen = top, time.time(), {}
+
+    def look(self):
+        """Looks at the processes that there are. A check's own children belong to it."""
+        now, found, below = time.time() - self.start, processes(), {}
+        for pid, (parent, _) in found.items():
+            below.setdefault(parent, []).append(pid)
+        left = [self.top]
+        while left:
+            pid = left.pop()
+            what = self.seen[pid][0] if pid in self.seen else checked_by(words_of(pid))
+            if not what:
+                left += below.get(pid, [])
+                continue
+            check = self.seen.setdefault(pid, [what, 0.0, now, now])
+            check[1], check[3] = max(check[1], self.seconds(pid, found, below)), now
+
+    def seconds(self, pid, found, below):
+        """The processor seconds of a process and of those below it."""
+        return found.get(pid, (0, 0.0))[1] + sum(self.seconds(it, found, below) for it in below.get(pid, []))
 
 
 def record(log, command):
     """Runs a command and writes a line for each check that it made."""
-    start = time.time()
     ran = subprocess.Popen(command)
-    checks = {}
+    checks = Checks(ran.pid)
     while ran.poll() is None:
-        now, found = time.time() - start, processes()
-        below = {}
-        for pid, (parent, _) in found.items():
-            below.setdefault(parent, []).append(pid)
-        left = [ran.pid]
-        while left:
-            pid = left.pop()
-            left += below.get(pid, [])
-            if pid not in checks:
-                checks[pid] = [checked_by(words_of(pid)), 0.0, now, now]
-            whole, more = 0.0, [pid]
-            while more:
-                one = more.pop()
-                whole += found.get(one, (0, 0.0))[1]
-                more += below.get(one, [])
-            checks[pid][1], checks[pid][3] = max(checks[pid][1], whole), now
-            if checks[pid][0] is None and now - checks[pid][2] < 2:
-                checks[pid][0] = checked_by(words_of(pid))
+        checks.look()
         time.sleep(0.5)
+    used = resource.getrusage(resource.RUSAGE_CHILDREN)
+    rest = used.ru_utime + used.ru_stime - sum(it[1] for it in checks.seen.values())
     with open(log, "w", encoding="utf-8") as it:
-        for what, seconds, begun, seen in checks.values():
-            if what:
-                print(*what, f"{seconds:.1f}", f"{seen - begun:.1f}", f"{begun:.1f}", file=it)
+        for what, seconds, begun, seen in checks.seen.values():
+            print(*what, f"{seconds:.1f}", f"{seen - begun:.1f}", f"{begun:.1f}", file=it)
+        print("besides rest", f"{max(rest, 0.0):.1f}", f"{time.time() - checks.start:.1f}", "0.0", file=it)
     return ran.returncode
 
 
@@ -105,7 +118,7 @@ def libraries():
 def schedule(found, cores):
     """How many seconds so many cores need for the checks: each once the crates below are proved, first those with most after them."""
     below = {it: [lib for lib in libs if (lib, "proof") in found] for it, libs in libraries().items()}
-    waits = {key: {(lib, "proof") for lib in below.get(key[0], [])} | ({(key[0], "proof")} if key[1] == "edits" else set()) for key in found}
+    waits = {key: {(lib, "proof") for lib in below.get(key[0], [])} | ({(key[0], "proof")} if key[1] in ("edits", "program") else set()) for key in found}
     after = dict.fromkeys(found, 0.0)
 
     def longest(key):
@@ -128,13 +141,15 @@ def schedule(found, cores):
 def show(logs, cores):
     """Prints the table, and returns the status."""
     found = read(logs)
+    rest = found.pop(("besides", "rest"), 0.0)
     names = {name for name, _ in found}
-    rows = {name: [found.get((name, what), 0.0) for what in ("proof", "tests", "edits")] for name in names}
-    print(f"{'crate':<20}{'proof':>8}{'tests':>8}{'edits':>8}{'seconds':>9}")
+    rows = {name: [found.get((name, what), 0.0) for what in KINDS] for name in names}
+    print(f"{'crate':<20}" + "".join(f"{it:>8}" for it in KINDS) + f"{'seconds':>9}")
     for name, row in sorted(rows.items(), key=lambda it: -sum(it[1])):
         print(f"{name:<20}" + "".join(f"{it:8.0f}" for it in row) + f"{sum(row):9.0f}")
-    sums = [sum(it) / 60 for it in zip(*rows.values())]
-    print(f"{'processor minutes':<20}" + "".join(f"{it:8.1f}" for it in sums) + f"{sum(sums):9.1f}")
+    print(f"{'besides':<52}{rest:9.0f}")
+    sums = [sum(it) / 60 for it in zip(*rows.values())] or [0.0] * len(KINDS)
+    print(f"{'processor minutes':<20}" + "".join(f"{it:8.1f}" for it in sums) + f"{sum(sums) + rest / 60:9.1f}")
     print(f"on {cores} cores, by these seconds: {schedule(found, cores) / 60:.0f} minutes of the clock")
     lacking = sorted(set(libraries()) - names)
     if lacking:
