@@ -314,14 +314,7 @@ fn serve_duties<
         faults: StoreFaults::new(log, &failing),
     };
     let served = serve_zone::<R, Brand, Log, KeptIn<'_, R, T>, StoreFaults<'_, Log>>(
-        rt,
-        alloc,
-        first,
-        later,
-        duties,
-        plan,
-        Some(handing),
-        log,
+        rt, alloc, first, later, duties, plan, handing, log,
     );
     mem::drop(lock);
     served

@@ -5,7 +5,7 @@ use dns_engine::SharedVersion;
 use links::Limits;
 use played_zones::zone;
 use serve_workers::{
-    ConnectionPlan, Duty, Muster, Plan, Progress, ServeFault, Sockets, serve_zone,
+    ConnectionPlan, Duty, Handing, Muster, Plan, Progress, ServeFault, Sockets, serve_zone,
 };
 use sockets::{Turn, bind_datagrams};
 use std::alloc::Global;
@@ -97,8 +97,13 @@ fn serve<R: Net + Threads + Wait + Clock + Sync>(
         return Err(Fail::from("no memory"));
     };
     let later = Vec::new(alloc);
+    let handing = Handing {
+        most: 8,
+        store: Store::<ToldDisk>::Nowhere,
+        faults: NoFaults,
+    };
     Ok(serve_zone::<R, Brand, NoLog, Store<ToldDisk>, NoFaults>(
-        rt, alloc, first, later, duties, plan, None, &NoLog,
+        rt, alloc, first, later, duties, plan, handing, &NoLog,
     ))
 }
 

@@ -154,11 +154,11 @@ pub(crate) fn served<R: Net + Threads + Wait + Clock + Sync>(
         return None;
     };
     let later = Vec::new(alloc);
-    let handing = Some(Handing {
+    let handing = Handing {
         most: 8,
         store: Store::<ToldDisk>::Nowhere,
         faults: NoFaults,
-    });
+    };
     Some(serve_zone::<R, Brand, Counted, Store<ToldDisk>, NoFaults>(
         rt, alloc, first, later, duties, plan, handing, log,
     ))

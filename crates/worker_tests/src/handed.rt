@@ -111,7 +111,6 @@ fn serve<R: Net + Threads + Wait + Clock + Sync>(
         return Err(Fail::from("no memory"));
     };
     let later = Vec::new(alloc);
-    let handing = Some(handing);
     Ok(serve_zone::<R, Brand, NoLog, Store<ToldDisk>, NoFaults>(
         rt, alloc, first, later, duties, plan, handing, &NoLog,
     ))

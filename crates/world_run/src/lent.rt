@@ -36,9 +36,7 @@ impl<'a> Handle<'a> {
     pub fn copy(&self) -> Handle<'a>
         ensures { result ≡ self.now }
     {
-        Handle {
-            octets: self.octets,
-        }
+        Handle::new(self.octets)
     }
 }
 

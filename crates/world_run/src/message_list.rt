@@ -1,5 +1,5 @@
 //! The messages of a transfer (RFC 5936, 2.2).
-ghost use Rattle.std.specs.Prelude.{◌≡◌, ◌++◌, ◌∷◌, [], IfOk, OnOk, IfErr};
+ghost use Rattle.std.specs.Prelude.{◌≡◌, ◌++◌, ◌∷◌, [], vec_len, IfOk, OnOk, IfErr};
 
 use crate::fault::WorldFault;
 use crate::step::Octets;
@@ -38,15 +38,24 @@ pub(crate) fn all_messages<C: ChainView>(
     ensures ok { IfOk result (λ list. list ≡ packer.entry) }
     ensures refused { IfErr result (λ fault. fault ≡ WorldFault.NoMemory) }
 {
-    let Ok(mut out) = vec![in alloc; 0_u8; MAX_MESSAGE] else {
-        return Err(WorldFault::NoMemory);
-    };
+    let mut out = room_for_message(alloc)?;
     let mut left = packer;
     let mut items = Vec::new(alloc);
     while let Some(len) = left.next_message(&mut out) {
         put_message(alloc, &mut items, &out[..len])?;
     }
     Ok(MessageList { items })
+}
+
+/// Room for a message. What is in it isn't told: a goal in which so many zeros stand is computed octet by octet.
+fn room_for_message(alloc: Global) -> Result<Vec<u8>, WorldFault>
+    ensures ok { IfOk result (λ room. vec_len room ≡ MAX_MESSAGE) }
+    ensures refused { IfErr result (λ fault. fault ≡ WorldFault.NoMemory) }
+{
+    match vec![in alloc; 0_u8; MAX_MESSAGE] {
+        Ok(room) => Ok(room),
+        Err(_) => Err(WorldFault::NoMemory),
+    }
 }
 
 /// One message more, of these octets.
