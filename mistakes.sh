@@ -1,7 +1,7 @@
 #!/usr/bin/env bash
 # Tries the edits of crates/NAME/mistakes/, each a believable mistake in the crate's code, which the prover must refuse (try_edits.py: many in
 # one check), and those of crates/NAME/mistakes/by_test/, which no contract meets, so that a test must fail in one of the crates of tests that
-# use the crate; of the crates given, else of all.
+# use the crate, or else a row of tests/rows over the program, compiled with the mistake; of the crates given, else of all.
 # It changes no file of the repository but what checks keep in out/, prints a line an edit, and last how many were refused; its status is 1
 # where one wasn't. Usage: ./mistakes.sh [NAME ..], or make mistakes [CRATE="NAME .."]. It needs python3.
 set -euo pipefail
@@ -41,7 +41,13 @@ tests_of() {
     sed -nE "s/^(\w+_tests)( [^:]*)?:(.* )?$1( .*)?\$/\1/p" crates.txt
 }
 
-# tries an edit of a crate by the tests of other crates: one of them must fail, and the edited crate must compile
+# whether a row fails over the program as it compiles here
+rows_fail() {
+    mkdir -p "$room/program"
+    tests/compile.sh "$room/program" >/dev/null && ! DNSD=$room/program/dnsd tests/rows.sh >/dev/null
+}
+
+# tries an edit of a crate by the tests of other crates, and then by rows: one of them must fail, and the edited crate must compile
 try_by_test() {
     local name=$1 edit=$2 label said='' status='NOT REFUSED' tests
     label="by_test $name/$(basename "$edit")"
@@ -51,6 +57,9 @@ try_by_test() {
             said=$(cd "crates/$tests" && rt try --test 2>&1 || true)
             [[ $said != *'test result: FAILED'* ]] || { status='refused, as it must be' && break; }
         done
+    fi
+    if [ "$status" = 'NOT REFUSED' ] && [[ $said != *error* ]] && rows_fail; then
+        status='refused, as it must be (by a row)'
     fi
     if [ "$status" = 'NOT REFUSED' ]; then
         printf '%s: %s\n%s\n' "$label" "$status" "$(tail -5 <<<"$said")"

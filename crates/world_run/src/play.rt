@@ -1,9 +1,10 @@
 //! The zone versions in the words of a cell, the names of their owners, the versions that are kept, and the calls under way, a
 //! line at a time.
-ghost use Rattle.std.specs.Prelude.{◌≡◌, ◌∷◌, [], nat_lt, if◌then◌else◌, IsTrue, IsFalse, Some, None, IfOk, IfErr, OnOk};
+ghost use Rattle.std.specs.Prelude.{◌≡◌, ◌++◌, ◌∷◌, [], nat_lt, if◌then◌else◌, IsTrue, IsFalse, Some, None, IfOk, IfErr, OnOk};
 ghost use Rattle.world_run.specs.declared.entries.Entry.{Entry as EntryRow};
 ghost use Rattle.world_run.specs.World.{World, started, most_steps, call_of, start as says_start, names_at, weak_names_at, kept_at, entries_at, answer_at, steps_up_to, is_full as says_full, all_made as says_all_made, whole as says_whole, begin as says_begin, begin_under, next as says_next, turn as says_turn};
 ghost use Rattle.world_run.specs.declared.start.Start.TheVariants.{Takes};
+ghost use Rattle.world_run.specs.declared.step.Answer.TheVariants.{Owner};
 ghost use Rattle.world_run.specs.declared.step.WorldReply.TheVariants.{Answered};
 
 use crate::asked::reply_with;
@@ -23,6 +24,7 @@ use cell_core::WordMachine;
 use dns_rdata::{Rcode, Serial};
 use std::alloc::Global;
 use std::marker::Model;
+use std::mem;
 use zone_tree::{Version, Zone};
 
 /// The weak owner of its entry.
@@ -128,8 +130,13 @@ impl<'a> Play<'a> {
         ensures ok { IfOk result (λ reply. says_whole self.old call.now (Takes phase.entry) ≡ Some (reply, self.new)) }
         ensures limit { IfErr result (λ fault. fault ≡ WorldFault.Limit → says_whole self.old call.now (Takes phase.entry) ≡ None) }
     {
-        self.room()?;
-        self.take_all(alloc, call, phase)
+        match self.room() {
+            Ok(()) => self.take_all(alloc, call, phase),
+            Err(fault) => {
+                mem::drop(phase);
+                Err(fault)
+            }
+        }
     }
 
     /// Puts a call under way.
@@ -162,7 +169,10 @@ impl<'a> Play<'a> {
         ensures ok { IfOk result (λ reply. says_begin self.old name.now call.now (Takes phase.entry) ≡ Some (reply, self.new)) }
         ensures limit { IfErr result (λ fault. fault ≡ WorldFault.Limit → says_begin self.old name.now call.now (Takes phase.entry) ≡ None) }
     {
-        self.room()?;
+        if let Err(fault) = self.room() {
+            mem::drop(phase);
+            return Err(fault);
+        }
         give_up(&mut self.names, call);
         give_up_weakly(&mut self.weak_names, call);
         put_under_way(&mut self.calls, name, phase)?;
@@ -249,18 +259,10 @@ impl<'a> Play<'a> {
         match end {
             End::Told(answer) => Ok(answer),
             End::Owned(name, owner, number) => {
-                let Ok(octets) = name.as_slice().to_vec(alloc) else {
-                    return Err(WorldFault::NoMemory);
-                };
-                put_name(&mut self.names, name, owner)?;
-                Ok(Answer::Owner(Octets::new(octets), number))
+                put_owner(alloc, &mut self.names, name, owner, number)
             }
             End::OwnedWeakly(name, owner, number) => {
-                let Ok(octets) = name.as_slice().to_vec(alloc) else {
-                    return Err(WorldFault::NoMemory);
-                };
-                put_name(&mut self.weak_names, name, owner)?;
-                Ok(Answer::Owner(Octets::new(octets), number))
+                put_owner(alloc, &mut self.weak_names, name, owner, number)
             }
             End::NoSlot(heading) => reply_with(alloc, &heading, Rcode::ServFail),
             End::Kept(heading, owner, entry) => {
@@ -273,6 +275,25 @@ impl<'a> Play<'a> {
             End::Sent(sending) => sending.answer(alloc),
         }
     }
+}
+
+/// Puts a name into use for an owner of the version of a number, and gives what the call that got it gives.
+fn put_owner<'a>(
+    alloc: Global,
+    names: &mut Vec<Named<'a>>,
+    name: Handle<'a>,
+    owner: usize,
+    number: u64,
+) -> Result<Answer, WorldFault>
+    ensures answer { IfOk result (λ answer. answer ≡ Owner name.entry number) }
+    ensures put { OnOk result (names.new.items ≡ names.old.items ++ record { name = name.entry; owner = owner } ∷ []) }
+    ensures refused { IfErr result (λ fault. fault ≡ WorldFault.NoMemory) }
+{
+    let Ok(octets) = name.as_slice().to_vec(alloc) else {
+        return Err(WorldFault::NoMemory);
+    };
+    put_name(names, name, owner)?;
+    Ok(Answer::Owner(Octets::new(octets), number))
 }
 
 /// The entry of a first version, where there is a window.

@@ -8,6 +8,7 @@ use crate::phase::{Phase, Progress};
 use crate::published::Published;
 use cell_core::{StepFault, WordMachine, WordStep};
 use std::alloc::Global;
+use std::mem;
 
 /// The owner of the first version that is kept.
 pub(crate) const FIRST_OWNER: usize = 0;
@@ -47,7 +48,10 @@ fn go_further<'a>(
 {
     match step_once(alloc, machine, &phase)? {
         None => Ok((Progress::On(phase), false)),
-        Some(progress) => Ok((progress, true)),
+        Some(progress) => {
+            mem::drop(phase);
+            Ok((progress, true))
+        }
     }
 }
 
