@@ -20,6 +20,12 @@ badvers=00002904d0010000000000
 # told_with CODE OPT: the reply to an update with an OPT, which has the entry of its zone section (RFC 2136, 2.3; own)
 told_with() { printf '%s' "4321a80${1}0001000000000001${add:24:36}$2"; }
 
+# the query for new.example.test., type A; its reply where it is a name error, with the SOA, whose TTL is its MINIMUM (RFC 2308, 3); and where an
+# update has added its address
+new=123401000001000000000000${add:60:8}${add:24:28}00010001
+new_error=123485030001000000010000${new:24}c010000600010000012c0022036e7331c0100561646d696ec0100000000100001c2000000384001275000000012c
+new_reply=123485000001000100000000${new:24}c00c0001000100000e100004c000024d
+
 # no step
 input=$zone_text$'%\n'
 prints '' steps -
@@ -100,6 +106,132 @@ load a => a 1
 ask a $(with 123401000001000000000000$big $(taking 0239)) => 123485000001000100000001${big}c00c0010000100000e100200$letters${letters}00002904d0000000000000
 ask a $(with 123401000001000000000000$big $(taking 0238)) => 123487000001000000000001${big}00002904d0000000000000
 ask a 123401000001000000000000$big => 123487000001000000000000$big
+end
+
+# a name that only the second version has: asked of the first it is a name error (RFC 1035, 4.1.1), of the second it has its address
+plays --keep 0 --window 0 <<end
+load a => a 0
+update ${add}4d => $taken
+load b => b 1
+ask a $new => $new_error
+begin x ask b $new => $new_reply
+drop a => buried 0
+drop b => left
+end
+
+# lines that aren't enabled, behind a call that is to put a name into use: an update while one is under way, also one that can't be read; a query that is
+# sent as an update, and an update that is asked
+plays --keep 0 --window 0 <<end
+load a => a 0
+begin x load b => ok
+update $new => not enabled
+begin u update ${add}4d => ok
+load a => not enabled
+load b => not enabled
+begin y load b => not enabled
+drop b => not enabled
+drop c => not enabled
+ask b 00 => not enabled
+ask a ${add}4d => not enabled
+begin x drop a => not enabled
+next y => not enabled
+update ${add}4d => not enabled
+update 432128000000000000000000 => not enabled
+end
+
+# nobody waits for an owner that is stopped, behind its release or behind its burial: versions are loaded, published and buried
+plays --keep 0 --window 0 <<end
+load a => a 0
+update ${add}4d => $taken
+begin x drop a => ok
+next x => release
+load b => b 1
+update ${add}02 => $taken
+drop b => buried 1
+load c => c 2
+next x => bury
+update ${add}03 => $taken
+load d => d 3
+drop c => buried 2
+drop d => left
+next x => fade
+next x => reset
+next x => free buried 0
+next x => not enabled
+end
+
+# an upgrade raises what its last owner has released: the owner's bury comes late, and meets the slot's next version
+plays --keep 0 --window 0 <<end
+load a => a 0
+weak a w => w 0
+update ${add}4d => $taken
+begin x drop a => ok
+next x => release
+up w b => b 0
+fade w => ok
+drop b => buried 0
+update ${add}02 => $taken
+load c => c 2
+update ${add}03 => $taken
+begin y drop c => ok
+next y => release
+next x => bury
+next x => fade
+next x => reset
+next x => free buried 2
+next y => bury left
+load d => d 3
+end
+
+# an upgrade that has looked at a version before it is buried gives none behind that; the slot is free when the weak owner has faded
+plays --keep 0 --window 0 <<end
+load a => a 0
+copy a b => b 0
+weak b w => w 0
+update ${add}4d => $taken
+drop b => left
+begin x drop a => ok
+next x => release
+begin z up w c => ok
+fade w => not enabled
+up w d => not enabled
+next z => look
+next x => bury
+next z => raise none
+next x => fade buried 0
+up w c => none
+begin y fade w => ok
+next y => fade
+next y => reset
+next y => free ok
+fade w => not enabled
+end
+
+# a second update, a step at a time, where one version beside the last is kept, and where two are: slots 0 and 1 are in use, and the first version is given
+# up where it is the third one
+steps_of_an_update="update ${add}4d => $taken
+begin u update ${add}02 => ok
+next u => probe
+next u => probe
+next u => probe
+next u => prepare
+next u => swap
+next u => settle
+next u => load"
+plays --keep 1 --window 0 <<end
+$steps_of_an_update
+next u => release
+next u => release
+next u => bury
+next u => fade
+next u => reset
+next u => free $taken
+next u => not enabled
+end
+plays --keep 2 --window 0 <<end
+$steps_of_an_update
+next u => release $taken
+next u => not enabled
 end
 
 # an owner that is dropped, and an update, a step at a time: behind its swap its version is loaded, and another update isn't enabled before it
