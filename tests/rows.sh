@@ -1,8 +1,8 @@
 #!/usr/bin/env bash
 # Tries the program over tables: each file of tests/rows is a table of rows, which say what dnsd prints over which words and input, and
 # with which status it ends. What is expected stands in the tables, from the RFCs' text or worked by hand. It prints a line for each row
-# that fails, nothing else, and its status is 1 where one did. It opens no socket. Usage: [DNSD=PROGRAM] tests/rows.sh [FILE..]. It needs
-# the program that `make dnsd` or `make test` builds.
+# that fails, nothing else, and its status is 1 where one did. It listens on no socket. Usage: [DNSD=PROGRAM] tests/rows.sh [FILE..]. It
+# needs the program that `make dnsd` or `make test` builds, sha256sum and flock.
 set -euo pipefail
 cd "$(dirname "$0")/.."
 export LC_ALL=C
