@@ -1,8 +1,8 @@
 #!/usr/bin/env bash
 # Tries the program over tables: each file of tests/rows is a table of rows, which say what dnsd prints over which words and input, and
 # with which status it ends. What is expected stands in the tables, from the RFCs' text or worked by hand. It prints a line for each row
-# that fails, and last 'N passed, N failed'; its status is 1 where one failed. It opens no socket. Usage: [DNSD=PROGRAM] tests/rows.sh
-# [FILE..]. It needs the program that `make dnsd` or `make prove` builds, or the one that DNSD names.
+# that fails, and last 'N passed, N failed'; its status is 1 where one failed. It listens on no socket. Usage: [DNSD=PROGRAM] tests/rows.sh
+# [FILE..]. It needs the program that `make dnsd` or `make prove` builds, or the one that DNSD names, sha256sum and flock.
 set -euo pipefail
 cd "$(dirname "$0")/.."
 export LC_ALL=C

@@ -1,11 +1,12 @@
-//! Folders, and pairs that are written to them.
+//! Folders, pairs that are written to them, and what is found there.
 use file_disks::FileDisk;
 use journal::{Head, SUM, TextSum, put_update, write_head};
-use journal_store::{Disk, Log};
+use journal_store::Log;
 use std::alloc::{AllocError, Global};
+use std::io::ErrorKind;
 use std::test::Fail;
 use std::{fs, io};
-use store_files::{Opened, Pair, PairFault, StoreLock, open_store, write_pair};
+use store_files::{Opened, PairFault, open_store, read_store, write_pair};
 
 /// A folder without files.
 pub fn make_folder(rt: &HostRuntime, dir: &str) -> io::Result<()> {
@@ -25,38 +26,73 @@ pub fn begun(alloc: Global, number: u64, text: &[u8]) -> Result<(Vec<u8>, [u8; S
     write_head(alloc, &head)
 }
 
-/// The octets of one.
-pub fn journal_of(alloc: Global, number: u64, text: &[u8]) -> Result<Vec<u8>, AllocError> {
-    let (octets, _) = begun(alloc, number, text)?;
+/// Writes a zone text with a journal without updates.
+pub fn put_pair(rt: &HostRuntime, dir: &str, number: u64, text: &[u8]) -> Result<FileDisk, Fail> {
+    let (journal, _) = begun(rt.alloc(), number, text)?;
+    match write_pair(rt, rt.alloc(), dir, number, text, &journal) {
+        Ok(disk) => Ok(disk),
+        Err(PairFault::Before(_)) => Err(Fail::from("the pair before stays")),
+        Err(PairFault::Unknown(_)) => Err(Fail::from("either pair may be there")),
+    }
+}
+
+/// A zone text in front of a journal.
+pub fn joined(alloc: Global, text: &[u8], journal: &[u8]) -> Result<Vec<u8>, AllocError> {
+    let mut octets = text.to_vec(alloc)?;
+    octets.extend_from_slice(journal)?;
     Ok(octets)
 }
 
-/// Writes a zone text with a journal without updates.
-pub fn put_pair(rt: &HostRuntime, dir: &str, number: u64, text: &[u8]) -> Result<(), Fail> {
-    let journal = journal_of(rt.alloc(), number, text)?;
-    match write_pair(rt, rt.alloc(), dir, number, text, &journal) {
-        Ok(_) => Ok(()),
-        Err(PairFault::Before(fault)) => Err(Fail::from(fault)),
-        Err(PairFault::Unknown(fault)) => Err(Fail::from(fault)),
+/// A zone text in front of the journal without updates that names it by a number.
+pub fn pair_of(alloc: Global, number: u64, text: &[u8]) -> Result<Vec<u8>, AllocError> {
+    let (journal, _) = begun(alloc, number, text)?;
+    joined(alloc, text, &journal)
+}
+
+/// What is found of a store: its zone text in front of its journal, or in a word what else.
+fn octets_of(alloc: Global, opened: &Opened) -> Result<Vec<u8>, AllocError> {
+    match opened {
+        Opened::Found(_, pair) => joined(alloc, &pair.text, &pair.journal),
+        Opened::Empty(_) => b"empty".to_vec(alloc),
+        Opened::Locked => b"locked".to_vec(alloc),
+        Opened::NoText(3) => b"no text 3".to_vec(alloc),
+        Opened::NoText(_) => b"no other text".to_vec(alloc),
     }
 }
 
-/// What is found of a store that has a pair.
-pub fn found_in(rt: &HostRuntime, dir: &str) -> Result<(StoreLock, Pair), Fail> {
-    match open_store(rt, rt.alloc(), dir)? {
-        Opened::Found(lock, pair) => Ok((lock, pair)),
-        _ => Err(Fail::from("no pair is found")),
+/// The same of a folder, which may not be there.
+pub fn found(rt: &HostRuntime, dir: &str) -> io::Result<Vec<u8>> {
+    match open_store(rt, rt.alloc(), dir) {
+        Ok(opened) => Ok(octets_of(rt.alloc(), &opened)?),
+        Err(error) if error.kind() == ErrorKind::NotFound => Ok(b"not there".to_vec(rt.alloc())?),
+        Err(error) => Err(error),
     }
 }
 
-/// A store anew, whose text of six octets has the number 5, and the log of its journal.
-pub fn begun_log(rt: &HostRuntime, dir: &str) -> Result<Log<FileDisk>, Fail> {
+/// What who only reads a store finds of it: its zone text in front of its journal, or that one of them isn't there.
+pub fn read(rt: &HostRuntime, dir: &str) -> io::Result<Vec<u8>> {
+    match read_store(rt, rt.alloc(), dir) {
+        Ok((text, journal)) => Ok(joined(rt.alloc(), &text, &journal)?),
+        Err(error) if error.kind() == ErrorKind::NotFound => Ok(b"not there".to_vec(rt.alloc())?),
+        Err(error) => Err(error),
+    }
+}
+
+/// A store anew, whose text of six octets has the number 5, the log of its journal, and the salt of its frames.
+pub fn begun_log(rt: &HostRuntime, dir: &str) -> Result<(Log<FileDisk>, [u8; SUM]), Fail> {
     make_folder(rt, dir)?;
     let (head, salt) = begun(rt.alloc(), 5, b"a text")?;
-    match write_pair(rt, rt.alloc(), dir, 5, b"a text", &head) {
-        Ok(disk) => Ok(Log::resume(disk, &salt, 0, head.len() as u64)?),
-        Err(_) => Err(Fail::from("no pair")),
+    let disk = put_pair(rt, dir, 5, b"a text")?;
+    Ok((Log::resume(disk, &salt, 0, head.len() as u64)?, salt))
+}
+
+/// Appends the batch of one update.
+pub fn append(alloc: Global, log: &mut Log<FileDisk>, update: &[u8]) -> Result<(), Fail> {
+    let batch = batch_of(alloc, update)?;
+    if batch.len() < 1 << 32 && log.append(alloc, &batch).is_ok() {
+        return Ok(());
     }
+    Err(Fail::from("no batch is appended"))
 }
 
 /// The batch of one update.
@@ -66,9 +102,4 @@ pub fn batch_of(alloc: Global, update: &[u8]) -> Result<Vec<u8>, AllocError> {
         put_update(&mut batch, update)?;
     }
     Ok(batch)
-}
-
-/// Whether a batch is appended.
-pub fn append(alloc: Global, log: &mut Log<FileDisk>, batch: &[u8]) -> bool {
-    batch.len() < 1 << 32 && log.append(alloc, batch).is_ok()
 }

@@ -4,9 +4,9 @@
 #[cfg(test)]
 mod folders;
 #[cfg(test)]
-mod held;
+mod found;
 #[cfg(test)]
-mod others;
+mod kept;
 #[cfg(test)]
 mod pairs;
 #[cfg(test)]

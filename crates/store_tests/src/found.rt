@@ -1,0 +1,82 @@
+//! What is found of folders, and stores that are held.
+use crate::folders::{found, make_folder, pair_of, put_pair, read};
+use std::fs;
+use std::test::Fail;
+use store_files::open_store;
+
+/// A folder: its files, what is found of it, and what who only reads finds.
+#[derive(Drop)]
+struct Case {
+    files: &'static [(&'static str, &'static [u8])],
+    opened: &'static [u8],
+    told: &'static [u8],
+}
+
+/// Folders without a journal, also with what a crash has left of a pair; and one whose journal begins with no head, which is found with no text, whatever texts are there.
+const CASES: [Case; 3] = [
+    Case {
+        files: &[],
+        opened: b"empty",
+        told: b"not there",
+    },
+    Case {
+        files: &[("zone-0", b"half of a text"), ("journal.new", b"half")],
+        opened: b"empty",
+        told: b"not there",
+    },
+    Case {
+        files: &[("zone-0", b"a text"), ("journal", b"no head")],
+        opened: b"no head",
+        told: b"no head",
+    },
+];
+
+/// Lays files in a folder that has no others.
+fn lay(rt: &HostRuntime, dir: &str, files: &[(&str, &[u8])]) -> Result<(), Fail> {
+    make_folder(rt, dir)?;
+    for (name, octets) in files {
+        let path = format!(in rt.alloc(); "{dir}/{name}")?;
+        fs::write(rt, path.as_str(), *octets)?;
+    }
+    Ok(())
+}
+
+// What is found of folders. A journal whose text is gone is told by the text's number, and isn't taken for an empty store. Where no folder is none is made.
+#[test]
+fn what_is_found(rt: HostRuntime) -> Result<(), Fail> {
+    let dir = "store_tests_found";
+    for (at, case) in CASES.iter().enumerate() {
+        lay(&rt, dir, case.files)?;
+        let (told, opened) = (read(&rt, dir)?, found(&rt, dir)?);
+        let right = told.as_slice() == case.told && opened.as_slice() == case.opened;
+        assert!(rt; right, "folder {at}");
+    }
+    put_pair(&rt, dir, 3, b"a text")?;
+    fs::remove_file(&rt, "store_tests_found/zone-3")?;
+    assert_eq!(rt; found(&rt, dir)?.as_slice(), b"no text 3".as_slice());
+    assert_eq!(rt; read(&rt, dir)?.as_slice(), b"not there".as_slice());
+    fs::remove_dir_all(&rt, dir)?;
+    assert_eq!(rt; found(&rt, dir)?.as_slice(), b"not there".as_slice());
+    Ok(())
+}
+
+// A second open is refused while the first holds the store, and finds it once that is dropped (flock(2)). Who only reads isn't refused.
+#[test]
+fn one_holds_a_store(rt: HostRuntime) -> Result<(), Fail> {
+    let dir = "store_tests_held";
+    make_folder(&rt, dir)?;
+    let first = open_store(&rt, rt.alloc(), dir)?;
+    let mut told = found(&rt, dir)?;
+    put_pair(&rt, dir, 0, b"a text")?;
+    told.extend_from_slice(&found(&rt, dir)?)?;
+    told.extend_from_slice(&read(&rt, dir)?)?;
+    drop(first);
+    told.extend_from_slice(&found(&rt, dir)?)?;
+    let pair = pair_of(rt.alloc(), 0, b"a text")?;
+    let mut right = b"lockedlocked".to_vec(rt.alloc())?;
+    right.extend_from_slice(&pair)?;
+    right.extend_from_slice(&pair)?;
+    assert_eq!(rt; told, right);
+    fs::remove_dir_all(&rt, dir)?;
+    Ok(())
+}

@@ -1,0 +1,30 @@
+//! What is kept beside a store.
+use crate::folders::{make_folder, read};
+use std::fs;
+use std::test::Fail;
+use store_files::{keep_pair, keep_torn};
+
+// Torn ends are kept beside one another, and so are pairs, each in a folder in which it is found again.
+#[test]
+fn what_is_kept(rt: HostRuntime) -> Result<(), Fail> {
+    let dir = "store_tests_kept";
+    make_folder(&rt, dir)?;
+    let mut told = Vec::new(rt.alloc());
+    for octets in [b"first, ".as_slice(), b"second; "] {
+        let path = keep_torn(&rt, rt.alloc(), dir, octets)?;
+        told.extend_from_slice(path.as_bytes())?;
+        told.extend_from_slice(&fs::read(&rt, path.as_str())?)?;
+    }
+    for text in [b"text, ".as_slice(), b"other, "] {
+        let path = keep_pair(&rt, rt.alloc(), dir, 3, text, b"no head; ")?;
+        told.extend_from_slice(path.as_bytes())?;
+        told.extend_from_slice(&fs::read(&rt, format!(in rt.alloc(); "{path}/zone-3")?.as_str())?)?;
+        told.extend_from_slice(&read(&rt, &path)?)?;
+    }
+    assert_eq!(rt;
+        String::from_utf8_lossy(rt.alloc(), &told)?.as_str(),
+        "store_tests_kept/torn-1first, store_tests_kept/torn-2second; store_tests_kept/old-1text, no head; store_tests_kept/old-2other, no head; "
+    );
+    fs::remove_dir_all(&rt, dir)?;
+    Ok(())
+}

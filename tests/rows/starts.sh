@@ -1,0 +1,313 @@
+# What a server begins with whose updates last: what `dnsd serve --store` tells at its start, what it leaves in the store's folder, and the zone that `dnsd zone` prints of
+# that. Each run ends in front of its first request: its address is none of a machine (RFC 5737, 3). The sums of heads and frames are made by `sha256sum`.
+store=$room/begun
+nowhere="error: 192.0.2.1:5353 can't be listened on by TCP: the address isn't one of this machine's"
+
+# zones of serials 6, 7 and 9; the second with an address at a.example, which an update adds that Python put together (RFC 2136, 2); a text that is no zone
+six=$'example. 3600 IN SOA ns.example. host.example. 6 1 1 1 1\nexample. 3600 IN NS ns.example.\n'
+seven=${six/ 6 / 7 }
+nine=${six/ 6 / 9 }
+with_a=${six/ 6 / 8 }$'a.example. 300 IN A 192.0.2.1\n'
+none=$'example. 3600 IN NS ns.example.\n'
+add_a=000128000001000000010000076578616d706c6500000600010161076578616d706c6500000100010000012c0004c0000201
+
+# sum_of TEXT: how many octets it has, in eight octets, and their SHA-256
+sum_of() {
+    printf '%016x%s' ${#1} "$(printf %s "$1" | sha256sum | cut -c1-64)"
+}
+
+# octets HEX: prints these octets
+octets() {
+    # shellcheck disable=SC2059
+    printf "$(sed 's/../\\x&/g' <<<"$1")"
+}
+
+# head_of NUMBER RANDOM TEXT SERIAL ORIGIN: the head of the journal of the zone text of a number, with these random octets; ORIGIN is the text that all began from
+head_of() {
+    local head
+    head=646e7364206a6f75726e616c2c20310a$(printf %016x "$1")$2$(sum_of "$3")$(printf %08x "$4")$(sum_of "$5")
+    printf %s%s "$head" "$(octets "$head" | sha256sum | cut -c1-64)"
+}
+
+# frame_of HEAD NUMBER UPDATE: the frame of this number, with a batch of one update, behind a head
+frame_of() {
+    local framed
+    framed=$(printf '%08x%016x%04x%s' $((${#3} / 2 + 2)) "$2" $((${#3} / 2)) "$3")
+    printf %s%s "$framed" "$(octets "${1: -64}$framed" | sha256sum | cut -c1-64)"
+}
+
+# lays_store NUMBER TEXT JOURNAL: the folder has the zone text of this number, and a journal of these octets, and nothing else
+lays_store() {
+    rm -rf "$store"
+    mkdir "$store"
+    printf %s "$2" >"$store/zone-$1"
+    octets "$3" >"$store/journal"
+}
+
+# starts TEXT TOLD [WORD..]: a server whose operator names this zone text begins, and tells this of it; nothing where that is empty
+starts() {
+    input=$1
+    local right=${2:+$2$'\n'}$nowhere
+    shift 2
+    says 3 "$right" serve --listen 192.0.2.1:5353 --store "$store" "$@" -
+}
+
+# stops STATUS TEXT LINE [WORD..]: it doesn't, and ends with the status and this line, which is the first of the errors; the journal stays as it was
+stops() {
+    local status=$1 line=$3 before
+    before=$(journal_now)
+    input=$2
+    shift 3
+    refuses "$status" "$line" serve --listen 192.0.2.1:5353 --store "$store" "$@" -
+    [ "$(journal_now)" = "$before" ] || fails "the journal was changed though nothing is served: $line"
+}
+
+# journal_now [DIR]: the octets of the store's journal
+journal_now() {
+    [ ! -f "${1:-$store}/journal" ] || od -An -v -tx1 "${1:-$store}/journal" | tr -d ' \n'
+}
+
+# holds FILE TEXT: the folder has a file of exactly this text
+holds() {
+    local found
+    IFS= read -r -d '' found <"$store/$1" || true
+    [ "$found" = "$2" ] || fails "$1 has '$found' where this is right: '$2'"
+}
+
+# has_journal OCTETS [DIR]: the store's journal has exactly these octets
+has_journal() {
+    [ "$(journal_now "${2:-}")" = "$1" ] || fails "the journal has $(journal_now "${2:-}") where this is right: $1"
+}
+
+# has_files NAME..: the folder has exactly these files, in this order, and the one that is locked
+has_files() {
+    [ "$(cd "$store" && printf '%s ' *)" = "$* " ] || fails "the folder has $(cd "$store" && echo *) where this is right: $*"
+}
+
+# prints_zone TEXT [DIR]: the zone of the store is this
+prints_zone() {
+    input=
+    prints "${1%$'\n'}" zone "${2:-$store}"
+}
+
+# a zone with an alias that goes in circles, a wildcard and a delegation, as an operator writes it, and as it is written: the SOA, then in canonical order (RFC 4034, 6.1)
+given='$ORIGIN example.test.
+$TTL 3600 ; an hour
+@ SOA ns1 admin (1 7200 900
+    1209600 300)
+ NS NS1
+www CNAME web
+WEB A 192.0.2.10
+mail MX 10 web
+*.dyn A 192.0.2.99
+loop1 CNAME loop2
+loop2 CNAME loop1
+out CNAME host.example.net.
+sub NS ns.sub
+ns.sub A 192.0.2.53
+a.b TXT x
+ns1 A 192.0.2.1
+'
+written='example.test. 3600 IN SOA ns1.example.test. admin.example.test. 1 7200 900 1209600 300
+example.test. 3600 IN NS ns1.example.test.
+a.b.example.test. 3600 IN TXT "x"
+*.dyn.example.test. 3600 IN A 192.0.2.99
+loop1.example.test. 3600 IN CNAME loop2.example.test.
+loop2.example.test. 3600 IN CNAME loop1.example.test.
+mail.example.test. 3600 IN MX 10 web.example.test.
+ns1.example.test. 3600 IN A 192.0.2.1
+out.example.test. 3600 IN CNAME host.example.net.
+sub.example.test. 3600 IN NS ns.sub.example.test.
+ns.sub.example.test. 3600 IN A 192.0.2.53
+web.example.test. 3600 IN A 192.0.2.10
+www.example.test. 3600 IN CNAME web.example.test.
+'
+
+# a folder without a journal is begun from the zone text, whatever a crash has left of a pair, each time with other random octets; the journal says which text is written, and
+# which one was given. Once begun it is served, and stays as it is
+salts=()
+for left in '' left; do
+    rm -rf "$store"
+    mkdir "$store"
+    [ -z "$left" ] || { printf 'half of a text' >"$store/zone-0" && repeat 500 x >"$store/journal.new"; }
+    starts "$given" "the store '$store' is begun from the zone's text"
+    has_files journal lock zone-0
+    holds zone-0 "$written"
+    begun=$(journal_now)
+    salts+=("${begun:48:32}")
+    has_journal "$(head_of 0 "${begun:48:32}" "$written" 1 "$given")"
+    prints_zone "$written"
+    starts "$given" ''
+    has_journal "$begun"
+done
+[ "${salts[0]}" != "${salts[1]}" ] || fails 'two stores have the same random octets'
+
+# while another process holds the store, by flock(2), nothing is begun nor served; who only reads it isn't refused
+exec 8>"$store/lock"
+flock -n 8 || fails 'the store is still held'
+stops 1 "$given" "error: the store '$store' is held by another server"
+prints_zone "$written"
+rm "$store/journal"
+stops 1 "$given" "error: the store '$store' is held by another server"
+[ ! -e "$store/journal" ] || fails 'a journal was made in a folder that is held'
+exec 8>&-
+starts "$given" "the store '$store' is begun from the zone's text"
+
+# a store of serial 7 with the update, in which the text of serial 6 isn't the one that it was begun from
+head=$(head_of 3 7369787465656e206f63746574732e2e "$seven" 7 "$seven")
+whole=$head$(frame_of "$head" 0 "$add_a")
+lays_store 3 "$seven" "$whole"
+starts "$seven" ''
+has_journal "$whole"
+prints_zone "$with_a"
+# room behind the last batch is cut off
+for zeros in 1 9 65536; do
+    { octets "$whole" && head -c $zeros /dev/zero; } >"$store/journal"
+    starts "$seven" ''
+    has_journal "$whole"
+done
+# what stands torn behind it is kept beside what was kept before, and cut off
+ended="the journal of '$store' ended with octets that are no whole batch: they are cut off, and kept as '$store"
+octets "${whole}746f726e" >"$store/journal"
+starts "$seven" "$ended/torn-1'"
+octets "${whole}000000000061" >"$store/journal"
+starts "$six" "the store '$store' is served, and not the zone's text: that is another one than the store was begun from, and its serial, 6, isn't greater"$'\n'"$ended/torn-2'"
+holds torn-1 torn
+[ "$(od -An -tx1 "$store/torn-2")" = ' 00 00 00 00 00 61' ] || fails 'torn-2 has other octets'
+has_journal "$whole"
+prints_zone "$with_a"
+has_files journal lock torn-1 torn-2 zone-3
+# each length of the last batch: its first three octets are zeros; the others are kept
+for ((at = 156; at < ${#whole} / 2; at++)); do
+    lays_store 3 "$seven" "${whole:0:2*at}"
+    if ((at < 160)); then
+        starts "$seven" ''
+        has_files journal lock zone-3
+    else
+        starts "$seven" "$ended/torn-1'"
+        [ "$(od -An -v -tx1 "$store/torn-1" | tr -d ' \n')" = "${whole:312:2*(at-156)}" ] || fails "torn-1 has other octets than the $at octets had behind the head"
+    fi
+    has_journal "$head"
+done
+
+# what can't be served changes nothing: a text that is no zone, a journal whose head or batch in front of another is damaged or that is none, and a text that is gone
+rm -rf "$store"
+mkdir "$store"
+stops 1 "$none" 'line 0: M11 Apex'
+has_files lock
+lays_store 3 "$seven" "${whole/7369787465656e/7369787465656d}"
+stops 1 "$seven" "error: '$store/journal' has a damaged head"
+stops 1 "$seven" "error: '$store/journal' has a damaged head" --take store
+stops 1 "$nine" "error: '$store/journal' has a damaged head" --take zone
+lays_store 3 "$seven" 'ff'
+stops 1 "$seven" "error: '$store/journal' is too short to be a journal"
+lays_store 3 "$seven" "$head${whole:312:2}f${whole:315}$(frame_of "$head" 1 "${add_a/%01/02}")"
+stops 1 "$seven" "error: '$store/journal': updates that were answered are damaged in front of octet $((${#whole} / 2)); dnsd zone --before-fault '$store' prints the zone in front of them"
+lays_store 4 "$seven" "$whole"
+stops 1 "$seven" "error: the journal of '$store' belongs to '$store/zone-3', which isn't there"
+has_files journal lock zone-4
+rm -rf "$store"
+stops 3 "$seven" "error: the store '$store' can't be read or written: No such file or directory (os error 2)"
+[ ! -e "$store" ] || fails 'a folder was made'
+
+# the text that the store was begun from isn't looked into, whatever is taken, and whatever it says
+for origin in "${six/ 6 / 11 }" "$none" ''; do
+    head=$(head_of 3 7369787465656e206f63746574732e2e "$seven" 7 "$origin")
+    lays_store 3 "$seven" "$head"
+    starts "$origin" ''
+    starts "$origin" '' --take store
+    starts "$origin" '' --take zone
+    has_journal "$head"
+done
+
+# begins_with SERIAL: a store of a zone of this serial, which was begun from another text than all others here
+begins_with() {
+    lays_store 3 "${six/ 6 / $1 }" "$(head_of 3 7369787465656e206f63746574732e2e "${six/ 6 / $1 }" "$1" 'as it was given')"
+}
+
+# another text is compared by its zone's serial (RFC 1982, 3.2): below, the same, the next, just under half the ring ahead, half of it, across the end, and back
+while read -r last serial newer; do
+    begins_with "$last"
+    if [ "$newer" = newer ]; then
+        stops 1 "${six/ 6 / $serial }" "error: the zone's text is another one than the store '$store' was begun from, and has the serial $serial, greater than the store's $last: --take store serves the store, --take zone the text, and keeps the store before beside it"
+    else
+        starts "${six/ 6 / $serial }" "the store '$store' is served, and not the zone's text: that is another one than the store was begun from, and its serial, $serial, isn't greater"
+    fi
+    prints_zone "${six/ 6 / $last }"
+done <<'end'
+10 9
+10 10
+10 11 newer
+10 2147483657 newer
+10 2147483658
+4294967295 0 newer
+0 4294967295
+end
+# and by that of the last version: seven and an update are eight
+head=$(head_of 3 7369787465656e206f63746574732e2e "$seven" 7 "$seven")
+whole=$head$(frame_of "$head" 0 "$add_a")
+lays_store 3 "$seven" "$whole"
+starts "${six/ 6 / 8 }" "the store '$store' is served, and not the zone's text: that is another one than the store was begun from, and its serial, 8, isn't greater"
+stops 1 "$nine" "error: the zone's text is another one than the store '$store' was begun from, and has the serial 9, greater than the store's 8: --take store serves the store, --take zone the text, and keeps the store before beside it"
+has_journal "$whole"
+
+# what is taken is served, whatever the serials are; a store that is taken is served whatever the text says, and a text that is no zone is told by its fault
+for serial in 7 10 11; do
+    begins_with 10
+    starts "${six/ 6 / $serial }" "the store '$store' is served, and not the zone's text" --take store
+    prints_zone "${six/ 6 / 10 }"
+    starts "${six/ 6 / $serial }" "the zone's text is served, with which the store '$store' is begun anew; the one before is kept as '$store/old-1'" --take zone
+    prints_zone "${six/ 6 / $serial }"
+done
+begins_with 10
+line=$'example. 3600 IN A 192.0.2.256\n'
+stops 1 "$line" 'line 1: M6 BadData'
+stops 1 "$line" 'line 1: M6 BadData' --take zone
+starts "$line" "the store '$store' is served, and not the zone's text" --take store
+has_files journal lock zone-3
+# names of the text are relative to the origin that is given
+starts $'@ 60 SOA ns host 9 1 1 1 1\n@ 60 NS ns\n' "the zone's text is served, with which the store '$store' is begun anew; the one before is kept as '$store/old-1'" --take zone --origin example.
+prints_zone $'example. 60 IN SOA ns.example. host.example. 9 1 1 1 1\nexample. 60 IN NS ns.example.\n'
+
+# the store before one that is taken is kept in a folder of its own, where it is a store; what a crash has left of a pair is written over; the next start takes nothing, and
+# another text is another store
+lays_store 3 "$seven" "$whole"
+printf 'half of a text' >"$store/zone-4"
+repeat 500 x >"$store/journal.new"
+starts "$nine" "the zone's text is served, with which the store '$store' is begun anew; the one before is kept as '$store/old-1'" --take zone
+has_files journal lock old-1 zone-3 zone-4
+begun=$(journal_now)
+has_journal "$(head_of 4 "${begun:48:32}" "$nine" 9 "$nine")"
+holds zone-4 "$nine"
+prints_zone "$nine"
+for taken in '' '--take store' '--take zone'; do
+    # shellcheck disable=SC2086
+    starts "$nine" '' $taken
+done
+has_journal "$begun"
+starts "$six" "the zone's text is served, with which the store '$store' is begun anew; the one before is kept as '$store/old-2'" --take zone
+has_files journal lock old-1 old-2 zone-3 zone-4 zone-5
+holds old-1/zone-3 "$seven"
+has_journal "$whole" "$store/old-1"
+prints_zone "$with_a" "$store/old-1"
+holds old-2/zone-4 "$nine"
+has_journal "$begun" "$store/old-2"
+prints_zone "$six"
+
+# a text that can't be written leaves the store
+lays_store 3 "$seven" "$whole"
+mkdir "$store/zone-4"
+stops 3 "$nine" "error: the store '$store' can't be read or written: Is a directory (os error 21)" --take zone
+prints_zone "$with_a"
+
+# only a journal that wasn't renamed, and the texts of numbers that are neither the store's nor the one before it, go; the first number has none before it
+head=$(head_of 11 7369787465656e206f63746574732e2e "$seven" 7 "$seven")
+lays_store 11 "$seven" "$head"
+touch "$store"/{journal.new,zone-0,zone-9,zone-12,zone-18446744073709551615,zone-10,torn-1,zone-,zone-9.bak,zone}
+starts "$seven" ''
+has_files journal lock torn-1 zone zone- zone-10 zone-11 zone-9.bak
+head=$(head_of 0 7369787465656e206f63746574732e2e "$seven" 7 "$seven")
+lays_store 0 "$seven" "$head"
+touch "$store"/zone-{10,11,18446744073709551615}
+starts "$seven" ''
+has_files journal lock zone-0
