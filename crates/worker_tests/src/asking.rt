@@ -169,7 +169,8 @@ fn client_of<R: Net>(rt: &R, server: &UdpSocket) -> io::Result<UdpSocket> {
 }
 
 /// Asks by datagrams, with so many IDs.
-fn ask(alloc: Global, client: &UdpSocket, (asked, count): (Asked, u16)) -> io::Result<()> {
+fn ask(alloc: Global, client: &UdpSocket, round: (Asked, u16)) -> io::Result<()> {
+    let (asked, count) = round;
     for more in 0..count {
         let frame = frame_of(alloc, asked.id.saturating_add(more), asked.message)?;
         let _ = client.send(frame.get(2..).unwrap_or(&[]))?;
@@ -178,11 +179,8 @@ fn ask(alloc: Global, client: &UdpSocket, (asked, count): (Asked, u16)) -> io::R
 }
 
 /// Whether the replies come to what was asked with so many IDs, in their order.
-fn are_replied(
-    alloc: Global,
-    client: &UdpSocket,
-    (asked, count): (Asked, u16),
-) -> io::Result<bool> {
+fn are_replied(alloc: Global, client: &UdpSocket, round: (Asked, u16)) -> io::Result<bool> {
+    let (asked, count) = round;
     for more in 0..count {
         let frame = frame_of(alloc, asked.id.saturating_add(more), asked.reply)?;
         let mut octets = [0u8; 512];
@@ -239,8 +237,9 @@ fn is_served<R: Net + Threads + Wait + Clock + Sync>(
     rt: &R,
     alloc: Global,
     case: &Case,
-    (datagrams, listener): (UdpSocket, TcpListener),
+    both: (UdpSocket, TcpListener),
 ) -> io::Result<bool> {
+    let (datagrams, listener) = both;
     let own = match case.takes {
         Takes::Datagrams => (Some(datagrams), None),
         Takes::Connections => (None, Some(listener)),

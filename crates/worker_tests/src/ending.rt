@@ -97,9 +97,10 @@ pub(crate) fn add_worker<'a>(
     alloc: Global,
     worker: usize,
     progress: &'a Progress,
-    (datagrams, listener): (Option<UdpSocket>, Option<TcpListener>),
+    own: (Option<UdpSocket>, Option<TcpListener>),
     duties: &mut Vec<Duty<'a>>,
 ) -> io::Result<()> {
+    let (datagrams, listener) = own;
     if let Some(socket) = datagrams {
         let sockets = Sockets::Datagrams(socket);
         duties.push(Duty {

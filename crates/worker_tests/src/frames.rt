@@ -11,9 +11,9 @@ pub(crate) const REPLY: &[u8] =
 
 /// A message's frame: its length, its ID, and what is behind that (RFC 1035, 4.1.1 and 4.2.2).
 pub(crate) fn frame_of(alloc: Global, id: u16, rest: &[u8]) -> Result<Vec<u8>, AllocError> {
-    let [.., high, low] = rest.len().saturating_add(2).to_be_bytes();
-    let [first, second] = id.to_be_bytes();
-    let mut octets = [high, low, first, second].to_vec(alloc)?;
+    let length = u16::try_from(rest.len().saturating_add(2)).unwrap_or(u16::MAX);
+    let mut octets = length.to_be_bytes().to_vec(alloc)?;
+    octets.extend_from_slice(&id.to_be_bytes())?;
     octets.extend_from_slice(rest)?;
     Ok(octets)
 }

@@ -102,13 +102,24 @@ impl<'g, 's, Z: FirstZone + Send + Sync, N: Naming + Send + Sync> Job for BothJo
         let Some(tray) = self.tray.take() else {
             return;
         };
-        let (mut room, mut out) = ([0u8; 65_535], [0u8; 65_535]);
-        let allowed = Allowed::new(&[]);
-        let (_end, tray) = answer_tray(rt, answering, tray, allowed, 1, gate, &mut room, &mut out);
+        let mut request = [0u8; 65_535];
+        let mut reply = [0u8; 65_535];
+        let (_end, tray) = answer_tray(
+            rt,
+            answering,
+            tray,
+            Allowed::new(&[]),
+            1,
+            gate,
+            &mut request,
+            &mut reply,
+        );
         let log = NoLog;
         let peer = Peer::over(Transport::Tcp, false);
         let mut replies = Replies::new(self.alloc, self.server, reader, &log, peer, asker(4711));
         let entrance = Entrance { gate };
+        let mut room = [0u8; 4_096];
+        let mut out = [0u8; 65_535];
         let (_end, tape) = answer_tape(
             rt,
             self.alloc,
