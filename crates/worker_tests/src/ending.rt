@@ -28,22 +28,25 @@ pub(crate) const HOST: [u8; 4] = [127, 0, 0, 1];
 /// A second, in nanoseconds.
 const SECOND: u64 = 1_000_000_000;
 
-/// What a server comes to is told by a sum. Each thread that has done what it might adds this to it,
+/// What each thread that has done what it might adds to the sum of what a server comes to.
 pub(crate) const DONE: u64 = 1;
 
-/// each that has failed this,
+/// What each thread that has failed adds.
 const FAILED: u64 = 10;
 
-/// that all have begun this,
+/// What it adds that all threads have begun.
 pub(crate) const BEGUN: u64 = 100;
 
-/// and the server's end for a reason one of these.
+/// What the server's end adds where a thread was refused.
 pub(crate) const NOT_STARTED: u64 = 1_000;
 
-pub(crate) const NO_MEMORY: u64 = 2_000;
+/// What it adds where there was no memory.
+const NO_MEMORY: u64 = 2_000;
 
+/// What it adds where a socket has failed.
 pub(crate) const DEVICE: u64 = 3_000;
 
+/// What it adds where no version could be loaded.
 const SPENT: u64 = 4_000;
 
 /// A log that adds up what it is told of threads.
