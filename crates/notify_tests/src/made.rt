@@ -1,9 +1,7 @@
-//! What the tests are made of: zones, and their versions by updates of the serial.
-use dns_message::{Head, RawRecords, Update, ZoneEntry};
+//! What the tests are made of: zones, and versions of them.
 use dns_name::Name;
-use dns_rdata::{Class, RData, RRset, RType, RawRecord, Ttl};
+use dns_rdata::{RData, RRset, RType, Ttl};
 use std::alloc::Global;
-use update_core::{Outcome, apply};
 use zone_tree::{Version, Zone};
 
 /// The names of a zone: its apex, its server and its mailbox.
@@ -21,8 +19,7 @@ pub(crate) fn name(text: &str) -> Option<Name> {
 
 /// The data of an SOA: the names of the server and of the mailbox, and the serial.
 fn soa_octets(alloc: Global, server: &Name, mailbox: &Name, serial: u32) -> Option<Vec<u8>> {
-    let mut octets = Vec::new(alloc);
-    octets.extend_from_slice(server.wire()).ok()?;
+    let mut octets = server.wire().to_vec(alloc).ok()?;
     octets.extend_from_slice(mailbox.wire()).ok()?;
     octets.extend_from_slice(&serial.to_be_bytes()).ok()?;
     octets.extend_from_slice(&TIMES).ok()?;
@@ -40,56 +37,14 @@ pub(crate) fn zone_of(alloc: Global, names: &[&str; 3], serial: u32) -> Option<Z
     let [apex, server, mailbox] = *names;
     let (apex, server, mailbox) = (name(apex)?, name(server)?, name(mailbox)?);
     let soa = soa_octets(alloc, &server, &mailbox, serial)?;
-    let mut sets = Vec::new(alloc);
-    sets.push(set_of(alloc, &apex, RType::NS, server.wire())?)
-        .ok()?;
-    sets.push(set_of(alloc, &apex, RType::SOA, &soa)?).ok()?;
-    Zone::new(alloc, sets).ok()
+    let servers = set_of(alloc, &apex, RType::NS, server.wire())?;
+    let soa = set_of(alloc, &apex, RType::SOA, &soa)?;
+    Zone::new(alloc, Vec::from_array(alloc, [servers, soa]).ok()?).ok()
 }
 
-/// The first version of the zone at `example.test.`.
-pub(crate) fn first_version(alloc: Global, serial: u32) -> Option<Version> {
-    Some(Version::first(zone_of(alloc, &NAMES, serial)?))
-}
-
-/// An update that sets the serial of the zone at `example.test.` (RFC 2136, 2.5.1).
-fn update_to(alloc: Global, serial: u32) -> Option<Update> {
-    let [apex, server, mailbox] = NAMES;
-    let (server, mailbox) = (name(server)?, name(mailbox)?);
-    let mut updates = Vec::new(alloc);
-    updates
-        .push(RawRecord {
-            owner: name(apex)?,
-            rtype: RType::SOA,
-            class: Class::IN,
-            ttl: 3600,
-            octets: soa_octets(alloc, &server, &mailbox, serial)?,
-        })
-        .ok()?;
-    Some(Update {
-        head: Head {
-            id: 1,
-            opcode: 5,
-            rd: false,
-        },
-        edns: None,
-        zone: ZoneEntry {
-            name: name(apex)?,
-            rtype: RType::SOA,
-            class: Class::IN,
-        },
-        prerequisites: RawRecords::new(Vec::new(alloc)),
-        updates: RawRecords::new(updates),
-    })
-}
-
-/// The version after one, by an update that sets the serial; None where that makes none.
-pub(crate) fn version_after(alloc: Global, version: &Version, serial: u32) -> Option<Version> {
-    if version.number() > 100_000 {
-        return None;
-    }
-    match apply(alloc, version, &update_to(alloc, serial)?, true) {
-        Outcome::Next(next) => Some(next),
-        _ => None,
-    }
+/// A version of the zone at `example.test.`, by its number and its serial.
+pub(crate) fn version_of(alloc: Global, number: u64, serial: u32) -> Option<Version> {
+    let mut version = Version::first(zone_of(alloc, &NAMES, serial)?);
+    version.renumber(number);
+    Some(version)
 }

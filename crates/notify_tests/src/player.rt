@@ -1,5 +1,5 @@
 //! A table's steps, played by a notifier.
-use crate::made::{NAMES, first_version, name, version_after};
+use crate::made::{NAMES, name, version_of};
 use dns_name::Name;
 use notify::{Due, Heard, MAX_NOTIFY, Notifier};
 use std::alloc::Global;
@@ -47,22 +47,6 @@ fn serial_in(octets: &[u8]) -> Option<u32> {
 }
 
 impl Player {
-    /// One of so many secondaries, by their numbers from 1, and a first version.
-    fn new(alloc: Global, secondaries: u8, serial: u32) -> Option<Player> {
-        let mut addresses = Vec::new(alloc);
-        for before in 0..secondaries {
-            addresses.push(address_of(before.saturating_add(1))).ok()?;
-        }
-        let [apex, ..] = NAMES;
-        Some(Player {
-            notifier: Notifier::new(alloc, &addresses, 0).ok()?,
-            version: first_version(alloc, serial)?,
-            apex: name(apex)?,
-            ids: Vec::new(alloc),
-            calls: 0,
-        })
-    }
-
     /// What is due next: to whom, and the serial that is sent, or None where it is told of.
     fn next(&mut self) -> Option<(SocketAddr, Option<u32>)> {
         let mut out = [0u8; MAX_NOTIFY];
@@ -76,46 +60,62 @@ impl Player {
         }
     }
 
-    /// What a reply is that has the ID of what was sent.
+    /// What a reply is heard as that has the ID of what was sent, by its place; None where nothing was.
     fn reply(&mut self, secondary: u8, place: usize) -> Option<Option<Heard>> {
         let [high, low] = *self.ids.get(place)?;
         let octets = [high, low, 0xa4, 0, 0, 0, 0, 0, 0, 0, 0, 0];
-        Some(
-            self.notifier
-                .receive(&self.apex, address_of(secondary), &octets),
-        )
+        let from = address_of(secondary);
+        Some(self.notifier.receive(&self.apex, from, &octets))
     }
 
-    /// Whether a step goes as it should; None where memory is refused.
-    fn step(&mut self, alloc: Global, step: Step) -> Option<bool> {
-        match step {
-            Step::Clock(now) => self.notifier.show(now),
-            Step::Serve(serial) => self.version = version_after(alloc, &self.version, serial)?,
-            Step::Sent(to, serial) => {
-                return Some(self.next() == Some((address_of(to), Some(serial))));
+    /// Whether the next version is served, of a serial; not where there is no memory for it.
+    fn serve(&mut self, alloc: Global, serial: u32) -> bool {
+        let number = self.version.number().saturating_add(1);
+        match version_of(alloc, number, serial) {
+            Some(version) => {
+                self.version = version;
+                true
             }
-            Step::Fell(to) => return Some(self.next() == Some((address_of(to), None))),
+            None => false,
+        }
+    }
+
+    /// Whether a step goes as it should.
+    fn step(&mut self, alloc: Global, step: Step) -> bool {
+        match step {
+            Step::Clock(now) => {
+                self.notifier.show(now);
+                true
+            }
+            Step::Serve(serial) => self.serve(alloc, serial),
+            Step::Sent(to, serial) => self.next() == Some((address_of(to), Some(serial))),
+            Step::Fell(to) => self.next() == Some((address_of(to), None)),
             Step::Quiet(wait) => {
                 let looked = self.notifier.next_look(self.version.number());
-                return Some(self.next().is_none() && looked == wait);
+                self.next().is_none() && looked == wait
             }
-            Step::Reply(from, place, want) => return Some(self.reply(from, place)? == want),
+            Step::Reply(from, place, want) => self.reply(from, place) == Some(want),
         }
-        Some(true)
     }
 }
 
-/// The place of the first step that doesn't go as it should, by so many secondaries and the serial of the first version; None where all
-/// do.
+/// The place of the first step that doesn't go as it should, by one secondary or two, and the serial of the first version; None in it where all do.
 pub(crate) fn first_wrong(
     alloc: Global,
-    secondaries: u8,
+    secondaries: usize,
     serial: u32,
     steps: &[Step],
 ) -> Option<Option<usize>> {
-    let mut player = Player::new(alloc, secondaries, serial)?;
+    let addresses = [address_of(1), address_of(2)];
+    let mut player = Player {
+        notifier: Notifier::new(alloc, addresses.get(..secondaries)?, 0).ok()?,
+        version: version_of(alloc, 0, serial)?,
+        apex: name(NAMES[0])?,
+        ids: Vec::new(alloc),
+        calls: 0,
+    };
     for (place, step) in steps.iter().enumerate() {
-        if !player.step(alloc, *step)? {
+        if !player.step(alloc, *step) {
             return Some(Some(place));
         }
     }
