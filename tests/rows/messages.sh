@@ -135,6 +135,7 @@ an address|#1001 name 00010001 opt|8500#1101 name 00010001 answer ours
 no data|#1001 name 00100001 opt|8500#1011 name 00100001 negative ours
 DO is copied|#1001 name 00010001 do|8500#1101 name 00010001 answer ours_do
 the upper bits of a code, and Z|#1001 root 00002910 00ff007fff 0000|8105#1001 root ours
+the upper bits of a code, DO and Z|#1001 root 00002910 00ff00ffff 0000|8105#1001 root ours_do
 options|#1001 root 000029100000000000 000c fde90000000a000400000000|8105#1001 root ours
 data that are no options|#1001 root 000029100000000000 0003 ffffff|8105#1001 root ours
 an owner that points to the root|#1001 root c00c00291000000000000000|8105#1001 root ours
@@ -202,6 +203,19 @@ type NS|#1010 changes 015a0000020001000000000016 0000 numbers|none
 class CH|#1010 changes 015a0000060003000000000016 0000 numbers|none
 a name that is cut|#1010 changes 015a0000060001000000000016 0100 numbers|none
 a second name that is cut|#1010 changes 015a0000060001000000000016 0001 numbers|none
+text
+# each that tells none is read as a query all the same: behind an OPT it gets the question and an OPT, which octets that can't be read don't
+requests "$zone" --tcp <<'text'
+no record|#1001 changes opt|8101#1001 changes ours
+two SOAs|#1021 changes soa soa opt|8101#1001 changes ours
+another type|#1011 changes address opt|8101#1001 changes ours
+an octet behind the numbers|#1011 changes c00c00060001000000000019c00cc00c00 numbers opt|8101#1001 changes ours
+another name|#1011 changes 01790000060001000000000016 0000 numbers opt|8101#1001 changes ours
+type NS|#1011 changes 015a0000020001000000000016 0000 numbers opt|8101#1001 changes ours
+class CH|#1011 changes 015a0000060003000000000016 0000 numbers opt|8101#1001 changes ours
+a name that is cut|#1011 changes 015a0000060001000000000016 0100 numbers opt|8101#1001 changes ours
+a second name that is cut|#1011 changes 015a0000060001000000000016 0001 numbers opt|8101#1001 changes ours
+an SOA|#1011 changes soa opt|8500#1101 changes 258 ours
 text
 requests "${zone/258/259}" --tcp <<'text'
 an SOA|#1010 changes soa|8500#1300 changes 259 ns 259

@@ -186,6 +186,24 @@ run_expected "$zone" answer --tcp --origin example.test. -
 sends 'serial 1' 0 'nezu A NONE 0 85458805; jain-bb A IN 3600 85458804; jain-bb A IN 3600 c029c502' 'update '
 makes 'serial 2' 'jain-bb A NONE 0 85458804; jain-bb A IN 3600 85458803' 2 00000003 jain-bb A 8500 'jain-bb A 3600 85458803; jain-bb A 3600 c029c502'
 
+# records that come to web and to mail by turns: sets that join others, grow, go and come again, and a record that isn't there; of types that
+# nobody knows, too. What then stands at both is taken record by record by hand (RFC 2136, 3.4.2; RFC 2181, 5.2; RFC 3597).
+type_numbers[ONE]=ff00
+type_numbers[OTHER]=ff01
+turns='web TXT IN 60 0161; mail TXT IN 60 0162; web ONE IN 60 01; MAIL OTHER IN 60 02; web TXT IN 30 0163; mail A NONE 0 c0000202; '
+turns+='WEB ONE ANY 0; mail TXT NONE 0 0162; web A IN 60 c0000203; mail TXT IN 60 0164; web ONE IN 90 03; mail OTHER NONE 0 09'
+at_mail='mail TXT 60 0164; mail OTHER 60 02'
+at_web='web A 60 c0000201; web A 60 c0000203; web TXT 30 0161; web TXT 30 0163; web ONE 90 03'
+sends 'two owners by turns' 0 "$turns"
+asks 'what mail then has' mail ANY 8500 "$at_mail" ''
+asks 'what web then has' web ANY 8500 "$at_web" ''
+tells 'two owners by turns: what changed' 00000001 00000002 'mail A 3600 c0000202; web A 3600 c0000201' "$at_mail; $at_web"
+run_expected '$TTL 3600
+@ NS ns1
+@ SOA . . 1 7200 900 1209600 300
+mail A 192.0.2.2
+web A 192.0.2.1' answer --tcp --origin example.test. -
+
 # the SOA before keeps its serial where the next goes round the ring (RFC 1982, 3.2)
 sends 'serial 4294967295' 0 'new A IN 3600 c000024d'
 tells 'from 4294967295 to 0' ffffffff 00000000 '' 'new A 3600 c000024d'

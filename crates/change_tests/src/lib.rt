@@ -3,8 +3,6 @@
 #![tactic(auto)]
 
 #[cfg(test)]
-mod alternating;
-#[cfg(test)]
 mod cuts;
 #[cfg(test)]
 mod ends;
@@ -20,5 +18,3 @@ mod places;
 mod reading;
 #[cfg(test)]
 mod replies;
-#[cfg(test)]
-mod requests;

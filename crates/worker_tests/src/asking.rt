@@ -48,6 +48,7 @@ struct Case {
     /// Which sockets its worker has, and how much it may do.
     takes: Takes,
     most: u64,
+    /// Whether a worker that may do nothing is beside its threads.
     has_idle: bool,
     /// What is asked by datagrams before the server begins, and what once that is replied: each with so many IDs, from its own on.
     datagrams: [(Asked, u16); 2],
