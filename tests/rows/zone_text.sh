@@ -83,6 +83,16 @@ for data in 'MX % web' 'SRV 0 0 % web' 'AAAA ::%'; do
     refuses 1 'line 270: M13 Limit' check --origin example.test -
 done
 
+# 256 records and one of them again are a set of 256
+input=$'. 5 SOA . . 1 2 3 4 5\n. 5 NS .\n'
+for number in {0..255}; do input+="many. 5 IN MX $number ."$'\n'; done
+printed=${input%$'\n'}
+printed=${printed/5 NS/5 IN NS}
+input+=$'many. 5 MX 255 .\nmany. 5 MX 0 .\n'
+prints "${printed//5 SOA/5 IN SOA}" check -
+input+=$'many. 5 MX 256 .\n'
+refuses 1 'line 261: M13 Limit' check -
+
 # equal records are one, and the last one sets the TTL of its set
 reads --origin test. <<'end'
 $TTL 60
