@@ -234,6 +234,45 @@ a 2147483647 TXT b"c"d
 =>
 a.test. 2147483647 IN TXT "b" "c" "d"
 end
+adds <<'end'
+a 5 TXT b"c d"e
+b 5 TXT """a;b(c)d"e;f
+c(5
+␉TXT)d(
+)e
+=>
+a.test. 5 IN TXT "b" "c d" "e"
+b.test. 5 IN TXT "" "a;b(c)d" "e"
+c.test. 5 IN TXT "d" "e"
+end
+# octets behind a backslash, and a CR that is at no line's end
+adds <<'end'
+a 5 TXT a\ b \" \;c \( \\ d
+b 5 TXT "a\"b" "\\" c
+c 5 TXT a␍b ␍␍c
+d 5 TXT a\␍b
+=>
+a.test. 5 IN TXT "a b" "\"" ";c" "(" "\\" "d"
+b.test. 5 IN TXT "a\"b" "\\" "c"
+c.test. 5 IN TXT "a\013b" "\013\013c"
+d.test. 5 IN TXT "a\013b"
+end
+# lines without an entry, and entries behind a parenthesis at the begin of a line
+adds <<'end'
+
+␠
+;a
+  ;b
+( ; c
+)
+(
+
+ a 5 A 1.1.1.1)
+ A 2.2.2.2
+=>
+a.test. 5 IN A 1.1.1.1
+a.test. 5 IN A 2.2.2.2
+end
 
 # The expected texts and faults from here on were computed by another program than this one. Tabs, CR LF, escapes in names, owners and TTLs left
 # out, a TTL behind its class, other origins, a comment with parentheses and a backslash at its end, an alias told again in another case, a blank

@@ -1,5 +1,7 @@
 //! Journals of which octets are turned, or that are cut, and whose frames are out of place.
-use crate::journals::{BATCHES, END, FIRST, Found, HEAD, LAST, bad_head, found, journal_of, told};
+use crate::journals::{
+    BATCHES, END, FIRST, Found, HEAD, LAST, bad_head, journal_of, recovers, told,
+};
 use journal::{HeadFault, Refused};
 use std::alloc::{AllocError, Global};
 
@@ -11,7 +13,7 @@ fn of_turned(at: usize) -> Result<Found, Refused> {
         16..HEAD => bad_head(HeadFault::WrongSum),
         HEAD..FIRST => Err(Refused::Damaged(FIRST)),
         FIRST..LAST => Err(Refused::Damaged(LAST)),
-        _ => found(2, LAST, true),
+        _ => recovers(2, LAST, true),
     }
 }
 
@@ -49,7 +51,7 @@ fn of_cut(len: usize) -> Result<Found, Refused> {
     let mut wanted = bad_head(HeadFault::Short);
     for (number, end) in [(0, HEAD), (1, FIRST), (2, LAST), (3, END)] {
         if end <= len {
-            wanted = found(number, end, len - end > 3);
+            wanted = recovers(number, end, len - end > 3);
         }
     }
     wanted
@@ -93,10 +95,10 @@ fn first_wrong_part(alloc: Global, octets: &[u8]) -> Option<usize> {
         return Some(0);
     };
     let cases: [(&[&[u8]], Result<Found, Refused>); 4] = [
-        (&[octets, &[0; 100]], found(3, END, false)),
-        (&[octets, &[0; 100], b"x"], found(3, END, true)),
+        (&[octets, &[0; 100]], recovers(3, END, false)),
+        (&[octets, &[0; 100], b"x"], recovers(3, END, true)),
         (&[front, last], Err(Refused::Damaged(FIRST))),
-        (&[octets, first], found(3, END, true)),
+        (&[octets, first], recovers(3, END, true)),
     ];
     for (at, (parts, wanted)) in cases.iter().enumerate() {
         if told_of(alloc, parts) != *wanted {

@@ -1,5 +1,5 @@
 //! What a head and frames have in them, put together by another program, whose sums are those of sha256sum.
-use crate::journals::{BATCHES, END, bad_head, found, journal_of, told};
+use crate::journals::{BATCHES, END, bad_head, journal_of, recovers, told};
 use journal::{
     HeadFault, Refused, put_update, read_all, read_frame, read_head, recover, write_frame,
 };
@@ -49,7 +49,7 @@ fn as_by_hand(rt: HostRuntime) -> Result<(), Fail> {
     let octets = journal_of(rt.alloc(), &BATCHES)?;
     assert_eq!(rt; octets.as_slice(), hand.as_slice());
     assert_eq!(rt; numbers_in(&hand), Some([3, 7, 57, 15]));
-    assert_eq!(rt; told(rt.alloc(), &hand), found(3, END, false));
+    assert_eq!(rt; told(rt.alloc(), &hand), recovers(3, END, false));
     Ok(())
 }
 
@@ -116,6 +116,6 @@ fn refused_by_name(rt: HostRuntime) -> Result<(), AllocError> {
 fn memory_is_refused(rt: HostRuntime) {
     if let Ok(octets) = journal_of(rt.alloc(), &BATCHES) {
         let told = told(rt.alloc(), &octets);
-        assert!(rt; told == found(3, END, false) || told == Err(Refused::NoMemory));
+        assert!(rt; told == recovers(3, END, false) || told == Err(Refused::NoMemory));
     }
 }

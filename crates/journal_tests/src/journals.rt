@@ -92,7 +92,7 @@ pub(crate) struct Found {
 }
 
 /// So many batches, up to an octet.
-pub(crate) fn found(number: u64, end: usize, torn: bool) -> Result<Found, Refused> {
+pub(crate) fn recovers(number: u64, end: usize, torn: bool) -> Result<Found, Refused> {
     let batches = Some(number);
     Ok(Found {
         batches,

@@ -1,5 +1,5 @@
 //! Logs that stop, and go on with another journal.
-use crate::journals::{BATCHES, END, FIRST, batch_of, found, head_of_zone, journal_of, told};
+use crate::journals::{BATCHES, END, FIRST, batch_of, head_of_zone, journal_of, recovers, told};
 use journal::{SUM, write_head};
 use journal_store::{Log, LogFault};
 use std::alloc::{AllocError, Global};
@@ -37,7 +37,7 @@ fn stopped(rt: HostRuntime) -> Result<(), Fail> {
     let is_stuck = matches!(log.append(alloc, b""), Err(LogFault::Stuck));
     assert_eq!(rt; [first, log.is_stuck(), is_stuck], [true; 3]);
     let image = log.disk().crashed(alloc, b"")?;
-    assert_eq!(rt; told(alloc, &image), found(1, FIRST, false));
+    assert_eq!(rt; told(alloc, &image), recovers(1, FIRST, false));
     Ok(())
 }
 
@@ -56,6 +56,6 @@ fn switched(rt: HostRuntime) -> Result<(), Fail> {
     let image = log.disk().crashed(alloc, b"")?;
     let whole = journal_of(alloc, &BATCHES)?;
     assert_eq!(rt; image.as_slice(), whole.as_slice());
-    assert_eq!(rt; told(alloc, &image), found(3, END, false));
+    assert_eq!(rt; told(alloc, &image), recovers(3, END, false));
     Ok(())
 }

@@ -71,20 +71,21 @@ const CASES: [(&[u8], &[u8], bool); 5] = [
 ];
 
 /// Whether the names of two texts are the same, by each call that tells it.
-fn are_same(first: &[u8], second: &[u8]) -> [bool; 4] {
+fn are_same(first: &[u8], second: &[u8]) -> Option<[bool; 4]> {
     let (own, other) = (name(first), name(second));
-    [
+    let lent = LentName::spelt(&other);
+    Some([
         own == other,
         own.fold().wire() == other.fold().wire(),
-        own.is_spelt_by(other.wire()),
-        LentName::spelt(&other).is_same(&own),
-    ]
+        own.is_spelt_by(lent.octets()?),
+        lent.is_same(&own),
+    ])
 }
 
 /// The first of these names that is told otherwise.
 fn wrong_case() -> Option<&'static [u8]> {
     for (first, second, same) in CASES {
-        if are_same(first, second) != [same; 4] {
+        if are_same(first, second) != Some([same; 4]) {
             return Some(first);
         }
     }
