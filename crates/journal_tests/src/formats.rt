@@ -96,7 +96,7 @@ fn with_no_batch(alloc: Global) -> Result<Vec<u8>, AllocError> {
 fn refused_by_name(rt: HostRuntime) -> Result<(), AllocError> {
     let octets = with_no_batch(rt.alloc())?;
     let other = recover(rt.alloc(), b"other", &octets);
-    assert!(rt; other.is_err_and(|why| why == Refused::OtherText));
+    assert!(rt; matches!(&other, Err(Refused::OtherText)));
     let refused = [
         told(rt.alloc(), &octets),
         told(rt.alloc(), &[0; 200]),
