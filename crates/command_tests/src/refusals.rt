@@ -11,7 +11,7 @@ struct Case {
     text: Parts,
     /// What it writes; its text, where this is none.
     writes: Option<&'static str>,
-    /// What it writes where there is no memory for an update; the same, where this is none.
+    /// What it writes where there is no memory for an update, if it has one.
     without: Option<&'static str>,
     /// What begins what it says where it is refused; nothing where it isn't.
     says: &'static str,
@@ -33,16 +33,18 @@ const FAULTY: Case = Case {
 };
 
 /// Whether a run had no memory, said so, and wrote a part of what it writes at most, or all that it writes without an update.
-fn is_starved(told: &Told, writes: &str, without: &str) -> bool {
+fn is_starved(told: &Told, writes: &str, without: Option<&str>) -> bool {
     let errors = told.errors.as_slice();
     let says = told.status == 3
         || errors.starts_with(b"line 0: M14 NoMemory\n")
         || errors.starts_with(b"V1 NoMemory\n")
         || errors.starts_with(b"X4 NoMemory\n");
     if says {
-        writes.as_bytes().starts_with(&told.written)
-    } else {
-        told.status == 0 && told.written.as_slice() == without.as_bytes()
+        return writes.as_bytes().starts_with(&told.written);
+    }
+    match without {
+        Some(text) => told.status == 0 && told.written.as_slice() == text.as_bytes(),
+        None => false,
     }
 }
 
@@ -60,7 +62,7 @@ fn run(alloc: Global, case: &Case) -> Option<bool> {
     {
         return Some(true);
     }
-    if is_starved(&told, writes, case.without.unwrap_or(writes)) {
+    if is_starved(&told, writes, case.without) {
         return None;
     }
     Some(false)
