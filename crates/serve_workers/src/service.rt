@@ -109,6 +109,19 @@ impl<C: Clock> SocketJob<'_, C> {
     }
 }
 
+/// What updates are judged by that threads with these duties hand in.
+fn judging_for<'a, S: Storing<SharedVersion>, F: Drop>(
+    alloc: Global,
+    handing: Handing<S, F>,
+    duties: &[Duty<'_>],
+    updates: &'a Updates,
+) -> Result<Judging<'a, S, F>, ServeFault> {
+    match Judging::new(alloc, handing, duties, updates) {
+        Ok(judging) => Ok(judging),
+        Err(fault) => Err(fault_of(&fault)),
+    }
+}
+
 /// Serves a zone on sockets, whose cell begins with a first version and with those behind it: its threads answer queries in the version that is
 /// published last, and hand updates on, each of which publishes the next version (RFC 1035, 4.2; RFC 2136, 3). Updates are judged in batches on the thread that this is
 /// called on, and none of the others waits for a disk. It ends once each worker has done what it may, or a thread has failed, and each update that was handed on is told;
@@ -138,10 +151,7 @@ pub fn serve_zone<
     let Ok(updates) = Updates::of(rt, alloc, handing.most, &duties, plan.places) else {
         return Err(ServeFault::NoMemory);
     };
-    let judging = match Judging::new(alloc, handing, &duties, &updates) {
-        Ok(judging) => judging,
-        Err(fault) => return Err(fault_of(&fault)),
-    };
+    let judging = judging_for(alloc, handing, &duties, &updates)?;
     let jobs = jobs_of(rt, alloc, duties, plan, &updates)?;
     let parts = match Cell::<SharedVersion, ZoneVersions<Z>>::new(alloc, threads + 2, first) {
         Ok(parts) => parts,
