@@ -390,3 +390,95 @@ case $message in
     *) fails 'the owner far behind has a pointer' ;;
 esac
 run_expected "$zone" answer --tcp --origin example.test. -
+
+# Exchanges of the root, whose own owner has no label, so that the names of the reply are theirs alone: each is a pointer as far as it is spelt
+# in front (RFC 1035, 4.1.4). A record is its owner, type, class and TTL, the length of its data, its preference and its name.
+origin=.
+# exchanges NAME..: sets $zone to one with these exchanges, in this order, and $answer to its records
+exchanges() {
+    local name hex number=0
+    zone=$'$TTL 3600\n. NS .\n. SOA . . 1 7200 900 1209600 300'
+    answer=
+    for name; do
+        digits $((++number))
+        zone+=$'\n'". MX $number $name"
+        answer+=". MX 3600 $hex $name; "
+    done
+}
+# put_exchanges HEX..: makes $message the reply with these octets of their names
+put_exchanges() {
+    local octets hex count=$# number=0
+    begin 1234 8500 0001 0000 0000 0000 00000f0001
+    count_at 6 "$count"
+    for octets; do
+        digits $((${#octets} / 2 + 2))
+        put 00000f0001 00000e10 "$hex"
+        digits $((++number))
+        put "$hex" "$octets"
+    done
+}
+asked=123401000001000000000000'00000f0001'
+exchanges f.isi.arpa. foo.f.isi.arpa. arpa. .
+put_exchanges 01660369736904617270'6100' 03666f6fc01e c024 00
+expect 'the names of RFC 1035, 4.1.4' "$asked" "$message"
+run_expected "$zone" answer --tcp -
+exchanges a.b. a.b. c.a.b. c.a.b. a.b.
+put_exchanges 0161016200 c01e 0163c01e c03f c01e
+expect 'names, and a label in front of them, once more' "$asked" "$message"
+run_expected "$zone" answer --tcp -
+
+# names of up to 120 labels, each with one more than the one before, so that the last is read through 119 pointers; two names below that; and one
+# whose 61st label is another, of which what is behind that label is a pointer
+names=()
+for count in {1..120}; do names+=("$(repeat "$count" a.)"); done
+deep=${names[119]}
+exchanges "${names[@]}" "x.$deep" "y.$deep" "x.${deep:0:118}b.${deep:0:120}"
+reply 8500 . MX "$answer" '' ''
+expect 'names through many pointers' "$asked" "$message"
+run_expected "$zone" answer --tcp -
+
+# The positions of 256 labels are remembered (own): here of twice 127 labels, and of x and y. The last name is in full.
+first=$(repeat 127 a.)
+second=$(repeat 127 b.)
+exchanges "$first" "$second" x.y.z. y.z. z.
+put_exchanges "$(repeat 127 0161)00" "$(repeat 127 0162)00" 01780179017a00 c238 017a00
+expect 'labels beyond 256' "$asked" "$message"
+run_expected "$zone" answer --tcp -
+# Of names that differ in their last label but one the last label alone is a pointer; a name that stands in front whole is one to it. Of the
+# fifth name 15 labels are remembered, which makes 256, so that the sixth is a pointer and the seventh isn't.
+first=$(repeat 119 a.)
+exchanges "${first}b.z." "${first}c.z." "${first}b.z." "${first:2}c.z." "${first}d.z." "${first:28}d.z." "${first:30}d.z."
+first=$(repeat 119 0161)
+put_exchanges "${first}0162017a00" "${first}0163c10e" c01e c120 "${first}0164c10e" c257 "${first:60}0164c10e"
+expect 'names that differ late' "$asked" "$message"
+run_expected "$zone" answer --tcp -
+
+# The last position that a pointer can tell is 16,383 (RFC 1035, 4.1.4): the owner a.b of the first address stands there, or one octet behind,
+# and what is behind its first label is no pointer for the last address. In front are a header, a question, texts of 4096 octets and of so many,
+# and two services.
+while read -r len again; do
+    zone=$'$TTL 3600\n. NS .\n. SOA . . 1 7200 900 1209600 300\nwww SRV 0 0 0 a.b\nwww SRV 1 0 0 b\na.b A 192.0.2.1\na.b A 192.0.2.2\nb A 192.0.2.3'
+    begin 1234 8500 0001 0006 0000 0003 0377777700 00ff0001
+    for text in 61=a 62=b 63=c 64=d; do
+        lengths=$(repeat 15 '255 ')255
+        [ $text != 64=d ] || lengths=${lengths% *}' '$((len - 15 * 256 - 1))
+        zone+=$'\n''www TXT'
+        octets=
+        for count in $lengths; do
+            zone+=" $(repeat "$count" "${text#*=}")"
+            printf -v hex '%02x' "$count"
+            octets+=$hex$(repeat "$count" "${text%=*}")
+        done
+        digits $((${#octets} / 2))
+        put c00c00100001 00000e10 "$hex" "$octets"
+    done
+    put c00c00210001 00000e10 000b 000000000000 0161016200 c00c00210001 00000e10 0009 000100000000 016200
+    at=$((${#message} / 2))
+    put 0161016200 00010001 00000e10 0004 c0000201 "$again" 00010001 00000e10 0004 c0000202 016200 00010001 00000e10 0004 c0000203
+    expect "an owner at $at" 1234010000010000000000000377777700'00ff0001' "$message"
+    run_expected "$zone" answer --tcp -
+done <<'text'
+3982 ffff
+3983 0161016200
+text
+origin=example.test.

@@ -264,3 +264,37 @@ c.isi.edu. 60 IN AAAA 2001:db8:0:0:8:800:200c:417a
 d.isi.edu. 60 IN SRV 0 1 9 old-slow-box.example.com.
 e.isi.edu. 60 IN TXT "a b\";" ""
 f.isi.edu. 60 IN TXT "\\\007\127~"' apply -
+
+# Data that an update brings (RFC 2136, 2.5.1): sixteen strings of 255 octets are 4,096 octets, which is the most (own); an empty string more ends
+# the update with SERVFAIL, and with an octet that is no string behind it the form is judged first. The text is the update of a record at new, up to its data's length.
+strings=$(repeat 16 "ff$(repeat 255 78)")
+text=432128000001000000010000076578616d706c6504746573740000060001036e6577c00c0010000100000e10
+asked=123401000001000000000000036e6577076578616d706c65047465737400
+zone_text=$example
+converses --tcp <<end
+# 4,098 octets that are no strings
+update ${text}1002${strings}0001
+reply 4321a8010000000000000000
+# 4,097 octets
+update ${text}1001${strings}00
+reply 4321a8020000000000000000
+# 4,096 octets
+update ${text}1000$strings
+reply 4321a8000000000000000000
+query ${asked}00100001
+reply 123485000001000100000000036e6577076578616d706c6504746573740000100001c00c0010000100000e101000$strings
+
+# names in data enter a zone in lower case (RFC 4034, 6.2)
+update 432128000001000000010000076578616d706c6504746573740000060001036e6577c00c000f000100000e100012000a0656454e455241034953490345445500
+reply 4321a8000000000000000000
+query ${asked}000f0001
+reply 123485000001000100000000036e6577076578616d706c65047465737400000f0001c00c000f000100000e100012000a0676656e657261036973690365647500
+
+# octets that aren't of their type's form: an address of three octets, a name that is cut, and one behind which an octet stands
+update ${text/0010000100000e10/0001000100000e10}0003c00002
+reply 4321a8010000000000000000
+update ${text/0010000100000e10/0002000100000e10}00020161
+reply 4321a8010000000000000000
+update ${text/0010000100000e10/0002000100000e10}000401610000
+reply 4321a8010000000000000000
+end

@@ -150,6 +150,42 @@ w CNAME a␊w CNAME a␊w CNAME b␊ => line 6: M12 Conflict
 w CNAME a␊w A 1.2.3.4␊? X␊ => line 6: M5 UnknownType
 end
 
+# the line of a record is that on which its entry begins, behind owners and TTLs that are left out, directives, parentheses and escapes
+faults --origin test. <<'end'
+w 5 IN A 1.1.1.1␊  IN 6 A 2.2.2.2␊␉A 3.3.3.3␊x. A 4.4.4.4␊ => line 7: M10 Outside
+w 5 A 1.1.1.1␊ A 2.2.2.2␊$TTL 0␊x. A 3.3.3.3␊ => line 7: M10 Outside
+$ORIGIN w␊@ 1 NS a␊$ORIGIN Y.w␊ NS @␊$ORIGIN z.␊a NS a.␊ => line 9: M10 Outside
+x. (1␊IN␊) A ( 1.1.1.1 ) ; c␊( v 2 A 2.2.2.2␊)␊ => line 4: M10 Outside
+w (1␊IN␊) A ( 1.1.1.1 ) ; c␊( x. 2 A 2.2.2.2␊)␊ => line 7: M10 Outside
+w (1␊IN␊) A ( 1.1.1.1 ) ; c␊( v 2 CNAME a␊)␊ A 3.3.3.3 => line 9: M12 Conflict
+\$TTL 1 A 1.1.1.1␊1 2 A 2.2.2.2␊IN 3 in a 3.3.3.3␊\@. A 4.4.4.4␊ => line 7: M10 Outside
+end
+
+# Which words an entry has in front of a quote or a parenthesis that has no other one, and on which line that is told: of a parenthesis within
+# parentheses on its own, behind the words in front of it, if the outer one has an end, else behind those in front of the outer one. A line's end
+# closes no quote, and a backslash in front of it joins no lines. A word is told before what is behind it: b is no type.
+zone_text=$'a 5 A 1.1.1.1\n'
+faults --origin test. <<'end'
+ (b(␊ => line 2: M7 Unclosed
+b "c␊d␊ => line 2: M7 Unclosed
+"c\"␊ => line 2: M7 Unclosed
+"c\␊" => line 2: M7 Unclosed
+" => line 2: M7 Unclosed
+␊ 5 ) c␊d␊ => line 3: M7 Unclosed
+) => line 2: M7 Unclosed
+a (5␊IN (d␊e) f␊ => line 3: M7 Unclosed
+a (b␊c (d␊e) f␊ => line 2: M5 UnknownType
+a (b␊c (d␊e f␊ => line 3: M7 Unclosed
+c (d␊e f␊ => line 2: M7 Unclosed
+a (5␊IN "d␊)␊ => line 3: M7 Unclosed
+a (b␊c "d␊)␊ => line 2: M5 UnknownType
+a (b␊c "d␊ => line 2: M7 Unclosed
+a (b \) ;)␊ ")"␊ => line 2: M7 Unclosed
+b 5 TXT a\␊c 5 TXT x␊ => line 2: M6 BadData
+b 5 TXT a\␍␊c 5 TXT x␊ => line 2: M6 BadData
+b 5 TXT a\ => line 2: M6 BadData
+end
+
 # records that the zone of the examples may not have
 takes_zone <zones/example.test.zone
 faults --origin example.test <<'end'

@@ -83,6 +83,16 @@ for data in 'MX % web' 'SRV 0 0 % web' 'AAAA ::%'; do
     refuses 1 'line 270: M13 Limit' check --origin example.test -
 done
 
+# 256 records and one of them again are a set of 256
+input=$'. 5 SOA . . 1 2 3 4 5\n. 5 NS .\n'
+for number in {0..255}; do input+="many. 5 IN MX $number ."$'\n'; done
+printed=${input%$'\n'}
+printed=${printed/5 NS/5 IN NS}
+input+=$'many. 5 MX 255 .\nmany. 5 MX 0 .\n'
+prints "${printed//5 SOA/5 IN SOA}" check -
+input+=$'many. 5 MX 256 .\n'
+refuses 1 'line 261: M13 Limit' check -
+
 # equal records are one, and the last one sets the TTL of its set
 reads --origin test. <<'end'
 $TTL 60
@@ -223,6 +233,45 @@ adds <<'end'
 a 2147483647 TXT b"c"d
 =>
 a.test. 2147483647 IN TXT "b" "c" "d"
+end
+adds <<'end'
+a 5 TXT b"c d"e
+b 5 TXT """a;b(c)d"e;f
+c(5
+␉TXT)d(
+)e
+=>
+a.test. 5 IN TXT "b" "c d" "e"
+b.test. 5 IN TXT "" "a;b(c)d" "e"
+c.test. 5 IN TXT "d" "e"
+end
+# octets behind a backslash, and a CR that is at no line's end
+adds <<'end'
+a 5 TXT a\ b \" \;c \( \\ d
+b 5 TXT "a\"b" "\\" c
+c 5 TXT a␍b ␍␍c
+d 5 TXT a\␍b
+=>
+a.test. 5 IN TXT "a b" "\"" ";c" "(" "\\" "d"
+b.test. 5 IN TXT "a\"b" "\\" "c"
+c.test. 5 IN TXT "a\013b" "\013\013c"
+d.test. 5 IN TXT "a\013b"
+end
+# lines without an entry, and entries behind a parenthesis at the begin of a line
+adds <<'end'
+
+␠
+;a
+  ;b
+( ; c
+)
+(
+
+ a 5 A 1.1.1.1)
+ A 2.2.2.2
+=>
+a.test. 5 IN A 1.1.1.1
+a.test. 5 IN A 2.2.2.2
 end
 
 # The expected texts and faults from here on were computed by another program than this one. Tabs, CR LF, escapes in names, owners and TTLs left
