@@ -38,6 +38,18 @@ run_expected '$TTL 3600
 h A 192.0.2.1
 h A 192.0.2.2' answer --tcp --origin example.test. -
 
+# owners whose first labels are as long as the one before: below the same name, and below another
+asks_whole
+reply 8400 @ AXFR "$soa_of_host; @ NS 3600 h; h A 3600 c0000201; a.k A 3600 c0000201; b.k A 3600 c0000201; c.m A 3600 c0000201; $soa_of_host" '' ''
+expect 'owners of labels as long' "$request" "$message"
+run_expected '$TTL 3600
+@ NS h
+@ SOA . . 1 2 3 4 5
+h A 192.0.2.1
+a.k A 192.0.2.1
+b.k A 192.0.2.1
+c.m A 192.0.2.1' answer --tcp --origin example.test. -
+
 # strings LETTER LENGTH: sets $text to fifteen strings of 255 letters and one of so many, as zone text, and $octets to their octets
 strings() {
     local letter code line rest count
