@@ -441,6 +441,17 @@ fn all_readers<N: Naming, C: Clock>(
     back
 }
 
+/// Where connections come in at a listener, which is watched by its number.
+fn place_of<C: Clock>(
+    watch: &mut Watch<'_, C>,
+    listener: TcpListener,
+    number: usize,
+) -> io::Result<TcpPlace> {
+    let mut place = TcpPlace::new(mio::net::TcpListener::from_std(listener));
+    watch.watch_place(&mut place, number)?;
+    Ok(place)
+}
+
 /// Where connections come in at listeners, each of them watched.
 fn places_of<C: Clock>(
     alloc: Global,
@@ -452,9 +463,7 @@ fn places_of<C: Clock>(
     let mut places = Vec::new(alloc);
     let mut number = 0usize;
     for listener in listeners {
-        let mut place = TcpPlace::new(mio::net::TcpListener::from_std(listener));
-        watch.watch_place(&mut place, number)?;
-        places.push(place)?;
+        places.push(place_of(watch, listener, number)?)?;
         number = number.saturating_add(1);
     }
     Ok(places)
