@@ -53,10 +53,10 @@ impl Served {
         keys: &[usize],
         now: u64,
     ) -> Result<(), AllocError> {
+        self.next.clear();
         if self.room.is_empty() || self.out.len() < 65_535 {
             return Ok(());
         }
-        self.next.clear();
         serve_ready(
             rt,
             &mut self.echo,

@@ -112,7 +112,8 @@ impl Pieces {
             .wrapping_mul(6_364_136_223_846_793_005)
             .wrapping_add(1_442_695_040_888_963_407);
         let more = (self.number / 0x1_0000_0000) % self.spread.max(1);
-        Some(self.size.max(1).saturating_add(more as usize))
+        let size = self.size.saturating_add(more as usize);
+        Some(size.max(1))
     }
 
     /// Counts a failure.

@@ -257,10 +257,11 @@ fn is_answered<R: Wait>(
         behind: Behind::End,
         ..Pieces::new(alloc, &FRAMES, 1)?
     };
+    let mut room = vec![in alloc; 0; 64]?;
     if out.len() < 65_535 {
         return Ok(false);
     }
-    let end = serve_to_end(rt, alloc, &mut stream, 2, &mut [0; 64], out);
+    let end = serve_to_end(rt, alloc, &mut stream, 2, &mut room, out);
     Ok(end == StreamEnd::Clean && stream.written.as_slice() == FRAMES.as_slice())
 }
 
