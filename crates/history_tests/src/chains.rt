@@ -7,7 +7,6 @@ use snapshot_cell::{NamedCell, NamedPublisher, NamedReader, Naming, Parts};
 use std::alloc::Global;
 use std::marker::Brand;
 use std::process::Abort;
-use weak_history::History;
 
 /// Steps, in a cell whose readers have so many grants, with a history of so many entries at most, and the value that is published last.
 #[derive(Clone, Copy)]
@@ -32,14 +31,8 @@ fn play_in<R: Abort, N: Naming>(rt: &R, alloc: Global, parts: Parts<u64, Any>, p
     let loads = NamedReader::of(readers.pop().expect(rt, "a reader"));
     let asks = NamedReader::of(readers.pop().expect(rt, "a reader"));
     let cell: NamedCell<u64, Any, N> = NamedCell::of(cell);
-    let mut teller = Teller {
-        cell: &cell,
-        publisher: NamedPublisher::of(publisher),
-        loads,
-        asks,
-        history: History::new(play.size),
-        owners: Vec::new(alloc),
-    };
+    let publisher = NamedPublisher::of(publisher);
+    let mut teller = Teller::new(alloc, &cell, publisher, loads, asks, play.size);
     assert_eq!(rt; teller.first_wrong(play.steps), None);
     let (publisher, readers) = teller.end(rt, alloc);
     match cell.close(publisher, readers) {

@@ -68,12 +68,12 @@ pub(crate) enum Step {
 /// Who publishes in a cell, tells a history, and asks it.
 #[derive(Drop)]
 pub(crate) struct Teller<'a, N: Naming> {
-    pub(crate) cell: &'a NamedCell<u64, Any, N>,
-    pub(crate) publisher: NamedPublisher<u64, Any, N>,
-    pub(crate) loads: NamedReader<u64, N>,
-    pub(crate) asks: NamedReader<u64, N>,
-    pub(crate) history: History<'a, u64, Any, N>,
-    pub(crate) owners: Vec<Option<NamedStrong<'a, u64, Any, N>>>,
+    cell: &'a NamedCell<u64, Any, N>,
+    publisher: NamedPublisher<u64, Any, N>,
+    loads: NamedReader<u64, N>,
+    asks: NamedReader<u64, N>,
+    history: History<'a, u64, Any, N>,
+    owners: Vec<Option<NamedStrong<'a, u64, Any, N>>>,
 }
 
 /// Whether owners have these values, the first one first.
@@ -100,6 +100,27 @@ fn is_due<N: Naming>(told: Chain<'_, u64, Any, N>, due: Due) -> bool {
 }
 
 impl<'a, N: Naming> Teller<'a, N> {
+    /// Who tells a history of so many entries at most, with a reader to load and one to ask.
+    pub(crate) fn new(
+        alloc: Global,
+        cell: &'a NamedCell<u64, Any, N>,
+        publisher: NamedPublisher<u64, Any, N>,
+        loads: NamedReader<u64, N>,
+        asks: NamedReader<u64, N>,
+        size: usize,
+    ) -> Teller<'a, N>
+        requires { size ≤ 16 }
+    {
+        Teller {
+            cell,
+            publisher,
+            loads,
+            asks,
+            history: History::new(size),
+            owners: Vec::new(alloc),
+        }
+    }
+
     /// Whether a number is published.
     fn publish(&mut self, value: u64) -> bool {
         if self.publisher.last() == u64::MAX {

@@ -98,16 +98,16 @@ impl<'a, N: Naming> Player<'a, N> {
     }
 
     fn newest(&mut self) -> Option<u64> {
-        let cell = self.teller.cell;
-        let owner = cell
-            .newest(&mut self.teller.publisher, &mut self.reader)
-            .ok()?;
+        let teller = &mut self.teller;
+        let cell = teller.cell;
+        let owner = cell.newest(&mut teller.publisher, &mut self.reader).ok()?;
         self.keep(owner)
     }
 
     fn newest_with_weak(&mut self) -> Option<u64> {
-        let cell = self.teller.cell;
-        let both = cell.newest_with_weak(&mut self.teller.publisher, &mut self.reader);
+        let teller = &mut self.teller;
+        let cell = teller.cell;
+        let both = cell.newest_with_weak(&mut teller.publisher, &mut self.reader);
         let (owner, weak) = both.ok()?;
         if self.keep_weak(weak) != Some(owner.number()) {
             return None;
@@ -116,9 +116,10 @@ impl<'a, N: Naming> Player<'a, N> {
     }
 
     fn meet(&mut self) -> Option<u64> {
-        let cell = self.teller.cell;
-        cell.meet(&mut self.teller.publisher, &mut self.reader);
-        Some(self.teller.publisher.last())
+        let teller = &mut self.teller;
+        let cell = teller.cell;
+        cell.meet(&mut teller.publisher, &mut self.reader);
+        Some(teller.publisher.last())
     }
 
     fn publish(&mut self) -> Option<u64> {

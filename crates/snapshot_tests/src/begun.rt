@@ -3,7 +3,7 @@ ghost use Rattle.std.specs.Prelude.{◌≡◌, IfOk};
 ghost use Rattle.std.specs.List.{All};
 
 use crate::counted::{Counted, Rising, Tally};
-use snapshot_cell::{Cell, NewFault, Parts, Publisher, Reader, StillOut};
+use snapshot_cell::{Cell, NewFault, Parts, Publisher, Reader, StillOut, Strong};
 use std::alloc::Global;
 use std::process::Abort;
 use std::sync::Arc;
@@ -65,6 +65,52 @@ pub(crate) fn new_cell(
     }
 }
 
+/// The last version's owner, which a reader loads.
+fn draw<'a, R: Abort>(
+    rt: &R,
+    cell: &'a Cell<Counted, Rising>,
+    reader: &mut Reader<Counted>,
+) -> Strong<'a, Counted, Rising>
+    requires { reader.old.cell ≡ cell.now }
+    ensures reader { reader.new.cell ≡ reader.old.cell }
+    ensures owner { result.table ≡ cell.now }
+{
+    match cell.load(reader) {
+        Ok(owner) => owner,
+        Err(_) => panic!(rt; "the reader is spent"),
+    }
+}
+
+/// A reader loads the last version, whose owner is let go, or leaves something that never is.
+fn load_by<R: Abort>(
+    rt: &R,
+    alloc: Global,
+    cell: &Cell<Counted, Rising>,
+    publisher: &mut Publisher<Counted, Rising>,
+    reader: &mut Reader<Counted>,
+    leak: Leak,
+)
+    requires { (publisher.old.cell ≡ cell.now) × (reader.old.cell ≡ cell.now) }
+    ensures publisher { (publisher.new.cell ≡ cell.now) × (publisher.new.number ≡ publisher.old.number) × (publisher.new.value ≡ publisher.old.value) }
+    ensures reader { reader.new.cell ≡ cell.now }
+{
+    let mut owner = draw(rt, cell, reader);
+    let number = owner.number();
+    assert!(rt; number == publisher.last() && owner.get().number == number);
+    match leak {
+        Leak::Nothing => {}
+        Leak::Strong => {
+            Box::leak(Box::new(alloc, owner).ok().expect(rt, "memory"));
+        }
+        Leak::Weak => {
+            let Ok(weak) = publisher.downgrade(&mut owner) else {
+                panic!(rt; "there is no weak owner");
+            };
+            Box::leak(Box::new(alloc, weak).ok().expect(rt, "memory"));
+        }
+    }
+}
+
 impl Begun {
     /// A cell that nobody has loaded yet. None where there is no memory: its first value is then dropped.
     fn tried<R: Abort>(rt: &R, alloc: Global, terms: Terms) -> Option<Begun> {
@@ -117,23 +163,14 @@ impl Begun {
     /// A reader loads the last version, whose owner is let go, or leaves something that never is.
     pub(crate) fn load<R: Abort>(&mut self, rt: &R, alloc: Global, leak: Leak) {
         let mut reader = self.readers.pop().expect(rt, "a reader");
-        let Ok(mut owner) = self.cell.load(&mut reader) else {
-            panic!(rt; "the reader is spent");
-        };
-        assert!(rt;
-            owner.number() == self.publisher.last() && owner.get().number == owner.number()
+        load_by(
+            rt,
+            alloc,
+            &self.cell,
+            &mut self.publisher,
+            &mut reader,
+            leak,
         );
-        match leak {
-            Leak::Nothing => {}
-            Leak::Strong => {
-                Box::leak(Box::new(alloc, owner).ok().expect(rt, "memory"));
-            }
-            Leak::Weak => {
-                let weak = self.publisher.downgrade(&mut owner).ok();
-                let weak = weak.expect(rt, "a weak owner");
-                Box::leak(Box::new(alloc, weak).ok().expect(rt, "memory"));
-            }
-        }
         self.readers.push(reader).ok().expect(rt, "memory");
     }
 

@@ -37,6 +37,36 @@ pub(crate) fn shared<R: Abort>(rt: &R, tally: &Arc<Tally>) -> Arc<Tally> {
     Arc::try_clone(tally).expect(rt, "memory")
 }
 
+/// A job for a reader: it raises weak owners where there is one more to do so, and then has a ring.
+fn job_of<'a, R: Abort, N: Naming>(
+    rt: &R,
+    alloc: Global,
+    teller: &mut Teller<'a, N>,
+    crew: Crew,
+    reader: NamedReader<Counted, N>,
+) -> Job<'a, N> {
+    let tally = shared(rt, &teller.tally);
+    if teller.rings.len() == crew.raisers {
+        let copier = Copier {
+            cell: teller.cell,
+            reader,
+            tally,
+            last: 0,
+        };
+        return Job::Copy(copier, crew.copies);
+    }
+    let (producer, ring) = RingBuffer::<NamedWeak<'a, Counted, Rising, N>>::new(alloc, ROOM)
+        .ok()
+        .expect(rt, "memory");
+    teller.rings.push(producer).ok().expect(rt, "memory");
+    let raiser = Raiser {
+        reader,
+        ring,
+        tally,
+    };
+    Job::Raise(raiser, crew.values)
+}
+
 impl<'a, N: Naming> Players<'a, N> {
     /// The last owner of the last version, behind which one more is published.
     fn last_owner<R: Abort>(&mut self, rt: &R) -> NamedStrong<'a, Counted, Rising, N> {
@@ -53,36 +83,6 @@ impl<'a, N: Naming> Players<'a, N> {
         owner
     }
 
-    /// A job for a reader: it raises weak owners where there is one more to do so, and then has a ring.
-    fn job_of<R: Abort>(
-        &mut self,
-        rt: &R,
-        alloc: Global,
-        crew: Crew,
-        reader: NamedReader<Counted, N>,
-    ) -> Job<'a, N> {
-        let tally = shared(rt, &self.teller.tally);
-        if self.teller.rings.len() == crew.raisers {
-            let copier = Copier {
-                cell: self.teller.cell,
-                reader,
-                tally,
-                last: 0,
-            };
-            return Job::Copy(copier, crew.copies);
-        }
-        let (producer, ring) = RingBuffer::<NamedWeak<'a, Counted, Rising, N>>::new(alloc, ROOM)
-            .ok()
-            .expect(rt, "memory");
-        self.teller.rings.push(producer).ok().expect(rt, "memory");
-        let raiser = Raiser {
-            reader,
-            ring,
-            tally,
-        };
-        Job::Raise(raiser, crew.values)
-    }
-
     /// A job for each.
     fn jobs<R: Abort>(mut self, rt: &R, alloc: Global, crew: Crew) -> Vec<Job<'a, N>> {
         let mut jobs = Vec::new(alloc);
@@ -90,11 +90,15 @@ impl<'a, N: Naming> Players<'a, N> {
             let job = Job::Release(self.last_owner(rt), shared(rt, &self.teller.tally));
             jobs.push(job).ok().expect(rt, "memory");
         }
-        while let Some(reader) = self.readers.pop() {
-            let job = self.job_of(rt, alloc, crew, reader);
+        let Players {
+            mut teller,
+            mut readers,
+        } = self;
+        while let Some(reader) = readers.pop() {
+            let job = job_of(rt, alloc, &mut teller, crew, reader);
             jobs.push(job).ok().expect(rt, "memory");
         }
-        let job = Job::Publish(self.teller, crew.values);
+        let job = Job::Publish(teller, crew.values);
         jobs.push(job).ok().expect(rt, "memory");
         jobs
     }

@@ -1,5 +1,5 @@
 //! A cell that a type names, with those who are at it.
-ghost use Rattle.std.specs.Prelude.{◌≡◌, ◌+◌, IfSome};
+ghost use Rattle.std.specs.Prelude.{◌≡◌};
 ghost use Rattle.std.specs.List.{All};
 
 use crate::begun::{Begun, MOST, end_of};
@@ -137,7 +137,6 @@ pub(crate) struct Teller<'a, N: Naming> {
     pub(crate) due: Option<Counted>,
     pub(crate) rings: Vec<Producer<NamedWeak<'a, Counted, Rising, N>>>,
     ghost told: { publisher.value.number ≡ publisher.number },
-    ghost owed: { IfSome due (λ value. value.number ≡ publisher.number + 1) },
 }
 
 /// Whether the weak owner goes into the ring, when there is room.
@@ -157,6 +156,24 @@ fn hand_over<'a, N: Naming>(
 }
 
 impl<'a, N: Naming> Teller<'a, N> {
+    /// A publisher that hands no weak owners over yet.
+    pub(crate) fn new(
+        alloc: Global,
+        cell: &'a NamedCell<Counted, Rising, N>,
+        publisher: NamedPublisher<Counted, Rising, N>,
+        tally: Arc<Tally>,
+    ) -> Teller<'a, N>
+        requires { publisher.value.number ≡ publisher.number }
+    {
+        Teller {
+            cell,
+            publisher,
+            tally,
+            due: None,
+            rings: Vec::new(alloc),
+        }
+    }
+
     /// The publisher, which leaves its cell.
     pub(crate) fn into_publisher(self) -> NamedPublisher<Counted, Rising, N> {
         self.publisher
@@ -175,6 +192,9 @@ impl<'a, N: Naming> Teller<'a, N> {
                 tally: Arc::try_clone(&self.tally).ok()?,
             },
         };
+        if value.number != last + 1 {
+            return None;
+        }
         match self.cell.publish(&mut self.publisher, value) {
             Ok(old) => Some(old),
             Err(refused) => {

@@ -57,13 +57,7 @@ fn play_in<R: Abort + Threads + Sync, N: Naming + Send + Sync>(
         readers,
         tally,
     } = Named::<N>::of(rt, alloc, begun).in_use(rt, alloc, what.leaks);
-    let teller = Teller {
-        cell: &cell,
-        publisher,
-        tally: shared(rt, &tally),
-        due: None,
-        rings: Vec::new(alloc),
-    };
+    let teller = Teller::new(alloc, &cell, publisher, shared(rt, &tally));
     let Players { teller, readers } = play_on(rt, alloc, Players { teller, readers }, what);
     let publisher = teller.into_publisher();
     if what.leaks {
