@@ -136,6 +136,16 @@ fn copies(alloc: Global, sets: &[RRset]) -> Result<Vec<RRset>, AllocError>
     Ok(next)
 }
 
+/// What changes make of a zone, asked for once more where memory is refused.
+fn edit_anew(alloc: Global, zone: &Zone, changes: &[Change]) -> Option<Zone>
+    requires { KeepsRules (edited zone.now changes.now) }
+{
+    match edit(alloc, zone, changes) {
+        Ok(next) => Some(next),
+        Err(_) => edit(alloc, zone, changes).ok(),
+    }
+}
+
 /// That changes make a zone of the plain list of these sets, where they do.
 fn keep_rules(alloc: Global, sets: &[RRset], changes: &[Change]) -> Result<(), NewFault>
     requires { AreAscending sets.now }
@@ -153,10 +163,7 @@ fn is_edited(alloc: Global, sets: Vec<RRset>, changes: &[Change], want: &str) ->
 {
     keep_rules(alloc, &sets, changes).ok()?;
     let zone = Zone::new(alloc, sets).ok()?;
-    let new = match edit(alloc, &zone, changes) {
-        Ok(new) => new,
-        Err(_) => edit(alloc, &zone, changes).ok()?,
-    };
+    let new = edit_anew(alloc, &zone, changes)?;
     let apex = *new.apex() == new.soa().owner() && new.exists(&Name::root());
     Some(apex && gives(new.walk(), want)? && gives(zone.walk(), ROWS)?)
 }
