@@ -7,7 +7,7 @@ ghost use Rattle.zone_tree.specs.Edit.{put_at, set_beside};
 ghost use Rattle.zone_tree.specs.Sets.{records_in, IsRRset, AreAscending};
 ghost use Rattle.zone_tree.specs.Zone.{KeepsRules};
 
-use crate::made::{gives, set_of};
+use crate::made::{data_of, gives, name, set_of};
 use dns_name::Name;
 use dns_rdata::{RRset, RType, Ttl};
 use std::alloc::{AllocError, Global};
@@ -136,6 +136,16 @@ fn copies(alloc: Global, sets: &[RRset]) -> Result<Vec<RRset>, AllocError>
     Ok(next)
 }
 
+/// What changes make of a zone, asked for once more where memory is refused.
+fn edit_anew(alloc: Global, zone: &Zone, changes: &[Change]) -> Option<Zone>
+    requires { KeepsRules (edited zone.now changes.now) }
+{
+    match edit(alloc, zone, changes) {
+        Ok(next) => Some(next),
+        Err(_) => edit(alloc, zone, changes).ok(),
+    }
+}
+
 /// That changes make a zone of the plain list of these sets, where they do.
 fn keep_rules(alloc: Global, sets: &[RRset], changes: &[Change]) -> Result<(), NewFault>
     requires { AreAscending sets.now }
@@ -153,22 +163,25 @@ fn is_edited(alloc: Global, sets: Vec<RRset>, changes: &[Change], want: &str) ->
 {
     keep_rules(alloc, &sets, changes).ok()?;
     let zone = Zone::new(alloc, sets).ok()?;
-    let new = match edit(alloc, &zone, changes) {
-        Ok(new) => new,
-        Err(_) => edit(alloc, &zone, changes).ok()?,
-    };
+    let new = edit_anew(alloc, &zone, changes)?;
     let apex = *new.apex() == new.soa().owner() && new.exists(&Name::root());
     Some(apex && gives(new.walk(), want)? && gives(zone.walk(), ROWS)?)
+}
+
+/// The change that takes a row away, whose owner is as it is spelt.
+fn removal(row: &str) -> Option<Change> {
+    let (owner, word) = row.split_once(' ')?;
+    let (rtype, _) = data_of(word)?;
+    Some(Change::Remove(name(owner)?, rtype))
 }
 
 /// The change of a step: a row held or put, or one removed; None where memory is refused.
 fn change_of(alloc: Global, step: &str) -> Option<Change> {
     let (verb, row) = step.split_once(' ')?;
-    let ttl = if verb == "hold" { Ttl(3600) } else { Ttl(60) };
-    let set = set_of(alloc, row, ttl)?;
     match verb {
-        "remove" => Some(Change::Remove(set.owner(), set.rtype())),
-        _ => Some(Change::Put(set)),
+        "hold" => Some(Change::Put(set_of(alloc, row, Ttl(3600))?)),
+        "put" => Some(Change::Put(set_of(alloc, row, Ttl(60))?)),
+        _ => removal(row),
     }
 }
 
