@@ -17,7 +17,7 @@ pub mod stored;
 pub mod zone_file;
 
 use command_line::{Task, parse_words, tell_fault};
-use commands::{Command, DONE, FAILED, Source, run_text, run_with_zone, tell};
+use commands::{Command, FAILED, Source, run_text, run_with_zone, tell};
 use serve::run_serve;
 use std::env;
 use std::fs::{File, Files};

@@ -4,7 +4,7 @@ use dns_name::Name;
 use serve_workers::{Duty, NotifySocket, Progress, Secondaries, Sockets};
 use std::alloc::Global;
 use std::io::{self, ErrorKind};
-use std::net::{IpAddr, Net, SocketAddr, UdpSocket};
+use std::net::{Net, SocketAddr, UdpSocket};
 use std::random::RandomSource;
 
 /// How many octets the seed of IDs has.
