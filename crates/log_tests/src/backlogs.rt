@@ -1,44 +1,47 @@
 //! Lines that wait, and those that find no room.
-use log_lines::Backlog;
+use log_lines::{Backlog, Told};
+use std::alloc::Global;
 use std::test::Fail;
 
-/// Adds lines, and takes what is told next: whether nothing was to be, and how many lines were lost, and a line.
-fn told_behind(backlog: &mut Backlog<u8>, lines: &[u8]) -> (bool, Option<(u64, Option<u8>)>) {
-    for line in lines {
-        backlog.add(*line);
-    }
-    let is_empty = backlog.is_empty();
-    match backlog.take() {
-        Some(told) => (is_empty, Some((told.lost, told.line))),
-        None => (is_empty, None),
+/// Whether this is told: how many lines were lost, and a line.
+fn is_told(told: Option<Told<u8>>, lost: u64, line: Option<u8>) -> bool {
+    match told {
+        Some(told) => told.lost == lost && told.line == line,
+        None => false,
     }
 }
 
-/// Lines that are added to a backlog of two, and what is told next.
-const ROWS: [(&[u8], Option<(u64, Option<u8>)>); 10] = [
-    // Lines come back in their order; nothing is told where nothing waits.
-    (&[], None),
-    (&[7, 8], Some((0, Some(7)))),
-    (&[9], Some((0, Some(8)))),
-    (&[], Some((0, Some(9)))),
-    (&[], None),
-    // Lines that find no room are counted where they would stand: before the line that comes after them, or alone.
-    (&[0, 1, 2, 3, 4], Some((0, Some(0)))),
-    (&[5, 6], Some((0, Some(1)))),
-    (&[], Some((3, Some(5)))),
-    (&[], Some((1, None))),
-    (&[], None),
-];
-
+// Lines come back in their order; nothing is told where nothing waits.
 #[test]
-fn lines_in_order_and_those_that_are_lost(rt: HostRuntime) -> Result<(), Fail> {
-    let mut backlog: Backlog<u8> = Backlog::new(rt.alloc(), 2)?;
-    for (at, (lines, told)) in ROWS.into_iter().enumerate() {
-        assert_eq!(rt;
-            told_behind(&mut backlog, lines),
-            (told.is_none(), told),
-            "in row {at}"
-        );
+fn lines_in_order(rt: HostRuntime) -> Result<(), Fail> {
+    let alloc: Global = rt.alloc();
+    let mut backlog: Backlog<u8> = Backlog::new(alloc, 2)?;
+    assert!(rt; backlog.is_empty() && backlog.take().is_none());
+    backlog.add(7);
+    backlog.add(8);
+    assert!(rt; !backlog.is_empty());
+    assert!(rt; is_told(backlog.take(), 0, Some(7)));
+    backlog.add(9);
+    assert!(rt; is_told(backlog.take(), 0, Some(8)));
+    assert!(rt; is_told(backlog.take(), 0, Some(9)));
+    assert!(rt; backlog.is_empty() && backlog.take().is_none());
+    Ok(())
+}
+
+// Lines that find no room are counted where they would stand: before the line that comes after them, or alone.
+#[test]
+fn lost_lines_are_counted(rt: HostRuntime) -> Result<(), Fail> {
+    let alloc: Global = rt.alloc();
+    let mut backlog: Backlog<u8> = Backlog::new(alloc, 2)?;
+    for line in 0u8..5 {
+        backlog.add(line);
     }
+    assert!(rt; is_told(backlog.take(), 0, Some(0)));
+    backlog.add(5);
+    backlog.add(6);
+    assert!(rt; is_told(backlog.take(), 0, Some(1)));
+    assert!(rt; is_told(backlog.take(), 3, Some(5)));
+    assert!(rt; !backlog.is_empty() && is_told(backlog.take(), 1, None));
+    assert!(rt; backlog.is_empty() && backlog.take().is_none());
     Ok(())
 }

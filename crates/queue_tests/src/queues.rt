@@ -1,5 +1,5 @@
 //! Queues that are full, that are ended, and that threads share.
-use std::alloc::{AllocError, Global};
+use std::alloc::Global;
 use std::sync::{Mutex, Wait};
 use std::test::Fail;
 use std::thread::{self, Threads};
@@ -12,25 +12,9 @@ const MOST: usize = 4;
 /// How many are put.
 const PUT: u64 = 100;
 
-/// Puts so many numbers in their order; how many of them come back.
-fn back<R: Wait>(rt: &R, queue: &Queue<u64>, first: u64, count: u64) -> u64 {
-    let mut back = 0u64;
-    for item in first..first.saturating_add(count) {
-        if queue.put(rt, item).is_err() {
-            back = back.saturating_add(1);
-        }
-    }
-    back
-}
-
-/// The numbers that are taken at once where there is room for three, each as a digit, behind a 1; 0 where none is left, and none comes any more.
-fn taken<R: Wait>(rt: &R, alloc: Global, queue: &Queue<u64>) -> Result<u64, AllocError> {
-    let mut items: Vec<u64> = Vec::with_capacity(alloc, 3)?;
-    let mut digits = u64::from(queue.take(rt, &mut items));
-    for item in items.iter() {
-        digits = digits.wrapping_mul(10).wrapping_add(*item);
-    }
-    Ok(digits)
+/// Whether these were taken, in this order.
+fn is_taken(taken: &[u64], first: u64, count: usize) -> bool {
+    taken.len() == count && taken.iter().zip(first..PUT).all(|(item, n)| *item == n)
 }
 
 // What finds no room comes back; what waits is taken in its order, as much of it as there is room for.
@@ -38,15 +22,17 @@ fn taken<R: Wait>(rt: &R, alloc: Global, queue: &Queue<u64>) -> Result<u64, Allo
 fn a_full_queue(rt: HostRuntime) -> Result<(), Fail> {
     let alloc: Global = rt.alloc();
     let queue: Queue<u64> = Queue::new(alloc, MOST)?;
-    let seen = [
-        back(&rt, &queue, 0, 5),
-        taken(&rt, alloc, &queue)?,
-        back(&rt, &queue, 4, 2),
-        queue.try_take(&rt).unwrap_or(9),
-        taken(&rt, alloc, &queue)?,
-        queue.try_take(&rt).unwrap_or(9),
-    ];
-    assert_eq!(rt; seen, [1, 1_012, 0, 3, 145, 9]);
+    for item in 0u64..4 {
+        assert!(rt; queue.put(&rt, item).is_ok());
+    }
+    assert!(rt; queue.put(&rt, 4) == Err(4));
+    let mut taken: Vec<u64> = Vec::with_capacity(alloc, 3)?;
+    assert!(rt; queue.take(&rt, &mut taken) && is_taken(&taken, 0, 3));
+    assert!(rt; queue.put(&rt, 4).is_ok() && queue.put(&rt, 5).is_ok());
+    assert!(rt; queue.try_take(&rt) == Some(3));
+    taken.clear();
+    assert!(rt; queue.take(&rt, &mut taken) && is_taken(&taken, 4, 2));
+    assert!(rt; queue.try_take(&rt).is_none());
     Ok(())
 }
 
@@ -55,15 +41,12 @@ fn a_full_queue(rt: HostRuntime) -> Result<(), Fail> {
 fn an_ended_queue(rt: HostRuntime) -> Result<(), Fail> {
     let alloc: Global = rt.alloc();
     let queue: Queue<u64> = Queue::new(alloc, MOST)?;
-    let before = back(&rt, &queue, 0, 1);
+    assert!(rt; queue.put(&rt, 0).is_ok());
     queue.end(&rt);
-    let seen = [
-        before,
-        back(&rt, &queue, 1, 1),
-        taken(&rt, alloc, &queue)?,
-        taken(&rt, alloc, &queue)?,
-    ];
-    assert_eq!(rt; seen, [0, 1, 10, 0]);
+    assert!(rt; queue.put(&rt, 1) == Err(1));
+    let mut taken: Vec<u64> = Vec::with_capacity(alloc, 3)?;
+    assert!(rt; queue.take(&rt, &mut taken) && is_taken(&taken, 0, 1));
+    assert!(rt; !queue.take(&rt, &mut taken) && is_taken(&taken, 0, 1));
     Ok(())
 }
 
@@ -111,6 +94,6 @@ fn a_queue_of_two_threads(rt: HostRuntime) -> Result<(), Fail> {
         || take_all(handle, alloc, queue),
         || put_all(handle, queue),
     );
-    assert_eq!(rt; taken, Some(PUT));
+    assert!(rt; taken == Some(PUT));
     Ok(())
 }
