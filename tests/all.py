@@ -12,9 +12,9 @@ import time
 from concurrent.futures import ThreadPoolExecutor, as_completed
 
 TOP = os.path.join(os.path.dirname(os.path.abspath(__file__)), "..")
-# What `rt try --test` takes of the memory at most, and what a run may take of the clock, in seconds.
+# What `rt try --test` takes of the memory at most, and what it may take of the clock, in seconds, to compile and to run.
 MEMORY = 2.5e9
-MOST = 900
+MOST = 1200
 
 
 def lanes():
@@ -55,7 +55,7 @@ def said_by(command, folder, **more):
 
 def try_crate(name):
     """Compiles and runs the tests of a crate: how many passed, how many failed, and what is to be told of those."""
-    said, status = said_by(["rt", "try", "--test"], f"{TOP}/crates/{name}")
+    said, status = said_by(["rt", "try", "--test", "--seconds", str(MOST)], f"{TOP}/crates/{name}")
     counted = re.search(r"^test result: .* (\d+) passed; (\d+) failed;", said, re.M)
     if not counted:
         return 0, 1, f"it doesn't compile, or has not ended:\n{said[-3000:]}"
