@@ -26,7 +26,7 @@ tries() {
     rows=$((rows + 1))
     got=0
     printf '%s' "$input" >"$room/input"
-    timeout 10 "$program" "$@" <"$room/input" >"$room/said" 2>"$room/told" || got=$?
+    timeout 100 "$program" "$@" <"$room/input" >"$room/said" 2>"$room/told" || got=$?
     IFS= read -r -d '' said <"$room/said" || true
     IFS= read -r -d '' told <"$room/told" || true
 }

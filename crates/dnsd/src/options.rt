@@ -1,14 +1,13 @@
 //! What the options of `serve` ask for.
 ghost use Rattle.std.specs.Prelude.{◌≡◌, ◌+◌, ◌*◌, ◌-◌, ◌^◌, ◌<◌, ◌≤◌, [], vec_len, IsNone, IfOk};
 ghost use Rattle.std.specs.Result.{IsOkAnd};
-ghost use Rattle.command_line.specs.Patience.{IsPatience};
+ghost use Rattle.dnsd.specs.Patience.{IsPatience};
 ghost use Rattle.transfer_core.specs.declared.kept.TheConstants.{KEPT};
 
-use crate::command::{KEEP, MAX_KEEP, number_for};
-use crate::fault::CommandFault;
-use crate::secondaries::{Secondary, secondaries_of};
-use crate::store_options::{StorePlan, store_of};
-use clap::ArgMatches;
+use crate::command::{CommandFault, KEEP, MAX_KEEP, number_for, option};
+use crate::secondaries::{Secondary, secondaries_of, with_notify};
+use crate::store_options::{StorePlan, store_of, with_store};
+use clap::{ArgAction, ArgMatches, Command as Parser};
 use commands::Source;
 use dns_name::Name;
 use links::Limits;
@@ -51,10 +50,10 @@ pub struct Serve<'a> {
 }
 
 /// The option for an address to listen on.
-pub const LISTEN: &str = "listen";
+const LISTEN: &str = "listen";
 
 /// The option for how many workers there are.
-pub const WORKERS: &str = "workers";
+const WORKERS: &str = "workers";
 
 /// The most workers.
 const MAX_WORKERS: usize = 31;
@@ -63,29 +62,104 @@ const MAX_WORKERS: usize = 31;
 pub const MAX_THREADS: usize = 62;
 
 /// The option for who may update and transfer.
-pub const ALLOW: &str = "allow";
+const ALLOW: &str = "allow";
 
 /// The option for after how many datagrams and connections a worker ends.
-pub const COUNT: &str = "count";
+const COUNT: &str = "count";
 
 /// The option for how many connections a worker may have open.
-pub const CONNECTIONS: &str = "connections";
+const CONNECTIONS: &str = "connections";
 
 /// The most connections that a worker may have open.
 const MAX_CONNECTIONS: usize = 100_000;
 
 /// The options for how many seconds a connection may be idle, and a request and the taking of a reply may take.
-pub const IDLE: &str = "idle";
+const IDLE: &str = "idle";
 
-pub const MESSAGE: &str = "message";
+const MESSAGE: &str = "message";
 
-pub const REPLY: &str = "reply";
+const REPLY: &str = "reply";
 
 /// The most seconds of each.
 const MAX_SECONDS: usize = 3_600;
 
 /// The seconds of each where the option isn't given.
 const SECONDS: usize = 10;
+
+/// The command's options.
+pub fn serve_options<'a>(alloc: Global, parser: Parser<'a>) -> Result<Parser<'a>, AllocError> {
+    let parser = parser.arg(
+        option(
+            alloc,
+            LISTEN,
+            "ADDR:PORT",
+            "an address and a port to listen on, by UDP and TCP; it may be given again for further ones",
+        )
+        .action(ArgAction::Append)
+        .required(true),
+    )?;
+    let parser = parser.arg(option(
+        alloc,
+        WORKERS,
+        "N",
+        "how many workers there are, each with a thread for TCP and one for UDP of each address; at most 62 threads",
+    )
+    .default_value("4"))?;
+    let parser = parser.arg(option(
+        alloc,
+        KEEP,
+        "N",
+        "how many older versions are kept beside the newest, at most 8",
+    )
+    .default_value("8"))?;
+    let parser = parser.arg(option(
+        alloc,
+        ALLOW,
+        "LIST",
+        "the addresses that may update and transfer, with commas between them; '' for nobody",
+    )
+    .default_value("127.0.0.1,::1"))?;
+    let parser = parser.arg(option(
+        alloc,
+        COUNT,
+        "N",
+        "after how many datagrams and connections, together, a worker ends; else never",
+    ))?;
+    let parser = with_store(alloc, with_notify(alloc, parser)?)?;
+    with_bounds(alloc, parser)
+}
+
+/// The options that bound connections.
+fn with_bounds<'a>(alloc: Global, parser: Parser<'a>) -> Result<Parser<'a>, AllocError> {
+    let parser = parser.arg(option(
+        alloc,
+        CONNECTIONS,
+        "N",
+        "how many connections a worker has open at most, from 1 to 100000",
+    )
+    .default_value("1000"))?;
+    let parser = parser.arg(option(
+        alloc,
+        IDLE,
+        "SECONDS",
+        "how long a connection may be idle, from 1 to 3600",
+    )
+    .default_value("10"))?;
+    let parser = parser.arg(option(
+        alloc,
+        MESSAGE,
+        "SECONDS",
+        "how long a request may take to come whole, from 1 to 3600",
+    )
+    .default_value("10"))?;
+    parser.arg(option(
+        alloc,
+        REPLY,
+        "SECONDS",
+        "how long the taking of a reply, or of a part of it, may take, from 1 to 3600",
+    )
+    .default_value("10"))
+}
 
 /// What the options ask for.
 pub fn serve_of<'a>(

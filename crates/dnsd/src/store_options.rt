@@ -2,8 +2,9 @@
 ghost use Rattle.std.specs.Prelude.{◌≡◌, ◌≤◌, IsNone, IfOk};
 ghost use Rattle.std.specs.Result.{IsOkAnd};
 
-use crate::fault::CommandFault;
-use clap::ArgMatches;
+use crate::command::{CommandFault, option};
+use clap::{ArgMatches, Command as Parser};
+use std::alloc::{AllocError, Global};
 use stores::Take;
 
 /// A folder in which updates last, and how.
@@ -18,10 +19,10 @@ pub struct StorePlan<'a> {
 }
 
 /// The option for the folder in which updates last.
-pub const STORE: &str = "store";
+const STORE: &str = "store";
 
 /// The option for how many octets a journal has before it is begun anew.
-pub const JOURNAL: &str = "journal";
+const JOURNAL: &str = "journal";
 
 /// How many it has where the option isn't given (own).
 const JOURNAL_SIZE: u64 = 64_000_000;
@@ -32,7 +33,29 @@ const LEAST_SIZE: u64 = 4_096;
 const MOST_SIZE: u64 = 1_099_511_627_776;
 
 /// The option for which is taken, the store or the zone's text.
-pub const TAKE: &str = "take";
+const TAKE: &str = "take";
+
+/// The command's options for updates that last.
+pub fn with_store<'a>(alloc: Global, parser: Parser<'a>) -> Result<Parser<'a>, AllocError> {
+    let parser = parser.arg(option(
+        alloc,
+        STORE,
+        "DIR",
+        "a folder in which updates last: its zone and its journal are served where it has them; else ZONE is, and put there",
+    ))?;
+    let parser = parser.arg(option(
+        alloc,
+        JOURNAL,
+        "SIZE",
+        "how many octets DIR's journal has before a new zone text is written and the journal begun anew, as 100000, 500K or 64M, from 4K to 1024G; 64000000 where it isn't given",
+    ))?;
+    parser.arg(option(
+        alloc,
+        TAKE,
+        "WHICH",
+        "what is served where ZONE is another one than the store was begun from: store or zone",
+    ))
+}
 
 /// The folder in which updates last, if there is one.
 pub fn store_of<'a>(found: &ArgMatches<'a>) -> Result<Option<StorePlan<'a>>, CommandFault<'a>> {
