@@ -50,18 +50,25 @@ pub(crate) fn sets_in(zone: &Zone) -> u64 {
     sets
 }
 
-/// Records as they are sent; None where memory is refused.
+/// A record as it is sent.
+pub(crate) fn raw(alloc: Global, row: &RawRow) -> Option<RawRecord> {
+    let owner = name(row.0)?;
+    let mut octets = Vec::new(alloc);
+    octets.extend_from_slice(row.4).ok()?;
+    Some(RawRecord {
+        owner,
+        rtype: row.1,
+        class: row.2,
+        ttl: row.3,
+        octets,
+    })
+}
+
+/// Records as they are sent.
 fn raws(alloc: Global, rows: &[RawRow]) -> Option<RawRecords> {
     let mut records = Vec::new(alloc);
-    for (owner, rtype, class, ttl, octets) in rows {
-        let record = RawRecord {
-            owner: name(owner)?,
-            rtype: *rtype,
-            class: *class,
-            ttl: *ttl,
-            octets: octets.to_vec(alloc).ok()?,
-        };
-        records.push(record).ok()?;
+    for row in rows {
+        records.push(raw(alloc, row)?).ok()?;
     }
     Some(RawRecords::new(records))
 }
@@ -72,19 +79,35 @@ pub(crate) fn update_of(
     prerequisites: &[RawRow],
     updates: &[RawRow],
 ) -> Option<Update> {
+    let zone = ZoneEntry {
+        name: name("@")?,
+        rtype: RType::SOA,
+        class: Class::IN,
+    };
+    let head = Head {
+        id: 1,
+        opcode: 5,
+        rd: false,
+    };
+    let prerequisites = raws(alloc, prerequisites)?;
+    let updates = raws(alloc, updates)?;
     Some(Update {
-        head: Head {
-            id: 1,
-            opcode: 5,
-            rd: false,
-        },
+        head,
         edns: None,
-        zone: ZoneEntry {
-            name: name("@")?,
-            rtype: RType::SOA,
-            class: Class::IN,
-        },
-        prerequisites: raws(alloc, prerequisites)?,
-        updates: raws(alloc, updates)?,
+        zone,
+        prerequisites,
+        updates,
     })
+}
+
+/// An update, made anew where memory is refused.
+pub(crate) fn update_anew(
+    alloc: Global,
+    prerequisites: &[RawRow],
+    updates: &[RawRow],
+) -> Option<Update> {
+    match update_of(alloc, prerequisites, updates) {
+        Some(update) => Some(update),
+        None => update_of(alloc, prerequisites, updates),
+    }
 }

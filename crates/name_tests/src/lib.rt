@@ -1,5 +1,4 @@
-//! Tests of names and records, where no output of the program shows it: which fault octets and texts have and its words, each
-//! call that orders names, numbers of data, and sets that grow.
+//! Tests of names and records: octets, texts, order, names inside messages, data, and sets of records.
 #![tactic(auto)]
 
 #[cfg(test)]
@@ -7,10 +6,14 @@ mod data;
 #[cfg(test)]
 mod made;
 #[cfg(test)]
+mod names;
+#[cfg(test)]
 mod order;
 #[cfg(test)]
-mod parts;
+mod reading;
 #[cfg(test)]
 mod sets;
 #[cfg(test)]
-mod told;
+mod sought;
+#[cfg(test)]
+mod writing;

@@ -3,18 +3,28 @@
 #![tactic(auto)]
 
 #[cfg(test)]
-mod acts;
-#[cfg(test)]
 mod begun;
 #[cfg(test)]
 mod counted;
 #[cfg(test)]
-mod crew;
-#[cfg(test)]
 mod ends;
+#[cfg(test)]
+mod held;
 #[cfg(test)]
 mod jobs;
 #[cfg(test)]
-mod named;
+mod limited;
 #[cfg(test)]
-mod plays;
+mod numbers;
+#[cfg(test)]
+mod players;
+#[cfg(test)]
+mod stopped;
+#[cfg(test)]
+mod threads;
+#[cfg(test)]
+mod weak;
+#[cfg(test)]
+mod weak_players;
+#[cfg(test)]
+mod weak_threads;

@@ -1,12 +1,9 @@
-//! Tests of starts: the versions that a zone text and a journal give, also of a store that is begun anew of a later version; want of memory; and, over a real folder, what
-//! a server goes on with.
+//! Tests of `store_start`, over real folders: what a server begins with.
 #![tactic(auto)]
 
 #[cfg(test)]
-mod journals;
+mod chosen;
 #[cfg(test)]
-mod memory;
+mod folders;
 #[cfg(test)]
-mod resumed;
-#[cfg(test)]
-mod versions;
+mod gone_on;

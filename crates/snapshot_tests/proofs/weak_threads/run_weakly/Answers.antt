@@ -1,0 +1,75 @@
+-- The jobs, and what they give back, may be sent to other threads.
+use denote.Exit.{no}
+use denote.Param.{param}
+use denote.Param.Send.{IsSend, IsSync, param_send, arg_send, sendable}
+use denote.Ref.{NamedLft}
+use denote.RattleType.{RattleType}
+use Rattle.std.proofs.Crossing as crossing
+use Rattle.std.proofs.option.Option.TheSendSync as option
+use Rattle.std.specs.contracts.option.Option as Option
+use Rattle.rtrb.proofs.end.End.TheSendSync as end
+use Rattle.rtrb.proofs.producer.Producer.TheSendSync as producer
+use Rattle.rtrb.proofs.consumer.Consumer.TheSendSync as consumer
+use Rattle.snapshot_cell.proofs.SendLemmas as cell
+use Rattle.snapshot_cell.specs.declared.named.Naming as naming
+use Rattle.snapshot_tests.specs.contracts.counted.Counted as counted
+use Rattle.snapshot_tests.specs.contracts.counted.Tally as tally
+use Rattle.snapshot_tests.specs.contracts.players.Loader as loader
+use Rattle.snapshot_tests.specs.contracts.players.Teller as teller
+use Rattle.snapshot_tests.specs.contracts.weak_players.Back as back
+use Rattle.snapshot_tests.specs.contracts.weak_players.Copier as copier
+use Rattle.snapshot_tests.specs.contracts.weak_players.Raiser as raiser
+use Rattle.snapshot_tests.specs.contracts.weak_players.Records as records
+use Rattle.snapshot_tests.specs.contracts.weak_players.Sharer as sharer
+use Rattle.snapshot_tests.specs.contracts.weak_threads.WeakJob as job
+use Rattle.snapshot_tests.proofs.weak_threads.run_weakly.Goals as goal
+
+tally_send : IsSend tally.the_row
+tally_send = search (option.the_field_send, crossing.crosses, sendable) depth 60 fits 20000
+
+tally_sync : IsSync tally.the_row
+tally_sync = search (option.the_field_sync, crossing.crosses, sendable) depth 60 fits 20000
+
+counted_send : IsSend counted.the_row
+counted_send = search (tally_send, tally_sync, crossing.crosses, sendable) depth 60 fits 20000
+
+counted_sync : IsSync counted.the_row
+counted_sync = search (tally_send, tally_sync, crossing.crosses, sendable) depth 60 fits 20000
+
+records_send : IsSend records.the_row
+records_send = search (crossing.crosses, sendable) depth 60 fits 20000
+
+records_sync : IsSync records.the_row
+records_sync = search (crossing.crosses, sendable) depth 60 fits 20000
+
+module _ (N : RattleType) (n : naming.Ghosts N.Denot) where
+  module _ (a : NamedLft) where
+    loader_send : IsSend (loader.the_field a N n).row
+    loader_send = search (counted_send, counted_sync, cell.crosses, crossing.crosses, sendable) depth 60 fits 20000
+
+    teller_send : IsSend (teller.the_field a N n).row
+    teller_send = search (counted_send, counted_sync, tally_send, tally_sync, cell.crosses, crossing.crosses, sendable) depth 60 fits 20000
+
+    back_send : IsSend (back.the_row a N n)
+    back_send = search (loader_send, teller_send, sendable) depth 60 fits 20000
+
+    ran_send : IsSend (Option.the_row (back.the_row a N n))
+    ran_send = search (back_send, option.the_send, sendable) depth 60 fits 20000
+
+    copier_send : IsSend (copier.the_field a N n).row
+    copier_send = search (loader_send, records_send, records_sync, crossing.crosses, sendable) depth 60 fits 20000
+
+    raiser_send : IsSend (raiser.the_field a N n).row
+    raiser_send = search (loader_send, records_send, records_sync, counted_send, counted_sync, consumer.the_field_send, cell.crosses, crossing.crosses, sendable) depth 60 fits 20000
+
+    sharer_send : IsSend (sharer.the_field a N n).row
+    sharer_send = search (teller_send, records_send, records_sync, counted_send, counted_sync, producer.the_field_send, producer.the_send, cell.crosses, crossing.crosses, sendable) depth 60 fits 20000
+
+    jobs_send : IsSend (job.the_row a N n)
+    jobs_send = search (copier_send, raiser_send, sharer_send, sendable) depth 60 fits 20000
+
+pub map_vec-requires-send-J : goal.map_vec-requires-send-J
+map_vec-requires-send-J g c κs within = param_send _ _ (arg_send _ no _ (jobs_send (param 1 g.row.N) g.N.Naming _))
+
+pub map_vec-requires-send-X : goal.map_vec-requires-send-X
+map_vec-requires-send-X g c κs within = param_send _ _ (arg_send _ no _ (ran_send (param 1 g.row.N) g.N.Naming _))
