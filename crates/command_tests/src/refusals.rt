@@ -6,6 +6,7 @@ use master_file::{read_zone, write_zone};
 use std::alloc::Global;
 
 /// What a command over a text tells.
+#[derive(Clone, Copy)]
 struct Case {
     kind: Kind,
     text: Parts,

@@ -109,6 +109,20 @@ impl<C: Clock> SocketJob<'_, C> {
     }
 }
 
+/// The updates that threads with these duties hand in, of which so many wait at most.
+fn updates_for<R: Wait>(
+    rt: &R,
+    alloc: Global,
+    most: usize,
+    duties: &[Duty<'_>],
+    places: usize,
+) -> Result<Updates, ServeFault> {
+    match Updates::of(rt, alloc, most, duties, places) {
+        Ok(updates) => Ok(updates),
+        Err(_) => Err(ServeFault::NoMemory),
+    }
+}
+
 /// What updates are judged by that threads with these duties hand in.
 fn judging_for<'a, S: Storing<SharedVersion>, F: Drop>(
     alloc: Global,
@@ -148,9 +162,7 @@ pub fn serve_zone<
     requires kept { plan.keep ≤ KEPT }
 {
     let threads = duties.len();
-    let Ok(updates) = Updates::of(rt, alloc, handing.most, &duties, plan.places) else {
-        return Err(ServeFault::NoMemory);
-    };
+    let updates = updates_for(rt, alloc, handing.most, &duties, plan.places)?;
     let judging = judging_for(alloc, handing, &duties, &updates)?;
     let jobs = jobs_of(rt, alloc, duties, plan, &updates)?;
     let parts = match Cell::<SharedVersion, ZoneVersions<Z>>::new(alloc, threads + 2, first) {
