@@ -1,4 +1,4 @@
-//! The two messages of a transfer, each cut at each of its octets (RFC 5936, 2.2).
+//! The two messages of a transfer, of which the first is cut at each of its octets (RFC 5936, 2.2).
 use crate::made::{SetRow, sets_in, zone_anew};
 use dns_rdata::RType;
 use std::alloc::{AllocError, Global};
@@ -27,211 +27,122 @@ const CLOSE: &[u8] =
     b"\x12\x34\x84\0\0\0\0\x01\0\0\0\0\x07example\x04test\0\0\x06\0\x01\0\0\x0e\x10\
       \0\x22\x03ns1\xc0\x0c\x05admin\xc0\x0c\0\0\0\x01\0\0\x1c\x20\0\0\x03\x84\0\x12\x75\0\0\0\x01\x2c";
 
-/// How many octets the first message has, and the second.
+/// How many octets the first message has.
 const FIRST: usize = 16_349;
 
-const SECOND: usize = 70;
+/// Into how many parts its lengths fall, by what is left over.
+const PARTS: usize = 8;
 
-/// By how many octets each cut of a test is shorter than the one before.
-const STEP: usize = 16;
-
-/// A text's owner, type, class, TTL and length of data, of which the first has 4,052 octets in full, as the two behind it, and the last 4,053.
-const TEXTS: [&[u8]; 4] = [
-    b"\x01t\xc0\x0c\0\x10\0\x01\0\0\x0e\x10\x0f\xd4",
-    b"\xc0\x5a\0\x10\0\x01\0\0\x0e\x10\x0f\xd4",
-    b"\xc0\x5a\0\x10\0\x01\0\0\x0e\x10\x0f\xd4",
-    b"\xc0\x5a\0\x10\0\x01\0\0\x0e\x10\x0f\xd5",
+/// Four texts at `t.example.test.`: owner, type, class, TTL and length of the data, and a letter and how many of it the last string has. Of
+/// the owners the first has its own octets; of the data the first three have 4,052 octets, and the last 4,053.
+const TEXTS: [(&[u8], u8, u8); 4] = [
+    (b"\x01t\xc0\x0c\0\x10\0\x01\0\0\x0e\x10\x0f\xd4", b'a', 211),
+    (b"\xc0\x5a\0\x10\0\x01\0\0\x0e\x10\x0f\xd4", b'b', 211),
+    (b"\xc0\x5a\0\x10\0\x01\0\0\x0e\x10\x0f\xd4", b'c', 211),
+    (b"\xc0\x5a\0\x10\0\x01\0\0\x0e\x10\x0f\xd5", b'd', 212),
 ];
 
-/// Puts a string of so many of a letter (RFC 1035, 3.3).
-fn put_string(message: &mut Vec<u8>, letter: u8, len: u8) -> Result<(), AllocError> {
-    message.push(len)?;
-    for _ in 0..len {
-        message.push(letter)?;
-    }
-    Ok(())
-}
-
-/// Puts a text: fifteen strings of 255 of a letter, and one of so many.
+/// Puts a text: fifteen strings of 255 of a letter, and one of so many (RFC 1035, 3.3).
 fn put_text(message: &mut Vec<u8>, front: &[u8], letter: u8, last: u8) -> Result<(), AllocError> {
+    let letters = [letter; 255];
     message.extend_from_slice(front)?;
     for _ in 0..15u8 {
-        put_string(message, letter, 255)?;
+        message.push(255)?;
+        message.extend_from_slice(&letters)?;
     }
-    put_string(message, letter, last)
+    message.push(last)?;
+    message.extend_from_slice(&letters[..usize::from(last)])
 }
 
-/// The first message: the front, and four texts at `t.example.test.`
-fn first_message(alloc: Global) -> Result<Vec<u8>, AllocError> {
-    let mut message = FRONT.to_vec(alloc)?;
-    put_text(&mut message, TEXTS[0], b'a', 211)?;
-    put_text(&mut message, TEXTS[1], b'b', 211)?;
-    put_text(&mut message, TEXTS[2], b'c', 211)?;
-    put_text(&mut message, TEXTS[3], b'd', 212)?;
-    Ok(message)
-}
-
-/// Both messages; None where there is no memory for them.
-fn messages(alloc: Global) -> Option<Vec<Vec<u8>>> {
+/// Both messages.
+fn messages(alloc: Global) -> Result<Vec<Vec<u8>>, AllocError> {
+    let mut first = FRONT.to_vec(alloc)?;
+    for (front, letter, last) in TEXTS {
+        put_text(&mut first, front, letter, last)?;
+    }
     let mut messages = Vec::new(alloc);
-    messages.push(first_message(alloc).ok()?).ok()?;
-    messages.push(CLOSE.to_vec(alloc).ok()?).ok()?;
-    Some(messages)
+    messages.push(first)?;
+    messages.push(CLOSE.to_vec(alloc)?)?;
+    Ok(messages)
 }
 
-/// Whether a transfer that is cut so is broken, and the zone that is held stays.
-fn is_broken(alloc: Global, zone: &Zone, messages: &[Vec<u8>]) -> bool {
-    let is_broken = match apply(alloc, zone, messages) {
-        Ok(_) => false,
-        Err(fault) => matches!(fault, TransferFault::Broken),
-    };
-    is_broken && zone.serial().0 == 1 && sets_in(zone) == 2
-}
-
-/// Whether one of the messages is longer than so many octets, to which it is then cut.
-fn is_cut(messages: &mut [Vec<u8>], at: usize, len: usize) -> bool {
-    match messages.get_mut(at) {
-        Some(message) => {
-            let is_longer = len < message.len();
-            message.truncate(len);
-            is_longer
-        }
-        None => false,
+/// Whether both are taken as a zone of three sets where the first message has this length, which is that of the whole, and where it is cut to
+/// fewer octets the transfer is broken.
+fn is_judged(alloc: Global, zone: &Zone, messages: &[Vec<u8>], len: usize) -> bool {
+    match apply(alloc, zone, messages) {
+        Ok(next) => len == FIRST && (next.serial().0, sets_in(&next)) == (1, 3),
+        Err(TransferFault::Broken) => len < FIRST,
+        Err(_) => false,
     }
 }
 
-/// Whether the transfer is broken with one of its messages cut to so many octets, and to each step fewer.
-fn are_broken(
+/// The greatest length of a part, or of the whole, to which the first message is cut and judged otherwise.
+fn judged_otherwise(
     alloc: Global,
     zone: &Zone,
     messages: &mut [Vec<u8>],
-    at: usize,
-    longest: usize,
-) -> bool {
-    for turn in 0..longest / STEP + 1 {
-        let len = longest.saturating_sub(turn.saturating_mul(STEP));
-        if !is_cut(messages, at, len) || !is_broken(alloc, zone, messages) {
-            return false;
+    part: usize,
+) -> Option<usize> {
+    for len in (0..FIRST + 1).rev() {
+        if len != FIRST && len % PARTS != part {
+            continue;
+        }
+        let Some(first) = messages.first_mut() else {
+            return Some(len);
+        };
+        first.truncate(len);
+        if !is_judged(alloc, zone, messages, len) {
+            return Some(len);
         }
     }
-    true
+    None
 }
 
-/// One of the messages is cut to so many octets, and to each step fewer: the transfer is broken.
-fn tries<R: Abort>(rt: &R, alloc: Global, at: usize, longest: usize) {
+/// In whole the transfer is taken; with the first message cut to any length of a part it is broken, and the zone that is held stays.
+fn tries<R: Abort>(rt: &R, alloc: Global, part: usize) {
     let zone = zone_anew(alloc, &HELD).expect(rt, "a zone");
     let mut messages = messages(alloc).expect(rt, "memory");
-    assert!(rt;
-        are_broken(alloc, &zone, &mut messages, at, longest),
-        "from {longest} octets on"
-    );
+    assert_eq!(rt; judged_otherwise(alloc, &zone, &mut messages, part), None);
+    assert_eq!(rt; (zone.serial().0, sets_in(&zone)), (1, 2));
 }
 
-// Both in whole are taken.
+// Each of these tests has an eighth of the lengths.
 #[test]
-fn a_transfer_in_whole_is_taken(rt: HostRuntime) {
-    let zone = zone_anew(rt.alloc(), &HELD).expect(&rt, "a zone");
-    let messages = messages(rt.alloc()).expect(&rt, "memory");
-    match apply(rt.alloc(), &zone, &messages) {
-        Ok(next) => assert!(rt; next.serial().0 == 1 && sets_in(&next) == 3),
-        Err(_) => panic!(rt; "the whole is refused"),
-    }
-}
-
-// The first alone is broken.
-#[test]
-fn a_transfer_without_its_close_is_broken(rt: HostRuntime) {
-    let zone = zone_anew(rt.alloc(), &HELD).expect(&rt, "a zone");
-    let mut messages = messages(rt.alloc()).expect(&rt, "memory");
-    assert!(rt; messages.pop().is_some());
-    assert!(rt; is_broken(rt.alloc(), &zone, &messages));
-}
-
-// So is one whose second message is cut at any of its octets.
-#[test]
-fn a_second_message_that_is_cut_is_broken(rt: HostRuntime) {
-    for less in 1..STEP + 1 {
-        tries(&rt, rt.alloc(), 1, SECOND.saturating_sub(less));
-    }
-}
-
-// And one whose first is cut at any of its: each of these tests has a sixteenth of them.
-#[test]
-fn a_first_message_that_is_cut_by_1_is_broken(rt: HostRuntime) {
-    tries(&rt, rt.alloc(), 0, FIRST - 1);
+fn a_first_message_of_8_n_and_0_octets_is_broken(rt: HostRuntime) {
+    tries(&rt, rt.alloc(), 0);
 }
 
 #[test]
-fn a_first_message_that_is_cut_by_2_is_broken(rt: HostRuntime) {
-    tries(&rt, rt.alloc(), 0, FIRST - 2);
+fn a_first_message_of_8_n_and_1_octets_is_broken(rt: HostRuntime) {
+    tries(&rt, rt.alloc(), 1);
 }
 
 #[test]
-fn a_first_message_that_is_cut_by_3_is_broken(rt: HostRuntime) {
-    tries(&rt, rt.alloc(), 0, FIRST - 3);
+fn a_first_message_of_8_n_and_2_octets_is_broken(rt: HostRuntime) {
+    tries(&rt, rt.alloc(), 2);
 }
 
 #[test]
-fn a_first_message_that_is_cut_by_4_is_broken(rt: HostRuntime) {
-    tries(&rt, rt.alloc(), 0, FIRST - 4);
+fn a_first_message_of_8_n_and_3_octets_is_broken(rt: HostRuntime) {
+    tries(&rt, rt.alloc(), 3);
 }
 
 #[test]
-fn a_first_message_that_is_cut_by_5_is_broken(rt: HostRuntime) {
-    tries(&rt, rt.alloc(), 0, FIRST - 5);
+fn a_first_message_of_8_n_and_4_octets_is_broken(rt: HostRuntime) {
+    tries(&rt, rt.alloc(), 4);
 }
 
 #[test]
-fn a_first_message_that_is_cut_by_6_is_broken(rt: HostRuntime) {
-    tries(&rt, rt.alloc(), 0, FIRST - 6);
+fn a_first_message_of_8_n_and_5_octets_is_broken(rt: HostRuntime) {
+    tries(&rt, rt.alloc(), 5);
 }
 
 #[test]
-fn a_first_message_that_is_cut_by_7_is_broken(rt: HostRuntime) {
-    tries(&rt, rt.alloc(), 0, FIRST - 7);
+fn a_first_message_of_8_n_and_6_octets_is_broken(rt: HostRuntime) {
+    tries(&rt, rt.alloc(), 6);
 }
 
 #[test]
-fn a_first_message_that_is_cut_by_8_is_broken(rt: HostRuntime) {
-    tries(&rt, rt.alloc(), 0, FIRST - 8);
-}
-
-#[test]
-fn a_first_message_that_is_cut_by_9_is_broken(rt: HostRuntime) {
-    tries(&rt, rt.alloc(), 0, FIRST - 9);
-}
-
-#[test]
-fn a_first_message_that_is_cut_by_10_is_broken(rt: HostRuntime) {
-    tries(&rt, rt.alloc(), 0, FIRST - 10);
-}
-
-#[test]
-fn a_first_message_that_is_cut_by_11_is_broken(rt: HostRuntime) {
-    tries(&rt, rt.alloc(), 0, FIRST - 11);
-}
-
-#[test]
-fn a_first_message_that_is_cut_by_12_is_broken(rt: HostRuntime) {
-    tries(&rt, rt.alloc(), 0, FIRST - 12);
-}
-
-#[test]
-fn a_first_message_that_is_cut_by_13_is_broken(rt: HostRuntime) {
-    tries(&rt, rt.alloc(), 0, FIRST - 13);
-}
-
-#[test]
-fn a_first_message_that_is_cut_by_14_is_broken(rt: HostRuntime) {
-    tries(&rt, rt.alloc(), 0, FIRST - 14);
-}
-
-#[test]
-fn a_first_message_that_is_cut_by_15_is_broken(rt: HostRuntime) {
-    tries(&rt, rt.alloc(), 0, FIRST - 15);
-}
-
-#[test]
-fn a_first_message_that_is_cut_by_16_is_broken(rt: HostRuntime) {
-    tries(&rt, rt.alloc(), 0, FIRST - 16);
+fn a_first_message_of_8_n_and_7_octets_is_broken(rt: HostRuntime) {
+    tries(&rt, rt.alloc(), 7);
 }

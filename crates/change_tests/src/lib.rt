@@ -1,9 +1,7 @@
-//! Tests of messages, and of what changes a zone, which no output of the program shows: refused memory, limits, and values of calls. What
-//! the program shows of them stands in `tests/rows`.
+//! Tests of messages, and of what changes a zone, which no output of the program shows: refused memory, messages that are cut, places in lists,
+//! and values of calls. What the program shows of them stands in `tests/rows`.
 #![tactic(auto)]
 
-#[cfg(test)]
-mod alternating;
 #[cfg(test)]
 mod cuts;
 #[cfg(test)]
@@ -20,5 +18,3 @@ mod places;
 mod reading;
 #[cfg(test)]
 mod replies;
-#[cfg(test)]
-mod requests;

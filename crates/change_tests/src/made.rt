@@ -50,25 +50,18 @@ pub(crate) fn sets_in(zone: &Zone) -> u64 {
     sets
 }
 
-/// A record as it is sent.
-pub(crate) fn raw(alloc: Global, row: &RawRow) -> Option<RawRecord> {
-    let owner = name(row.0)?;
-    let mut octets = Vec::new(alloc);
-    octets.extend_from_slice(row.4).ok()?;
-    Some(RawRecord {
-        owner,
-        rtype: row.1,
-        class: row.2,
-        ttl: row.3,
-        octets,
-    })
-}
-
-/// Records as they are sent.
+/// Records as they are sent; None where memory is refused.
 fn raws(alloc: Global, rows: &[RawRow]) -> Option<RawRecords> {
     let mut records = Vec::new(alloc);
-    for row in rows {
-        records.push(raw(alloc, row)?).ok()?;
+    for (owner, rtype, class, ttl, octets) in rows {
+        let record = RawRecord {
+            owner: name(owner)?,
+            rtype: *rtype,
+            class: *class,
+            ttl: *ttl,
+            octets: octets.to_vec(alloc).ok()?,
+        };
+        records.push(record).ok()?;
     }
     Some(RawRecords::new(records))
 }
@@ -79,35 +72,19 @@ pub(crate) fn update_of(
     prerequisites: &[RawRow],
     updates: &[RawRow],
 ) -> Option<Update> {
-    let zone = ZoneEntry {
-        name: name("@")?,
-        rtype: RType::SOA,
-        class: Class::IN,
-    };
-    let head = Head {
-        id: 1,
-        opcode: 5,
-        rd: false,
-    };
-    let prerequisites = raws(alloc, prerequisites)?;
-    let updates = raws(alloc, updates)?;
     Some(Update {
-        head,
+        head: Head {
+            id: 1,
+            opcode: 5,
+            rd: false,
+        },
         edns: None,
-        zone,
-        prerequisites,
-        updates,
+        zone: ZoneEntry {
+            name: name("@")?,
+            rtype: RType::SOA,
+            class: Class::IN,
+        },
+        prerequisites: raws(alloc, prerequisites)?,
+        updates: raws(alloc, updates)?,
     })
-}
-
-/// An update, made anew where memory is refused.
-pub(crate) fn update_anew(
-    alloc: Global,
-    prerequisites: &[RawRow],
-    updates: &[RawRow],
-) -> Option<Update> {
-    match update_of(alloc, prerequisites, updates) {
-        Some(update) => Some(update),
-        None => update_of(alloc, prerequisites, updates),
-    }
 }

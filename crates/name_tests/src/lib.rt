@@ -1,4 +1,5 @@
-//! Tests of names and records: octets, texts, order, names inside messages, data, and sets of records.
+//! Tests of names and records, where no output of the program shows it: which fault octets and texts have and its words, each
+//! call that orders names, numbers of data, and sets that grow.
 #![tactic(auto)]
 
 #[cfg(test)]
@@ -6,14 +7,10 @@ mod data;
 #[cfg(test)]
 mod made;
 #[cfg(test)]
-mod names;
-#[cfg(test)]
 mod order;
 #[cfg(test)]
-mod reading;
+mod parts;
 #[cfg(test)]
 mod sets;
 #[cfg(test)]
-mod sought;
-#[cfg(test)]
-mod writing;
+mod told;

@@ -1,41 +1,32 @@
 //! What the tests are made of.
-ghost use Rattle.std.specs.Prelude.{◌≤◌};
+ghost use Rattle.std.specs.Prelude.{◌≡◌, IfOk};
 
-use dns_name::Name;
+use dns_name::{Name, StoredName};
+use dns_rdata::{DataFault, RData, RType};
 use std::alloc::Global;
-use std::fmt::Display;
 
-/// The name of a text, below the root.
-pub(crate) fn name(text: &[u8]) -> Option<Name> {
-    Name::from_text(text, &Name::root()).ok()
-}
-
-/// Labels of 63, 63, 63 and so many octets, and the closing octet.
-pub(crate) fn four_labels(last: u8) -> [u8; 256]
-    requires { last ≤ 62 }
-{
-    let mut octets = [b'x'; 256];
-    octets[0] = 63;
-    octets[64] = 63;
-    octets[128] = 63;
-    octets[192] = last;
-    octets[193 + usize::from(last)] = 0;
-    octets
-}
-
-/// Whether a value is printed so.
-pub(crate) fn is_printed<D: Display>(alloc: Global, value: &D, want: &str) -> bool {
-    match format!(in alloc; "{value}") {
-        Ok(text) => text.as_str() == want,
-        Err(_) => false,
+/// The name of a text below the root; the root where it is none.
+pub(crate) fn name(text: &[u8]) -> Name {
+    match Name::from_text(text, &Name::root()) {
+        Ok(name) => name,
+        Err(_) => Name::root(),
     }
 }
 
-/// Whether octets are these, in hexadecimal, and at most 64.
-pub(crate) fn is_hex(octets: &[u8], want: &str) -> bool {
-    let mut room = [0; 64];
-    match room.get_mut(..want.len() / 2) {
-        Some(spelt) => hex::decode_to_slice(want, spelt).is_ok() && &*spelt == octets,
-        None => false,
+/// The stored name, made once more where memory was refused.
+pub(crate) fn stored(alloc: Global, name: &Name) -> Option<StoredName> {
+    match StoredName::new(alloc, name) {
+        Ok(stored) => Some(stored),
+        Err(_) => StoredName::new(alloc, name).ok(),
+    }
+}
+
+/// What octets are read as, or the fault; read once more where memory was refused.
+pub(crate) fn read(alloc: Global, rtype: RType, octets: &[u8]) -> Result<RData, DataFault>
+    ensures { IfOk result (λ d. d.rtype ≡ rtype.0) }
+{
+    match RData::from_wire(alloc, rtype, octets) {
+        Err(DataFault::NoMemory) => RData::from_wire(alloc, rtype, octets),
+        told => told,
     }
 }

@@ -4,8 +4,7 @@ ghost use Rattle.std.specs.Prelude.{◌<◌, ◌^◌};
 use dns_name::Name;
 use dns_rdata::{RData, RRset, RType, Ttl};
 use std::alloc::Global;
-use std::fmt::Display;
-use zone_tree::{Walk, Zone, ZoneRead};
+use zone_tree::{Walk, Zone};
 
 const SOA: &[u8] = b"\0\0\0\0\0\x01\0\0\0\x02\0\0\0\x03\0\0\0\x04\0\0\0\x05";
 
@@ -68,11 +67,6 @@ fn is_row(set: &RRset, row: &str) -> Option<bool> {
     Some(set.owner() == name(owner)? && set.rtype() == rtype)
 }
 
-/// Whether a walk over a zone gives a set of each row, in their order.
-pub(crate) fn walks(zone: &Zone, rows: &str) -> Option<bool> {
-    gives(zone.walk(), rows)
-}
-
 /// Whether a walk gives a set of each row, in their order.
 pub(crate) fn gives(walk: Walk<'_>, rows: &str) -> Option<bool> {
     let mut rows = rows.split_terminator(", ");
@@ -94,13 +88,5 @@ pub(crate) fn zone_anew(alloc: Global, rows: &str) -> Option<Zone> {
     match zone_of(alloc, rows) {
         Some(zone) => Some(zone),
         None => zone_of(alloc, rows),
-    }
-}
-
-/// Whether a fault is printed so.
-pub(crate) fn is_printed<D: Display>(alloc: Global, fault: &D, want: &str) -> bool {
-    match format!(in alloc; "{fault}") {
-        Ok(text) => text.as_str() == want,
-        Err(_) => false,
     }
 }

@@ -91,52 +91,39 @@ impl ZoneRead for Counted {
 /// the alias and of its target, `mail` those of the exchanges and of the names of both hosts. At `y.z.sub` a zone cut ends the
 /// way down; then comes the host of one of its servers. Of `nope`, `zz.b` and `p.dyn`, which don't exist, the source of synthesis
 /// is searched as well.
-const SEARCHES: &str = "\
-example. SOA 1\n\
-web A 1\n\
-web MX 1\n\
-web ANY 1\n\
-a.b TXT 2\n\
-x.e.dyn A 3\n\
-www A 2\n\
-mail MX 3\n\
-y.z.sub A 3\n\
-b A 1\n\
-nope A 2\n\
-zz.b A 3\n\
-p.dyn A 3\n";
+const SEARCHES: [(&str, RType, u64); 13] = [
+    ("example.", RType::SOA, 1),
+    ("web", RType::A, 1),
+    ("web", RType::MX, 1),
+    ("web", RType::ANY, 1),
+    ("a.b", RType::TXT, 2),
+    ("x.e.dyn", RType::A, 3),
+    ("www", RType::A, 2),
+    ("mail", RType::MX, 3),
+    ("y.z.sub", RType::A, 3),
+    ("b", RType::A, 1),
+    ("nope", RType::A, 2),
+    ("zz.b", RType::A, 3),
+    ("p.dyn", RType::A, 3),
+];
 
-/// The type of a word; ANY where it is no word of a row.
-fn rtype_of(word: &str) -> RType {
-    match data_of(word) {
-        Some((rtype, _)) => rtype,
-        None => RType::ANY,
-    }
-}
-
-/// Whether the answer to a row's name and type makes as many searches as the row says.
-fn are_searches(zone: &Counted, row: &str) -> Option<bool> {
-    let mut words = row.split(' ');
-    let asked = name(words.next()?)?;
-    let rtype = rtype_of(words.next()?);
-    let searches = u64::from_str_radix(words.next()?, 10).ok()?;
+/// How many searches the answer to a name and a type makes.
+fn searches_of(zone: &Counted, asked: &str, rtype: RType) -> Option<u64> {
+    let asked = name(asked)?;
     zone.searches.set(0);
     let _ = answer(zone, &asked, rtype);
-    Some(zone.searches.get() == searches)
+    Some(zone.searches.get())
 }
 
 #[test]
-fn searches(rt: HostRuntime) -> Result<(), &'static str> {
+fn searches(rt: HostRuntime) {
     let zone = Counted {
-        zone: zone_of(rt.alloc()).ok_or("no zone")?,
+        zone: zone_of(rt.alloc()).expect(&rt, "a zone"),
         searches: Cell::new(0),
     };
-    for row in SEARCHES.lines() {
-        if are_searches(&zone, row) != Some(true) {
-            return Err(row);
-        }
+    for (asked, rtype, count) in SEARCHES {
+        assert_eq!(rt; searches_of(&zone, asked, rtype), Some(count), "{asked}");
     }
-    Ok(())
 }
 
 /// Whether a name stands at or below a cut, or at a source of synthesis, of this name as it is spelt.
@@ -149,12 +136,9 @@ fn is_spelt(zone: &Zone, asked: &str, want: &str) -> Option<bool> {
 
 // The name of a cut is spelt as the name asked, which no reply shows.
 #[test]
-fn places(rt: HostRuntime) -> Result<(), &'static str> {
-    let zone = zone_of(rt.alloc()).ok_or("no zone")?;
-    for (asked, want) in [("y.z.SUB", "SUB"), ("p.q.dyn", "*.dyn")] {
-        if is_spelt(&zone, asked, want) != Some(true) {
-            return Err(asked);
-        }
-    }
-    Ok(())
+fn places(rt: HostRuntime) {
+    let zone = zone_of(rt.alloc()).expect(&rt, "a zone");
+    let cut = is_spelt(&zone, "y.z.SUB", "SUB");
+    let source = is_spelt(&zone, "p.q.dyn", "*.dyn");
+    assert_eq!(rt; (cut, source), (Some(true), Some(true)));
 }

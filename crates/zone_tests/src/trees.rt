@@ -25,14 +25,6 @@ fn built(alloc: Global, count: u32) -> Option<Numbers> {
     Tree::from_sorted(alloc, 0, numbers(alloc, count).ok()?).ok()
 }
 
-/// The same, made anew where memory is refused.
-fn built_anew(alloc: Global, count: u32) -> Option<Numbers> {
-    match built(alloc, count) {
-        Some(tree) => Some(tree),
-        None => built(alloc, count),
-    }
-}
-
 /// No number of these trees.
 const NONE: u32 = u32::MAX;
 
@@ -45,10 +37,10 @@ fn past(number: u32, but: u32) -> u32 {
     }
 }
 
-/// Whether a tree has just the numbers below a count, each with itself, but for one.
-fn counts_up(tree: &Numbers, count: u32, but: u32) -> bool {
-    let mut number = past(0, but);
-    for pair in tree.walk() {
+/// Whether a walk gives just the numbers from one on and below a count, each with itself, but for one.
+fn counts_up(walk: Walk<'_, u32, u32>, from: u32, count: u32, but: u32) -> bool {
+    let mut number = past(from, but);
+    for pair in walk {
         if pair.0 != number || pair.1 != number {
             return false;
         }
@@ -57,32 +49,37 @@ fn counts_up(tree: &Numbers, count: u32, but: u32) -> bool {
     number == past(count, but)
 }
 
-/// Whether the pairs above each number up to a count are the greater numbers below it.
-fn are_above(tree: &Numbers, count: u32) -> bool {
+/// The number of a pair.
+fn number_of(pair: Option<&(u32, u32)>) -> Option<u32> {
+    match pair {
+        Some(pair) => Some(pair.0),
+        None => None,
+    }
+}
+
+/// Whether each number of a tree of so many is found, with the greater ones above it, and behind the last there is none.
+fn each_is_found(tree: &Numbers, count: u32) -> bool {
     for number in 0..count {
-        let mut next = number.saturating_add(1);
-        for pair in tree.walk_above(&number) {
-            if pair.0 != next || pair.1 != next {
-                return false;
-            }
-            next = next.saturating_add(1);
-        }
-        if next != count {
+        let above = tree.walk_above(&number);
+        if number_of(tree.around(&number).at) != Some(number)
+            || !counts_up(above, number.saturating_add(1), count, NONE)
+        {
             return false;
         }
     }
-    true
+    let behind = tree.around(&count);
+    let none = behind.at.is_none() && behind.behind.is_none();
+    none && number_of(behind.before) == count.checked_sub(1)
+        && tree.walk_above(&count).next().is_none()
 }
 
+// Trees that are built of a base.
 #[test]
-fn greater_keys(rt: HostRuntime) -> Result<(), &'static str> {
+fn keys_and_greater_keys(rt: HostRuntime) {
     for count in [1, 2, 3, 64, 100] {
-        let tree = built_anew(rt.alloc(), count).ok_or("no tree")?;
-        if !are_above(&tree, count) || tree.walk_above(&count).next().is_some() {
-            return Err("other pairs");
-        }
+        let tree = built(rt.alloc(), count).expect(&rt, "a tree");
+        assert!(rt; each_is_found(&tree, count));
     }
-    Ok(())
 }
 
 /// The tree with one more number; None where that makes more than 84 nodes, or a tree that is higher than 20.
@@ -106,74 +103,53 @@ fn versions_of(alloc: Global, count: u32) -> Option<Vec<Numbers>> {
     Some(versions)
 }
 
-/// Whether each version has its numbers.
-fn count_up(versions: &[Numbers]) -> bool {
+/// How many versions in front have as many numbers as there are in front of them.
+fn count_up(versions: &[Numbers]) -> u32 {
     let mut count = 0u32;
     for version in versions {
-        if !counts_up(version, count, NONE) {
-            return false;
+        if !counts_up(version.walk(), 0, count, NONE) {
+            return count;
         }
         count = count.saturating_add(1);
     }
-    count == 1000
+    count
 }
 
 // 1,000 has ten binary digits, so that no tree of as many is higher than 20, and no change makes more than 4 * 21 nodes.
 #[test]
-fn each_version_keeps_its_keys(rt: HostRuntime) -> Result<(), &'static str> {
-    let versions = versions_of(rt.alloc(), 1000).ok_or("no versions")?;
-    if !count_up(&versions) {
-        return Err("other numbers");
-    }
-    Ok(())
+fn each_version_keeps_its_keys(rt: HostRuntime) {
+    let versions = versions_of(rt.alloc(), 1000).expect(&rt, "versions");
+    assert_eq!(rt; count_up(&versions), 1000);
 }
 
-/// Whether a tree without a number stays as it is without it.
-fn stays_gone(alloc: Global, gone: &Numbers, count: u32, number: u32) -> Option<bool> {
-    let (none, made) = gone.without(alloc, &number).ok()?;
-    Some(made == 0 && counts_up(&none, count, number))
-}
-
-/// Whether a number comes back with another value.
-fn comes_back(alloc: Global, gone: &Numbers, number: u32) -> Option<bool> {
-    let (put, _) = gone.with(alloc, number, 7).ok()?;
-    Some(put.get(&number).copied() == Some(7))
-}
-
-/// Whether a number goes from a tree of so many, once, and comes back.
+/// Whether a number goes from a tree of so many, once, and comes back with another value.
 fn goes(alloc: Global, tree: &Numbers, count: u32, number: u32) -> Option<bool> {
     let (gone, made) = tree.without(alloc, &number).ok()?;
-    let few = made <= 4 * (u64::from(tree.height()) + 1);
-    let left = counts_up(&gone, count, number) && gone.get(&number).is_none();
-    Some(few && left && goes_once(alloc, &gone, count, number))
-}
-
-/// Whether a number that is gone stays so, and comes back.
-fn goes_once(alloc: Global, gone: &Numbers, count: u32, number: u32) -> bool {
-    stays_gone(alloc, gone, count, number) == Some(true)
-        && comes_back(alloc, gone, number) == Some(true)
+    let (still, none) = gone.without(alloc, &number).ok()?;
+    let (put, _) = gone.with(alloc, number, 7).ok()?;
+    let few = made <= 4 * (u64::from(tree.height()) + 1) && none == 0;
+    let left = counts_up(gone.walk(), 0, count, number)
+        && counts_up(still.walk(), 0, count, number);
+    Some(few && left && gone.get(&number).is_none() && put.get(&number).copied() == Some(7))
 }
 
 /// Whether each number of a tree of so many goes and comes back, and the tree has them all.
-fn each_goes(alloc: Global, tree: &Numbers, count: u32) -> bool {
+fn each_goes(alloc: Global, count: u32) -> Option<bool> {
+    let tree = built(alloc, count)?;
     for number in 0..count {
-        if goes(alloc, tree, count, number) != Some(true) {
-            return false;
+        if !goes(alloc, &tree, count, number)? {
+            return Some(false);
         }
     }
-    !tree.is_empty() && counts_up(tree, count, NONE)
+    Some(!tree.is_empty() && counts_up(tree.walk(), 0, count, NONE))
 }
 
 // Each key of a built tree is taken out and put back with another value.
 #[test]
-fn each_key_goes_and_comes(rt: HostRuntime) -> Result<(), &'static str> {
+fn each_key_goes_and_comes(rt: HostRuntime) {
     for count in [1u32, 2, 3, 12, 100] {
-        let tree = built(rt.alloc(), count).ok_or("no tree")?;
-        if !each_goes(rt.alloc(), &tree, count) {
-            return Err("another tree");
-        }
+        assert_eq!(rt; each_goes(rt.alloc(), count), Some(true));
     }
-    Ok(())
 }
 
 /// The tree of 2, 4 and 6, put in another order.
@@ -185,136 +161,73 @@ fn of_three(alloc: Global) -> Option<Numbers> {
     Some(tree)
 }
 
-/// What comes after each number from 0 to 6.
-const AFTER: [(u32, Option<u32>); 7] = [
-    (0, Some(2)),
-    (1, Some(2)),
-    (2, Some(4)),
-    (3, Some(4)),
-    (4, Some(6)),
-    (5, Some(6)),
-    (6, None),
+/// Numbers, and of 2, 4 and 6 the number itself, or else the one before it, and the next one behind it.
+const AROUND: [(u32, Option<u32>, Option<u32>, Option<u32>); 8] = [
+    (0, None, None, Some(2)),
+    (1, None, None, Some(2)),
+    (2, Some(2), None, Some(4)),
+    (3, None, Some(2), Some(4)),
+    (4, Some(4), None, Some(6)),
+    (5, None, Some(4), Some(6)),
+    (6, Some(6), None, None),
+    (7, None, Some(6), None),
 ];
 
-/// The number of a pair.
-fn number_of(pair: Option<&(u32, u32)>) -> Option<u32> {
-    match pair {
-        Some(pair) => Some(pair.0),
-        None => None,
-    }
-}
-
-/// Whether a tree has these, and 2 first.
-fn come_after(tree: &Numbers) -> bool {
-    for (number, want) in AFTER {
-        if number_of(tree.after(&number)) != want {
-            return false;
-        }
-    }
-    number_of(tree.first()) == Some(2)
-}
-
-// The pairs of 2, 4 and 6 by what comes after each number from 0 to 6.
-#[test]
-fn finds_what_comes_after(rt: HostRuntime) -> Result<(), &'static str> {
-    let tree = of_three(rt.alloc()).ok_or("no tree")?;
-    if !come_after(&tree) || !Numbers::new().is_empty() {
-        return Err("another number");
-    }
-    Ok(())
-}
-
-/// The numbers next to each from 0 to 7 that is none of 2, 4 and 6.
-const NEXT_TO: [(u32, Option<u32>, Option<u32>); 5] = [
-    (0, None, Some(2)),
-    (1, None, Some(2)),
-    (3, Some(2), Some(4)),
-    (5, Some(4), Some(6)),
-    (7, Some(6), None),
-];
-
-/// Whether a tree has these, and none between them.
-fn stand_around(tree: &Numbers) -> bool {
-    for (number, before, behind) in NEXT_TO {
+/// The first number around which a tree has others.
+fn found_otherwise(tree: &Numbers) -> Option<u32> {
+    for (number, at, before, behind) in AROUND {
         let found = tree.around(&number);
-        let next = number_of(found.before) == before && number_of(found.behind) == behind;
-        if found.at.is_some() || !next {
-            return false;
+        let beside = number_of(found.before) == before && number_of(found.behind) == behind;
+        if number_of(found.at) != at
+            || number_of(tree.after(&number)) != behind
+            || !(beside || at.is_some())
+        {
+            return Some(number);
         }
     }
-    true
+    None
 }
 
-/// Whether a tree of the numbers below a count has each, and none above the last.
-fn each_is_around(tree: &Numbers, count: u32) -> bool {
-    for number in 0..count {
-        if number_of(tree.around(&number).at) != Some(number) {
-            return false;
-        }
-    }
-    let found = tree.around(&count);
-    let last = number_of(found.before) == count.checked_sub(1);
-    found.at.is_none() && last && found.behind.is_none()
-}
-
-// One tree was made of no base, so that no number tells its keys apart, and one of a base.
+// A tree that is made of no base, so that no number tells its keys apart.
 #[test]
-fn finds_what_stands_around(rt: HostRuntime) -> Result<(), &'static str> {
-    let three = of_three(rt.alloc()).ok_or("no tree")?;
-    let many = built_anew(rt.alloc(), 100).ok_or("no tree")?;
-    if !stand_around(&three) || !each_is_around(&many, 100) {
-        return Err("another number");
-    }
-    Ok(())
+fn finds_what_stands_around(rt: HostRuntime) {
+    let tree = of_three(rt.alloc()).expect(&rt, "a tree");
+    assert_eq!(rt; found_otherwise(&tree), None);
+    assert!(rt; number_of(tree.first()) == Some(2) && Numbers::new().is_empty());
 }
 
 // A million pairs are halved sixteen times before each run has no more than sixteen.
 #[test]
-fn a_million_pairs_are_dropped(rt: HostRuntime) -> Result<(), &'static str> {
-    let tree = built(rt.alloc(), 1_000_000).ok_or("no tree")?;
-    if tree.height() != 17 || tree.get(&999_999u32).copied() != Some(999_999) {
-        return Err("another tree");
-    }
-    Ok(())
+fn a_million_pairs_are_dropped(rt: HostRuntime) {
+    let tree = built(rt.alloc(), 1_000_000).expect(&rt, "a tree");
+    let last = tree.get(&999_999u32).copied();
+    assert_eq!(rt; (tree.height(), last), (17, Some(999_999)));
 }
 
-/// A tree with a number, made anew where memory is refused.
-fn more_of(alloc: Global, tree: &Numbers, number: u32) -> Option<Numbers> {
-    match with_number(alloc, tree, number) {
-        Some(more) => Some(more),
-        None => with_number(alloc, tree, number),
-    }
-}
-
-/// A tree without a number, made anew where memory is refused.
-fn less_of(alloc: Global, tree: &Numbers, number: u32) -> Option<Numbers> {
-    let (less, _) = match tree.without(alloc, &number) {
-        Ok(less) => less,
-        Err(_) => tree.without(alloc, &number).ok()?,
+/// Whether a tree of 12 goes on with one more, and that one without 7, each made anew where memory is refused, and those before are as they
+/// were; None where the first couldn't be built.
+fn goes_on(alloc: Global) -> Option<bool> {
+    let tree = built(alloc, 12)?;
+    let (more, _) = match tree.with(alloc, 12, 12) {
+        Ok(more) => more,
+        Err(_) => tree.with(alloc, 12, 12).ok()?,
     };
-    Some(less)
-}
-
-/// Whether a tree of 13 goes on without 7, and is as it was.
-fn goes_on(alloc: Global, more: &Numbers) -> Option<bool> {
-    let less = less_of(alloc, more, 7)?;
-    Some(counts_up(more, 13, NONE) && counts_up(&less, 13, 7))
-}
-
-/// Whether a tree of 12 goes on with one more, and is as it was.
-fn go_on(alloc: Global, tree: &Numbers) -> Option<bool> {
-    let more = more_of(alloc, tree, 12)?;
-    Some(counts_up(tree, 12, NONE) && counts_up(&more, 13, NONE) && goes_on(alloc, &more)?)
+    let (less, _) = match more.without(alloc, &7u32) {
+        Ok(less) => less,
+        Err(_) => more.without(alloc, &7u32).ok()?,
+    };
+    let stay = counts_up(tree.walk(), 0, 12, NONE) && counts_up(more.walk(), 0, 13, NONE);
+    Some(stay && counts_up(less.walk(), 0, 13, 7))
 }
 
 // With one request for memory refused, whichever it is, each call is made anew, and the tree before it is as it was.
 #[test]
-fn goes_on_where_memory_is_refused(rt: HostRuntime) -> Result<(), &'static str> {
-    let tree = built_anew(rt.alloc(), 12).ok_or("no tree")?;
-    if go_on(rt.alloc(), &tree) != Some(true) {
-        return Err("another tree");
-    }
-    Ok(())
+fn goes_on_where_memory_is_refused(rt: HostRuntime) {
+    let told = match goes_on(rt.alloc()) {
+        Some(told) => Some(told),
+        None => goes_on(rt.alloc()),
+    };
+    assert_eq!(rt; told, Some(true));
 }
 
 fn goes_between_threads<T: Send + Sync>() {}
