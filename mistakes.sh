@@ -14,6 +14,8 @@ for name in "${names[@]}"; do
     total=$((total + $(find "crates/$name/mistakes" -name '*.edit' | wc -l)))
 done
 
+top=$PWD
+rows_are_well=
 room=$(mktemp -d)
 trap 'rm -rf "$room"' EXIT
 python3 try_edits.py "${names[@]}" | tee "$room/tried" || true
@@ -41,24 +43,34 @@ tests_of() {
     sed -nE "s/^(\w+_tests)( [^:]*)?:(.* )?$1( .*)?\$/\1/p" crates.txt
 }
 
-# whether a row fails over the program as it compiles here
+# whether the rows of a repository pass over the program that was compiled
+rows_pass() {
+    DNSD=$room/program/dnsd ROW_SECONDS=100 "$1/tests/rows.sh" >/dev/null
+}
+
+# whether a row fails over the program with an edit, where none fails without it; that is tried once
 rows_fail() {
     mkdir -p "$room/program"
-    tests/compile.sh "$room/program" >/dev/null && ! DNSD=$room/program/dnsd tests/rows.sh >/dev/null
+    if [ -z "$rows_are_well" ]; then
+        rows_are_well=no
+        ! { "$top/tests/compile.sh" "$room/program" >/dev/null && rows_pass "$top"; } || rows_are_well=yes
+    fi
+    [ "$rows_are_well" = yes ] && tests/compile.sh "$room/program" >/dev/null && ! rows_pass "$PWD"
 }
 
 # tries an edit of a crate by the tests of other crates, and then by rows: one of them must fail, and the edited crate must compile
 try_by_test() {
-    local name=$1 edit=$2 label said='' status='NOT REFUSED' tests
+    local name=$1 edit=$2 label said='' status='NOT REFUSED' made=no tests
     label="by_test $name/$(basename "$edit")"
     cp -a "crates/$name/src" "$room/src"
     if (cd "crates/$name" && make_edit "$edit"); then
+        made=yes
         for tests in $(tests_of "$name"); do
             said=$(cd "crates/$tests" && rt try --test 2>&1 || true)
             [[ $said != *'test result: FAILED'* ]] || { status='refused, as it must be' && break; }
         done
     fi
-    if [ "$status" = 'NOT REFUSED' ] && [[ $said != *error* ]] && rows_fail; then
+    if [ "$made $status" = 'yes NOT REFUSED' ] && [[ $said != *error* ]] && rows_fail; then
         status='refused, as it must be (by a row)'
     fi
     if [ "$status" = 'NOT REFUSED' ]; then

@@ -119,6 +119,8 @@ def schedule(found, cores):
     """How many seconds so many cores need for the checks: each once the crates below are proved, first those with most after them."""
     below = {it: [lib for lib in libs if (lib, "proof") in found] for it, libs in libraries().items()}
     waits = {key: {(lib, "proof") for lib in below.get(key[0], [])} | ({(key[0], "proof")} if key[1] in ("edits", "program") else set()) for key in found}
+    # (what an earlier run proved isn't waited for)
+    waits = {key: it & set(found) for key, it in waits.items()}
     after = dict.fromkeys(found, 0.0)
 
     def longest(key):

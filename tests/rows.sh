@@ -3,6 +3,7 @@
 # with which status it ends. What is expected stands in the tables, from the RFCs' text or worked by hand. It prints a line for each row
 # that fails, and last 'N passed, N failed'; its status is 1 where one failed. It listens on no socket. Usage: [DNSD=PROGRAM] tests/rows.sh
 # [FILE..]. It needs the program that `make dnsd` or `make prove` builds, or the one that DNSD names, sha256sum and flock.
+# A run has 10 seconds, or ROW_SECONDS, since a program compiled with checks is slower.
 set -euo pipefail
 cd "$(dirname "$0")/.."
 export LC_ALL=C
@@ -26,7 +27,7 @@ tries() {
     rows=$((rows + 1))
     got=0
     printf '%s' "$input" >"$room/input"
-    timeout 100 "$program" "$@" <"$room/input" >"$room/said" 2>"$room/told" || got=$?
+    timeout "${ROW_SECONDS:-10}" "$program" "$@" <"$room/input" >"$room/said" 2>"$room/told" || got=$?
     IFS= read -r -d '' said <"$room/said" || true
     IFS= read -r -d '' told <"$room/told" || true
 }
