@@ -1,82 +1,73 @@
 //! Devices that fail.
-use crate::made::{Device, Kind, ZONE, tell};
-use std::alloc::{AllocError, Global};
+use crate::made::{Device, Kind, ZONE, tell, text_of};
+use std::alloc::Global;
 
-/// The zone of the examples, a line `%`, and an input.
-fn text_of(alloc: Global, input: &str) -> Result<String, AllocError> {
-    let mut text = String::new(alloc);
-    text.push_str(ZONE)?;
-    text.push_str("%\n")?;
-    text.push_str(input)?;
-    Ok(text)
-}
+/// A command, what stands behind the zone, and what is written for it: a query and its reply, and the same in a script.
+const CASES: [(Kind, &str, &str); 2] = [
+    (
+        Kind::Answer,
+        "%\n12340100000100000000000003777777076578616d706c6504746573740000010001\n",
+        "12348500000100020000000003777777076578616d706c6504746573740000010001c00c0005000100000e10000603776562c010c02e0001000100000e100004c000020a\n",
+    ),
+    (
+        Kind::Steps,
+        "%\nload a\nask a 12340100000100000000000003777777076578616d706c6504746573740000010001\n",
+        "a 0\n12348500000100020000000003777777076578616d706c6504746573740000010001c00c0005000100000e10000603776562c010c02e0001000100000e100004c000020a\n",
+    ),
+];
 
-/// Whether a command over an input, where the device has so much room and may fail to flush, has this status, and wrote as
-/// much of this output.
-fn ends_with(
+/// How many octets of the output a device doesn't take, whether it can be flushed, and the status: a command is done where its output was
+/// flushed, and else that is a fault of the device.
+const ENDS: [(usize, bool, u8); 3] = [(0, true, 0), (0, false, 3), (1, true, 3)];
+
+/// The status of a case with such a device; None where it wrote something else than the device takes, or told no fault, or one that is none.
+fn status_of(
     alloc: Global,
-    kind: Kind,
-    input: &str,
-    output: &str,
-    (room, flushes, status): (usize, bool, u8),
-) -> Option<bool> {
-    let text = text_of(alloc, input).ok()?;
-    let device = Device::new(alloc, room, flushes);
+    case: (Kind, &'static str, &str),
+    missing: usize,
+    flushes: bool,
+) -> Option<u8> {
+    let text = text_of(alloc, (ZONE, 0, case.1)).ok()?;
+    let part = case
+        .2
+        .as_bytes()
+        .get(..case.2.len().saturating_sub(missing))?;
+    let output = Device::new(alloc, part.len(), flushes);
     let errors = Device::new(alloc, 1000, true);
-    let told = tell(alloc, kind, text.as_str().as_bytes(), device, errors)?;
-    let says = told.errors.is_empty() == (status == 0);
-    let part = output.as_bytes().get(..room)?;
-    Some(says && told.status == status && told.written.as_slice() == part)
+    let told = tell(alloc, case.0, text.as_str().as_bytes(), output, errors)?;
+    if told.written.as_slice() != part || told.errors.is_empty() != (told.status == 0) {
+        return None;
+    }
+    Some(told.status)
 }
-
-/// Whether a command is done where its output was flushed: a device that takes it and then fails to flush, or takes a part of
-/// it, ends the program with status 3.
-fn decides(alloc: Global, kind: Kind, input: &str, output: &str) -> Option<bool> {
-    let len = output.len();
-    let whole = ends_with(alloc, kind, input, output, (len, true, 0))?;
-    let unflushed = ends_with(alloc, kind, input, output, (len, false, 3))?;
-    let part = ends_with(alloc, kind, input, output, (len.saturating_sub(1), true, 3))?;
-    Some(whole && unflushed && part)
-}
-
-/// A query and its reply.
-const QUERY: &str = "12340100000100000000000003777777076578616d706c6504746573740000010001\n";
-
-const REPLY: &str =
-    "12348500000100020000000003777777076578616d706c6504746573740000010001c00c0005000100000e10000603776562c010c02e0001000100000e100004c000020a\n";
-
-/// The same in a script.
-const SCRIPT: &str =
-    "load a\nask a 12340100000100000000000003777777076578616d706c6504746573740000010001\n";
-
-const OF_SCRIPT: &str =
-    "a 0\n12348500000100020000000003777777076578616d706c6504746573740000010001c00c0005000100000e10000603776562c010c02e0001000100000e100004c000020a\n";
 
 #[test]
 fn devices(rt: HostRuntime) {
-    assert_eq!(rt; decides(rt.alloc(), Kind::Answer, QUERY, REPLY), Some(true));
-    assert_eq!(rt;
-        decides(rt.alloc(), Kind::Steps, SCRIPT, OF_SCRIPT),
-        Some(true)
-    );
+    for case in CASES {
+        for (missing, flushes, status) in ENDS {
+            assert!(rt; status_of(rt.alloc(), case, missing, flushes) == Some(status));
+        }
+    }
 }
 
 /// What is told of a text without records.
 const NOTHING: &[u8] = b"line 0: M11 Apex\nthe zone has no SOA, or no NS at the owner of its SOA\n";
 
-/// Whether a refusal has this status where the device of errors has so much room, of which none is left.
-fn is_untold(alloc: Global, room: usize, want: u8) -> Option<bool> {
+/// The status of a refusal where the device of errors has so much room; None where some of it is left.
+fn status_untold(alloc: Global, room: usize) -> Option<u8> {
     let output = Device::new(alloc, 0, true);
     let errors = Device::new(alloc, room, true);
     let told = tell(alloc, Kind::Steps, b"%\n", output, errors)?;
-    let part = NOTHING.get(..room)?;
-    Some(told.status == want && told.errors.as_slice() == part)
+    if Some(told.errors.as_slice()) != NOTHING.get(..room) {
+        return None;
+    }
+    Some(told.status)
 }
 
 // A refusal that can't be told is a device's fault.
 #[test]
 fn untold_refusal(rt: HostRuntime) {
     for (room, want) in [(71, 1), (70, 3), (17, 3), (16, 3), (0, 3)] {
-        assert_eq!(rt; is_untold(rt.alloc(), room, want), Some(true), "{room}");
+        assert_eq!(rt; status_untold(rt.alloc(), room), Some(want));
     }
 }

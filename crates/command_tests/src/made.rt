@@ -2,24 +2,31 @@
 use commands::{Command, Source, run_text};
 use dns_name::Name;
 use serve_core::Transport;
-use std::alloc::Global;
+use std::alloc::{AllocError, Global};
 use std::io::{self, BufWriter, Cursor, ErrorKind, Write};
 
 /// The zone that the examples are asked of.
 pub(crate) const ZONE: &str = "\
 example.test. 3600 IN SOA ns1.example.test. admin.example.test. 1 7200 900 1209600 300\n\
 example.test. 3600 IN NS ns1.example.test.\n\
-a.b.example.test. 3600 IN TXT \"x\"\n\
-*.dyn.example.test. 3600 IN A 192.0.2.99\n\
-loop1.example.test. 3600 IN CNAME loop2.example.test.\n\
-loop2.example.test. 3600 IN CNAME loop1.example.test.\n\
 mail.example.test. 3600 IN MX 10 web.example.test.\n\
-ns1.example.test. 3600 IN A 192.0.2.1\n\
-out.example.test. 3600 IN CNAME host.example.net.\n\
-sub.example.test. 3600 IN NS ns.sub.example.test.\n\
-ns.sub.example.test. 3600 IN A 192.0.2.53\n\
 web.example.test. 3600 IN A 192.0.2.10\n\
 www.example.test. 3600 IN CNAME web.example.test.\n";
+
+/// A text: a first part, so many addresses of the owner `t.`, and a second part.
+pub(crate) type Parts = (&'static str, u32, &'static str);
+
+/// The text of these parts.
+pub(crate) fn text_of(alloc: Global, parts: Parts) -> Result<String, AllocError> {
+    let mut text = String::new(alloc);
+    text.push_str(parts.0)?;
+    for number in 0..parts.1 {
+        let line = format!(in alloc; "t. 6 IN A 10.0.{}.{}\n", number / 256, number % 256)?;
+        text.push_str(line.as_str())?;
+    }
+    text.push_str(parts.2)?;
+    Ok(text)
+}
 
 /// A command over standard input, under the root.
 #[derive(Clone, Copy)]

@@ -1,86 +1,72 @@
 //! Runs where memory is refused: with one request refused, whichever it is, the run says so, and the other of two is as ever;
 //! with two in a row refused, one of three.
-use crate::made::{Device, Kind, Told, ZONE, tell};
+use crate::made::{Device, Kind, Parts, Told, ZONE, tell, text_of};
 use dns_name::Name;
 use master_file::{read_zone, write_zone};
-use std::alloc::{AllocError, Global};
+use std::alloc::Global;
 
-/// What is wanted of a run.
+/// What a command over a text tells.
 #[derive(Clone, Copy)]
-enum Want {
-    /// It writes its own text.
-    Itself,
-    /// It writes the first, or the second where there is no memory for an update.
-    Writes(&'static str, &'static str),
-    /// It is refused, and this begins what it says.
-    Says(&'static str),
+struct Case {
+    kind: Kind,
+    text: Parts,
+    /// What it writes; its text, where this is none.
+    writes: Option<&'static str>,
+    /// What it writes where there is no memory for an update, if it has one.
+    without: Option<&'static str>,
+    /// What begins what it says where it is refused; nothing where it isn't.
+    says: &'static str,
 }
 
-/// A command, its text, which is the first part, so many addresses of the owner `t.`, and the second part, and what is wanted.
-type Case = (Kind, &'static str, u32, &'static str, Want);
+/// A command that writes its own text.
+const ITSELF: Case = Case {
+    kind: Kind::Check,
+    text: (SETS, 0, ""),
+    writes: None,
+    without: None,
+    says: "",
+};
 
-/// What came of a run.
-#[derive(Clone, Copy, PartialEq, Eq)]
-enum Outcome {
-    /// It is what is wanted.
-    Whole,
-    /// It had no memory, said so, and wrote a part of that at most; or the test itself had none.
-    Starved,
-    /// It is something else.
-    Wrong,
-}
+/// A zone that is refused.
+const FAULTY: Case = Case {
+    writes: Some(""),
+    ..ITSELF
+};
 
-/// One address of the owner `t.`, on a line.
-fn push_address(alloc: Global, text: &mut String, number: u32) -> Result<(), AllocError> {
-    let line = format!(in alloc; "t. 6 IN A 10.0.{}.{}\n", number / 256, number % 256)?;
-    text.push_str(line.as_str())
-}
-
-/// The text of a case.
-fn text_of(alloc: Global, case: &Case) -> Result<String, AllocError> {
-    let mut text = String::new(alloc);
-    text.push_str(case.1)?;
-    for number in 0..case.2 {
-        push_address(alloc, &mut text, number)?;
-    }
-    text.push_str(case.3)?;
-    Ok(text)
-}
-
-/// What came of a run that told this of a text.
-fn outcome_of(told: &Told, text: &[u8], want: Want) -> Outcome {
-    let written = told.written.as_slice();
+/// Whether a run had no memory, said so, and wrote a part of what it writes at most, or all that it writes without an update.
+fn is_starved(told: &Told, writes: &str, without: Option<&str>) -> bool {
     let errors = told.errors.as_slice();
-    let (wanted, starved) = match want {
-        Want::Itself => (text, text),
-        Want::Writes(wanted, starved) => (wanted.as_bytes(), starved.as_bytes()),
-        Want::Says(_) => (b"".as_slice(), b"".as_slice()),
-    };
-    let is_told = match want {
-        Want::Says(said) => told.status == 1 && errors.starts_with(said.as_bytes()),
-        _ => told.status == 0,
-    };
     let says = told.status == 3
         || errors.starts_with(b"line 0: M14 NoMemory\n")
         || errors.starts_with(b"V1 NoMemory\n")
         || errors.starts_with(b"X4 NoMemory\n");
-    if is_told && written == wanted {
-        Outcome::Whole
-    } else if is_told && written == starved || says && wanted.starts_with(written) {
-        Outcome::Starved
-    } else {
-        Outcome::Wrong
+    if says {
+        return writes.as_bytes().starts_with(&told.written);
+    }
+    match without {
+        Some(text) => told.status == 0 && told.written.as_slice() == text.as_bytes(),
+        None => false,
     }
 }
 
-/// The same of a run of a case; None where the test has no memory.
-fn run(alloc: Global, case: &Case) -> Option<Outcome> {
-    let text = text_of(alloc, case).ok()?;
-    let text = text.as_str().as_bytes();
+/// Whether a run of a case tells what it has to; None where it, or the test itself, had no memory.
+fn run(alloc: Global, case: &Case) -> Option<bool> {
+    let text = text_of(alloc, case.text).ok()?;
+    let writes = case.writes.unwrap_or(text.as_str());
     let output = Device::new(alloc, usize::MAX, true);
     let errors = Device::new(alloc, usize::MAX, true);
-    let told = tell(alloc, case.0, text, output, errors)?;
-    Some(outcome_of(&told, text, case.4))
+    let told = tell(alloc, case.kind, text.as_str().as_bytes(), output, errors)?;
+    let is_refused = !case.says.is_empty();
+    if told.status == u8::from(is_refused)
+        && told.errors.as_slice().starts_with(case.says.as_bytes())
+        && told.written.as_slice() == writes.as_bytes()
+    {
+        return Some(true);
+    }
+    if is_starved(&told, writes, case.without) {
+        return None;
+    }
+    Some(false)
 }
 
 /// Whether of so many runs one is whole, and none wrong.
@@ -88,9 +74,9 @@ fn goes_on(alloc: Global, runs: u8, case: &Case) -> bool {
     let mut is_whole = false;
     for _ in 0..runs {
         match run(alloc, case) {
-            Some(Outcome::Whole) => is_whole = true,
-            Some(Outcome::Wrong) => return false,
-            _ => {}
+            Some(true) => is_whole = true,
+            Some(false) => return false,
+            None => {}
         }
     }
     is_whole
@@ -141,63 +127,63 @@ const TRANSFERRED: &str = "\
 /// Requests, a script and a transfer; a zone; and the faults of an entry, told for want of an SOA or an NS, outside, and sought by halves,
 /// of which the last is a record too many, at the line of the 257th.
 const CASES: [Case; 9] = [
-    (
-        Kind::Answer,
-        ZONE,
-        0,
-        REQUESTS,
-        Want::Writes(UPDATED, REFUSED),
-    ),
-    (
-        Kind::Steps,
-        ZONE,
-        0,
-        SCRIPT,
-        Want::Writes(OF_SCRIPT, OF_SCRIPT),
-    ),
-    (
-        Kind::Apply,
-        SETS,
-        0,
-        TRANSFER,
-        Want::Writes(TRANSFERRED, TRANSFERRED),
-    ),
-    (Kind::Check, SETS, 0, "", Want::Itself),
-    (
-        Kind::Check,
-        "t. 6 NS a.t.\n\nt. 6 A 1.2.3\n",
-        0,
-        "",
-        Want::Says("line 3: M6 BadData\n"),
-    ),
-    (
-        Kind::Check,
-        "t. 6 SOA a.t. b.t. 1 2 3 4 5\nt. 6 SOA a.t. b.t. 2 2 3 4 5\n",
-        0,
-        "",
-        Want::Says("line 2: M11 Apex\n"),
-    ),
-    (
-        Kind::Check,
-        "t. 6 SOA a.t. b.t. 1 2 3 4 5\nt. 6 NS a.t.\na. 6 NS a.t.\n",
-        0,
-        "",
-        Want::Says("line 3: M10 Outside\n"),
-    ),
-    (
-        Kind::Check,
-        "t. 6 SOA a.t. b.t. 1 2 3 4 5\nt. 6 NS a.t.\n*.t. 6 NS a.t.\n",
-        0,
-        "",
-        Want::Says("line 3: M12 Conflict\n"),
-    ),
-    (
-        Kind::Check,
-        "",
-        257,
-        "",
-        Want::Says("line 257: M13 Limit\n"),
-    ),
+    Case {
+        kind: Kind::Answer,
+        text: (ZONE, 0, REQUESTS),
+        writes: Some(UPDATED),
+        without: Some(REFUSED),
+        ..ITSELF
+    },
+    Case {
+        kind: Kind::Steps,
+        text: (ZONE, 0, SCRIPT),
+        writes: Some(OF_SCRIPT),
+        ..ITSELF
+    },
+    Case {
+        kind: Kind::Apply,
+        text: (SETS, 0, TRANSFER),
+        writes: Some(TRANSFERRED),
+        ..ITSELF
+    },
+    ITSELF,
+    Case {
+        text: ("t. 6 NS a.t.\n\nt. 6 A 1.2.3\n", 0, ""),
+        says: "line 3: M6 BadData\n",
+        ..FAULTY
+    },
+    Case {
+        text: (
+            "t. 6 SOA a.t. b.t. 1 2 3 4 5\nt. 6 SOA a.t. b.t. 2 2 3 4 5\n",
+            0,
+            "",
+        ),
+        says: "line 2: M11 Apex\n",
+        ..FAULTY
+    },
+    Case {
+        text: (
+            "t. 6 SOA a.t. b.t. 1 2 3 4 5\nt. 6 NS a.t.\na. 6 NS a.t.\n",
+            0,
+            "",
+        ),
+        says: "line 3: M10 Outside\n",
+        ..FAULTY
+    },
+    Case {
+        text: (
+            "t. 6 SOA a.t. b.t. 1 2 3 4 5\nt. 6 NS a.t.\n*.t. 6 NS a.t.\n",
+            0,
+            "",
+        ),
+        says: "line 3: M12 Conflict\n",
+        ..FAULTY
+    },
+    Case {
+        text: ("", 257, ""),
+        says: "line 257: M13 Limit\n",
+        ..FAULTY
+    },
 ];
 
 #[test]
@@ -208,13 +194,14 @@ fn commands_go_on_where_memory_is_refused(rt: HostRuntime) {
 }
 
 /// A set of 256 records.
-const FILLED: Case = (
-    Kind::Check,
-    "t. 6 IN SOA a.t. b.t. 1 2 3 4 5\n",
-    256,
-    "t. 6 IN NS a.t.\n",
-    Want::Itself,
-);
+const FILLED: Case = Case {
+    text: (
+        "t. 6 IN SOA a.t. b.t. 1 2 3 4 5\n",
+        256,
+        "t. 6 IN NS a.t.\n",
+    ),
+    ..ITSELF
+};
 
 // A growth of a set of 256 records isn't told as one record too many where it is refused and tried again, and refused again.
 #[test]

@@ -1,10 +1,13 @@
-//! One who gives each request back.
-ghost use Rattle.std.specs.Prelude.{◌≡◌, ◌∷◌, ◌++◌, [], List, if◌then◌else◌};
+//! One who answers each request by what it begins with.
+ghost use Rattle.std.specs.Prelude.{◌≡◌, ◌≤◌, ◌∷◌, ◌++◌, [], List, length, if◌then◌else◌};
 
 use connections::{Answering, Messages, Reply, Unmade};
 use serve_core::{Peer, Transport};
 use std::net::SocketAddr;
 use std::sync::Wait;
+
+/// How many octets the longest message has (RFC 1035, 4.2.2).
+pub(crate) const LARGE: usize = 65_535;
 
 /// Two messages of an octet each, one behind the other.
 #[derive(Drop)]
@@ -31,26 +34,65 @@ impl Messages for Both {
     }
 }
 
-/// One who gives each request back; two messages for one of two octets, none for one of none, and [`Unmade::Spent`] once there were so many.
+/// One who gives each request back, but no reply to one of no octets, two messages to one of two, and other replies to one that begins with
+/// `?`, `L` or `u`; and [`Unmade::Spent`] once it was asked for so many.
 #[derive(Drop)]
 pub(crate) struct Echo {
     peer: Peer,
     asker: usize,
-    left: u32,
+    pub(crate) left: u32,
+    /// How many requests that begin with `u` it was asked for.
+    pub(crate) asked: u32,
+    /// The key of the connection whose reply to such a request is made, which is later than it is asked for.
+    pub(crate) made: Option<usize>,
 }
 
 impl Echo {
-    /// One who answers so many requests.
+    /// One who is asked for so many requests.
     pub(crate) fn new(left: u32) -> Echo {
         Echo {
-            peer: Peer {
-                may_update: false,
-                may_transfer: false,
-                transport: Transport::Tcp,
-            },
+            peer: Peer::over(Transport::Tcp, false),
             asker: 0,
             left,
+            asked: 0,
+            made: None,
         }
+    }
+
+    /// Whether the reply to a request is made later.
+    fn puts_off(&mut self, request: &[u8]) -> bool
+        ensures peer { self.new.peer ≡ self.old.peer }
+        ensures asker { self.new.asker ≡ self.old.asker }
+    {
+        if request.first() != Some(&b'u') {
+            return false;
+        }
+        self.asked = self.asked.saturating_add(1);
+        if self.made != Some(self.asker) {
+            return true;
+        }
+        self.made = None;
+        false
+    }
+
+    /// Writes the message that is the reply to a request, and gives how many octets it has: [`LARGE`] for one that begins with `L`, and 1 for
+    /// one that begins with `?`, which is 1 where the peer may update, else 0.
+    fn message(&self, request: &[u8], out: &mut [u8]) -> usize
+        requires { 65535 ≤ length out.old }
+        ensures most { result ≤ 65535 }
+        ensures bound { result ≤ length out.new }
+    {
+        let first = request.first().copied().unwrap_or(0);
+        if first == b'L' {
+            return LARGE;
+        }
+        if first == b'?' {
+            out[0] = u8::from(self.peer.may_update);
+            return 1;
+        }
+        let len = request.len().min(LARGE);
+        out[..len].copy_from_slice(&request[..len]);
+        len
     }
 }
 
@@ -63,7 +105,7 @@ impl Answering<Both> for Echo {
 
     ghost is_reply = { λ _ _ _ _ _. Unit {0} };
 
-    ghost is_later = { λ _ _. ⊥ };
+    ghost is_later = { λ _ _. Unit {0} };
 
     fn turn_to(&mut self, other: Peer, _from: SocketAddr, key: usize) {
         self.peer = other;
@@ -80,17 +122,16 @@ impl Answering<Both> for Echo {
             return Err(Unmade::Spent);
         }
         self.left -= 1;
+        if self.puts_off(request) {
+            return Err(Unmade::Later);
+        }
         match request.len() {
             0 => Ok(Reply::Silent),
             2 => Ok(Reply::Many(Both {
                 first: true,
                 second: true,
             })),
-            len if len <= 65_535 => {
-                out[..len].copy_from_slice(request);
-                Ok(Reply::One(len))
-            }
-            _ => Ok(Reply::Silent),
+            _ => Ok(Reply::One(self.message(request, out))),
         }
     }
 }

@@ -1,17 +1,12 @@
-//! Tests of `connections`: conversations and streams in memory that are fed and drained in pieces, that would block, and that end in each
-//! way; of `links`: connections of several peers, and those that take too long; of `turns` over polls that are made up; and of
-//! `ready_sockets`: a worker's turns over sockets of this machine. In `later` requests are answered later, in `memory` each request for memory is
-//! refused in turn.
+//! Tests of `connections`: streams in memory that come and go in pieces, that would block, and that end in each way; of `links`: connections of
+//! several peers, and those that take too long; of `turns` over polls that are made up; and of `ready_sockets`: a worker's turns over sockets
+//! of this machine. In `memory` each request for memory is refused in turn.
 #![tactic(auto)]
 
 #[cfg(test)]
-mod deadlines;
-#[cfg(test)]
 mod echo;
 #[cfg(test)]
-mod later;
-#[cfg(test)]
-mod made_up;
+mod linked;
 #[cfg(test)]
 mod memory;
 #[cfg(test)]
@@ -21,12 +16,10 @@ mod pauses;
 #[cfg(test)]
 mod pieces;
 #[cfg(test)]
-mod rights;
+mod polls;
 #[cfg(test)]
-mod runs;
+mod running;
 #[cfg(test)]
-mod shares;
-#[cfg(test)]
-mod splits;
+mod streams;
 #[cfg(test)]
 mod turning;

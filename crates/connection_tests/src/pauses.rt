@@ -16,7 +16,7 @@ const MILLISECOND: u64 = 1_000_000;
 #[derive(Drop)]
 struct Counting<'a, C> {
     clock: &'a C,
-    pauses: Cell<u64>,
+    pauses: Cell<usize>,
 }
 
 impl<C: Clock> Clock for Counting<'_, C> {
@@ -36,6 +36,7 @@ impl<C: Clock> Clock for Counting<'_, C> {
 /// Clients, the connections that have come from them, and what waits for these.
 #[derive(Drop)]
 struct Connected<'a, C> {
+    clock: &'a C,
     watch: Watch<'a, C>,
     clients: Vec<TcpStream>,
     peers: Vec<TcpPeer>,
@@ -54,6 +55,7 @@ impl<'a, C: Clock> Connected<'a, C> {
         let address = listener.local_addr()?;
         let mut place = TcpPlace::new(listener);
         let mut connected = Connected {
+            clock,
             watch: Watch::new(net, alloc, clock)?,
             clients: Vec::new(alloc),
             peers: Vec::new(alloc),
@@ -92,6 +94,21 @@ impl<'a, C: Clock> Connected<'a, C> {
     }
 }
 
+/// Of how many sockets a wait tells once so many clients have sent an octet, of how many the next one, which may be so long, and one behind it;
+/// and how many pauses there have been before each of the two that follow.
+fn told<C: Clock>(
+    connected: &mut Connected<'_, Counting<'_, C>>,
+    count: usize,
+    most: u64,
+) -> io::Result<[usize; 5]> {
+    connected.send(count)?;
+    let first = connected.wait(1_000 * MILLISECOND)?;
+    let next = connected.wait(most)?;
+    let pauses = connected.clock.pauses.get();
+    let last = connected.wait(MILLISECOND)?;
+    Ok([first, next, pauses, last, connected.clock.pauses.get()])
+}
+
 #[test]
 fn a_wait_behind_one_that_told_of_several_begins_with_a_pause(rt: HostRuntime) -> Result<(), Fail> {
     let clock = Counting {
@@ -109,13 +126,13 @@ fn a_wait_behind_one_that_told_of_several_begins_with_a_pause(rt: HostRuntime) -
         (20, MILLISECOND, 2),
     ];
     for (count, most, pauses) in rows {
-        connected.send(count)?;
-        assert_eq!(rt; connected.wait(1_000 * MILLISECOND)?, count);
-        assert_eq!(rt; connected.wait(most)?, 0);
-        assert_eq!(rt; clock.pauses.get(), pauses, "behind {count} of them");
         // A wait that told of nothing has no pause behind it.
-        assert_eq!(rt; connected.wait(MILLISECOND)?, 0);
-        assert_eq!(rt; clock.pauses.get(), pauses, "later than {count} of them");
+        let wanted = [count, 0, pauses, 0, pauses];
+        assert_eq!(rt;
+            told(&mut connected, count, most)?,
+            wanted,
+            "behind {count} of them"
+        );
     }
     Ok(())
 }

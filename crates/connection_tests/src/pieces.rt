@@ -1,14 +1,17 @@
 //! A stream in memory that gives and takes its octets in pieces, and would block before each of them; or fails once it has taken so many.
-ghost use Rattle.std.specs.Prelude.{◌≡◌, ◌<◌, ◌-◌, ◌^◌};
+ghost use Rattle.std.specs.Prelude.{◌≡◌, ◌<◌, ◌-◌, ◌^◌, IfSome};
 ghost use Rattle.connections.specs.declared.blocking.Fault.{Fault as FaultOf};
 
+use crate::echo::Both;
 use connections::{Blocking, Fault};
+use links::Link;
+use slab::Slab;
 use std::alloc::{AllocError, Global};
 use std::net::{Ipv4Addr, SocketAddr, SocketAddrV4};
 use turns::Remote;
 
 /// What is behind the octets of a stream.
-#[derive(Clone, Copy, PartialEq, Eq)]
+#[derive(Clone, Copy)]
 pub(crate) enum Behind {
     /// Its end.
     End,
@@ -18,118 +21,99 @@ pub(crate) enum Behind {
     Nothing,
 }
 
-/// How many octets come or go at once.
-#[derive(Clone, Copy)]
-enum Sizes {
-    /// So many at most.
-    Most(usize),
-    /// By a number that goes on at random, 1 to 61.
-    Random(u64),
-}
-
 /// A stream that gives and takes some octets at once, and would block before each time, if it may.
 #[derive(Drop)]
 pub(crate) struct Pieces {
-    from: SocketAddr,
-    octets: Vec<u8>,
-    at: usize,
-    sizes: Sizes,
-    may_block: bool,
-    would_block: bool,
-    behind: Behind,
-    room: usize,
-    faults: u64,
-    written: Vec<u8>,
+    pub(crate) from: SocketAddr,
+    pub(crate) octets: Vec<u8>,
+    pub(crate) at: usize,
+    /// How many octets come or go at once, and up to how many fewer than so many more, by a number that goes on at random.
+    pub(crate) size: usize,
+    pub(crate) spread: u64,
+    pub(crate) number: u64,
+    /// Behind which of the first 64 octets that come, and of those that go, a piece ends at the latest, a bit each.
+    pub(crate) cuts: (u64, u64),
+    pub(crate) may_block: bool,
+    pub(crate) would_block: bool,
+    pub(crate) behind: Behind,
+    /// How many octets it takes before it fails.
+    pub(crate) room: usize,
+    pub(crate) faults: u64,
+    pub(crate) written: Vec<u8>,
 }
 
 /// An address of 192.0.2.0/24.
-fn address(last: u8) -> SocketAddr {
+pub(crate) fn address(last: u8) -> SocketAddr {
     SocketAddr::V4(SocketAddrV4::new(Ipv4Addr::new(192, 0, 2, last), 5_353))
 }
 
+/// These octets, so many times.
+pub(crate) fn repeated(alloc: Global, octets: &[u8], times: usize) -> Result<Vec<u8>, AllocError> {
+    let mut all = Vec::new(alloc);
+    for _time in 0..times {
+        all.extend_from_slice(octets)?;
+    }
+    Ok(all)
+}
+
+/// What was written on connections, in the order of their keys.
+pub(crate) fn written(
+    alloc: Global,
+    links: &Slab<Link<Pieces, Both>>,
+) -> Result<Vec<u8>, AllocError> {
+    let mut all = Vec::new(alloc);
+    for (_key, link) in links.iter() {
+        all.extend_from_slice(&link.stream().written)?;
+    }
+    Ok(all)
+}
+
+/// How many octets a piece has at most that begins behind so many: up to the next cut, if there is one.
+fn up_to_cut(cuts: u64, gone: usize) -> usize
+    ensures { 0 < result }
+{
+    if gone < 64 && cuts >> gone > 0 {
+        return 1 + (cuts >> gone).trailing_zeros() as usize;
+    }
+    usize::MAX
+}
+
 impl Pieces {
-    /// A stream of these octets.
-    pub(crate) fn new(
-        alloc: Global,
-        octets: &[u8],
-        most: usize,
-        behind: Behind,
-    ) -> Result<Pieces, AllocError> {
-        let mut held = Vec::new(alloc);
-        held.extend_from_slice(octets)?;
+    /// A stream of these octets, so many times, which come and go one by one; with memory for a thousand octets that are written.
+    pub(crate) fn new(alloc: Global, octets: &[u8], times: usize) -> Result<Pieces, AllocError> {
         Ok(Pieces {
             from: address(1),
-            octets: held,
+            octets: repeated(alloc, octets, times)?,
             at: 0,
-            sizes: Sizes::Most(most),
+            size: 1,
+            spread: 1,
+            number: 0,
+            cuts: (0, 0),
             may_block: true,
             would_block: false,
-            behind,
+            behind: Behind::Nothing,
             room: usize::MAX,
             faults: 0,
-            written: Vec::new(alloc),
+            written: Vec::with_capacity(alloc, 1_000)?,
         })
     }
 
-    /// The same, from an address of 192.0.2.0/24.
-    pub(crate) fn coming_from(self, last: u8) -> Pieces {
-        Pieces {
-            from: address(last),
-            ..self
-        }
-    }
-
-    /// The same in pieces of random sizes, by a number.
-    pub(crate) fn at_random(self, number: u64) -> Pieces {
-        Pieces {
-            sizes: Sizes::Random(number),
-            ..self
-        }
-    }
-
-    /// The same, which never would block where it has something to give or take.
-    pub(crate) fn at_once(self) -> Pieces {
-        Pieces {
-            may_block: false,
-            ..self
-        }
-    }
-
-    /// The same, which fails once it has taken so many octets.
-    pub(crate) fn that_takes(self, room: usize) -> Pieces {
-        Pieces { room, ..self }
-    }
-
-    /// The same, with memory for so many octets that are written.
-    pub(crate) fn with_memory(self, octets: usize) -> Result<Pieces, AllocError> {
-        let mut pieces = self;
-        pieces.written.reserve(octets)?;
-        Ok(pieces)
-    }
-
-    /// Whether it blocks now, as it does every other time where it may.
-    fn blocks(&mut self) -> bool
-        ensures { self.new.faults ≡ self.old.faults }
-    {
-        self.would_block = self.may_block && !self.would_block;
-        self.would_block
-    }
-
-    /// How many octets come or go next, at most.
-    fn size(&mut self) -> usize
-        ensures size { 0 < result }
+    /// How many octets come or go next, at most; None where it would block, as it does every other time where it may.
+    fn next_size(&mut self) -> Option<usize>
+        ensures size { IfSome result (λ size. 0 < size) }
         ensures same { self.new.faults ≡ self.old.faults }
     {
-        match self.sizes {
-            Sizes::Most(most) => most.max(1),
-            Sizes::Random(number) => {
-                let next = number
-                    .wrapping_mul(6_364_136_223_846_793_005)
-                    .wrapping_add(1_442_695_040_888_963_407);
-                self.sizes = Sizes::Random(next);
-                1 + ((next / 0x1_0000_0000) % 61) as usize
-            }
+        self.would_block = self.may_block && !self.would_block;
+        if self.would_block {
+            return None;
         }
+        self.number = self
+            .number
+            .wrapping_mul(6_364_136_223_846_793_005)
+            .wrapping_add(1_442_695_040_888_963_407);
+        let more = (self.number / 0x1_0000_0000) % self.spread.max(1);
+        let size = self.size.saturating_add(more as usize);
+        Some(size.max(1))
     }
 
     /// Counts a failure.
@@ -139,11 +123,6 @@ impl Pieces {
     {
         self.faults = self.faults.saturating_add(1);
         Fault::Failed
-    }
-
-    /// What was written.
-    pub(crate) fn written(&self) -> &[u8] {
-        self.written.as_slice()
     }
 }
 
@@ -165,10 +144,9 @@ impl Blocking for Pieces {
     ghost would_block = { λ _. ⊤ };
 
     fn read(&mut self, buf: &mut [u8]) -> Result<usize, Fault> {
-        if self.blocks() {
+        let Some(size) = self.next_size() else {
             return Err(Fault::Blocked);
-        }
-        let size = self.size();
+        };
         let left = self.octets.as_slice().get(self.at..).unwrap_or(&[]);
         if left.is_empty() {
             match self.behind {
@@ -177,17 +155,19 @@ impl Blocking for Pieces {
                 Behind::Nothing => return Err(Fault::Blocked),
             }
         }
-        let count = size.min(buf.len().min(left.len()));
+        let most = size.min(up_to_cut(self.cuts.0, self.at));
+        let count = most.min(buf.len().min(left.len()));
         buf[..count].copy_from_slice(&left[..count]);
         self.at = self.at.saturating_add(count);
         Ok(count)
     }
 
     fn write(&mut self, buf: &[u8]) -> Result<usize, Fault> {
-        if self.blocks() {
+        let Some(size) = self.next_size() else {
             return Err(Fault::Blocked);
-        }
-        let count = self.size().min(self.room.min(buf.len()));
+        };
+        let most = size.min(up_to_cut(self.cuts.1, self.written.len()));
+        let count = most.min(self.room.min(buf.len()));
         if count == 0 || self.written.extend_from_slice(&buf[..count]).is_err() {
             return Err(self.fail());
         }

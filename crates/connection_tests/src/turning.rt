@@ -1,222 +1,346 @@
 //! A worker's turns over polls that are made up.
 
-use crate::echo::Echo;
-use crate::made_up::{Comers, Once, SECOND, Teller, make_comers, take_turns};
-use crate::pieces::{Behind, Pieces};
-use crate::rights::Rights;
+use crate::pieces::{Behind, Pieces, repeated, written};
+use crate::polls::{Comers, Poll, Told};
+use crate::running::{Running, SECOND};
+use std::alloc::{AllocError, Global};
+use std::cell::Cell;
+use std::sync::Wait;
 use std::test::Fail;
-use turns::Turns;
+use turns::{Refusal, TurnEnd, Turns, Woken};
 
-#[test]
-fn each_is_answered_by_its_own_rights(rt: HostRuntime) -> Result<(), Fail> {
-    let alloc = rt.alloc();
-    let mut worker = Turns::new(alloc, 64, 1)?;
-    let mut teller = Teller {
+/// Connections that come to a worker, what its poll tells, and what has then become of them.
+struct Stage {
+    /// How many places the worker has; 0 where it is that of the stage before.
+    places: usize,
+    /// What the poll tells and watches, how many waits don't fail, and how far its time goes on by each.
+    keys: usize,
+    beside: usize,
+    watches: bool,
+    waits: u32,
+    step: u64,
+    /// Which connections come, and the octets on each, so many times.
+    comers: u8,
+    octets: &'static [u8],
+    times: usize,
+    size: usize,
+    behind: Behind,
+    no_room: u32,
+    last: Refusal,
+    /// How many connections have given their places when it ends, how it does, and whether waits are then left.
+    gone: u64,
+    end: Result<(), TurnEnd>,
+    waits_on: bool,
+    /// How many connections have begun, ended by themselves, had to bring the rest of a request for too long, ended in all, gave their places, were
+    /// turned away, got no room, and are open.
+    counts: [u64; 8],
+    /// What is written on all that are open, so many times.
+    replies: &'static [u8],
+    replied: usize,
+}
+
+/// Turns until no wait is left, with seven connections on which a request comes, by a poll that tells all keys of eight places.
+const PLAIN: Stage = Stage {
+    places: 8,
+    keys: 8,
+    beside: 0,
+    watches: true,
+    waits: 60,
+    step: SECOND / 4,
+    comers: 7,
+    octets: &[0, 1, b'a'],
+    times: 1,
+    size: 1,
+    behind: Behind::Nothing,
+    no_room: 0,
+    last: Refusal::Blocked,
+    gone: u64::MAX,
+    end: Err(TurnEnd::Device),
+    waits_on: false,
+    counts: [0, 0, 0, 0, 0, 0, 0, 0],
+    replies: &[],
+    replied: 0,
+};
+
+const STAGES: [Stage; 16] = [
+    // Each is answered by its own rights: every other one may update.
+    Stage {
+        places: 64,
         keys: 64,
-        now: 0,
         step: 1,
-    };
-    let comers = make_comers(alloc, 40, &[0, 1, b'a', 0, 1, b'b'], Behind::Nothing)?;
-    let tally = take_turns(
-        &rt,
-        alloc,
-        &mut worker,
-        &mut teller,
-        &mut Rights::new(),
-        comers,
-        60,
-    )?;
-    assert_eq!(rt; tally.begun, 40);
-    assert_eq!(rt; worker.links().len(), 40);
-    let mut may = 0usize;
-    for (_key, link) in worker.links().iter() {
-        let written = link.stream().written();
-        let octet = u8::from(written == [0, 1, 1, 0, 1, 1].as_slice());
-        assert!(rt; written == [0, 1, octet, 0, 1, octet].as_slice());
-        may = may.saturating_add(usize::from(octet));
-    }
-    assert_eq!(rt; may, 20);
-    Ok(())
-}
-
-#[test]
-fn ends_and_delays_give_places_back(rt: HostRuntime) -> Result<(), Fail> {
-    let alloc = rt.alloc();
-    let mut worker = Turns::new(alloc, 8, 1)?;
-    let mut teller = Teller {
-        keys: 8,
-        now: 0,
-        step: SECOND / 4,
-    };
-    // Those that end by themselves.
-    let first = make_comers(alloc, 7, &[0, 1, b'a'], Behind::End)?;
-    let tally = take_turns(
-        &rt,
-        alloc,
-        &mut worker,
-        &mut teller,
-        &mut Rights::new(),
-        first,
-        60,
-    )?;
-    assert_eq!(rt;
-        (tally.begun, tally.ends.clean, worker.links().len()),
-        (7, 7, 0)
-    );
-    // Those that begin a request, and bring no more.
-    let second = make_comers(alloc, 7, &[0, 9, b'a'], Behind::Nothing)?;
-    let tally = take_turns(
-        &rt,
-        alloc,
-        &mut worker,
-        &mut teller,
-        &mut Rights::new(),
-        second,
-        30,
-    )?;
-    assert_eq!(rt; (tally.begun, worker.links().len()), (14, 7));
-    let nobody = make_comers(alloc, 0, &[], Behind::End)?;
-    let tally = take_turns(
-        &rt,
-        alloc,
-        &mut worker,
-        &mut teller,
-        &mut Rights::new(),
-        nobody,
-        60,
-    )?;
-    assert_eq!(rt;
-        (tally.ends.message, tally.ends.late(), worker.links().len()),
-        (7, 7, 0)
-    );
-    Ok(())
-}
-
-#[test]
-fn places_are_for_those_that_ask(rt: HostRuntime) -> Result<(), Fail> {
-    let alloc = rt.alloc();
-    let mut worker = Turns::new(alloc, 4, 1)?;
-    let mut teller = Teller {
-        keys: 4,
-        now: 0,
+        comers: 40,
+        octets: &[0, 1, b'?'],
+        times: 2,
+        counts: [40, 0, 0, 0, 0, 0, 0, 40],
+        replies: &[0, 1, 0, 0, 1, 0, 0, 1, 1, 0, 1, 1],
+        replied: 20,
+        ..PLAIN
+    },
+    // Those that end by themselves give their places back,
+    Stage {
+        behind: Behind::End,
+        counts: [7, 7, 0, 7, 0, 0, 0, 0],
+        ..PLAIN
+    },
+    // and those that begin a request, and bring no more,
+    Stage {
+        places: 0,
+        waits: 30,
+        octets: &[0, 9, b'a'],
+        counts: [14, 7, 0, 7, 0, 0, 0, 7],
+        ..PLAIN
+    },
+    // once that takes too long.
+    Stage {
+        places: 0,
+        comers: 0,
+        counts: [14, 7, 7, 14, 0, 0, 0, 0],
+        ..PLAIN
+    },
+    // Four that begin a request have the places:
+    Stage {
+        places: 4,
+        waits: 20,
         step: 1,
-    };
-    // Four that begin a request have the places: others are turned away.
-    let busy = make_comers(alloc, 4, &[0, 9, b'a'], Behind::Nothing)?;
-    take_turns(
-        &rt,
-        alloc,
-        &mut worker,
-        &mut teller,
-        &mut Rights::new(),
-        busy,
-        20,
-    )?;
-    let more = make_comers(alloc, 3, &[], Behind::Nothing)?;
-    let tally = take_turns(
-        &rt,
-        alloc,
-        &mut worker,
-        &mut teller,
-        &mut Rights::new(),
-        more,
-        20,
-    )?;
-    assert_eq!(rt; (tally.begun, tally.turned_away, tally.evicted), (4, 3, 0));
+        comers: 4,
+        octets: &[0, 9, b'a'],
+        counts: [4, 0, 0, 0, 0, 0, 0, 4],
+        ..PLAIN
+    },
+    // others are turned away.
+    Stage {
+        places: 0,
+        waits: 20,
+        step: 1,
+        comers: 3,
+        octets: &[],
+        counts: [4, 0, 0, 0, 0, 3, 0, 4],
+        ..PLAIN
+    },
     // Idle ones give theirs.
-    let mut worker = Turns::new(alloc, 4, 1)?;
-    let idle = make_comers(alloc, 9, &[], Behind::Nothing)?;
-    let tally = take_turns(
-        &rt,
-        alloc,
-        &mut worker,
-        &mut teller,
-        &mut Rights::new(),
-        idle,
-        20,
-    )?;
-    assert_eq!(rt; (tally.begun, tally.turned_away, tally.evicted), (9, 0, 5));
-    assert_eq!(rt; worker.links().len(), 4);
-    Ok(())
-}
-
-#[test]
-fn want_of_room_is_waited_out(rt: HostRuntime) -> Result<(), Fail> {
-    let alloc = rt.alloc();
-    let mut worker = Turns::new(alloc, 8, 1)?;
-    let mut teller = Teller {
-        keys: 8,
-        now: 0,
-        step: SECOND / 4,
-    };
-    let mut few = make_comers(alloc, 5, &[], Behind::Nothing)?;
-    few.no_room = 3;
-    let tally = take_turns(
-        &rt,
-        alloc,
-        &mut worker,
-        &mut teller,
-        &mut Rights::new(),
-        few,
-        30,
-    )?;
-    assert_eq!(rt; (tally.begun, tally.no_room), (5, 3));
-    Ok(())
-}
-
-#[test]
-fn what_is_told_once_is_served_to_its_end(rt: HostRuntime) -> Result<(), Fail> {
-    let alloc = rt.alloc();
-    let mut worker = Turns::new(alloc, 8, 1)?;
-    let mut once = Once {
-        told: Vec::new(alloc),
-        now: 0,
-    };
-    let mut sent = Vec::new(alloc);
-    for _request in 0..1_000u32 {
-        sent.extend_from_slice(&[0, 1, b'a'])?;
-    }
-    let mut left = Vec::new(alloc);
-    for last in 1..6u8 {
-        let stream = Pieces::new(alloc, &sent, 700, Behind::Nothing)?;
-        left.push(stream.at_once().coming_from(last))?;
-    }
-    let comers = Comers {
-        left,
-        is_odd: false,
-        no_room: 0,
-    };
-    let mut rights = Rights::new();
-    let tally = take_turns(&rt, alloc, &mut worker, &mut once, &mut rights, comers, 60)?;
-    assert_eq!(rt; (tally.begun, worker.links().len()), (5, 5));
-    for (key, link) in worker.links().iter() {
-        assert_eq!(rt; link.stream().written().len(), 3_000, "under {key}");
-    }
-    Ok(())
-}
-
-#[test]
-fn transfers_go_on_beside_one_another(rt: HostRuntime) -> Result<(), Fail> {
-    let alloc = rt.alloc();
-    let mut worker = Turns::new(alloc, 8, 1)?;
-    let mut teller = Teller {
-        keys: 8,
-        now: 0,
+    Stage {
+        places: 4,
+        waits: 20,
         step: 1,
-    };
-    // A request of two octets has two messages for a reply.
-    let mut sent = Vec::new(alloc);
-    let mut replies = Vec::new(alloc);
-    for _request in 0..50u32 {
-        sent.extend_from_slice(&[0, 2, b'a', b'b'])?;
-        replies.extend_from_slice(&[0, 1, 1, 0, 1, 2])?;
+        comers: 9,
+        octets: &[],
+        counts: [9, 0, 0, 0, 5, 0, 0, 4],
+        ..PLAIN
+    },
+    // Want of room is waited out.
+    Stage {
+        waits: 30,
+        comers: 5,
+        octets: &[],
+        no_room: 3,
+        counts: [5, 0, 0, 0, 0, 0, 3, 5],
+        ..PLAIN
+    },
+    // What is told once is served to its end.
+    Stage {
+        keys: 0,
+        step: 1,
+        comers: 5,
+        times: 1_000,
+        size: 700,
+        counts: [5, 0, 0, 0, 0, 0, 0, 5],
+        replies: &[0, 1, b'a'],
+        replied: 5_000,
+        ..PLAIN
+    },
+    // Transfers go on beside one another: a request of two octets has two messages for a reply.
+    Stage {
+        waits: 900,
+        step: 1,
+        comers: 6,
+        octets: &[0, 2, b'a', b'b'],
+        times: 50,
+        counts: [6, 0, 0, 0, 0, 0, 0, 6],
+        replies: &[0, 1, 1, 0, 1, 2],
+        replied: 300,
+        ..PLAIN
+    },
+    // What isn't watched gets no place.
+    Stage {
+        keys: 0,
+        watches: false,
+        waits: 5,
+        step: 1,
+        comers: 3,
+        counts: [0, 0, 0, 0, 0, 0, 3, 0],
+        ..PLAIN
+    },
+    // What begins is served before it is told.
+    Stage {
+        keys: 0,
+        beside: 1_000,
+        waits: 20,
+        step: 1,
+        comers: 5,
+        behind: Behind::End,
+        counts: [5, 5, 0, 5, 0, 0, 0, 0],
+        ..PLAIN
+    },
+    // Turns end once so many are gone: at once,
+    Stage {
+        behind: Behind::End,
+        gone: 0,
+        end: Ok(()),
+        waits_on: true,
+        ..PLAIN
+    },
+    // or with the last one;
+    Stage {
+        behind: Behind::End,
+        gone: 7,
+        end: Ok(()),
+        waits_on: true,
+        counts: [7, 7, 0, 7, 0, 0, 0, 0],
+        ..PLAIN
+    },
+    // where nothing can be waited for;
+    Stage {
+        keys: 0,
+        beside: 1_000,
+        waits: 5,
+        step: 0,
+        gone: 1,
+        counts: [7, 0, 0, 0, 0, 0, 0, 7],
+        replies: &[0, 1, b'a'],
+        replied: 7,
+        ..PLAIN
+    },
+    // and where nothing can come in any more.
+    Stage {
+        keys: 0,
+        waits: 5,
+        comers: 0,
+        last: Refusal::Broken,
+        gone: 1,
+        waits_on: true,
+        ..PLAIN
+    },
+];
+
+/// Has a worker begin a stage, with no connections but those of the stage before where it has no places of its own.
+fn begin(
+    alloc: Global,
+    worker: &mut Running<Pieces, Poll, Comers<'static>>,
+    stage: &Stage,
+) -> Result<(), AllocError> {
+    if stage.places > 0 {
+        worker.turns = Turns::new(alloc, stage.places, 1)?;
     }
-    let comers = make_comers(alloc, 6, &sent, Behind::Nothing)?;
-    let mut echo = Echo::new(300);
-    let tally = take_turns(&rt, alloc, &mut worker, &mut teller, &mut echo, comers, 900)?;
-    assert_eq!(rt; (tally.begun, worker.links().len()), (6, 6));
-    for (key, link) in worker.links().iter() {
-        assert_eq!(rt; link.stream().written(), replies.as_slice(), "under {key}");
+    worker.poll = Poll {
+        keys: stage.keys,
+        beside: stage.beside,
+        watches: stage.watches,
+        waits: stage.waits,
+        step: stage.step,
+        now: worker.poll.now,
+        told: Vec::new(alloc),
+    };
+    worker.places.clear();
+    worker.places.push(Comers {
+        alloc,
+        count: stage.comers,
+        even: stage.octets,
+        odd: stage.octets,
+        times: stage.times,
+        size: stage.size,
+        may_block: stage.keys > 0,
+        behind: stage.behind,
+        no_room: stage.no_room,
+        is_odd: false,
+        last: stage.last,
+    })?;
+    Ok(())
+}
+
+/// How many connections have begun, and what has become of them, as [`Stage`] counts them.
+fn counts_of(worker: &Running<Pieces, Poll, Comers<'static>>) -> [u64; 8] {
+    let tally = worker.turns.tally();
+    [
+        tally.begun,
+        tally.ends.clean,
+        tally.ends.message,
+        tally.ends.total(),
+        tally.evicted,
+        tally.turned_away,
+        tally.no_room,
+        worker.turns.links().len() as u64,
+    ]
+}
+
+#[test]
+fn turns_go_through_stages(rt: HostRuntime) -> Result<(), Fail> {
+    let alloc = rt.alloc();
+    let mut worker = Running::new(alloc, Poll::new(alloc, 0), Comers::new(alloc, 0, &[]))?;
+    for (at, stage) in STAGES.iter().enumerate() {
+        begin(alloc, &mut worker, stage)?;
+        let end = worker.run(&rt, stage.gone);
+        let counts = counts_of(&worker);
+        let gone = written(alloc, worker.turns.links())?;
+        let is_written = gone == repeated(alloc, stage.replies, stage.replied)?;
+        assert_eq!(rt;
+            (end, worker.poll.waits > 0, counts, is_written),
+            (stage.end, stage.waits_on, stage.counts, true),
+            "in stage {at}"
+        );
+    }
+    Ok(())
+}
+
+/// Two connections' requests, of which the second of the first waits for its reply.
+const UPDATE: [u8; 9] = [0, 1, b'a', 0, 1, b'u', 0, 1, b'b'];
+
+const OTHER: [u8; 9] = [0, 1, b'a', 0, 1, b'c', 0, 1, b'b'];
+
+/// All replies on four connections, by turns of the other kind and of the first, but for those to the second that waits and to the request behind it.
+const REPLIES: [u8; 30] = [
+    0, 1, b'a', 0, 1, b'c', 0, 1, b'b', 0, 1, b'a', 0, 1, b'a', 0, 1, b'c', 0, 1, b'b', 0, 1, b'a',
+    0, 1, b'u', 0, 1, b'b',
+];
+
+/// The key that is told, that of the connection whose reply is made, how often turns that follow ask for a reply that is later, and how many octets
+/// of the replies are then written.
+const WAKINGS: [(Option<usize>, Option<usize>, u32, usize); 6] = [
+    // Under 1 and 3 the second request waits. It is asked for when its connection begins, and once that is told to be ready.
+    (None, None, 4, 24),
+    (None, None, 0, 24),
+    // One that is told too early waits on, and so does the other.
+    (Some(3), None, 1, 24),
+    // A reply that is made comes once its key is told, with that of the request behind it.
+    (None, Some(3), 0, 24),
+    (Some(3), Some(3), 1, 30),
+    // A key of nobody changes nothing.
+    (Some(7), None, 0, 30),
+];
+
+#[test]
+fn other_connections_go_on(rt: HostRuntime) -> Result<(), Fail> {
+    let alloc = rt.alloc();
+    let key = Cell::new(None);
+    let poll = Woken::new(Poll::new(alloc, 0), Told { key: &key });
+    let comers = Comers {
+        even: &UPDATE,
+        size: 700,
+        may_block: false,
+        ..Comers::new(alloc, 4, &OTHER)
+    };
+    let mut worker = Running::new(alloc, poll, comers)?;
+    for (at, (told, made, asked, len)) in WAKINGS.into_iter().enumerate() {
+        key.set(told);
+        worker.echo.made = made;
+        worker.echo.asked = 0;
+        worker.turn(&rt, 9)?;
+        let gone = written(alloc, worker.turns.links())?;
+        let is_written = REPLIES.get(..len) == Some(gone.as_slice());
+        assert_eq!(rt;
+            (worker.echo.asked, is_written),
+            (asked, true),
+            "in row {at}"
+        );
     }
     Ok(())
 }

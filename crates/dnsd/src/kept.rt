@@ -2,8 +2,7 @@
 ghost use Rattle.std.specs.Prelude.{IfOk};
 ghost use Rattle.store_service.specs.Resumed.{IsGiven};
 
-use crate::options::Serve;
-use crate::store_options::StorePlan;
+use command_line::{Serve, StorePlan};
 use commands::{FAILED, Fault, REFUSED, tell};
 use std::alloc::Global;
 use std::fs::{File, Files};

@@ -1,28 +1,23 @@
 //! `dnsd`: an authoritative name server for one zone of class IN.
 //!
-//! The command line is parsed by `command`. What a command does over a zone's text, standard input and standard output is
+//! The command line is parsed by `command_line`. What a command does over a zone's text, standard input and standard output is
 //! `commands`': `answer` replies to each request that it reads, `check` prints the zone's written text, `apply` that of the zone
 //! after a transfer's messages, and `steps` plays a script. `zone` prints the zone of a store, by `stored_zone`. `serve` answers on
 //! sockets, by the workers of `serve_workers`.
 #![tactic(auto)]
 
-ghost use Rattle.std.specs.Prelude.{◌≡◌, ◌⊎◌};
-
 pub mod begin;
 pub mod bound;
-pub mod command;
 pub mod descriptors;
 pub mod kept;
 pub mod log;
-pub mod options;
 pub mod secondaries;
 pub mod serve;
-pub mod store_options;
 pub mod stored;
 pub mod zone_file;
 
-use command::{BAD_COMMAND, CommandFault, Task, parse_words};
-use commands::{Command, DONE, FAILED, Source, run_text, run_with_zone, tell};
+use command_line::{Task, parse_words, tell_fault};
+use commands::{Command, FAILED, Source, run_text, run_with_zone, tell};
 use serve::run_serve;
 use std::env;
 use std::fs::{File, Files};
@@ -73,80 +68,6 @@ fn run_words<
         Ok(Task::Serve(serve)) => run_serve(rt, &serve),
         Ok(Task::Stored(stored)) => run_stored(rt, stored),
         Err(fault) => tell_fault(rt, &fault),
-    }
-}
-
-/// Says on standard error why the words are refused, or on standard output what they ask to be told, and gives the status.
-fn tell_fault<R: Print + Eprint>(rt: &R, fault: &CommandFault<'_>) -> io::Result<u8> {
-    match fault {
-        CommandFault::Words(fault) => {
-            fault.print(rt)?;
-            return Ok(status_of(fault));
-        }
-        CommandFault::Origin(word, fault) => {
-            eprintln!(rt; "error: '{word}' is no name for --origin: {fault}")?;
-        }
-        CommandFault::Number {
-            option,
-            word,
-            least,
-            most,
-        } => {
-            eprintln!(rt;
-                "error: --{option} takes a number from {least} to {most}, and '{word}' is none"
-            )?;
-        }
-        CommandFault::Listen(word) => {
-            eprintln!(rt;
-                "error: --listen takes an address and a port, as 127.0.0.1:5353 or [::1]:5353, and '{word}' is none"
-            )?;
-        }
-        CommandFault::Allow(word) => {
-            eprintln!(rt;
-                "error: --allow takes addresses with commas between them, as 127.0.0.1,192.0.2.7, and '{word}' is none"
-            )?;
-        }
-        CommandFault::Threads(workers, addresses) => {
-            eprintln!(rt;
-                "error: --workers {workers} for {addresses} addresses ask for more than 62 threads: each worker has one for TCP, and one for UDP of each address; --notify has one more"
-            )?;
-        }
-        CommandFault::Notify(word) => {
-            eprintln!(rt;
-                "error: --notify takes an address, as 192.0.2.7, 192.0.2.7:5353 or [2001:db8::7]:53@2001:db8::1, and '{word}' is none"
-            )?;
-        }
-        CommandFault::Secondaries(word) => {
-            eprintln!(rt;
-                "error: --notify takes 32 secondaries at most, and '{word}' is one more"
-            )?;
-        }
-        CommandFault::SecondaryTwice(word) => {
-            eprintln!(rt; "error: --notify takes a secondary once, and '{word}' is there already")?;
-        }
-        CommandFault::Size(word) => {
-            eprintln!(rt;
-                "error: --journal takes a size from 4K to 1024G, as 100000, 500K or 64M, and '{word}' is none"
-            )?;
-        }
-        CommandFault::Take(word) => {
-            eprintln!(rt; "error: --take takes store or zone, and '{word}' is neither")?;
-        }
-        CommandFault::NoStore(option) => {
-            eprintln!(rt; "error: --{option} is for a store, and no --store is given")?;
-        }
-    }
-    Ok(BAD_COMMAND)
-}
-
-/// The status of a command line that clap refused: want of memory has one of its own.
-fn status_of(fault: &clap::Error) -> u8
-    ensures { (result ≡ 0) ⊎ (result ≡ 2) ⊎ (result ≡ 3) }
-{
-    match fault.kind() {
-        clap::error::ErrorKind::OutOfMemory => FAILED,
-        _ if fault.use_stderr() => BAD_COMMAND,
-        _ => DONE,
     }
 }
 

@@ -8,9 +8,9 @@ use crate::bound::{Unbound, WorkerSockets, bind_all, duties_of};
 use crate::descriptors;
 use crate::kept::start_kept;
 use crate::log::{Listening, Log, LogLine};
-use crate::options::{MAX_THREADS, Serve};
-use crate::secondaries::{is_routed, put_secondaries, secondaries_for};
+use crate::secondaries::{put_secondaries, secondaries_for};
 use crate::zone_file::read_zone_file;
+use command_line::{MAX_THREADS, Serve, is_routed};
 use commands::{DONE, FAILED, Fault, Source, tell};
 use conversation::Allowed;
 use line_io::read_zone_text;
@@ -314,14 +314,7 @@ fn serve_duties<
         faults: StoreFaults::new(log, &failing),
     };
     let served = serve_zone::<R, Brand, Log, KeptIn<'_, R, T>, StoreFaults<'_, Log>>(
-        rt,
-        alloc,
-        first,
-        later,
-        duties,
-        plan,
-        Some(handing),
-        log,
+        rt, alloc, first, later, duties, plan, handing, log,
     );
     mem::drop(lock);
     served

@@ -1,5 +1,5 @@
 //! The zone of a store, printed.
-use crate::command::Stored;
+use command_line::Stored;
 use commands::{DONE, FAILED, REFUSED};
 use recovery::StartFault;
 use std::io::{self, BufWriter};

@@ -1,223 +1,172 @@
 //! What a history tells.
-ghost use Rattle.std.specs.Prelude.{◌≡◌};
+ghost use Rattle.std.specs.Prelude.{◌≡◌, ◌≤◌};
 ghost use Rattle.std.specs.List.{All};
 
-use crate::plays::{Any, Teller, begun, limited};
+use crate::plays::{Any, Due, Step, Teller, begun};
 use snapshot_cell::{NamedCell, NamedPublisher, NamedReader, Naming, Parts};
 use std::alloc::Global;
 use std::marker::Brand;
 use std::process::Abort;
-use weak_history::Chain;
 
-/// Whether a chain is whole, and these are its values, the oldest first.
-fn is_whole<N: Naming>(told: Chain<'_, u64, Any, N>, values: &[u64]) -> bool {
-    let Chain::Whole(mut owners) = told else {
-        return false;
-    };
-    if owners.len() != values.len() {
-        return false;
-    }
-    for value in values {
-        let Some(owner) = owners.take_first() else {
-            return false;
-        };
-        if owner.get() != value {
-            return false;
-        }
-    }
-    owners.take_first().is_none()
-}
-
-fn is_gone<N: Naming>(told: Chain<'_, u64, Any, N>, number: u64) -> bool {
-    match told {
-        Chain::Gone(gone) => gone == number,
-        _ => false,
-    }
-}
-
-fn is_unknown<N: Naming>(told: Chain<'_, u64, Any, N>) -> bool {
-    match told {
-        Chain::Unknown => true,
-        _ => false,
-    }
-}
-
-fn is_spent<N: Naming>(told: Chain<'_, u64, Any, N>) -> bool {
-    match told {
-        Chain::Spent => true,
-        _ => false,
-    }
-}
-
-/// Ends a cell with its two readers: the last value, which is this.
-fn end<R: Abort, N: Naming>(
-    rt: &R,
-    alloc: Global,
-    cell: NamedCell<u64, Any, N>,
-    publisher: NamedPublisher<u64, Any, N>,
-    readers: (NamedReader<u64, N>, NamedReader<u64, N>),
+/// Steps, in a cell whose readers have so many grants, with a history of so many entries at most, and the value that is published last.
+#[derive(Clone, Copy)]
+struct Play {
+    grants: u64,
+    size: usize,
+    steps: &'static [Step],
     last: u64,
-) {
-    let mut both = Vec::new(alloc);
-    both.push(readers.0).ok().expect(rt, "memory");
-    both.push(readers.1).ok().expect(rt, "memory");
-    match cell.close(publisher, both) {
-        Ok(value) => assert_eq!(rt; value, last),
+}
+
+/// Plays steps in a cell, which is ended then.
+fn play_in<R: Abort, N: Naming>(rt: &R, alloc: Global, parts: Parts<u64, Any>, play: Play)
+    requires cell { (parts.cell ≡ N.cell) × (parts.publisher.cell ≡ N.cell) }
+    requires readers { All (λ r. r.cell ≡ N.cell) parts.readers.items }
+    requires size { play.size ≤ 16 }
+{
+    let Parts {
+        cell,
+        publisher,
+        mut readers,
+    } = parts;
+    let loads = NamedReader::of(readers.pop().expect(rt, "a reader"));
+    let asks = NamedReader::of(readers.pop().expect(rt, "a reader"));
+    let cell: NamedCell<u64, Any, N> = NamedCell::of(cell);
+    let publisher = NamedPublisher::of(publisher);
+    let mut teller = Teller::new(alloc, &cell, publisher, loads, asks, play.size);
+    assert_eq!(rt; teller.first_wrong(play.steps), None);
+    let (publisher, readers) = teller.end(rt, alloc);
+    match cell.close(publisher, readers) {
+        Ok(value) => assert_eq!(rt; value, play.last),
         Err(_) => panic!(rt; "an owner is out"),
     }
 }
 
-/// Versions of the serials 10 to 13: what is told after each of them while all are owned, then with the one of 11 gone.
-fn play<R: Abort, N: Naming>(rt: &R, alloc: Global, parts: Parts<u64, Any>)
-    requires cell { (parts.cell ≡ N.cell) × (parts.publisher.cell ≡ N.cell) }
-    requires readers { All (λ r. r.cell ≡ N.cell) parts.readers.items }
-{
-    let Parts {
-        cell,
-        publisher,
-        mut readers,
-    } = parts;
-    let loads = NamedReader::of(readers.pop().expect(rt, "a reader"));
-    let mut asks = NamedReader::of(readers.pop().expect(rt, "a reader"));
-    let cell: NamedCell<u64, Any, N> = NamedCell::of(cell);
-    let mut teller = Teller::new(&cell, NamedPublisher::of(publisher), loads, 16);
-    let (first, second, third, last) = teller.tell_four(rt);
-    assert_eq!(rt; teller.len(), 4);
-    assert!(rt; is_whole(teller.chain(&mut asks, 10, 3), &[100, 200, 300]));
-    assert!(rt; is_whole(teller.chain(&mut asks, 11, 3), &[200, 300]));
-    assert!(rt; is_whole(teller.chain(&mut asks, 11, 2), &[200]));
-    assert!(rt; is_whole(teller.chain(&mut asks, 13, 3), &[]));
-    assert!(rt; is_unknown(teller.chain(&mut asks, 9, 3)));
-    assert!(rt; is_unknown(teller.chain(&mut asks, 13, 2)));
-    second.release();
-    assert!(rt; is_gone(teller.chain(&mut asks, 10, 3), 1));
-    assert!(rt; is_whole(teller.chain(&mut asks, 11, 3), &[200, 300]));
-    first.release();
-    assert!(rt; is_gone(teller.chain(&mut asks, 10, 3), 1));
-    third.release();
-    assert!(rt; is_gone(teller.chain(&mut asks, 11, 3), 2));
-    assert!(rt; is_whole(teller.chain(&mut asks, 12, 3), &[300]));
-    last.release();
-    assert!(rt; is_whole(teller.chain(&mut asks, 12, 3), &[300]));
-    let (publisher, loads) = teller.end();
-    end(rt, alloc, cell, publisher, (loads, asks), 300);
+/// Plays steps in a cell of its own.
+fn played<R: Abort>(rt: &R, alloc: Global, play: Play) {
+    assert!(rt; play.size <= 16);
+    let parts = begun(rt, alloc, play.grants);
+    play_in::<R, Brand>(rt, alloc, parts, play);
 }
 
-// What is told while versions are there, and when they have gone.
+/// What is told while versions of the serials 10 to 13 are there, and when they have gone.
+const FOUR_VERSIONS: Play = Play {
+    grants: u64::MAX,
+    size: 16,
+    steps: &[
+        Step::Tell(10),
+        Step::Publish(100),
+        Step::Tell(11),
+        Step::Publish(200),
+        Step::Tell(12),
+        Step::Publish(300),
+        Step::Tell(13),
+        Step::Len(4),
+        Step::Chain(10, 3, Due::Whole(&[100, 200, 300])),
+        Step::Chain(11, 3, Due::Whole(&[200, 300])),
+        Step::Chain(11, 2, Due::Whole(&[200])),
+        Step::Chain(13, 3, Due::Whole(&[])),
+        Step::Chain(9, 3, Due::Unknown),
+        Step::Chain(13, 2, Due::Unknown),
+        Step::Release(1, Some(1)),
+        Step::Chain(10, 3, Due::Gone(1)),
+        Step::Chain(11, 3, Due::Whole(&[200, 300])),
+        Step::Release(0, Some(0)),
+        Step::Chain(10, 3, Due::Gone(1)),
+        Step::Release(2, Some(2)),
+        Step::Chain(11, 3, Due::Gone(2)),
+        Step::Chain(12, 3, Due::Whole(&[300])),
+        Step::Release(3, None),
+        Step::Chain(12, 3, Due::Whole(&[300])),
+    ],
+    last: 300,
+};
+
 #[test]
 fn chains_of_four_versions(rt: HostRuntime) {
-    let parts = begun(&rt, rt.alloc());
-    play::<HostRuntime, Brand>(&rt, rt.alloc(), parts);
+    played(&rt, rt.alloc(), FOUR_VERSIONS);
 }
 
-/// Entries leave: by the number that there may be, and by the way up the ring of serials (RFC 1982, 3.2).
-fn fill<R: Abort, N: Naming>(rt: &R, alloc: Global, parts: Parts<u64, Any>)
-    requires cell { (parts.cell ≡ N.cell) × (parts.publisher.cell ≡ N.cell) }
-    requires readers { All (λ r. r.cell ≡ N.cell) parts.readers.items }
-{
-    let Parts {
-        cell,
-        publisher,
-        mut readers,
-    } = parts;
-    let loads = NamedReader::of(readers.pop().expect(rt, "a reader"));
-    let mut asks = NamedReader::of(readers.pop().expect(rt, "a reader"));
-    let cell: NamedCell<u64, Any, N> = NamedCell::of(cell);
-    let mut teller = Teller::new(&cell, NamedPublisher::of(publisher), loads, 2);
-    // The distance from 0 to 2^31 - 1 fits, and with one more it doesn't.
-    let first = teller.tell(rt, 0);
-    teller.publish(rt, 1);
-    let second = teller.tell(rt, 0x7fff_ffff);
-    assert_eq!(rt; teller.len(), 2);
-    assert!(rt; is_whole(teller.chain(&mut asks, 0, 1), &[1]));
-    teller.publish(rt, 2);
-    let third = teller.tell(rt, 0x8000_0000);
-    assert_eq!(rt; teller.len(), 2);
-    assert!(rt; is_unknown(teller.chain(&mut asks, 0, 2)));
-    assert!(rt; is_whole(teller.chain(&mut asks, 0x7fff_ffff, 2), &[2]));
-    // Half the ring further on: the others leave.
-    teller.publish(rt, 3);
-    let fourth = teller.tell(rt, 0);
-    assert_eq!(rt; teller.len(), 1);
-    assert!(rt; is_unknown(teller.chain(&mut asks, 0x8000_0000, 3)));
-    assert!(rt; is_whole(teller.chain(&mut asks, 0, 3), &[]));
-    first.release();
-    second.release();
-    third.release();
-    fourth.release();
-    let (publisher, loads) = teller.end();
-    end(rt, alloc, cell, publisher, (loads, asks), 3);
-}
+/// Entries leave: there are two at most, of serials that are less than half the ring apart (RFC 1982, 3.2). The distance from 0 to 2^31 - 1 fits, and with
+/// one more it doesn't; half the ring further on the others leave.
+const TWO_ENTRIES: Play = Play {
+    grants: u64::MAX,
+    size: 2,
+    steps: &[
+        Step::Tell(0),
+        Step::Publish(1),
+        Step::Tell(0x7fff_ffff),
+        Step::Len(2),
+        Step::Chain(0, 1, Due::Whole(&[1])),
+        Step::Publish(2),
+        Step::Tell(0x8000_0000),
+        Step::Len(2),
+        Step::Chain(0, 2, Due::Unknown),
+        Step::Chain(0x7fff_ffff, 2, Due::Whole(&[2])),
+        Step::Publish(3),
+        Step::Tell(0),
+        Step::Len(1),
+        Step::Chain(0x8000_0000, 3, Due::Unknown),
+        Step::Chain(0, 3, Due::Whole(&[])),
+        Step::Release(0, Some(0)),
+        Step::Release(1, Some(1)),
+        Step::Release(2, Some(2)),
+        Step::Release(3, None),
+    ],
+    last: 3,
+};
 
-// Two entries at most, of serials that are less than half the ring apart.
 #[test]
 fn entries_that_leave(rt: HostRuntime) {
-    let parts = begun(&rt, rt.alloc());
-    fill::<HostRuntime, Brand>(&rt, rt.alloc(), parts);
+    played(&rt, rt.alloc(), TWO_ENTRIES);
 }
 
 /// A history of no entries knows of none.
-fn know_nothing<R: Abort, N: Naming>(rt: &R, alloc: Global, parts: Parts<u64, Any>)
-    requires cell { (parts.cell ≡ N.cell) × (parts.publisher.cell ≡ N.cell) }
-    requires readers { All (λ r. r.cell ≡ N.cell) parts.readers.items }
-{
-    let Parts {
-        cell,
-        publisher,
-        mut readers,
-    } = parts;
-    let loads = NamedReader::of(readers.pop().expect(rt, "a reader"));
-    let mut asks = NamedReader::of(readers.pop().expect(rt, "a reader"));
-    let cell: NamedCell<u64, Any, N> = NamedCell::of(cell);
-    let mut teller = Teller::new(&cell, NamedPublisher::of(publisher), loads, 0);
-    teller.tell(rt, 1).release();
-    assert_eq!(rt; teller.len(), 0);
-    assert!(rt; is_unknown(teller.chain(&mut asks, 1, 0)));
-    let (publisher, loads) = teller.end();
-    end(rt, alloc, cell, publisher, (loads, asks), 0);
-}
+const NO_ENTRIES: Play = Play {
+    grants: u64::MAX,
+    size: 0,
+    steps: &[
+        Step::Tell(1),
+        Step::Release(0, None),
+        Step::Len(0),
+        Step::Chain(1, 0, Due::Unknown),
+    ],
+    last: 0,
+};
 
-// A history of no entries.
 #[test]
 fn history_of_none(rt: HostRuntime) {
-    let parts = begun(&rt, rt.alloc());
-    know_nothing::<HostRuntime, Brand>(&rt, rt.alloc(), parts);
+    played(&rt, rt.alloc(), NO_ENTRIES);
 }
 
-/// Versions of the serials 10 to 13, by a reader of four grants: three are taken by what is told of three versions, and one by the first of
-/// the two that are asked for then, whose owner is let go.
-fn use_up<R: Abort, N: Naming>(rt: &R, alloc: Global, parts: Parts<u64, Any>)
-    requires cell { (parts.cell ≡ N.cell) × (parts.publisher.cell ≡ N.cell) }
-    requires readers { All (λ r. r.cell ≡ N.cell) parts.readers.items }
-{
-    let Parts {
-        cell,
-        publisher,
-        mut readers,
-    } = parts;
-    let loads = NamedReader::of(readers.pop().expect(rt, "a reader"));
-    let mut asks = NamedReader::of(readers.pop().expect(rt, "a reader"));
-    let cell: NamedCell<u64, Any, N> = NamedCell::of(cell);
-    let mut teller = Teller::new(&cell, NamedPublisher::of(publisher), loads, 16);
-    let (first, second, third, last) = teller.tell_four(rt);
-    assert!(rt; is_whole(teller.chain(&mut asks, 10, 3), &[100, 200, 300]));
-    assert!(rt; asks.left() == 1 && is_spent(teller.chain(&mut asks, 11, 3)));
-    assert!(rt; asks.left() == 0 && is_spent(teller.chain(&mut asks, 12, 3)));
-    // What wants no grant is told as before.
-    assert!(rt; is_whole(teller.chain(&mut asks, 13, 3), &[]));
-    assert!(rt; is_unknown(teller.chain(&mut asks, 9, 3)));
-    // Nobody else owns a version.
-    assert_eq!(rt; third.release().buried(), Some(2));
-    assert_eq!(rt; second.release().buried(), Some(1));
-    assert_eq!(rt; first.release().buried(), Some(0));
-    last.release();
-    let (publisher, loads) = teller.end();
-    end(rt, alloc, cell, publisher, (loads, asks), 300);
-}
+/// A chain for which a reader has too few grants is told so, and holds no version (own): of four grants three are taken by what is told of three versions,
+/// and one by the first of the two that are asked for then, whose owner is let go. What wants no grant is told as before, and nobody else owns a version.
+const FOUR_GRANTS: Play = Play {
+    grants: 4,
+    size: 16,
+    steps: &[
+        Step::Tell(10),
+        Step::Publish(100),
+        Step::Tell(11),
+        Step::Publish(200),
+        Step::Tell(12),
+        Step::Publish(300),
+        Step::Tell(13),
+        Step::Chain(10, 3, Due::Whole(&[100, 200, 300])),
+        Step::Left(1),
+        Step::Chain(11, 3, Due::Spent),
+        Step::Left(0),
+        Step::Chain(12, 3, Due::Spent),
+        Step::Chain(13, 3, Due::Whole(&[])),
+        Step::Chain(9, 3, Due::Unknown),
+        Step::Release(2, Some(2)),
+        Step::Release(1, Some(1)),
+        Step::Release(0, Some(0)),
+        Step::Release(3, None),
+    ],
+    last: 300,
+};
 
-// A chain for which a reader has too few grants is told so, and holds no version (own).
 #[test]
 fn no_grant_is_no_chain(rt: HostRuntime) {
-    let parts = limited(&rt, rt.alloc());
-    use_up::<HostRuntime, Brand>(&rt, rt.alloc(), parts);
+    played(&rt, rt.alloc(), FOUR_GRANTS);
 }

@@ -1,4 +1,4 @@
-//! A cell of numbers with a history, which its publisher tells each version.
+//! A cell of numbers with a history, in which steps are played.
 ghost use Rattle.std.specs.Prelude.{◌≡◌, ◌≤◌};
 ghost use Rattle.std.specs.List.{All};
 
@@ -9,7 +9,7 @@ use snapshot_cell::{
 };
 use std::alloc::Global;
 use std::process::Abort;
-use weak_history::{Chain, History};
+use weak_history::{Chain, History, Owners};
 
 /// Any numbers, in any order.
 pub(crate) struct Any;
@@ -24,51 +24,89 @@ impl Names<u64> for Any {
     ghost begins = { λ value. Unit {0} };
 }
 
-/// A cell that begins with 0, with one reader to load and one to ask.
-pub(crate) fn begun<R: Abort>(rt: &R, alloc: Global) -> Parts<u64, Any>
+/// A cell that begins with 0, with one reader to load and one to ask, which have so many grants each.
+pub(crate) fn begun<R: Abort>(rt: &R, alloc: Global, grants: u64) -> Parts<u64, Any>
     ensures publisher { result.publisher.cell ≡ result.cell }
     ensures readers { All (λ r. r.cell ≡ result.cell) result.readers.items }
 {
-    match Cell::<u64, Any>::new(alloc, 2, 0) {
+    match Cell::<u64, Any>::new_limited(alloc, 2, 0, grants) {
         Ok(parts) => parts,
         Err(_) => panic!(rt; "there is no memory"),
     }
 }
 
-/// The same, whose readers have four grants each.
-pub(crate) fn limited<R: Abort>(rt: &R, alloc: Global) -> Parts<u64, Any>
-    ensures publisher { result.publisher.cell ≡ result.cell }
-    ensures readers { All (λ r. r.cell ≡ result.cell) result.readers.items }
-{
-    match Cell::<u64, Any>::new_limited(alloc, 2, 0, 4) {
-        Ok(parts) => parts,
-        Err(_) => panic!(rt; "there is no memory"),
-    }
+/// What a history tells of the versions after the one of a serial.
+#[derive(Clone, Copy)]
+pub(crate) enum Due {
+    /// Owners of all, with these values, the oldest first.
+    Whole(&'static [u64]),
+    /// The one of this number has gone.
+    Gone(u64),
+    /// It doesn't know the serial.
+    Unknown,
+    /// The reader has too few grants.
+    Spent,
 }
 
-/// Owners of the first version and of the three after it, in this order.
-pub(crate) type FourOwners<'a, N> = (
-    NamedStrong<'a, u64, Any, N>,
-    NamedStrong<'a, u64, Any, N>,
-    NamedStrong<'a, u64, Any, N>,
-    NamedStrong<'a, u64, Any, N>,
-);
+/// What is done.
+#[derive(Clone, Copy)]
+pub(crate) enum Step {
+    /// A number is published.
+    Publish(u64),
+    /// The version that was published last is told, with a serial, and its owner kept.
+    Tell(u32),
+    /// The history has so many entries.
+    Len(usize),
+    /// What it tells of the versions after the one of a serial, up to a number.
+    Chain(u32, u64, Due),
+    /// The reader that asks has so many grants left.
+    Left(u64),
+    /// An owner, of those kept, is let go, which buries the version of this number, or none.
+    Release(usize, Option<u64>),
+}
 
-/// Who publishes in a cell and tells a history.
+/// Who publishes in a cell, tells a history, and asks it.
 #[derive(Drop)]
 pub(crate) struct Teller<'a, N: Naming> {
     cell: &'a NamedCell<u64, Any, N>,
     publisher: NamedPublisher<u64, Any, N>,
-    reader: NamedReader<u64, N>,
+    loads: NamedReader<u64, N>,
+    asks: NamedReader<u64, N>,
     history: History<'a, u64, Any, N>,
+    owners: Vec<Option<NamedStrong<'a, u64, Any, N>>>,
+}
+
+/// Whether owners have these values, the first one first.
+fn are_of<N: Naming>(mut owners: Owners<'_, u64, Any, N>, values: &[u64]) -> bool {
+    for value in values {
+        match owners.take_first() {
+            Some(owner) if owner.get() == value => {}
+            _ => return false,
+        }
+    }
+    owners.take_first().is_none()
+}
+
+/// Whether what is told is what is due.
+fn is_due<N: Naming>(told: Chain<'_, u64, Any, N>, due: Due) -> bool {
+    match (told, due) {
+        (Chain::Whole(owners), Due::Whole(values)) => {
+            owners.len() == values.len() && are_of(owners, values)
+        }
+        (Chain::Gone(gone), Due::Gone(number)) => gone == number,
+        (Chain::Unknown, Due::Unknown) | (Chain::Spent, Due::Spent) => true,
+        _ => false,
+    }
 }
 
 impl<'a, N: Naming> Teller<'a, N> {
-    /// Who tells a history of so many entries at most.
+    /// Who tells a history of so many entries at most, with a reader to load and one to ask.
     pub(crate) fn new(
+        alloc: Global,
         cell: &'a NamedCell<u64, Any, N>,
         publisher: NamedPublisher<u64, Any, N>,
-        reader: NamedReader<u64, N>,
+        loads: NamedReader<u64, N>,
+        asks: NamedReader<u64, N>,
         size: usize,
     ) -> Teller<'a, N>
         requires { size ≤ 16 }
@@ -76,62 +114,72 @@ impl<'a, N: Naming> Teller<'a, N> {
         Teller {
             cell,
             publisher,
-            reader,
+            loads,
+            asks,
             history: History::new(size),
+            owners: Vec::new(alloc),
         }
     }
 
-    /// Tells the version that was published last, with a serial, and gives its owner.
-    pub(crate) fn tell<R: Abort>(&mut self, rt: &R, serial: u32) -> NamedStrong<'a, u64, Any, N> {
+    /// Whether a number is published.
+    fn publish(&mut self, value: u64) -> bool {
+        if self.publisher.last() == u64::MAX {
+            return false;
+        }
+        self.cell.publish(&mut self.publisher, value).is_ok()
+    }
+
+    /// Whether the version that was published last is told, with a serial.
+    fn tell(&mut self, serial: u32) -> bool {
         let found = self
             .cell
-            .newest_with_weak(&mut self.publisher, &mut self.reader);
-        let (owner, weak) = found.ok().expect(rt, "a grant");
+            .newest_with_weak(&mut self.publisher, &mut self.loads);
+        let Ok((owner, weak)) = found else {
+            return false;
+        };
         self.history.push(Serial(serial), weak);
-        owner
+        self.owners.push(Some(owner)).is_ok()
     }
 
-    /// Publishes a number.
-    pub(crate) fn publish<R: Abort>(&mut self, rt: &R, value: u64) {
-        assert!(rt; self.publisher.last() < u64::MAX);
-        let old = self.cell.publish(&mut self.publisher, value);
-        assert!(rt; old.is_ok());
+    /// The number that is buried when an owner is let go.
+    fn release(&mut self, at: usize) -> Option<u64> {
+        let owner = self.owners.get_mut(at)?.take()?;
+        owner.release().buried()
     }
 
-    /// Tells the first version, and publishes 100, 200 and 300 and tells these, by the serials 10 to 13.
-    pub(crate) fn tell_four<R: Abort>(&mut self, rt: &R) -> FourOwners<'a, N> {
-        let first = self.tell(rt, 10);
-        self.publish(rt, 100);
-        let second = self.tell(rt, 11);
-        self.publish(rt, 200);
-        let third = self.tell(rt, 12);
-        self.publish(rt, 300);
-        (first, second, third, self.tell(rt, 13))
+    /// Whether a step goes as it says.
+    fn goes(&mut self, step: Step) -> bool {
+        match step {
+            Step::Publish(value) => self.publish(value),
+            Step::Tell(serial) => self.tell(serial),
+            Step::Len(count) => self.history.len() == count,
+            Step::Chain(from, upto, due) => {
+                is_due(self.history.chain(Serial(from), upto, &mut self.asks), due)
+            }
+            Step::Left(grants) => self.asks.left() == grants,
+            Step::Release(at, number) => self.release(at) == number,
+        }
     }
 
-    /// How many entries the history has.
-    pub(crate) fn len(&self) -> usize {
-        self.history.len()
+    /// The first step that goes otherwise; None where there is none.
+    pub(crate) fn first_wrong(&mut self, steps: &[Step]) -> Option<usize> {
+        for (at, step) in steps.iter().enumerate() {
+            if !self.goes(*step) {
+                return Some(at);
+            }
+        }
+        None
     }
 
-    /// What the history tells of the versions after the one of a serial, up to a number.
-    pub(crate) fn chain(
-        &mut self,
-        reader: &mut NamedReader<u64, N>,
-        from: u32,
-        upto: u64,
-    ) -> Chain<'a, u64, Any, N> {
-        self.history.chain(Serial(from), upto, reader)
-    }
-
-    /// The publisher and the reader, when the history isn't told any more.
-    pub(crate) fn end(self) -> (NamedPublisher<u64, Any, N>, NamedReader<u64, N>) {
-        let Teller {
-            cell: _,
-            publisher,
-            reader,
-            history: _,
-        } = self;
-        (publisher, reader)
+    /// The publisher and the readers, when the history isn't told any more.
+    pub(crate) fn end<R: Abort>(
+        self,
+        rt: &R,
+        alloc: Global,
+    ) -> (NamedPublisher<u64, Any, N>, Vec<NamedReader<u64, N>>) {
+        let mut readers = Vec::new(alloc);
+        readers.push(self.loads).ok().expect(rt, "memory");
+        readers.push(self.asks).ok().expect(rt, "memory");
+        (self.publisher, readers)
     }
 }

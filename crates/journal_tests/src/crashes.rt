@@ -1,10 +1,9 @@
 //! Crashes of a disk that lies in memory.
-use crate::journals::{ZONE, head_of_zone, recovered};
-use journal::{HeadFault, Recovered, Refused, put_update};
+use crate::journals::{batch_of, head_of_zone, recovered};
+use journal::{Recovered, put_update};
 use journal_store::{Log, LogFault};
 use std::alloc::{AllocError, Global};
-use std::test::Fail;
-use told_disks::{DiskFault, ToldDisk};
+use told_disks::ToldDisk;
 
 /// Numbers that look random: Knuth's generator of 64 bits (The Art of Computer Programming, 3.3.4), of which the high bits are taken.
 #[derive(Drop)]
@@ -67,63 +66,68 @@ fn fates_of(alloc: Global, random: &mut Random) -> Result<Vec<u8>, AllocError> {
     Ok(fates)
 }
 
-/// What was sent: updates that were told to be on the disk, and those of the batch behind them, if it was refused by the disk.
+/// What was sent, as batches have it: updates that were told to be on the disk, and those of the batch behind them, if it was refused by the disk.
 #[derive(Drop)]
 struct Sent {
-    told: Vec<Vec<u8>>,
-    refused: Vec<Vec<u8>>,
+    told: Vec<u8>,
+    refused: Vec<u8>,
 }
 
-/// Appends some batches of up to three updates.
-fn append_some(
+/// A batch of up to three updates.
+fn some_batch(alloc: Global, random: &mut Random) -> Result<Vec<u8>, AllocError> {
+    let mut batch = Vec::new(alloc);
+    for _ in 0..=random.below(3) {
+        let update = octets_of(alloc, random, 60)?;
+        if update.len() < 65_536 {
+            put_update(&mut batch, &update)?;
+        }
+    }
+    Ok(batch)
+}
+
+/// Appends a batch, and notes what came of it.
+fn append(
     alloc: Global,
-    random: &mut Random,
     log: &mut Log<ToldDisk>,
     sent: &mut Sent,
+    batch: Vec<u8>,
 ) -> Result<(), AllocError> {
-    for _ in 0..random.below(8) {
-        let mut batch = Vec::new(alloc);
-        let mut updates = Vec::new(alloc);
-        for _ in 0..=random.below(3) {
-            let update = octets_of(alloc, random, 60)?;
-            if update.len() < 65_536 {
-                put_update(&mut batch, &update)?;
-                updates.push(update)?;
-            }
+    if batch.len() >= 1 << 32 {
+        return Ok(());
+    }
+    match log.append(alloc, &batch) {
+        Ok(()) => {
+            sent.told.extend_from_slice(&batch)?;
+            sent.refused.clear();
         }
-        if batch.len() >= 1 << 32 {
-            continue;
-        }
-        match log.append(alloc, &batch) {
-            Ok(()) => {
-                for update in updates {
-                    sent.told.push(update)?;
-                }
-                sent.refused.clear();
-            }
-            Err(LogFault::Disk(_)) => sent.refused = updates,
-            Err(_) => {}
-        }
+        Err(LogFault::Disk(_)) => sent.refused = batch,
+        Err(_) => {}
     }
     Ok(())
 }
 
-/// Whether these are the updates that were told, and behind them none, or the whole batch that the disk refused last.
-fn is_sent(found: &Recovered<'_>, sent: &Sent) -> bool {
-    let updates = found.updates.as_slice();
-    let Some((told, rest)) = updates.split_at_checked(sent.told.len()) else {
-        return false;
-    };
-    are_same(told, &sent.told) && (rest.is_empty() || are_same(rest, &sent.refused))
+/// What a crash leaves of a log to which some batches were appended.
+fn crashed(
+    alloc: Global,
+    random: &mut Random,
+    log: &mut Log<ToldDisk>,
+    sent: &mut Sent,
+) -> Result<Vec<u8>, AllocError> {
+    for _ in 0..random.below(8) {
+        append(alloc, log, sent, some_batch(alloc, random)?)?;
+    }
+    log.disk().crashed(alloc, &fates_of(alloc, random)?)
 }
 
-/// Whether these are the same octets.
-fn are_same(found: &[&[u8]], sent: &[Vec<u8>]) -> bool {
-    found.len() == sent.len()
-        && found
-            .iter()
-            .zip(sent)
-            .all(|(update, other)| *update == other.as_slice())
+/// Whether these are the updates that were told, and behind them none, or the whole batch that the disk refused last.
+fn is_sent(alloc: Global, found: &Recovered<'_>, sent: &Sent) -> Result<bool, AllocError> {
+    let updates = batch_of(alloc, &found.updates)?;
+    Ok(match updates.split_at_checked(sent.told.len()) {
+        Some((told, rest)) => {
+            told == sent.told.as_slice() && (rest.is_empty() || rest == sent.refused.as_slice())
+        }
+        None => false,
+    })
 }
 
 /// A log on a disk that fails, and a crash of it: whether a start finds what was told, and no other updates than sent ones. Another log goes on from there, and
@@ -138,15 +142,13 @@ fn crashes_once(alloc: Global, seed: u64) -> Result<bool, AllocError> {
         told: Vec::new(alloc),
         refused: Vec::new(alloc),
     };
-    append_some(alloc, &mut random, &mut log, &mut sent)?;
-    let image = log.disk().crashed(alloc, &fates_of(alloc, &mut random)?)?;
-    let Ok(found) = recovered(alloc, &image) else {
-        return Ok(false);
-    };
-    if !is_sent(&found, &sent) {
-        return Ok(false);
+    let image = crashed(alloc, &mut random, &mut log, &mut sent)?;
+    match recovered(alloc, &image) {
+        Ok(found) => {
+            Ok(is_sent(alloc, &found, &sent)? && goes_on(alloc, &mut random, &image, &found)?)
+        }
+        Err(_) => Ok(false),
     }
-    goes_on(alloc, &mut random, &image, &found)
 }
 
 /// Goes on from what a crash has left, and crashes again.
@@ -157,27 +159,23 @@ fn goes_on(
     found: &Recovered<'_>,
 ) -> Result<bool, AllocError> {
     let mut sent = Sent {
-        told: Vec::new(alloc),
+        told: batch_of(alloc, &found.updates)?,
         refused: Vec::new(alloc),
     };
-    for update in &found.updates {
-        sent.told.push(update.to_vec(alloc)?)?;
-    }
     let disk = ToldDisk::of(alloc, image)?;
     let Ok(mut log) = Log::resume(disk, &found.salt, found.number, found.end as u64) else {
         return Ok(false);
     };
-    append_some(alloc, random, &mut log, &mut sent)?;
-    let image = log.disk().crashed(alloc, &fates_of(alloc, random)?)?;
-    let Ok(again) = recovered(alloc, &image) else {
-        return Ok(false);
-    };
-    Ok(is_sent(&again, &sent))
+    let image = crashed(alloc, random, &mut log, &mut sent)?;
+    match recovered(alloc, &image) {
+        Ok(again) => is_sent(alloc, &again, &sent),
+        Err(_) => Ok(false),
+    }
 }
 
 // A thousand crashes: what was told to be on the disk is there, in its order, and no other updates than sent ones.
 #[test]
-fn a_thousand_crashes(rt: HostRuntime) -> Result<(), Fail> {
+fn a_thousand_crashes(rt: HostRuntime) -> Result<(), AllocError> {
     let alloc: Global = rt.alloc();
     for seed in 0..1_000 {
         assert!(rt; crashes_once(alloc, seed)?, "{seed}");

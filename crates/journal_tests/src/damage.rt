@@ -1,142 +1,116 @@
-//! Journals of which octets are turned, or that are cut.
-use crate::journals::{BATCHES, batches_in, journal_of, recovered};
+//! Journals of which octets are turned, or that are cut, and whose frames are out of place.
+use crate::journals::{
+    BATCHES, END, FIRST, Found, HEAD, LAST, bad_head, journal_of, recovers, told,
+};
 use journal::{HeadFault, Refused};
-use std::alloc::Global;
-use std::test::Fail;
+use std::alloc::{AllocError, Global};
 
-/// How many octets a head has.
-const HEAD: usize = 156;
-
-/// Where the last batch of the tests begins: a head, and frames of bodies of 7 and 16 octets.
-const LAST: usize = HEAD + (44 + 7) + (44 + 16);
-
-// What is written is recovered, with nothing behind it.
-#[test]
-fn what_is_written(rt: HostRuntime) -> Result<(), Fail> {
-    let alloc: Global = rt.alloc();
-    let octets = journal_of(alloc, &BATCHES)?;
-    let found = recovered(alloc, &octets)?;
-    assert_eq!(rt; batches_in(&found.updates), Some(3));
-    assert!(rt; found.number == 3 && found.end == octets.len() && !found.torn);
-    Ok(())
+/// What is told where an octet is turned: in the head it is told by name; in a batch in front of another one it is damage, told at
+/// the octet at which the next whole frame begins; in the last one it is as a crash would leave it.
+fn of_turned(at: usize) -> Result<Found, Refused> {
+    match at {
+        0..16 => bad_head(HeadFault::Foreign),
+        16..HEAD => bad_head(HeadFault::WrongSum),
+        HEAD..FIRST => Err(Refused::Damaged(FIRST)),
+        FIRST..LAST => Err(Refused::Damaged(LAST)),
+        _ => recovers(2, LAST, true),
+    }
 }
 
-// Each octet turned, each bit of it alone and all at once: in the head it is told by name; in a batch in front of another one it is damage, told at
-// the octet at which the next whole frame begins; in the last one it is as a crash would leave it.
-#[test]
-fn each_octet_turned(rt: HostRuntime) -> Result<(), Fail> {
-    let alloc: Global = rt.alloc();
-    let octets = journal_of(alloc, &BATCHES)?;
-    for at in 0..octets.len() {
+/// Turns bits of an octet.
+fn turn(octets: &mut [u8], at: usize, bits: u8) {
+    if let Some(octet) = octets.get_mut(at) {
+        *octet ^= bits;
+    }
+}
+
+/// The first octet of the journal of which it is told otherwise, where one bit of it is turned, or all are.
+fn first_wrong_turn(alloc: Global, octets: &mut [u8]) -> Option<usize> {
+    for at in 0..END {
         for bits in [1, 2, 4, 8, 16, 32, 64, 128, 255] {
-            let mut turned = octets.to_vec(alloc)?;
-            if let Some(octet) = turned.get_mut(at) {
-                *octet ^= bits;
+            turn(octets, at, bits);
+            if told(alloc, octets) != of_turned(at) {
+                return Some(at);
             }
-            match recovered(alloc, &turned) {
-                Ok(found) => {
-                    assert!(rt;
-                        at >= LAST && found.torn && found.end == LAST,
-                        "octet {at}, {bits}"
-                    );
-                    assert_eq!(rt; batches_in(&found.updates), Some(2));
-                }
-                Err(Refused::BadHead(fault)) => {
-                    assert!(rt;
-                        at < HEAD
-                            && fault
-                                == if at < 16 {
-                                    HeadFault::Foreign
-                                } else {
-                                    HeadFault::WrongSum
-                                },
-                        "octet {at}, {bits}"
-                    );
-                }
-                Err(Refused::Damaged(place)) => {
-                    assert!(rt;
-                        at >= HEAD
-                            && place == if at < HEAD + 51 { HEAD + 51 } else { LAST }
-                            && at < place,
-                        "octet {at}, {bits}"
-                    );
-                }
-                Err(_) => assert!(rt; false, "octet {at}, {bits}"),
-            }
+            turn(octets, at, bits);
         }
     }
+    None
+}
+
+#[test]
+fn each_octet_turned(rt: HostRuntime) -> Result<(), AllocError> {
+    let mut octets = journal_of(rt.alloc(), &BATCHES)?;
+    assert_eq!(rt; first_wrong_turn(rt.alloc(), &mut octets), None);
     Ok(())
 }
 
-// Each length: within the head it is told by name; else the batches that are whole are recovered, and what is behind them is torn, but for the first three
-// octets of a frame alone, which are zeros: its body has fewer than 256.
-#[test]
-fn each_length(rt: HostRuntime) -> Result<(), Fail> {
-    let alloc: Global = rt.alloc();
-    let octets = journal_of(alloc, &BATCHES)?;
-    let ends = [HEAD, HEAD + 51, LAST, octets.len()];
+/// What is told of so many octets: within the head it is too short; else the batches that are whole are recovered, and what is behind
+/// them is torn, but for the first three octets of a frame alone, which are zeros: its body has fewer than 256.
+fn of_cut(len: usize) -> Result<Found, Refused> {
+    let mut wanted = bad_head(HeadFault::Short);
+    for (number, end) in [(0, HEAD), (1, FIRST), (2, LAST), (3, END)] {
+        if end <= len {
+            wanted = recovers(number, end, len - end > 3);
+        }
+    }
+    wanted
+}
+
+/// The first length of the journal of which it is told otherwise.
+fn first_wrong_cut(alloc: Global, octets: &[u8]) -> Option<usize> {
     for len in 0..=octets.len() {
-        match recovered(alloc, &octets[..len]) {
-            Ok(found) => {
-                let whole = ends.iter().filter(|end| **end <= len).count();
-                assert!(rt;
-                    len >= HEAD && batches_in(&found.updates) == whole.checked_sub(1),
-                    "{len} octets"
-                );
-                let is_end = ends
-                    .iter()
-                    .any(|end| matches!(len.checked_sub(*end), Some(0..=3)));
-                assert_eq!(rt; found.torn, !is_end, "{len} octets");
-            }
-            Err(why) => assert!(rt;
-                len < HEAD && why == Refused::BadHead(HeadFault::Short),
-                "{len} octets"
-            ),
+        if told(alloc, &octets[..len]) != of_cut(len) {
+            return Some(len);
         }
     }
+    None
+}
+
+#[test]
+fn each_length(rt: HostRuntime) -> Result<(), AllocError> {
+    let octets = journal_of(rt.alloc(), &BATCHES)?;
+    assert_eq!(rt; first_wrong_cut(rt.alloc(), &octets), None);
+    assert_eq!(rt; octets.len(), END);
     Ok(())
 }
 
-// Zeros behind the last batch are no damage, whatever their number; octets are torn.
-#[test]
-fn what_stands_behind(rt: HostRuntime) -> Result<(), Fail> {
-    let alloc: Global = rt.alloc();
-    let mut octets = journal_of(alloc, &BATCHES)?;
-    let end = octets.len();
-    octets.extend_from_slice(&[0; 100])?;
-    let blank = recovered(alloc, &octets)?;
-    assert!(rt; !blank.torn && blank.end == end && blank.number == 3);
-    drop(blank);
-    octets.extend_from_slice(b"x")?;
-    let torn = recovered(alloc, &octets)?;
-    assert!(rt; torn.torn && torn.end == end && torn.number == 3);
-    Ok(())
-}
-
-// A frame that stands at another place, and one that stands twice.
-#[test]
-fn frames_out_of_place(rt: HostRuntime) -> Result<(), Fail> {
-    let alloc: Global = rt.alloc();
-    let octets = journal_of(alloc, &BATCHES)?;
-    let (Some((front, _)), Some((_, last))) = (
-        octets.split_at_checked(HEAD + 51),
-        octets.split_at_checked(LAST),
-    ) else {
-        assert!(rt; false, "a short journal");
-        return Ok(());
-    };
-    // The second batch is left out: the third one's number is later.
-    let mut skipped = front.to_vec(alloc)?;
-    skipped.extend_from_slice(last)?;
-    assert!(rt;
-        matches!(&recovered(alloc, &skipped), Err(Refused::Damaged(at)) if *at == HEAD + 51)
-    );
-    // The first batch stands behind the last one again: its number isn't later, so it is torn.
-    let mut again = octets.to_vec(alloc)?;
-    if let Some((_, first)) = front.split_at_checked(HEAD) {
-        again.extend_from_slice(first)?;
+/// What is told of parts of a journal behind one another.
+fn told_of(alloc: Global, parts: &[&[u8]]) -> Result<Found, Refused> {
+    let mut octets = Vec::new(alloc);
+    for part in parts {
+        octets.extend_from_slice(part)?;
     }
-    let found = recovered(alloc, &again)?;
-    assert!(rt; found.torn && found.number == 3 && found.end == octets.len());
+    told(alloc, &octets)
+}
+
+/// The index of the first case that is told otherwise. Zeros behind the last batch are no damage, and octets are torn. A batch that is left
+/// out in front of one is damage. The first one again is torn, as its number isn't later.
+fn first_wrong_part(alloc: Global, octets: &[u8]) -> Option<usize> {
+    let (Some(front), Some(first), Some(last)) = (
+        octets.get(..FIRST),
+        octets.get(HEAD..FIRST),
+        octets.get(LAST..),
+    ) else {
+        return Some(0);
+    };
+    let cases: [(&[&[u8]], Result<Found, Refused>); 4] = [
+        (&[octets, &[0; 100]], recovers(3, END, false)),
+        (&[octets, &[0; 100], b"x"], recovers(3, END, true)),
+        (&[front, last], Err(Refused::Damaged(FIRST))),
+        (&[octets, first], recovers(3, END, true)),
+    ];
+    for (at, (parts, wanted)) in cases.iter().enumerate() {
+        if told_of(alloc, parts) != *wanted {
+            return Some(at);
+        }
+    }
+    None
+}
+
+#[test]
+fn what_stands_behind_and_frames_out_of_place(rt: HostRuntime) -> Result<(), AllocError> {
+    let octets = journal_of(rt.alloc(), &BATCHES)?;
+    assert_eq!(rt; first_wrong_part(rt.alloc(), &octets), None);
     Ok(())
 }

@@ -1,5 +1,7 @@
-//! Journals for the tests.
-use journal::{Head, Recovered, Refused, TextSum, put_update, recover, write_frame, write_head};
+//! Journals for the tests, and what a start is told of octets.
+use journal::{
+    Head, HeadFault, Recovered, Refused, TextSum, put_update, recover, write_frame, write_head,
+};
 use std::alloc::{AllocError, Global};
 
 /// A zone text.
@@ -18,6 +20,18 @@ pub(crate) fn head_of_zone() -> Head {
 
 /// The updates of the batches of the tests, as octets that nobody reads.
 pub(crate) const BATCHES: [&[&[u8]]; 3] = [&[b"first"], &[b"", b"third update"], &[b"fourth"]];
+
+/// How many octets a head has.
+pub(crate) const HEAD: usize = 156;
+
+/// Where the first batch ends: a head, and the frame of a body of 7 octets.
+pub(crate) const FIRST: usize = HEAD + (44 + 7);
+
+/// Where the last batch begins: the body in front of it has 16 octets.
+pub(crate) const LAST: usize = FIRST + (44 + 16);
+
+/// Where it ends: its body has 8.
+pub(crate) const END: usize = LAST + (44 + 8);
 
 /// A batch of these updates.
 pub(crate) fn batch_of(alloc: Global, updates: &[&[u8]]) -> Result<Vec<u8>, AllocError> {
@@ -45,22 +59,61 @@ pub(crate) fn journal_of(alloc: Global, batches: &[&[&[u8]]]) -> Result<Vec<u8>,
 /// Their updates, in order.
 const UPDATES: [&[u8]; 4] = [b"first", b"", b"third update", b"fourth"];
 
-/// How many updates no batch, the first one, the first two, and all of them have.
-const ENDS: [usize; 4] = [0, 1, 3, 4];
-
 /// How many batches' updates these are, from the first on; None where they are no beginning of the batches.
-pub(crate) fn batches_in(updates: &[&[u8]]) -> Option<usize> {
-    let are_same = updates
-        .iter()
-        .zip(UPDATES.iter())
-        .all(|(update, other)| *update == *other);
-    if !are_same {
+fn batches_in(updates: &[&[u8]]) -> Option<u64> {
+    if UPDATES.get(..updates.len()) != Some(updates) {
         return None;
     }
-    ENDS.iter().position(|end| *end == updates.len())
+    match updates.len() {
+        0 => Some(0),
+        1 => Some(1),
+        3 => Some(2),
+        4 => Some(3),
+        _ => None,
+    }
 }
 
 /// What a start has of octets, over the zone text of the tests.
 pub(crate) fn recovered(alloc: Global, octets: &[u8]) -> Result<Recovered<'_>, Refused> {
     recover(alloc, ZONE, octets)
+}
+
+/// What a start has of a journal of the tests.
+#[derive(Clone, Copy, Debug, PartialEq, Eq)]
+pub(crate) struct Found {
+    /// How many batches' updates it has.
+    pub(crate) batches: Option<u64>,
+    /// The number of the next batch.
+    pub(crate) number: u64,
+    /// Where the last batch ends.
+    pub(crate) end: usize,
+    /// Whether a torn one is behind it.
+    pub(crate) torn: bool,
+}
+
+/// So many batches, up to an octet.
+pub(crate) fn recovers(number: u64, end: usize, torn: bool) -> Result<Found, Refused> {
+    let batches = Some(number);
+    Ok(Found {
+        batches,
+        number,
+        end,
+        torn,
+    })
+}
+
+/// What a start is told of octets.
+pub(crate) fn told(alloc: Global, octets: &[u8]) -> Result<Found, Refused> {
+    let found = recovered(alloc, octets)?;
+    Ok(Found {
+        batches: batches_in(&found.updates),
+        number: found.number,
+        end: found.end,
+        torn: found.torn,
+    })
+}
+
+/// What it is told of a head that is none.
+pub(crate) fn bad_head(fault: HeadFault) -> Result<Found, Refused> {
+    Err(Refused::BadHead(fault))
 }

@@ -1,5 +1,5 @@
 //! Logs that stop, and go on with another journal.
-use crate::journals::{BATCHES, batch_of, batches_in, head_of_zone, journal_of, recovered};
+use crate::journals::{BATCHES, END, FIRST, batch_of, head_of_zone, journal_of, recovers, told};
 use journal::{SUM, write_head};
 use journal_store::{Log, LogFault};
 use std::alloc::{AllocError, Global};
@@ -12,37 +12,32 @@ fn salt(alloc: Global) -> Result<[u8; SUM], AllocError> {
     Ok(salt)
 }
 
-/// Appends the batch of a number of the tests: whether it is on the disk; None where there is no such batch.
-fn append(
-    alloc: Global,
-    log: &mut Log<ToldDisk>,
-    number: usize,
-) -> Result<Option<bool>, AllocError> {
-    let Some(updates) = BATCHES.get(number) else {
-        return Ok(None);
-    };
+/// Appends a batch: whether it is on the disk.
+fn append(alloc: Global, log: &mut Log<ToldDisk>, updates: &[&[u8]]) -> Result<bool, AllocError> {
     let batch = batch_of(alloc, updates)?;
-    if batch.len() >= 1 << 32 {
-        return Ok(None);
+    Ok(batch.len() < 1 << 32 && log.append(alloc, &batch).is_ok())
+}
+
+/// A log of the tests, on an empty disk.
+fn begun(alloc: Global) -> Result<Log<ToldDisk>, Fail> {
+    let disk = ToldDisk::new(alloc, Vec::new(alloc));
+    match Log::begin(alloc, disk, &head_of_zone()) {
+        Ok(log) => Ok(log),
+        Err(_) => Err("no log".into()),
     }
-    Ok(Some(log.append(alloc, &batch).is_ok()))
 }
 
 // A log that has stopped appends nothing more, and has what it had on its disk.
 #[test]
 fn stopped(rt: HostRuntime) -> Result<(), Fail> {
     let alloc: Global = rt.alloc();
-    let disk = ToldDisk::new(alloc, Vec::new(alloc));
-    let mut log = Log::begin(alloc, disk, &head_of_zone())
-        .ok()
-        .ok_or("no log")?;
-    assert_eq!(rt; append(alloc, &mut log, 0)?, Some(true));
+    let mut log = begun(alloc)?;
+    let first = append(alloc, &mut log, BATCHES[0])?;
     log.stop();
-    assert!(rt; log.is_stuck());
-    assert!(rt; matches!(log.append(alloc, b""), Err(LogFault::Stuck)));
+    let is_stuck = matches!(log.append(alloc, b""), Err(LogFault::Stuck));
+    assert_eq!(rt; [first, log.is_stuck(), is_stuck], [true; 3]);
     let image = log.disk().crashed(alloc, b"")?;
-    let found = recovered(alloc, &image).ok().ok_or("no start")?;
-    assert_eq!(rt; batches_in(&found.updates), Some(1));
+    assert_eq!(rt; told(alloc, &image), recovers(1, FIRST, false));
     Ok(())
 }
 
@@ -50,20 +45,17 @@ fn stopped(rt: HostRuntime) -> Result<(), Fail> {
 #[test]
 fn switched(rt: HostRuntime) -> Result<(), Fail> {
     let alloc: Global = rt.alloc();
-    let first = ToldDisk::new(alloc, Vec::new(alloc));
-    let mut log = Log::begin(alloc, first, &head_of_zone())
-        .ok()
-        .ok_or("no log")?;
+    let mut log = begun(alloc)?;
     log.stop();
     let octets = journal_of(alloc, &BATCHES[..2])?;
-    let disk = ToldDisk::of(alloc, &octets)?;
-    log.switch(disk, &salt(alloc)?, 2, octets.len() as u64);
-    assert!(rt; !log.is_stuck() && log.len() == octets.len() as u64);
-    assert_eq!(rt; append(alloc, &mut log, 2)?, Some(true));
-    let whole = journal_of(alloc, &BATCHES)?;
+    let len = octets.len() as u64;
+    log.switch(ToldDisk::of(alloc, &octets)?, &salt(alloc)?, 2, len);
+    let goes_on = [!log.is_stuck(), log.len() == len];
+    let last = append(alloc, &mut log, BATCHES[2])?;
+    assert_eq!(rt; (goes_on, last), ([true; 2], true));
     let image = log.disk().crashed(alloc, b"")?;
+    let whole = journal_of(alloc, &BATCHES)?;
     assert_eq!(rt; image.as_slice(), whole.as_slice());
-    let found = recovered(alloc, &image).ok().ok_or("no start")?;
-    assert_eq!(rt; batches_in(&found.updates), Some(3));
+    assert_eq!(rt; told(alloc, &image), recovers(3, END, false));
     Ok(())
 }

@@ -12,7 +12,7 @@ use Rattle.dns_rdata.proofs.DataLemmas.{IsRead-data}
 use Rattle.std.proofs.lemmas.Bool.Decides.{nat_tests, Decides-eqb}
 use Rattle.std.proofs.lemmas.Slice.Eq.{bytes_eq-Decides}
 use Rattle.record_text.specs.Fault.{cause_of_data}
-use Rattle.record_text.specs.Data.{fields_of, form_of, octets_of_words, as_data, as_own_data, data_of_words, surplus_of, IsToldOf}
+use Rattle.record_text.specs.Data.{fields_of, form_of, octets_of_words, as_data, as_own_data, data_of_words, surplus_of, unmarked_of, IsToldOf}
 use Rattle.record_text.specs.Generic.{are_generic, size_of, hexes_of, generic_of}
 use Rattle.record_text.specs.Number.{are_digits, value_of}
 use Rattle.record_text.specs.Private.{ReadsBehind}
@@ -108,7 +108,7 @@ pub words_fields : (rtype : ℕ) (origin : List (List ℕ)) (words : List Writte
 unfolding octets_of_words
 words_fields rtype origin words fields e form = rw (sym e, form) refl
 
-pub words_unknown : (rtype : ℕ) (origin : List (List ℕ)) (words : List Written) → false ≡ (rtype == 16) → form_of rtype ≡ None → octets_of_words rtype origin words ≡ Err BadData
+pub words_unknown : (rtype : ℕ) (origin : List (List ℕ)) (words : List Written) → false ≡ (rtype == 16) → form_of rtype ≡ None → octets_of_words rtype origin words ≡ Err (unmarked_of words)
 unfolding octets_of_words
 words_unknown rtype origin words e form = rw (sym e, form) refl
 

@@ -18,7 +18,7 @@ use Rattle.record_text.specs.declared.data.Field.TheVariants as field
 use Rattle.record_text.specs.declared.front.Mark.{Mark}
 use Rattle.record_text.specs.declared.front.Mark.TheVariants as mark
 use Rattle.record_text.specs.Address.{dotted, colon_hex, address_of, address6_of}
-use Rattle.record_text.specs.Data.{field_of, surplus_of, fields_of, form_of, text_of, octets_of_words, as_data, as_own_data, data_of_words}
+use Rattle.record_text.specs.Data.{field_of, surplus_of, unmarked_of, fields_of, form_of, text_of, octets_of_words, as_data, as_own_data, data_of_words}
 use Rattle.record_text.specs.Generic.{are_generic, size_of, hex_of, hexes_of, generic_of}
 use Rattle.record_text.specs.Front.{ttl_of, type_mark, mark_of, front_from, front_of}
 use Rattle.record_text.specs.Mnemonics.{is_word, type_named, type_of, is_class_number, class_named, class_of}
@@ -146,13 +146,14 @@ fields_own origin (f ∷ fields) [] = tt
 fields_own origin (f ∷ fields) (word ∷ words) =
     then_own (field_of origin f word) (λ front. on_ok (λ rest. front ++ rest) (fields_of origin fields words)) (field_own origin f word) (λ front. on_own (λ (rest : List ℕ). front ++ rest) (fields_of origin fields words) (fields_own origin fields words))
 
-form_own : (form : Option (List Field)) (origin : List (List ℕ)) (words : List Written) → TellsOwn (elim form as (λ _. Result (List ℕ) Cause) [ None ↦ Err BadData | Some fields ↦ fields_of origin fields words ])
-form_own None origin words = tt
+form_own : (form : Option (List Field)) (origin : List (List ℕ)) (words : List Written) → TellsOwn (elim form as (λ _. Result (List ℕ) Cause) [ None ↦ Err (unmarked_of words) | Some fields ↦ fields_of origin fields words ])
+form_own None origin [] = tt
+form_own None origin (word ∷ words) = surplus_own word
 form_own (Some fields) origin words = fields_own origin fields words
 
 words_own : (rtype : ℕ) (origin : List (List ℕ)) (words : List Written) → TellsOwn (octets_of_words rtype origin words)
 unfolding octets_of_words
-words_own rtype origin words = cond_own (rtype == 16) (text_of words) (elim (form_of rtype) as (λ _. Result (List ℕ) Cause) [ None ↦ Err BadData | Some fields ↦ fields_of origin fields words ]) (text_of_own words) (form_own (form_of rtype) origin words)
+words_own rtype origin words = cond_own (rtype == 16) (text_of words) (elim (form_of rtype) as (λ _. Result (List ℕ) Cause) [ None ↦ Err (unmarked_of words) | Some fields ↦ fields_of origin fields words ]) (text_of_own words) (form_own (form_of rtype) origin words)
 
 data_by : (o : Option (List ℕ)) (b : Bool) → TellsOwn (elim o as (λ _. Result (List ℕ) Cause) [ None ↦ Err BadData | Some own ↦ cond b (Err Limit) (Ok own) ])
 data_by None b = tt

@@ -59,11 +59,17 @@ abbrev pub text_of : List Written → Result (List ℕ) Cause
 text_of [] = Err BadData
 text_of (word ∷ words) = strings_of (word ∷ words)
 
--- the octets of a type that words spell, names as they are written; a type that nobody here knows has no words of its own
+-- what the words of a type that nobody here knows are told as, where the first isn't `\#`: such a type has no words of its own, and the
+-- first fault is that of the first word, or that there is none (RFC 3597, 5)
+abbrev pub unmarked_of : List Written → Cause
+unmarked_of [] = BadData
+unmarked_of (word ∷ words) = surplus_of word
+
+-- the octets of a type that words spell, names as they are written
 unfoldable pub octets_of_words : ℕ → Name → List Written → Result (List ℕ) Cause
 octets_of_words rtype origin words =
     if rtype == type_TXT then text_of words
-    else elim (form_of rtype) [ None ↦ Err BadData | Some fields ↦ fields_of origin fields words ]
+    else elim (form_of rtype) [ None ↦ Err (unmarked_of words) | Some fields ↦ fields_of origin fields words ]
 
 -- octets as data of a type: names in lower case, at most 4,096 octets
 unfoldable pub as_data : ℕ → List ℕ → Result (List ℕ) Cause

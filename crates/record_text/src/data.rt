@@ -1,6 +1,6 @@
 //! The data of a record as words (RFC 1035, 3.3, 3.4.1 and 5.1; RFC 2782; RFC 3596; RFC 3597, 5).
 ghost use Rattle.std.specs.Prelude.{◌≡◌, OnOk, IfOk, IfErr, Ok, map, option_copied};
-ghost use Rattle.record_text.specs.Data.{IsToldOf, field_of, fields_of, form_of, octets_of_words, data_of_words, surplus_of};
+ghost use Rattle.record_text.specs.Data.{IsToldOf, field_of, fields_of, form_of, octets_of_words, data_of_words, surplus_of, unmarked_of};
 ghost use Rattle.record_text.specs.Private.{ReadsBehind};
 ghost use Rattle.zone_lexing.specs.Word.{written};
 
@@ -73,7 +73,17 @@ fn put_words(
     }
     match form_of(rtype) {
         Some(fields) => put_fields(octets, fields, words, origin),
-        None => Err(Cause::BadData),
+        None => Err(unmarked(words)),
+    }
+}
+
+/// What the words of a type that nobody here knows are told as, where the first isn't `\\#` (RFC 3597, 5).
+fn unmarked(words: &[Word<'_>]) -> Cause
+    ensures { result ≡ unmarked_of (map written words.now) }
+{
+    match words.first() {
+        Some(word) => surplus(*word),
+        None => Cause::BadData,
     }
 }
 

@@ -1,6 +1,6 @@
 //! Worked examples of the definitions.
 ghost use Rattle.std.specs.Prelude.{◌≡◌, ◌∷◌, [], ◌++◌, codes, true, false, Ok, Err};
-ghost use Rattle.zone_lexing.specs.Word.Written.{Plain, Quoted};
+ghost use Rattle.zone_lexing.specs.Word.Written.{Plain, Quoted, Unclosed};
 ghost use Rattle.record_text.specs.Data.{data_of_words};
 ghost use Rattle.record_text.specs.Generic.{generic_mark};
 ghost use Rattle.record_text.specs.Mnemonics.{type_of, type_word, class_of};
@@ -44,5 +44,7 @@ pub fn examples_of_any_type()
     ensures no_number { data_of_words 65280 [] (Plain generic_mark ∷ Plain (codes "x") ∷ []) ≡ Err Cause.Number }
     ensures too_many { data_of_words 65280 [] (Plain generic_mark ∷ Plain (codes "4097") ∷ Plain (codes "x") ∷ []) ≡ Err Cause.Limit }
     ensures not_marked { data_of_words 65280 [] (Plain (codes "0a") ∷ []) ≡ Err Cause.BadData }
+    ensures unclosed_before_the_mark { data_of_words 65280 [] (Unclosed ∷ []) ≡ Err Cause.Unclosed }
+    ensures unclosed_after_another_word { data_of_words 65280 [] (Plain (codes "0a") ∷ Unclosed ∷ []) ≡ Err Cause.BadData }
     ensures marked_in_quotes { data_of_words 65280 [] (Quoted generic_mark ∷ Plain (codes "0") ∷ []) ≡ Err Cause.BadData }
 {}

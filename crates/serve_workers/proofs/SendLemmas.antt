@@ -5,7 +5,6 @@ use denote.Param.Send.{IsSend, IsSync, recorded_send, recorded_sync, struct_send
 use denote.Struct.Declared.{shape}
 use denote.Enum.Declared as enum
 use Rattle.std.proofs.Crossing as crossing
-use Rattle.std.proofs.option.Option.TheSendSync as option
 use Rattle.snapshot_cell.specs.declared.named.Naming as naming
 use Rattle.dns_engine.specs.declared.versions.FirstZone.{Ghosts}
 use Rattle.update_queue.proofs.queue.Queue.TheSendSync as queue
@@ -44,4 +43,4 @@ seat_send a b T N L C g n hears ticks =
 pub thread_send : (a b : NamedLft) (T N L C : RattleType) (g : Ghosts T.Denot) (n : naming.Ghosts N.Denot) → IsSync L → IsSync C → IsSend (thread.the_row a b T N L C n g)
 thread_send a b T N L C g n hears ticks =
     recorded_send (thread.the_field a b T N L C n g).row _ _ (thread.the_type a b T N L C n g).to_one
-    (struct_send (shape (thread.the_type a b T N L C n g)) (seat_send a b T N L C g n hears ticks, (search (crossing.crosses, sendable) depth 60 fits 20000, (search sendable depth 60 fits 20000, (search (updates_sync, option.the_field_send, option.the_send, crossing.crosses, sendable) depth 60 fits 20000, tt)))))
+    (struct_send (shape (thread.the_type a b T N L C n g)) (seat_send a b T N L C g n hears ticks, (search (crossing.crosses, sendable) depth 60 fits 20000, (search sendable depth 60 fits 20000, (search (updates_sync, crossing.crosses, sendable) depth 60 fits 20000, tt)))))

@@ -1,9 +1,12 @@
 //! Who judges updates, while threads hand them in (RFC 2136, 3).
 
 use crate::bringing::Bringing;
+use crate::service::Duty;
 use crate::updates::Updates;
 use dns_engine::{FirstZone, SharedVersion, VersionReader};
 use snapshot_cell::Naming;
+use std::alloc::Global;
+use std::io;
 use std::sync::Wait;
 use update_job::{Faults, Storing, UpdateJob};
 use update_teller::Teller;
@@ -32,6 +35,24 @@ pub(crate) struct Judging<'a, S: Storing<SharedVersion>, F> {
     pub(crate) store: S,
     /// Who notes why batches aren't there.
     pub(crate) faults: F,
+}
+
+impl<'a, S: Storing<SharedVersion>, F: Drop> Judging<'a, S, F> {
+    /// What updates are judged by that threads with these duties hand in. An error where a socket can't be shared, or for want of memory.
+    pub(crate) fn new(
+        alloc: Global,
+        handing: Handing<S, F>,
+        duties: &[Duty<'_>],
+        updates: &'a Updates,
+    ) -> io::Result<Judging<'a, S, F>> {
+        let Handing { store, faults, .. } = handing;
+        Ok(Judging {
+            updates,
+            bringing: Bringing::new(alloc, duties, updates)?,
+            store,
+            faults,
+        })
+    }
 }
 
 /// Who judges updates until no thread hands in any more.

@@ -8,7 +8,6 @@ ghost use Rattle.snapshot_cell.specs.declared.tokens.TheConstants.{READERS};
 ghost use Rattle.serve_workers.specs.declared.service.ServeFault.{ServeFault as Fault};
 ghost use Rattle.serve_workers.specs.Numbers.{number_of, takes_datagrams, are_datagrams, HasRights, end_of, fault_by};
 
-use crate::bringing::Bringing;
 use crate::ending::{end_cell, end_named};
 use crate::judge::{Handing, Judge, Judging};
 use crate::threads::{SocketJob, TcpJob, run_threads};
@@ -33,8 +32,8 @@ use turns::{Plan as ConnectionPlan, Turns};
 use update_job::{Faults, Storing, UpdateJob};
 use update_teller::Teller;
 use worker_jobs::{
-    ConnectionsJob, DatagramsJob, Idle, Meanwhile, Muster, NotStarted, NotifyJob, Progress,
-    Scratch, Secondaries, Standing, ToldKeys, WorkerSocket,
+    ConnectionsJob, DatagramsJob, Meanwhile, Muster, NotStarted, NotifyJob, Progress, Scratch,
+    Secondaries, Standing, ToldKeys, WorkerSocket,
 };
 use zone_service::{JobEnd, Server, ServiceLog};
 
@@ -110,50 +109,37 @@ impl<C: Clock> SocketJob<'_, C> {
     }
 }
 
-/// The updates that threads with these duties hand in, if they do.
-fn updates_for<R: Wait, S: Storing<SharedVersion>, F: Drop>(
+/// The updates that threads with these duties hand in, of which so many wait at most.
+fn updates_for<R: Wait>(
     rt: &R,
     alloc: Global,
-    handing: &Option<Handing<S, F>>,
+    most: usize,
     duties: &[Duty<'_>],
     places: usize,
 ) -> Result<Updates, ServeFault> {
-    let made = match handing {
-        Some(handing) => Updates::of(rt, alloc, handing.most, duties, places),
-        None => Updates::none(alloc),
-    };
-    match made {
+    match Updates::of(rt, alloc, most, duties, places) {
         Ok(updates) => Ok(updates),
         Err(_) => Err(ServeFault::NoMemory),
     }
 }
 
-/// What updates are judged by that threads with these duties hand in, if they do.
+/// What updates are judged by that threads with these duties hand in.
 fn judging_for<'a, S: Storing<SharedVersion>, F: Drop>(
     alloc: Global,
-    handing: Option<Handing<S, F>>,
+    handing: Handing<S, F>,
     duties: &[Duty<'_>],
     updates: &'a Updates,
-) -> Result<Option<Judging<'a, S, F>>, ServeFault> {
-    let Some(Handing { store, faults, .. }) = handing else {
-        return Ok(None);
-    };
-    match Bringing::new(alloc, duties, updates) {
-        Ok(bringing) => Ok(Some(Judging {
-            updates,
-            bringing,
-            store,
-            faults,
-        })),
+) -> Result<Judging<'a, S, F>, ServeFault> {
+    match Judging::new(alloc, handing, duties, updates) {
+        Ok(judging) => Ok(judging),
         Err(fault) => Err(fault_of(&fault)),
     }
 }
 
 /// Serves a zone on sockets, whose cell begins with a first version and with those behind it: its threads answer queries in the version that is
-/// published last, and updates, each of which publishes the next one (RFC 1035, 4.2; RFC 2136, 3). Where they hand updates on (`handing`), these are judged in batches on
-/// the thread that this is called on, which waits for the others else, and none of the others waits for a disk; else the thread that an update comes to has it judged. It
-/// ends once each worker has done what it may, or a thread has failed, and each update that was handed on is told; then its cell is ended too. The log is told once all
-/// threads have begun, of each change, of connections that are lost, and of each end of a thread.
+/// published last, and hand updates on, each of which publishes the next version (RFC 1035, 4.2; RFC 2136, 3). Updates are judged in batches on the thread that this is
+/// called on, and none of the others waits for a disk. It ends once each worker has done what it may, or a thread has failed, and each update that was handed on is told;
+/// then its cell is ended too. The log is told once all threads have begun, of each change, of connections that are lost, and of each end of a thread.
 pub fn serve_zone<
     R: Net + Threads + Wait + Clock + Sync,
     Z: FirstZone + Send + Sync,
@@ -167,7 +153,7 @@ pub fn serve_zone<
     later: Vec<SharedVersion>,
     duties: Vec<Duty<'_>>,
     plan: Plan<'_>,
-    handing: Option<Handing<S, F>>,
+    handing: Handing<S, F>,
     log: &L,
 ) -> Result<(), ServeFault>
     requires first { IsFirst Z.zone first }
@@ -176,7 +162,7 @@ pub fn serve_zone<
     requires kept { plan.keep ≤ KEPT }
 {
     let threads = duties.len();
-    let updates = updates_for(rt, alloc, &handing, &duties, plan.places)?;
+    let updates = updates_for(rt, alloc, handing.most, &duties, plan.places)?;
     let judging = judging_for(alloc, handing, &duties, &updates)?;
     let jobs = jobs_of(rt, alloc, duties, plan, &updates)?;
     let parts = match Cell::<SharedVersion, ZoneVersions<Z>>::new(alloc, threads + 2, first) {
@@ -203,7 +189,7 @@ fn serve_parts<
     later: Vec<SharedVersion>,
     jobs: Vec<SocketJob<'_, R>>,
     plan: Plan<'_>,
-    judging: Option<Judging<'_, S, F>>,
+    judging: Judging<'_, S, F>,
     log: &L,
 ) -> Result<(), ServeFault>
     requires named { parts.cell ≡ N.cell }
@@ -264,7 +250,7 @@ fn serve_cell<
     pairs: Vec<(VersionReader<N>, SocketJob<'_, R>)>,
     mut back: Vec<VersionReader<N>>,
     plan: Plan<'_>,
-    judging: Option<Judging<'_, S, F>>,
+    judging: Judging<'_, S, F>,
     log: &L,
 ) -> (
     Result<(), ServeFault>,
@@ -318,8 +304,8 @@ fn serve_cell<
     (served, publisher, back)
 }
 
-/// Serves the versions of a server's cell, by workers with readers, and by who judges updates with one, if they hand them on. The readers are then put into `back`, which
-/// has room for them, and for one more.
+/// Serves the versions of a server's cell, by workers with readers, and by who judges updates with one. The readers are then put into `back`, which has room for them, and
+/// for one more.
 fn serve_handing<
     R: Threads + Wait + Clock + Sync,
     Z: FirstZone + Send + Sync,
@@ -332,7 +318,7 @@ fn serve_handing<
     alloc: Global,
     server: &Server<'_, Z, N>,
     muster: &Muster,
-    judging: Option<Judging<'_, S, F>>,
+    judging: Judging<'_, S, F>,
     reader: VersionReader<N>,
     pairs: Vec<(VersionReader<N>, SocketJob<'_, R>)>,
     back: &mut Vec<VersionReader<N>>,
@@ -343,11 +329,6 @@ fn serve_handing<
     ensures count { vec_len back.new ≡ vec_len pairs.entry + 1 }
     ensures room { vec_capacity back.new ≡ vec_capacity back.old }
 {
-    let Some(judging) = judging else {
-        let (served, _) = serve_with(rt, alloc, server, muster, None, Idle, pairs, back, log);
-        back.push_reserved(reader);
-        return served;
-    };
     let Judging {
         updates,
         bringing,
@@ -369,14 +350,13 @@ fn serve_handing<
         faults,
         muster,
     };
-    let handing = Some(updates);
-    let (served, judge) = serve_with(rt, alloc, server, muster, handing, judge, pairs, back, log);
+    let (served, judge) = serve_with(rt, alloc, server, muster, updates, judge, pairs, back, log);
     back.push_reserved(judge.into_reader());
     served
 }
 
 /// Serves the versions of a server's cell, by workers with readers, which are then put into `back`, which has room for them, and does what is done beside them. They hand
-/// updates on, where these are given.
+/// updates on there.
 fn serve_with<
     R: Threads + Wait + Clock + Sync,
     Z: FirstZone + Send + Sync,
@@ -388,7 +368,7 @@ fn serve_with<
     alloc: Global,
     server: &Server<'_, Z, N>,
     muster: &Muster,
-    updates: Option<&Updates>,
+    updates: &Updates,
     meanwhile: M,
     pairs: Vec<(VersionReader<N>, SocketJob<'_, R>)>,
     back: &mut Vec<VersionReader<N>>,
@@ -473,6 +453,17 @@ fn all_readers<N: Naming, C: Clock>(
     back
 }
 
+/// Where connections come in at a listener, which is watched by its number.
+fn place_of<C: Clock>(
+    watch: &mut Watch<'_, C>,
+    listener: TcpListener,
+    number: usize,
+) -> io::Result<TcpPlace> {
+    let mut place = TcpPlace::new(mio::net::TcpListener::from_std(listener));
+    watch.watch_place(&mut place, number)?;
+    Ok(place)
+}
+
 /// Where connections come in at listeners, each of them watched.
 fn places_of<C: Clock>(
     alloc: Global,
@@ -484,9 +475,7 @@ fn places_of<C: Clock>(
     let mut places = Vec::new(alloc);
     let mut number = 0usize;
     for listener in listeners {
-        let mut place = TcpPlace::new(mio::net::TcpListener::from_std(listener));
-        watch.watch_place(&mut place, number)?;
-        places.push(place)?;
+        places.push(place_of(watch, listener, number)?)?;
         number = number.saturating_add(1);
     }
     Ok(places)

@@ -97,34 +97,6 @@ fn hand_at(updates: &Updates, place: usize) -> Hand<'_> {
     }
 }
 
-/// Who answers the datagrams of the thread at a place, and hands updates to where they wait, if they do.
-fn hand_datagrams<'g, 's, Z: FirstZone, N: Naming, L: ServiceLog>(
-    asked: Asked<'g, 's, Z, N, L>,
-    updates: Option<&'g Updates>,
-    place: usize,
-) -> Asked<'g, 's, Z, N, L>
-    ensures { result.reader ≡ asked.entry.reader }
-{
-    match updates {
-        Some(updates) => asked.handing(hand_at(updates, place)),
-        None => asked,
-    }
-}
-
-/// Who answers on the connections of the thread at a place, and hands updates to where they wait, if they do.
-fn hand_requests<'g, 's, Z: FirstZone, N: Naming, L: ServiceLog>(
-    replies: Replies<'g, 's, Z, N, L>,
-    updates: Option<&'g Updates>,
-    place: usize,
-) -> Replies<'g, 's, Z, N, L>
-    ensures { result.reader ≡ replies.entry.reader }
-{
-    match updates {
-        Some(updates) => replies.handing(hand_at(updates, place)),
-        None => replies,
-    }
-}
-
 /// A thread's job, and who answers in it by a reader.
 #[derive(Drop)]
 enum Seat<'g, 's, Z: FirstZone, N: Naming, L, C> {
@@ -137,12 +109,12 @@ enum Seat<'g, 's, Z: FirstZone, N: Naming, L, C> {
 }
 
 impl<'g, 's, Z: FirstZone, N: Naming, L: ServiceLog, C: Clock> Seat<'g, 's, Z, N, L, C> {
-    /// A job with a reader, of the thread at a place, which hands updates to where they wait, if they do.
+    /// A job with a reader, of the thread at a place, which hands updates to where they wait.
     fn of(
         alloc: Global,
         server: &'g Server<'s, Z, N>,
         log: &'g L,
-        updates: Option<&'g Updates>,
+        updates: &'g Updates,
         place: usize,
         reader: VersionReader<N>,
         job: SocketJob<'g, C>,
@@ -153,12 +125,12 @@ impl<'g, 's, Z: FirstZone, N: Naming, L: ServiceLog, C: Clock> Seat<'g, 's, Z, N
         match job {
             SocketJob::Datagrams(job) => {
                 let asked = Asked::new(alloc, server, reader, log, peer, nobody());
-                let asked = hand_datagrams(asked, updates, place);
+                let asked = asked.handing(hand_at(updates, place));
                 Seat::Datagrams(DatagramsSeat { asked, job })
             }
             SocketJob::Connections(job) => {
                 let replies = Replies::new(alloc, server, reader, log, peer, nobody());
-                let replies = hand_requests(replies, updates, place);
+                let replies = replies.handing(hand_at(updates, place));
                 Seat::Connections(ConnectionsSeat { replies, job })
             }
             SocketJob::Secondaries(job) => {
@@ -213,7 +185,7 @@ impl<'g, 's, Z: FirstZone, N: Naming, L: ServiceLog, C: Clock> Seat<'g, 's, Z, N
         }
     }
 
-    /// Its thread hands in no more updates, where it has handed in any.
+    /// Its thread hands in no more updates, where any may come to it.
     fn leave<R: Wait>(&self, rt: &R, updates: &Updates) {
         match self {
             Seat::Datagrams(_) => updates.leave(rt),
@@ -240,7 +212,7 @@ struct ServerThread<'g, 's, Z: FirstZone, N: Naming, L, C> {
     seat: Seat<'g, 's, Z, N, L, C>,
     muster: &'g Muster,
     log: &'g L,
-    updates: Option<&'g Updates>,
+    updates: &'g Updates,
 }
 
 /// Whether a job has done what it might.
@@ -273,9 +245,7 @@ impl<
             self.log.tell(rt, Event::Serving);
         }
         let end = self.seat.serve(rt, self.log);
-        if let Some(updates) = self.updates {
-            self.seat.leave(rt, updates);
-        }
+        self.seat.leave(rt, self.updates);
         self.muster.leave();
         if !is_done(end) {
             self.muster.end();
@@ -290,7 +260,7 @@ fn put_threads<'g, 's, Z: FirstZone, N: Naming, L: ServiceLog, C: Clock>(
     server: &'g Server<'s, Z, N>,
     muster: &'g Muster,
     log: &'g L,
-    updates: Option<&'g Updates>,
+    updates: &'g Updates,
     pairs: Vec<(VersionReader<N>, SocketJob<'g, C>)>,
     threads: &mut Vec<ServerThread<'g, 's, Z, N, L, C>>,
 )
@@ -343,7 +313,7 @@ pub(crate) fn run_threads<
     alloc: Global,
     server: &'g Server<'s, Z, N>,
     muster: &'g Muster,
-    updates: Option<&'g Updates>,
+    updates: &'g Updates,
     meanwhile: M,
     pairs: Vec<(VersionReader<N>, SocketJob<'g, C>)>,
     log: &'g L,

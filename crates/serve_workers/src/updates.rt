@@ -36,15 +36,6 @@ fn takes_updates(duty: &Duty<'_>) -> bool {
 }
 
 impl Updates {
-    /// Those of threads that hand in none.
-    pub(crate) fn none(alloc: Global) -> Result<Updates, AllocError> {
-        Ok(Updates {
-            queue: Queue::new(alloc, 0)?,
-            left: AtomicUsize::new(0),
-            told: Vec::new(alloc),
-        })
-    }
-
     /// Those of threads that have these duties, each with at most so many connections, of which none waits, and at most `most` ever do. It takes the memory for
     /// all.
     pub(crate) fn of<R: Wait>(

@@ -1,44 +1,83 @@
-//! Values that carry their number and count their drops.
+//! Values that carry their number, and what is counted of them.
 ghost use Rattle.std.specs.Prelude.{◌≡◌, ◌+◌};
 
 use cell_core::Follows;
-use snapshot_cell::Names;
+use snapshot_cell::{NamedStrong, Names, Naming};
 use std::alloc::Global;
 use std::sync::Arc;
 use std::sync::atomic::Ordering::SeqCst;
 use std::sync::atomic::{AtomicBool, AtomicU64};
 use std::thread;
 
-/// How many turns a drop that sleeps has until it wakes by itself.
+/// How many turns a drop that sleeps has until it wakes by itself, and those who wait until it sleeps.
 const NIGHT: u64 = 1 << 32;
 
-/// How often each value was dropped, and the drop that sleeps.
+/// How many go on while a drop sleeps. It wakes when each of them has called.
+const CALLERS: u64 = 3;
+
+/// How often each value was dropped, how often releases told it as buried, and how often upgrades gave none of it; and the drop that
+/// sleeps.
 #[derive(Drop)]
 pub(crate) struct Tally {
     drops: Vec<AtomicU64>,
+    burials: Vec<AtomicU64>,
+    sunk: Vec<AtomicU64>,
+    dropped: AtomicU64,
     sleeper: Option<u64>,
     asleep: AtomicBool,
-    called: AtomicBool,
+    calls: AtomicU64,
+}
+
+/// So many counts of 0. None where there is no memory.
+fn counts(alloc: Global, values: usize) -> Option<Vec<AtomicU64>> {
+    let mut counts = Vec::with_capacity(alloc, values).ok()?;
+    for _ in 0..values {
+        counts.push(AtomicU64::new(0)).ok()?;
+    }
+    Some(counts)
+}
+
+/// One more of a number.
+fn count(counts: &[AtomicU64], number: u64) {
+    if let Some(count) = counts.get(number as usize) {
+        count.fetch_add(1, SeqCst);
+    }
+}
+
+/// Whether the numbers below this one were counted once each, and no other was.
+fn are_once(counts: &[AtomicU64], below: usize) -> bool {
+    for (number, count) in counts.iter().enumerate() {
+        let due = if number < below { 1 } else { 0 };
+        if count.load(SeqCst) != due {
+            return false;
+        }
+    }
+    true
+}
+
+/// Whether no number from this one on was counted.
+fn are_none(counts: &[AtomicU64], from: usize) -> bool {
+    for count in counts.iter().skip(from) {
+        if count.load(SeqCst) > 0 {
+            return false;
+        }
+    }
+    true
 }
 
 impl Tally {
     /// Of so many values, of which the one of the number `sleeper` sleeps in its drop. None where there is no memory.
-    pub(crate) fn new(alloc: Global, values: usize, sleeper: Option<u64>) -> Option<Tally> {
-        let mut drops = Vec::with_capacity(alloc, values).ok()?;
-        for _ in 0..values {
-            drops.push(AtomicU64::new(0)).ok()?;
-        }
-        Some(Tally {
-            drops,
+    pub(crate) fn shared(alloc: Global, values: usize, sleeper: Option<u64>) -> Option<Arc<Tally>> {
+        let tally = Tally {
+            drops: counts(alloc, values)?,
+            burials: counts(alloc, values)?,
+            sunk: counts(alloc, values)?,
+            dropped: AtomicU64::new(0),
             sleeper,
             asleep: AtomicBool::new(false),
-            called: AtomicBool::new(false),
-        })
-    }
-
-    /// Of so many values, none of which sleeps in its drop, for those that share it. None where there is no memory.
-    pub(crate) fn shared(alloc: Global, values: usize) -> Option<Arc<Tally>> {
-        Arc::new(alloc, Tally::new(alloc, values, None)?).ok()
+            calls: AtomicU64::new(0),
+        };
+        Arc::new(alloc, tally).ok()
     }
 
     /// A value was dropped.
@@ -46,16 +85,15 @@ impl Tally {
         if self.sleeper == Some(number) {
             self.sleep();
         }
-        if let Some(drops) = self.drops.get(number as usize) {
-            drops.fetch_add(1, SeqCst);
-        }
+        count(self.drops.as_slice(), number);
+        self.dropped.fetch_add(1, SeqCst);
     }
 
-    /// Until it is called.
+    /// Until all have called.
     fn sleep(&self) {
         self.asleep.store(true, SeqCst);
         for _ in 0..NIGHT {
-            if self.called.load(SeqCst) {
+            if self.calls.load(SeqCst) >= CALLERS {
                 break;
             }
             thread::yield_now();
@@ -63,34 +101,53 @@ impl Tally {
         self.asleep.store(false, SeqCst);
     }
 
-    /// Whether a drop sleeps.
-    pub(crate) fn is_asleep(&self) -> bool {
-        self.asleep.load(SeqCst)
+    /// Whether the drop that is to sleep does; true where none is to.
+    fn is_quiet(&self) -> bool {
+        self.sleeper.is_none() || self.asleep.load(SeqCst)
     }
 
-    /// Wakes the drop that sleeps.
-    pub(crate) fn wake(&self) {
-        self.called.store(true, SeqCst);
-    }
-
-    /// How many drops were counted.
-    pub(crate) fn drops(&self) -> u64 {
-        let mut sum = 0u64;
-        for drops in self.drops.iter() {
-            sum = sum.wrapping_add(drops.load(SeqCst));
+    /// Waits until the drop that is to sleep does.
+    pub(crate) fn wait(&self) {
+        for _ in 0..NIGHT {
+            if self.is_quiet() {
+                break;
+            }
+            thread::yield_now();
         }
-        sum
+    }
+
+    /// Calls the drop that sleeps: whether it slept until then; true where none is to.
+    pub(crate) fn call(&self) -> bool {
+        let quiet = self.is_quiet();
+        self.calls.fetch_add(1, SeqCst);
+        quiet
+    }
+
+    /// Lets an owner go.
+    pub(crate) fn let_go<N: Naming>(&self, owner: NamedStrong<'_, Counted, Rising, N>) {
+        if let Some(number) = owner.release().buried() {
+            count(self.burials.as_slice(), number);
+        }
+    }
+
+    /// An upgrade gave no owner of a number.
+    pub(crate) fn sink(&self, number: u64) {
+        count(self.sunk.as_slice(), number);
+    }
+
+    /// How many drops there were.
+    pub(crate) fn drops(&self) -> u64 {
+        self.dropped.load(SeqCst)
     }
 
     /// Whether the values below this number were dropped once each, and no other was.
     pub(crate) fn were_dropped_once(&self, below: usize) -> bool {
-        for (number, drops) in self.drops.iter().enumerate() {
-            let due = if number < below { 1 } else { 0 };
-            if drops.load(SeqCst) != due {
-                return false;
-            }
-        }
-        true
+        are_once(self.drops.as_slice(), below)
+    }
+
+    /// Whether one release each told the numbers below this one as buried and no other, and upgrades gave none of these alone.
+    pub(crate) fn were_buried_once(&self, below: usize) -> bool {
+        are_once(self.burials.as_slice(), below) && are_none(self.sunk.as_slice(), below)
     }
 }
 

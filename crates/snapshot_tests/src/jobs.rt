@@ -1,91 +1,156 @@
 //! What threads do with one cell, each of them a job.
-use crate::counted::{Counted, Rising};
-use crate::players::{Loader, Ran, Teller};
-use snapshot_cell::{NamedStrong, Naming};
+use crate::counted::{Counted, Rising, Tally};
+use crate::named::{TURNS, Teller};
+use rtrb::Consumer;
+use snapshot_cell::{NamedCell, NamedReader, NamedStrong, NamedWeak, Naming};
 use std::process::Abort;
+use std::sync::Arc;
 use std::thread;
 use std::thread::Threads;
 
-/// How many loads a reader makes.
-const LOADS: u64 = 10_000;
-
-/// How many values are published.
-pub(crate) const VALUES: u64 = 1_000;
-
-/// How often it is looked whether the drop sleeps, at most.
-const LOOKS: u64 = 10_000_000;
-
-/// Those who go on while a drop sleeps.
+/// One who is handed weak owners, and raises each of them once.
 #[derive(Drop)]
-pub(crate) struct Others<'a, N: Naming> {
-    pub(crate) teller: Teller<'a, N>,
-    pub(crate) loader: Loader<'a, N>,
+pub(crate) struct Raiser<'a, N: Naming> {
+    pub(crate) reader: NamedReader<Counted, N>,
+    pub(crate) ring: Consumer<NamedWeak<'a, Counted, Rising, N>>,
+    pub(crate) tally: Arc<Tally>,
 }
 
-/// What a thread does.
+/// One who loads and clones, and the number that it loaded last.
+#[derive(Drop)]
+pub(crate) struct Copier<'a, N: Naming> {
+    pub(crate) cell: &'a NamedCell<Counted, Rising, N>,
+    pub(crate) reader: NamedReader<Counted, N>,
+    pub(crate) tally: Arc<Tally>,
+    pub(crate) last: u64,
+}
+
+/// What a thread does, so many times.
 #[derive(Drop)]
 pub(crate) enum Job<'a, N: Naming> {
-    /// Loads.
-    Load(Loader<'a, N>),
-    /// Publishes all values.
-    Publish(Teller<'a, N>),
-    /// Releases an owner, which is the last one of version 0.
-    Release(NamedStrong<'a, Counted, Rising, N>),
-    /// Publishes and loads while a drop sleeps.
-    GoOn(Others<'a, N>),
+    /// Publishes all values up to this one, and hands weak owners out.
+    Publish(Teller<'a, N>, u64),
+    /// Raises so many weak owners.
+    Raise(Raiser<'a, N>, u64),
+    /// Loads and clones so often.
+    Copy(Copier<'a, N>, u64),
+    /// Releases an owner, which is the last one of its version.
+    Release(NamedStrong<'a, Counted, Rising, N>, Arc<Tally>),
 }
 
-impl<'a, N: Naming> Others<'a, N> {
-    /// What is given back, where all values are published and loads made while the drop sleeps, from one end to the other. Then it
-    /// wakes.
-    fn go_on(self) -> Option<Ran<N>> {
-        let Others {
-            mut teller,
-            mut loader,
-        } = self;
-        for _ in 0..LOOKS {
-            if teller.tally.is_asleep() {
-                break;
+/// What a job gives back.
+#[derive(Drop)]
+pub(crate) enum Back<'a, N: Naming> {
+    /// The publisher.
+    Told(Teller<'a, N>),
+    /// A reader.
+    Read(NamedReader<Counted, N>),
+    /// Nothing.
+    Released,
+}
+
+impl<'a, N: Naming> Raiser<'a, N> {
+    /// Whether an upgrade gives an owner of that very version, or none. What it gives is let go, and so is the weak owner.
+    fn raise(&mut self, mut weak: NamedWeak<'a, Counted, Rising, N>) -> bool {
+        let number = weak.number();
+        let is_right = match weak.upgrade(&mut self.reader) {
+            Ok(Some(owner)) => {
+                let is_right = owner.number() == number && owner.get().number == number;
+                self.tally.let_go(owner);
+                is_right
             }
-            thread::yield_now();
+            Ok(None) => {
+                self.tally.sink(number);
+                true
+            }
+            Err(_) => false,
+        };
+        weak.release();
+        is_right
+    }
+
+    /// The reader, where so many weak owners came, and each went as it should.
+    fn finish(mut self, weaks: u64) -> Option<Back<'a, N>> {
+        let mut raised = 0;
+        for _ in 0..TURNS {
+            if raised == weaks {
+                return Some(Back::Read(self.reader));
+            }
+            match self.ring.pop() {
+                Ok(weak) => {
+                    if !self.raise(weak) {
+                        return None;
+                    }
+                    raised += 1;
+                }
+                Err(_) => thread::yield_now(),
+            }
         }
-        let asleep = teller.tally.is_asleep();
-        let went_on = teller.run(VALUES) && loader.run(LOADS);
-        let still_asleep = teller.tally.is_asleep();
-        teller.tally.wake();
-        (asleep && went_on && still_asleep).then_some(Ran {
-            publisher: Some(teller.into_publisher()),
-            reader: Some(loader.into_reader()),
-        })
+        None
+    }
+}
+
+impl<'a, N: Naming> Copier<'a, N> {
+    /// Whether a load gives an owner, and so does a clone of it, of the same version, which is there and none before the one that was loaded last.
+    /// Both are let go.
+    fn copy(&mut self) -> bool {
+        let Ok(mut owner) = self.cell.load(&mut self.reader) else {
+            return false;
+        };
+        let Ok(clone) = owner.clone_strong(&mut self.reader) else {
+            return false;
+        };
+        owner.alive(&mut self.reader);
+        let number = owner.number();
+        let is_right = owner.get().number == number
+            && clone.number() == number
+            && clone.get().number == number
+            && self.last <= number;
+        self.last = number;
+        self.tally.let_go(owner);
+        self.tally.let_go(clone);
+        is_right
+    }
+
+    /// Whether so many rounds go as they should.
+    fn run(&mut self, rounds: u64) -> bool {
+        for _ in 0..rounds {
+            if !self.copy() {
+                return false;
+            }
+        }
+        true
     }
 }
 
 impl<'a, N: Naming> Job<'a, N> {
-    /// What is given back, where all went as it should.
-    fn run(self) -> Option<Ran<N>> {
+    /// What is given back, where all went as it should, and while the drop slept that is to sleep.
+    fn run(self) -> Option<Back<'a, N>> {
         match self {
-            Job::Load(mut loader) => loader.run(LOADS).then_some(Ran {
-                publisher: None,
-                reader: Some(loader.into_reader()),
-            }),
-            Job::Publish(mut teller) => teller.run(VALUES).then_some(Ran {
-                publisher: Some(teller.into_publisher()),
-                reader: None,
-            }),
-            Job::Release(owner) => (owner.release().buried() == Some(0)).then_some(Ran {
-                publisher: None,
-                reader: None,
-            }),
-            Job::GoOn(others) => others.go_on(),
+            Job::Publish(mut teller, up_to) => {
+                teller.tally.wait();
+                let is_right = teller.run(up_to);
+                (teller.tally.call() && is_right).then_some(Back::Told(teller))
+            }
+            Job::Raise(raiser, weaks) => raiser.finish(weaks),
+            Job::Copy(mut copier, rounds) => {
+                copier.tally.wait();
+                let is_right = copier.run(rounds);
+                (copier.tally.call() && is_right).then_some(Back::Read(copier.reader))
+            }
+            Job::Release(owner, tally) => {
+                tally.let_go(owner);
+                Some(Back::Released)
+            }
         }
     }
 }
 
 /// Does each job on a thread of its own: what each gave back.
-pub(crate) fn run_all<R: Abort + Threads + Sync, N: Naming + Send + Sync>(
+pub(crate) fn run_all<'a, R: Abort + Threads + Sync, N: Naming + Send + Sync>(
     rt: &R,
-    jobs: Vec<Job<'_, N>>,
-) -> Vec<Option<Ran<N>>> {
+    jobs: Vec<Job<'a, N>>,
+) -> Vec<Option<Back<'a, N>>> {
     thread::map_vec(rt, jobs, &Job::run)
         .ok()
         .expect(rt, "memory")

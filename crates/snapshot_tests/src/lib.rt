@@ -3,28 +3,18 @@
 #![tactic(auto)]
 
 #[cfg(test)]
+mod acts;
+#[cfg(test)]
 mod begun;
 #[cfg(test)]
 mod counted;
 #[cfg(test)]
-mod ends;
+mod crew;
 #[cfg(test)]
-mod held;
+mod ends;
 #[cfg(test)]
 mod jobs;
 #[cfg(test)]
-mod limited;
+mod named;
 #[cfg(test)]
-mod numbers;
-#[cfg(test)]
-mod players;
-#[cfg(test)]
-mod stopped;
-#[cfg(test)]
-mod threads;
-#[cfg(test)]
-mod weak;
-#[cfg(test)]
-mod weak_players;
-#[cfg(test)]
-mod weak_threads;
+mod plays;

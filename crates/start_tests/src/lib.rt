@@ -1,9 +1,12 @@
-//! Tests of `store_start`, over real folders: what a server begins with.
+//! Tests of starts: the versions that a zone text and a journal give, also of a store that is begun anew of a later version; want of memory; and, over a real folder, what
+//! a server goes on with.
 #![tactic(auto)]
 
 #[cfg(test)]
-mod chosen;
+mod journals;
 #[cfg(test)]
-mod folders;
+mod memory;
 #[cfg(test)]
-mod gone_on;
+mod resumed;
+#[cfg(test)]
+mod versions;

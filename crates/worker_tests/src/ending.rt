@@ -1,4 +1,4 @@
-//! A server ends with its threads: each having done what it may, or all since one of them has failed.
+//! A zone served by workers on sockets of the system's, and what that comes to: each thread has done what it may, or all end since one of them has failed.
 
 use conversation::Allowed;
 use dns_engine::SharedVersion;
@@ -11,11 +11,10 @@ use sockets::{Turn, bind_datagrams, bind_listener};
 use std::alloc::Global;
 use std::io;
 use std::marker::Brand;
-use std::net::{Net, Shutdown, SocketAddr, TcpListener, TcpStream};
+use std::net::{IpAddr, Net, Shutdown, SocketAddr, TcpListener, TcpStream, UdpSocket};
 use std::os::fd::OwnedFd;
 use std::sync::Wait;
 use std::sync::atomic::{AtomicU64, Ordering};
-use std::test::Fail;
 use std::thread::Threads;
 use std::time::Clock;
 use told_disks::ToldDisk;
@@ -23,57 +22,71 @@ use update_job::{NoFaults, Store};
 use zone_service::{Event, JobEnd, ServiceLog};
 use zone_tree::Version;
 
-/// How often a log was told that all threads have begun, and how many of them have done what they might, and have failed.
+/// This host's address, from which updates may come.
+pub(crate) const HOST: [u8; 4] = [127, 0, 0, 1];
+
+/// A second, in nanoseconds.
+const SECOND: u64 = 1_000_000_000;
+
+/// What each thread that has done what it might adds to the sum of what a server comes to.
+pub(crate) const DONE: u64 = 1;
+
+/// What each thread that has failed adds.
+const FAILED: u64 = 10;
+
+/// What it adds that all threads have begun.
+pub(crate) const BEGUN: u64 = 100;
+
+/// What the server's end adds where a thread was refused.
+pub(crate) const NOT_STARTED: u64 = 1_000;
+
+/// What it adds where there was no memory.
+const NO_MEMORY: u64 = 2_000;
+
+/// What it adds where a socket has failed.
+pub(crate) const DEVICE: u64 = 3_000;
+
+/// What it adds where no version could be loaded.
+const SPENT: u64 = 4_000;
+
+/// A log that adds up what it is told of threads.
 #[derive(Drop)]
-pub(crate) struct Counted {
-    begun: AtomicU64,
-    done: AtomicU64,
-    failed: AtomicU64,
+struct Summed {
+    sum: AtomicU64,
 }
 
-impl ServiceLog for Counted {
+impl ServiceLog for Summed {
     fn tell<R: Wait>(&self, _rt: &R, event: Event) {
-        let counter = match event {
-            Event::Serving => &self.begun,
+        let more = match event {
+            Event::Serving => BEGUN,
             Event::End {
                 end: JobEnd::Done(_),
                 ..
-            } => &self.done,
-            Event::End { .. } => &self.failed,
-            _ => return,
+            } => DONE,
+            Event::End { .. } => FAILED,
+            _ => 0,
         };
-        counter.fetch_add(1, Ordering::SeqCst);
+        self.sum.fetch_add(more, Ordering::SeqCst);
     }
 }
 
-impl Counted {
-    /// A log that was told nothing.
-    pub(crate) fn new() -> Counted {
-        Counted {
-            begun: AtomicU64::new(0),
-            done: AtomicU64::new(0),
-            failed: AtomicU64::new(0),
-        }
-    }
-
-    /// Whether it was told nothing: no thread has begun.
-    pub(crate) fn is_silent(&self) -> bool {
-        self.begun.load(Ordering::SeqCst) == 0
-            && self.done.load(Ordering::SeqCst) == 0
-            && self.failed.load(Ordering::SeqCst) == 0
-    }
-
-    /// Whether it was told once that all have begun, and of so many of each.
-    pub(crate) fn has(&self, done: u64, failed: u64) -> bool {
-        self.begun.load(Ordering::SeqCst) == 1
-            && self.done.load(Ordering::SeqCst) == done
-            && self.failed.load(Ordering::SeqCst) == failed
+/// What a server's end adds.
+fn reason_of(served: Result<(), ServeFault>) -> u64 {
+    match served {
+        Ok(()) => 0,
+        Err(ServeFault::NotStarted) => NOT_STARTED,
+        Err(ServeFault::NoMemory) => NO_MEMORY,
+        Err(ServeFault::Device) => DEVICE,
+        Err(ServeFault::Spent) => SPENT,
     }
 }
 
-/// This host, and a port that the system picks.
-pub(crate) fn any_port() -> SocketAddr {
-    SocketAddr::from(([127, 0, 0, 1], 0))
+/// A socket for datagrams and a listener, each at a port of its own that the system picks.
+pub(crate) fn sockets<R: Net>(rt: &R) -> io::Result<(UdpSocket, TcpListener)> {
+    let any = SocketAddr::from((HOST, 0));
+    let datagrams = bind_datagrams(rt, any, Turn::First)?;
+    let listener = bind_listener(rt, any, Turn::First)?;
+    Ok((datagrams, listener))
 }
 
 /// Ends a listener's listening, under whoever has it too: no connection can be taken any more (Linux, accept(2)).
@@ -82,70 +95,58 @@ fn break_listener(listener: &TcpListener) -> io::Result<()> {
     same.shutdown(Shutdown::Both)
 }
 
-/// What the threads of so many workers do, each with a listener and a socket for datagrams at a port of its own; the last worker's listener is
-/// broken, where that is asked for. None where there are no sockets, or no memory.
-fn duties_of<'a, R: Net>(
-    rt: &R,
+/// Puts what a worker's threads do on its sockets, by its number, behind `duties`.
+pub(crate) fn add_worker<'a>(
     alloc: Global,
-    progresses: &'a [Progress],
-    is_broken: bool,
-) -> Option<Vec<Duty<'a>>> {
-    let mut duties = Vec::new(alloc);
-    let mut worker = 0usize;
-    for progress in progresses {
-        worker = worker.saturating_add(1);
-        let listener = bind_listener(rt, any_port(), Turn::First).ok()?;
-        if is_broken && worker == progresses.len() {
-            break_listener(&listener).ok()?;
-        }
-        let mut listeners = Vec::new(alloc);
-        listeners.push(listener).ok()?;
-        let sockets = Sockets::Connections(listeners);
-        duties
-            .push(Duty {
-                worker,
-                progress,
-                sockets,
-            })
-            .ok()?;
-        let sockets = Sockets::Datagrams(bind_datagrams(rt, any_port(), Turn::First).ok()?);
-        duties
-            .push(Duty {
-                worker,
-                progress,
-                sockets,
-            })
-            .ok()?;
+    worker: usize,
+    progress: &'a Progress,
+    own: (Option<UdpSocket>, Option<TcpListener>),
+    duties: &mut Vec<Duty<'a>>,
+) -> io::Result<()> {
+    let (datagrams, listener) = own;
+    if let Some(socket) = datagrams {
+        let sockets = Sockets::Datagrams(socket);
+        duties.push(Duty {
+            worker,
+            progress,
+            sockets,
+        })?;
     }
-    Some(duties)
+    if let Some(listener) = listener {
+        let sockets = Sockets::Connections(Vec::from_array(alloc, [listener])?);
+        duties.push(Duty {
+            worker,
+            progress,
+            sockets,
+        })?;
+    }
+    Ok(())
 }
 
-/// Serves a zone by threads that have these duties, and gives what that has come to; None where they are too many, or there is no memory for
-/// the zone.
+/// Serves a zone by threads that have these duties, and gives the sum of what that comes to. Updates are judged beside them. None where
+/// the threads are too many, or there is no memory for the zone.
 pub(crate) fn served<R: Net + Threads + Wait + Clock + Sync>(
     rt: &R,
     alloc: Global,
-    log: &Counted,
     duties: Vec<Duty<'_>>,
-) -> Option<Result<(), ServeFault>> {
+) -> Option<u64> {
     let threads = duties.len();
     if threads > 8 {
         return None;
     }
-    let second = 1_000_000_000;
-    let limits = Limits {
-        idle: second,
-        message: second,
-        reply: second,
-    };
     let muster = Muster::new(threads);
+    let host = [IpAddr::from(HOST)];
     let plan = Plan {
         muster: &muster,
         keep: 0,
         places: 8,
         connections: ConnectionPlan {
-            limits,
-            allowed: Allowed::new(&[]),
+            limits: Limits {
+                idle: SECOND,
+                message: SECOND,
+                reply: SECOND,
+            },
+            allowed: Allowed::new(&host),
         },
     };
     let zone = zone(alloc)?;
@@ -154,44 +155,63 @@ pub(crate) fn served<R: Net + Threads + Wait + Clock + Sync>(
         return None;
     };
     let later = Vec::new(alloc);
-    let handing = Some(Handing {
+    let handing = Handing {
         most: 8,
         store: Store::<ToldDisk>::Nowhere,
         faults: NoFaults,
-    });
-    Some(serve_zone::<R, Brand, Counted, Store<ToldDisk>, NoFaults>(
-        rt, alloc, first, later, duties, plan, handing, log,
-    ))
+    };
+    let log = Summed {
+        sum: AtomicU64::new(0),
+    };
+    let end = serve_zone::<R, Brand, Summed, Store<ToldDisk>, NoFaults>(
+        rt, alloc, first, later, duties, plan, handing, &log,
+    );
+    Some(reason_of(end).saturating_add(log.sum.load(Ordering::SeqCst)))
 }
 
-/// Serves a zone by two workers, each of which may do so much, and gives what that has come to; None where there were no sockets, or no
-/// memory for what it begins with.
+/// What the threads of two workers do, each with a progress of its own; the second one's listener is broken, where that is asked for.
+fn duties_of<'a, R: Net>(
+    rt: &R,
+    alloc: Global,
+    progresses: &'a [Progress],
+    is_broken: bool,
+) -> io::Result<Vec<Duty<'a>>> {
+    let mut duties = Vec::new(alloc);
+    let mut worker = 0usize;
+    for progress in progresses {
+        worker = worker.saturating_add(1);
+        let (datagrams, listener) = sockets(rt)?;
+        if is_broken && worker == 2 {
+            break_listener(&listener)?;
+        }
+        let own = (Some(datagrams), Some(listener));
+        add_worker(alloc, worker, progress, own, &mut duties)?;
+    }
+    Ok(duties)
+}
+
+/// Serves a zone by two workers, each of which may do so much, and gives the sum of what that comes to. None where there were no sockets, or no memory for what it begins
+/// with.
 pub(crate) fn served_by_two<R: Net + Threads + Wait + Clock + Sync>(
     rt: &R,
     alloc: Global,
-    log: &Counted,
     most: u64,
     is_broken: bool,
-) -> Option<Result<(), ServeFault>> {
-    let progresses = Vec::from_array(alloc, [Progress::new(most), Progress::new(most)]).ok()?;
-    let duties = duties_of(rt, alloc, progresses.as_slice(), is_broken)?;
-    served(rt, alloc, log, duties)
+) -> Option<u64> {
+    let progresses = [Progress::new(most), Progress::new(most)];
+    let duties = duties_of(rt, alloc, &progresses, is_broken).ok()?;
+    served(rt, alloc, duties)
 }
 
-// Each worker may do nothing, and has done so at once.
+// Workers that may do nothing have done so at once. Where a thread fails, the others end too, whatever they might still do, and the server's end tells why.
 #[test]
-fn a_server_ends_once_each_worker_has_done_what_it_may(rt: HostRuntime) -> Result<(), Fail> {
-    let log = Counted::new();
-    let served = served_by_two(&rt, rt.alloc(), &log, 0, false).ok_or("a server")?;
-    assert!(rt; matches!(served, Ok(())) && log.has(4, 0));
-    Ok(())
-}
-
-// The other threads end too, whatever they might still do, and the server's end tells why.
-#[test]
-fn a_thread_that_fails_ends_the_server(rt: HostRuntime) -> Result<(), Fail> {
-    let log = Counted::new();
-    let served = served_by_two(&rt, rt.alloc(), &log, u64::MAX, true).ok_or("a server")?;
-    assert!(rt; matches!(served, Err(ServeFault::Device)) && log.has(3, 1));
-    Ok(())
+fn a_server_ends_with_its_threads(rt: HostRuntime) {
+    let cases = [
+        (0, false, BEGUN + 4 * DONE),
+        (u64::MAX, true, DEVICE + BEGUN + FAILED + 3 * DONE),
+    ];
+    for (most, is_broken, want) in cases {
+        let sum = served_by_two(&rt, rt.alloc(), most, is_broken);
+        assert_eq!(rt; sum, Some(want), "of {most}");
+    }
 }

@@ -1,11 +1,12 @@
-//! Two workers, of which one waits in the gate for the other: each on a datagram here, and on a stream in `streams`.
+//! Two workers, of which one waits in the gate for the other: each first on a datagram, then on a stream that gives and takes an octet at a time.
 ghost use Rattle.std.specs.Prelude.{◌≡◌};
 ghost use Rattle.std.specs.List.{All};
 
-use crate::streams::serve_streams;
+use crate::frames::{QUERY, REPLY, frame_of};
 use conversation::{Allowed, Answering, Gate};
 use dns_engine::{FirstZone, Naming, SharedVersion, VersionReader, ZoneVersions};
 use played_zones::{NamedParts, asker, end, named_parts, parts_of, server_of, zone};
+use serve_core::{Peer, Transport};
 use snapshot_cell::Parts;
 use std::alloc::Global;
 use std::marker::Brand;
@@ -13,43 +14,21 @@ use std::process::Abort;
 use std::sync::Wait;
 use std::sync::atomic::{AtomicU64, Ordering};
 use std::thread::{self, Threads};
-use told_streams::{Datagram, Tray, answer_tray};
+use told_streams::{Datagram, Tape, Tray, answer_tape, answer_tray};
 use worker_jobs::{Job, run_workers};
+use zone_replies::Replies;
 use zone_service::{NoLog, Server, ServiceLog};
 use zone_tree::Zone;
 
-/// The query for www.example.test., type A, and its reply.
-pub(crate) const QUERY: &[u8] =
-    b"\x12\x34\x01\x00\x00\x01\x00\x00\x00\x00\x00\x00\x03www\x07example\x04test\x00\x00\x01\x00\x01";
-
-pub(crate) const REPLY: &[u8] =
-    b"\x12\x34\x85\x00\x00\x01\x00\x02\x00\x00\x00\x00\x03www\x07example\x04test\x00\x00\x01\x00\x01\xc0\x0c\x00\x05\x00\x01\x00\x00\x0e\x10\x00\x06\x03web\xc0\x10\xc0\x2e\x00\x01\x00\x01\x00\x00\x0e\x10\x00\x04\xc0\x00\x02\x0a";
-
-/// After how many turns the first call gives up.
+/// After how many turns a call that is held gives up.
 const TURNS: u64 = 10_000_000;
 
-/// How the queries of two workers come.
-#[derive(Clone, Copy)]
-pub(crate) enum Way {
-    /// Each by a datagram.
-    Datagrams,
-    /// Each on a stream.
-    Streams,
-}
+/// How many octets can be written on a stream.
+const ROOM: usize = 9_999;
 
-impl Way {
-    /// How many readers are needed: the server's, one for each worker, and one more for each worker's stream.
-    fn readers(self) -> usize {
-        match self {
-            Way::Datagrams => 3,
-            Way::Streams => 5,
-        }
-    }
-}
-
-/// A gate that holds the call that enters first until another one leaves.
+/// A gate of two workers' calls: the first that enters is held until the other one leaves, and so is the first of the next two.
 #[derive(Drop)]
-pub(crate) struct HoldingGate {
+struct HoldingGate {
     entered: AtomicU64,
     left: AtomicU64,
     gave_up: AtomicU64,
@@ -57,11 +36,12 @@ pub(crate) struct HoldingGate {
 
 impl Gate for HoldingGate {
     fn enter(&self) {
-        if self.entered.fetch_add(1, Ordering::SeqCst) != 0 {
+        let before = self.entered.fetch_add(1, Ordering::SeqCst);
+        if before & 1 != 0 {
             return;
         }
         for _ in 0..TURNS {
-            if self.left.load(Ordering::SeqCst) != 0 {
+            if self.left.load(Ordering::SeqCst) > before {
                 return;
             }
             thread::yield_now();
@@ -74,34 +54,37 @@ impl Gate for HoldingGate {
     }
 }
 
-impl HoldingGate {
-    /// A gate that nobody has entered.
-    pub(crate) fn new() -> HoldingGate {
-        HoldingGate {
-            entered: AtomicU64::new(0),
-            left: AtomicU64::new(0),
-            gave_up: AtomicU64::new(0),
-        }
-    }
-
-    /// Whether nobody gave up.
-    pub(crate) fn is_well(&self) -> bool {
-        self.gave_up.load(Ordering::SeqCst) == 0
-    }
+/// A gate that is entered with each request, and not left.
+#[derive(Drop)]
+struct Entrance<'g, G> {
+    gate: &'g G,
 }
 
-/// The job of one datagram, by its number.
+impl<G: Gate> Gate for Entrance<'_, G> {
+    fn enter(&self) {
+        self.gate.enter();
+    }
+
+    fn leave(&self) {}
+}
+
+/// The job of a worker, by its number: one datagram, then one stream, which is answered by a reader of its own.
 #[derive(Drop)]
-struct TrayJob {
-    number: usize,
+struct BothJob<'g, 's, Z: FirstZone, N: Naming> {
+    number: u16,
+    alloc: Global,
+    server: &'g Server<'s, Z, N>,
+    reader: Option<VersionReader<N>>,
+    tape: Option<Tape>,
     tray: Option<Tray>,
 }
 
-impl Job for TrayJob {
+impl<'g, 's, Z: FirstZone + Send + Sync, N: Naming + Send + Sync> Job for BothJob<'g, 's, Z, N> {
     ghost number = { λ job. job.number };
 
     ghost is_done = { λ _. Unit {0} };
 
+    // On the stream the gate is left once the reply is written.
     #[tactic(auto, using(conversation::proofs::TurnLemmas::grows_itself))]
     fn run<R: Wait, A: Answering, G: Gate, L: ServiceLog>(
         &mut self,
@@ -110,6 +93,12 @@ impl Job for TrayJob {
         gate: &G,
         _log: &L,
     ) {
+        let Some(reader) = self.reader.take() else {
+            return;
+        };
+        let Some(tape) = self.tape.take() else {
+            return;
+        };
         let Some(tray) = self.tray.take() else {
             return;
         };
@@ -125,13 +114,46 @@ impl Job for TrayJob {
             &mut request,
             &mut reply,
         );
+        let log = NoLog;
+        let peer = Peer::over(Transport::Tcp, false);
+        let mut replies = Replies::new(self.alloc, self.server, reader, &log, peer, asker(4711));
+        let entrance = Entrance { gate };
+        let mut room = [0u8; 4_096];
+        let mut out = [0u8; 65_535];
+        let (_end, tape) = answer_tape(
+            rt,
+            self.alloc,
+            &mut replies,
+            tape,
+            &entrance,
+            &mut room,
+            &mut out,
+        );
+        gate.leave();
+        self.reader = Some(replies.into_reader());
+        self.tape = Some(tape);
         self.tray = Some(tray);
     }
 }
 
-/// A datagram of the query, to be received.
-fn query_in(alloc: Global) -> Option<Tray> {
-    let octets = QUERY.to_vec(alloc).ok()?;
+impl<Z: FirstZone, N: Naming> BothJob<'_, '_, Z, N> {
+    /// Whether the datagram, which went to who asked, and the stream have the message of a frame, and no more.
+    fn has(&self, frame: &[u8]) -> bool {
+        let (Some(tray), Some(tape)) = (&self.tray, &self.tape) else {
+            return false;
+        };
+        let [datagram] = tray.sent() else {
+            return false;
+        };
+        tape.written() == frame
+            && Some(datagram.octets()) == frame.get(2..)
+            && datagram.address() == asker(4711)
+    }
+}
+
+/// A datagram with the message of a frame, to be received; None where there is no memory for it, or it is too long.
+fn tray_of(alloc: Global, frame: &[u8]) -> Option<Tray> {
+    let octets = frame.get(2..)?.to_vec(alloc).ok()?;
     if octets.len() > 65_535 {
         return None;
     }
@@ -140,95 +162,86 @@ fn query_in(alloc: Global) -> Option<Tray> {
     Some(Tray::new(alloc, datagrams, Vec::new(alloc)))
 }
 
-/// A job for each reader, numbered from 1, on a datagram of the query.
-fn jobs_of<N: Naming>(
+/// The jobs of workers 1 and 2 with a reader each, on a datagram and a stream of the query with the worker's number as its ID, which take a reader each too.
+fn pairs_of<'g, 's, Z: FirstZone, N: Naming>(
     alloc: Global,
-    readers: Vec<VersionReader<N>>,
-) -> Option<Vec<(VersionReader<N>, TrayJob)>> {
+    server: &'g Server<'s, Z, N>,
+    mut readers: Vec<VersionReader<N>>,
+) -> Option<Vec<(VersionReader<N>, BothJob<'g, 's, Z, N>)>> {
     let mut pairs = Vec::new(alloc);
-    let mut number = 0usize;
-    for reader in readers {
-        number = number.saturating_add(1);
-        let tray = Some(query_in(alloc)?);
-        pairs.push((reader, TrayJob { number, tray })).ok()?;
+    for number in 1..3u16 {
+        let frame = frame_of(alloc, number, QUERY).ok()?;
+        let tray = Some(tray_of(alloc, &frame)?);
+        let tape = Some(Tape::new(alloc, frame, ROOM, 1).ok()?);
+        let reader = readers.pop();
+        let job = BothJob {
+            number,
+            alloc,
+            server,
+            reader,
+            tape,
+            tray,
+        };
+        pairs.push((readers.pop()?, job)).ok()?;
     }
     Some(pairs)
 }
 
-/// Whether a job's datagram got the reply, which went to who asked.
-fn is_replied(tray: &Tray) -> bool {
-    let [datagram] = tray.sent() else {
-        return false;
-    };
-    datagram.octets() == REPLY && datagram.address() == asker(4711)
-}
-
-/// Whether two datagrams were answered, by jobs 1 and 2 in this order.
-fn are_replied<N: Naming>(pairs: &[(VersionReader<N>, TrayJob)]) -> bool {
-    let mut number = 0usize;
+/// Whether all was answered by jobs 1 and 2, in this order, each by its own reply.
+fn are_replied<Z: FirstZone, N: Naming>(
+    alloc: Global,
+    pairs: &[(VersionReader<N>, BothJob<'_, '_, Z, N>)],
+) -> Option<bool> {
+    let mut number = 0u16;
     for (_, job) in pairs {
         number = number.saturating_add(1);
-        let Some(tray) = &job.tray else {
-            return false;
-        };
-        if job.number != number || !is_replied(tray) {
-            return false;
+        let frame = frame_of(alloc, number, REPLY).ok()?;
+        if job.number != number || !job.has(&frame) {
+            return Some(false);
         }
     }
-    pairs.len() == 2
+    Some(number == 2)
 }
 
 /// The readers of jobs that are done.
-fn readers_of<N: Naming>(
+fn readers_of<Z: FirstZone, N: Naming>(
     alloc: Global,
-    pairs: Vec<(VersionReader<N>, TrayJob)>,
+    pairs: Vec<(VersionReader<N>, BothJob<'_, '_, Z, N>)>,
 ) -> Option<Vec<VersionReader<N>>> {
     let mut readers = Vec::new(alloc);
-    for (reader, _) in pairs {
+    for (reader, job) in pairs {
+        let mut job = job;
         readers.push(reader).ok()?;
+        readers.push(job.reader.take()?).ok()?;
     }
     Some(readers)
 }
 
-/// Two datagrams are answered by two workers, of which the first to be asked waits for the other: their readers.
-fn serve_datagrams<
-    R: Wait + Threads + Sync + Abort,
-    Z: FirstZone + Send + Sync,
-    N: Naming + Send + Sync,
->(
-    rt: &R,
-    alloc: Global,
-    server: &Server<'_, Z, N>,
-    readers: Vec<VersionReader<N>>,
-) -> Vec<VersionReader<N>> {
-    let pairs = jobs_of(alloc, readers).expect(rt, "memory");
-    let gate = HoldingGate::new();
-    let Ok(pairs) = run_workers(rt, alloc, server, pairs, &gate, &NoLog) else {
-        panic!(rt; "a thread is refused");
-    };
-    assert!(rt; gate.is_well() && are_replied(&pairs));
-    readers_of(alloc, pairs).expect(rt, "memory")
-}
-
-/// Two queries that come this way are answered by two workers, of which the first to be asked waits for the other: their readers.
+/// All is answered by two workers, of which the first to be asked waits for the other: their readers.
 fn serve<R: Wait + Threads + Sync + Abort, Z: FirstZone + Send + Sync, N: Naming + Send + Sync>(
     rt: &R,
     alloc: Global,
-    way: Way,
     server: &Server<'_, Z, N>,
     readers: Vec<VersionReader<N>>,
 ) -> Vec<VersionReader<N>> {
-    match way {
-        Way::Datagrams => serve_datagrams(rt, alloc, server, readers),
-        Way::Streams => serve_streams(rt, alloc, server, readers),
-    }
+    let pairs = pairs_of(alloc, server, readers).expect(rt, "memory");
+    let gate = HoldingGate {
+        entered: AtomicU64::new(0),
+        left: AtomicU64::new(0),
+        gave_up: AtomicU64::new(0),
+    };
+    let Ok(pairs) = run_workers(rt, alloc, server, pairs, &gate, &NoLog) else {
+        panic!(rt; "a thread is refused");
+    };
+    let is_well = gate.gave_up.load(Ordering::SeqCst) == 0;
+    assert!(rt; is_well && are_replied(alloc, &pairs) == Some(true));
+    readers_of(alloc, pairs).expect(rt, "memory")
 }
 
-/// They are answered over a cell in which a zone's first version alone is published, which is then ended.
+/// It is answered over a cell in which a zone's first version alone is published, which is then ended.
 fn serve_in<R: Wait + Threads + Sync + Abort, Z: FirstZone + Send + Sync, N: Naming + Send + Sync>(
     rt: &R,
     alloc: Global,
-    way: Way,
     parts: Parts<SharedVersion, ZoneVersions<Z>>,
 )
     requires cell { (parts.cell ≡ N.cell) × (parts.publisher.cell ≡ N.cell) }
@@ -249,7 +262,7 @@ fn serve_in<R: Wait + Threads + Sync + Abort, Z: FirstZone + Send + Sync, N: Nam
     let Ok(server) = server_of(alloc, &cell, publisher, reader) else {
         panic!(rt; "there is no server");
     };
-    let mut readers = serve(rt, alloc, way, &server, readers);
+    let mut readers = serve(rt, alloc, &server, readers);
     let (publisher, reader) = server.finish();
     readers.push(reader).ok().expect(rt, "memory");
     end(
@@ -262,24 +275,24 @@ fn serve_in<R: Wait + Threads + Sync + Abort, Z: FirstZone + Send + Sync, N: Nam
     );
 }
 
-/// They are answered over a cell that begins with the zone.
-pub(crate) fn serve_from<R: Wait + Threads + Sync + Abort, Z: FirstZone + Send + Sync>(
+/// It is answered over a cell that begins with the zone, with a reader for the server and two for each worker.
+fn serve_from<R: Wait + Threads + Sync + Abort, Z: FirstZone + Send + Sync>(
     rt: &R,
     alloc: Global,
-    way: Way,
     zone: Zone,
 )
     requires { zone ≡ Z.zone }
 {
-    match parts_of::<Z>(alloc, zone, way.readers()) {
-        Some(parts) => serve_in::<R, Z, Brand>(rt, alloc, way, parts),
+    match parts_of::<Z>(alloc, zone, 5) {
+        Some(parts) => serve_in::<R, Z, Brand>(rt, alloc, parts),
         None => panic!(rt; "there is no memory"),
     }
 }
 
-// The first call waits in the gate until the second one has been answered, so each worker has a thread of its own.
+// The first datagram's query waits in the gate until the other one has been answered, and the first stream's until the other one's reply is written: each worker has a
+// thread of its own, however slow its stream is.
 #[test]
 fn gate_two_workers(rt: HostRuntime) {
     let zone = zone(rt.alloc()).expect(&rt, "a zone");
-    serve_from::<HostRuntime, Brand>(&rt, rt.alloc(), Way::Datagrams, zone);
+    serve_from::<HostRuntime, Brand>(&rt, rt.alloc(), zone);
 }

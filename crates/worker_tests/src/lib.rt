@@ -1,22 +1,16 @@
-//! Tests of the workers of `serve_workers`: jobs on datagrams, side by side; datagrams that lie in a socket together; a job on connections over a poll that is made up, and one that hears which replies can be had; updates that are judged beside the workers; and how a server
-//! ends, over sockets of the system's.
+//! Tests of the workers of `serve_workers`: jobs side by side, each on a datagram and a stream; a job on connections over a poll that is made up; a server on sockets of
+//! the system's, what its clients are replied, and how it ends.
 #![tactic(auto)]
 
 #[cfg(test)]
-mod bursts;
-#[cfg(test)]
-mod counts;
+mod asking;
 #[cfg(test)]
 mod ending;
 #[cfg(test)]
+mod frames;
+#[cfg(test)]
 mod gates;
 #[cfg(test)]
-mod handed;
-#[cfg(test)]
-mod hearing;
-#[cfg(test)]
 mod refused;
-#[cfg(test)]
-mod streams;
 #[cfg(test)]
 mod turning;

@@ -1,4 +1,5 @@
-//! A worker's job on connections over a poll that is made up: when it ends, and what a log is told of connections that are lost.
+//! A worker's job on connections over a poll that is made up: when it ends, what a log is told of connections that are lost, and how often a request is asked for that is
+//! answered later.
 ghost use Rattle.std.specs.Prelude.{None, ⊤, [], ◌-◌, ◌^◌};
 
 use connections::{Answering, Blocking, Fault, Reply, Unmade};
@@ -13,18 +14,23 @@ use std::sync::Wait;
 use std::sync::atomic::{AtomicU64, Ordering};
 use std::time::{Clock, Duration};
 use turns::{Arrivals, NotWatched, Plan, Readiness, Refusal, Remote, Turns};
-use worker_jobs::{ConnectionsJob, Muster, Progress, Scratch, Standing};
+use worker_jobs::{ConnectionsJob, Muster, Progress, Scratch, Standing, ToldKeys};
 use zone_replies::Transfer;
 use zone_service::JobEnd;
 
-/// A second, in nanoseconds.
-const SECOND: u64 = 1_000_000_000;
+/// Two seconds, in nanoseconds.
+const LIMIT: u64 = 2_000_000_000;
+
+/// The frame of a request of two octets.
+const FRAME: [u8; 4] = [0, 2, 7, 7];
 
 /// What comes of a connection's reads.
 #[derive(Clone, Copy)]
 enum Comes {
     /// Nothing yet.
     Nothing,
+    /// A request, and then nothing yet.
+    Request,
     /// The end.
     End,
     /// A failure.
@@ -36,16 +42,6 @@ enum Comes {
 struct Comer {
     comes: Comes,
     from: SocketAddr,
-}
-
-impl Comer {
-    /// A connection from an asker.
-    fn of(comes: Comes) -> Comer {
-        Comer {
-            comes,
-            from: asker(4711),
-        }
-    }
 }
 
 impl Remote for Comer {
@@ -64,11 +60,19 @@ impl Blocking for Comer {
 
     ghost would_block = { λ _. ⊤ };
 
-    fn read(&mut self, _buf: &mut [u8]) -> Result<usize, Fault> {
+    fn read(&mut self, buf: &mut [u8]) -> Result<usize, Fault> {
         match self.comes {
             Comes::Nothing => Err(Fault::Blocked),
             Comes::End => Ok(0),
             Comes::Failure => Err(Fault::Failed),
+            Comes::Request => {
+                if buf.len() < 4 {
+                    return Err(Fault::Failed);
+                }
+                self.comes = Comes::Nothing;
+                buf[..4].copy_from_slice(&FRAME);
+                Ok(4)
+            }
         }
     }
 
@@ -96,31 +100,28 @@ impl Arrivals for Comers {
     }
 }
 
-/// A poll that tells every key under 8 and of the first place at each turn, whose time goes on by half a second; after so many turns it fails.
+/// A poll that tells these keys at each turn, whose time goes on by so many nanoseconds; after so many turns it fails.
 #[derive(Drop)]
-struct Halves {
+struct Poll {
+    keys: &'static [usize],
+    pace: u64,
     now: u64,
     left: u32,
 }
 
-impl<S: Blocking> Readiness<S> for Halves {
-    ghost time = { λ halves. halves.now };
+impl<S: Blocking> Readiness<S> for Poll {
+    ghost time = { λ poll. poll.now };
 
     fn watch(&mut self, _stream: &mut S, _key: usize) -> Result<(), NotWatched> {
         Ok(())
     }
 
     fn wait(&mut self, _most: u64, keys: &mut Vec<usize>) -> Result<u64, NotWatched> {
-        if self.left == 0 {
+        if self.left == 0 || keys.extend_from_slice(self.keys).is_err() {
             return Err(NotWatched);
         }
         self.left -= 1;
-        for key in [0, 1, 2, 3, 4, 5, 6, 7, usize::MAX] {
-            if keys.push(key).is_err() {
-                return Err(NotWatched);
-            }
-        }
-        self.now = self.now.saturating_add(SECOND / 2);
+        self.now = self.now.saturating_add(self.pace);
         Ok(self.now)
     }
 }
@@ -143,23 +144,26 @@ impl Clock for Steps {
     }
 }
 
-/// One who gives no request a reply.
+/// One who answers later, counts how often one is asked, and may tell the key of the first one's connection.
 #[derive(Drop)]
-struct Silent {
+struct Putting<'a> {
     peer: Peer,
     asker: usize,
+    asked: u32,
+    told: &'a ToldKeys,
+    tells: bool,
 }
 
-impl Answering<Transfer> for Silent {
+impl Answering<Transfer> for Putting<'_> {
     ghost seen = { λ _ _. record { published = []; buried = [] } };
 
-    ghost peer = { λ silent. silent.peer };
+    ghost peer = { λ putting. putting.peer };
 
-    ghost asker = { λ silent. silent.asker };
+    ghost asker = { λ putting. putting.asker };
 
     ghost is_reply = { λ _ _ _ _ _. Unit {0} };
 
-    ghost is_later = { λ _ _. ⊥ };
+    ghost is_later = { λ _ _. ⊤ };
 
     #[tactic(auto, using(connections::proofs::AskedLemmas::each_itself))]
     fn turn_to(&mut self, other: Peer, _from: SocketAddr, key: usize) {
@@ -170,94 +174,193 @@ impl Answering<Transfer> for Silent {
     #[tactic(auto, using(connections::proofs::AskedLemmas::each_itself))]
     fn reply<R: Wait>(
         &mut self,
-        _rt: &R,
+        rt: &R,
         _request: &[u8],
         _out: &mut [u8],
     ) -> Result<Reply<Transfer>, Unmade> {
-        Ok(Reply::Silent)
+        self.asked = self.asked.saturating_add(1);
+        if self.tells && self.asked == 1 {
+            self.told.tell(rt, self.asker);
+        }
+        Err(Unmade::Later)
     }
 }
 
-/// A job over these connections, of which as many may end as `most` says, that takes so many turns at most, by a clock of such steps; how it
-/// ends, where the log is told these lines.
-fn end_of<R: Wait>(
-    rt: &R,
-    alloc: Global,
-    comers: &[Comes],
+/// A job on connections, and what comes of it.
+struct Case {
+    /// What is tried.
+    name: &'static str,
+    /// The connections that come, the last one first.
+    comers: &'static [Comes],
+    /// How many may end.
     most: u64,
+    /// How many turns are taken at most.
     turns: u32,
+    /// What the poll tells at each turn, and by how many nanoseconds its time goes on.
+    keys: &'static [usize],
+    pace: u64,
+    /// By how many milliseconds the log's clock goes on.
     step: u64,
-    told: &str,
-) -> Option<JobEnd> {
-    let mut left = Vec::new(alloc);
-    for comes in comers {
-        left.push(Comer::of(*comes)).ok()?;
+    /// Whether the job hears which replies can be had, and whether the first is told so.
+    hears: bool,
+    tells: bool,
+    /// How the job ends, by `end_of`; what the log is told; how often requests are asked for.
+    end: u64,
+    lines: &'static str,
+    asked: u32,
+}
+
+/// The end of a job whose poll fails.
+const DEVICE: u64 = 1_000;
+
+/// How a job ends: how many connections have ended by then, or `DEVICE` and more.
+fn end_of(end: JobEnd) -> u64 {
+    match end {
+        JobEnd::Done(count) => count,
+        JobEnd::Device => DEVICE,
+        JobEnd::Spent => DEVICE + 1,
+        JobEnd::NoMemory => DEVICE + 2,
     }
-    let mut places = Vec::new(alloc);
-    places
-        .push(Comers {
-            left,
-            has_come: false,
-        })
-        .ok()?;
-    let (muster, progress) = (Muster::new(1), Progress::new(most));
+}
+
+/// Every key under 8, and that of the first place.
+const EACH: &[usize] = &[0, 1, 2, 3, 4, 5, 6, 7, usize::MAX];
+
+const CASES: [Case; 5] = [
+    Case {
+        name: "it ends once so many connections have: by themselves, by failures, and for their delay",
+        comers: &[Comes::End, Comes::Nothing, Comes::Failure],
+        most: 3,
+        turns: 100,
+        keys: EACH,
+        pace: LIMIT / 4,
+        step: 1_000,
+        hears: false,
+        tells: false,
+        end: 3,
+        lines: "worker 3 (TCP): 1 failed;worker 3 (TCP): 1 idle too long;",
+        asked: 0,
+    },
+    Case {
+        name: "it ends where nothing can be waited for",
+        comers: &[Comes::Nothing],
+        most: 9,
+        turns: 3,
+        keys: EACH,
+        pace: LIMIT / 4,
+        step: 1_000,
+        hears: false,
+        tells: false,
+        end: DEVICE,
+        lines: "",
+        asked: 0,
+    },
+    Case {
+        name: "what is lost is told once a second at most",
+        comers: &[Comes::Failure; 5],
+        most: 5,
+        turns: 100,
+        keys: EACH,
+        pace: LIMIT / 4,
+        step: 400,
+        hears: false,
+        tells: false,
+        end: 5,
+        lines: "worker 3 (TCP): 2 failed;worker 3 (TCP): 3 failed;",
+        asked: 0,
+    },
+    Case {
+        name: "a request that waits is asked for once while nothing is told",
+        comers: &[Comes::Request],
+        most: 9,
+        turns: 10,
+        keys: &[],
+        pace: 1,
+        step: 1_000,
+        hears: true,
+        tells: false,
+        end: DEVICE,
+        lines: "",
+        asked: 1,
+    },
+    Case {
+        name: "and once more where its key is told, though its stream isn't ready",
+        comers: &[Comes::Request],
+        most: 9,
+        turns: 10,
+        keys: &[],
+        pace: 1,
+        step: 1_000,
+        hears: true,
+        tells: true,
+        end: DEVICE,
+        lines: "",
+        asked: 2,
+    },
+];
+
+/// The place at which these connections come.
+fn places_of(alloc: Global, comers: &[Comes]) -> Option<Vec<Comers>> {
+    let from = asker(4711);
+    let mut left = Vec::new(alloc);
+    for &comes in comers {
+        left.push(Comer { comes, from }).ok()?;
+    }
+    let has_come = false;
+    Vec::from_array(alloc, [Comers { left, has_come }]).ok()
+}
+
+/// Whether the job of a case ends as it should, with what is told and asked; None where there is no memory for it.
+fn is_done<R: Wait>(rt: &R, alloc: Global, case: &Case) -> Option<bool> {
+    let places = places_of(alloc, case.comers)?;
+    let told = ToldKeys::new(alloc, 8).ok()?;
+    let turns = Turns::new(alloc, 8, 1).ok()?;
+    let scratch = Scratch::new(alloc).ok()?;
+    let (muster, progress) = (Muster::new(1), Progress::new(case.most));
     let clock = Steps {
         read: AtomicU64::new(2),
-        step,
-    };
-    let limits = Limits {
-        idle: 2 * SECOND,
-        message: 2 * SECOND,
-        reply: 2 * SECOND,
+        step: case.step,
     };
     let plan = Plan {
-        limits,
+        limits: Limits {
+            idle: LIMIT,
+            message: LIMIT,
+            reply: LIMIT,
+        },
         allowed: Allowed::new(&[]),
     };
-    let poll = Halves {
+    let poll = Poll {
+        keys: case.keys,
+        pace: case.pace,
         now: 0,
-        left: turns,
+        left: case.turns,
     };
-    let mut job = ConnectionsJob::new(
-        3,
-        poll,
-        places,
-        Turns::new(alloc, 8, 1).ok()?,
-        plan,
-        Standing::new(&muster, &progress),
-        &clock,
-        Scratch::new(alloc).ok()?,
-    );
+    let standing = Standing::new(&muster, &progress);
+    let job = ConnectionsJob::new(3, poll, places, turns, plan, standing, &clock, scratch);
+    let mut job = if case.hears {
+        job.hearing(alloc, &told)
+    } else {
+        job
+    };
     let log = Kept::new(alloc);
-    let mut silent = Silent {
+    let mut putting = Putting {
         peer: Peer::over(Transport::Tcp, false),
         asker: 0,
+        asked: 0,
+        told: &told,
+        tells: case.tells,
     };
-    let end = job.serve(rt, &mut silent, &log);
-    if log.has(rt, told) { Some(end) } else { None }
+    let end = job.serve(rt, &mut putting, &log);
+    Some(end_of(end) == case.end && log.has(rt, case.lines) && putting.asked == case.asked)
 }
 
-// It ends once so many connections have: by themselves, by failures, and for their delay.
 #[test]
-fn a_job_ends_by_its_count(rt: HostRuntime) {
-    let comers = [Comes::End, Comes::Nothing, Comes::Failure];
-    let told = "worker 3 (TCP): 1 failed;worker 3 (TCP): 1 idle too long;";
-    let end = end_of(&rt, rt.alloc(), &comers, 3, 100, 1000, told);
-    assert!(rt; matches!(end, Some(JobEnd::Done(3))));
-}
-
-// It ends where nothing can be waited for.
-#[test]
-fn a_job_ends_by_its_poll(rt: HostRuntime) {
-    let end = end_of(&rt, rt.alloc(), &[Comes::Nothing], 9, 3, 1000, "");
-    assert!(rt; matches!(end, Some(JobEnd::Device)));
-}
-
-// What is lost is told once a second at most.
-#[test]
-fn losses_are_told_once_a_second(rt: HostRuntime) {
-    let comers = [Comes::Failure; 5];
-    let told = "worker 3 (TCP): 2 failed;worker 3 (TCP): 3 failed;";
-    let end = end_of(&rt, rt.alloc(), &comers, 5, 100, 400, told);
-    assert!(rt; matches!(end, Some(JobEnd::Done(5))));
+fn a_job_on_connections(rt: HostRuntime) {
+    for case in &CASES {
+        assert!(rt;
+            is_done(&rt, rt.alloc(), case) == Some(true),
+            "{}",
+            case.name
+        );
+    }
 }

@@ -1,4 +1,4 @@
-use Rattle.std.proofs.Common.{ℕ, List, true, false, ◌==◌, ◌≡◌, ◌<◌, Result, IfErr, OnOk, inr, sym, subst, map, length, arith}
+use Rattle.std.proofs.Common.{ℕ, List, true, false, ◌==◌, ◌≡◌, ◌<◌, Result, Err, IfErr, OnOk, ap, ◌∙◌, inr, sym, subst, map, length, arith}
 use Rattle.std.proofs.lemmas.Bool.Decides.{nat_tests}
 use Rattle.record_text.specs.declared.cause.Cause.{Cause}
 use Rattle.zone_lexing.specs.declared.word.Word.{Word}
@@ -43,4 +43,4 @@ returns-in-Some-clause-fault c =
     c.put_fields.ensures.fault
 
 pub returns-in-None-clause-fault : goal.returns-in-None-clause-fault
-returns-in-None-clause-fault c = inr (words_unknown c.args.rtype.0 c.args.origin.now (map written c.args.words.now) c.if-eq.ensures (sym c.in-None.ensures))
+returns-in-None-clause-fault c = inr (words_unknown c.args.rtype.0 c.args.origin.now (map written c.args.words.now) c.if-eq.ensures (sym c.in-None.ensures) ∙ ap Err (sym c.unmarked.ensures))

@@ -7,14 +7,18 @@ use denote.RattleType.{RattleType}
 use Rattle.std.proofs.Crossing as crossing
 use Rattle.std.proofs.option.Option.TheSendSync as option
 use Rattle.std.specs.contracts.option.Option as Option
+use Rattle.rtrb.proofs.end.End.TheSendSync as end
+use Rattle.rtrb.proofs.producer.Producer.TheSendSync as producer
+use Rattle.rtrb.proofs.consumer.Consumer.TheSendSync as consumer
 use Rattle.snapshot_cell.proofs.SendLemmas as cell
 use Rattle.snapshot_cell.specs.declared.named.Naming as naming
 use Rattle.snapshot_tests.specs.contracts.counted.Counted as counted
 use Rattle.snapshot_tests.specs.contracts.counted.Tally as tally
+use Rattle.snapshot_tests.specs.contracts.jobs.Back as back
+use Rattle.snapshot_tests.specs.contracts.jobs.Copier as copier
 use Rattle.snapshot_tests.specs.contracts.jobs.Job as job
-use Rattle.snapshot_tests.specs.contracts.players.Loader as loader
-use Rattle.snapshot_tests.specs.contracts.players.Ran as ran
-use Rattle.snapshot_tests.specs.contracts.players.Teller as teller
+use Rattle.snapshot_tests.specs.contracts.jobs.Raiser as raiser
+use Rattle.snapshot_tests.specs.contracts.named.Teller as teller
 use Rattle.snapshot_tests.proofs.jobs.run_all.Goals as goal
 
 tally_send : IsSend tally.the_row
@@ -30,24 +34,27 @@ counted_sync : IsSync counted.the_row
 counted_sync = search (tally_send, tally_sync, crossing.crosses, sendable) depth 60 fits 20000
 
 module _ (N : RattleType) (n : naming.Ghosts N.Denot) where
-  ran_send : IsSend (ran.the_row N n)
-  ran_send = search (option.the_field_send, cell.crosses, crossing.crosses, sendable) depth 60 fits 20000
-
-  back_send : IsSend (Option.the_row (ran.the_row N n))
-  back_send = search (ran_send, option.the_send, sendable) depth 60 fits 20000
-
   module _ (a : NamedLft) where
-    loader_send : IsSend (loader.the_field a N n).row
-    loader_send = search (counted_send, counted_sync, cell.crosses, crossing.crosses, sendable) depth 60 fits 20000
-
     teller_send : IsSend (teller.the_field a N n).row
-    teller_send = search (counted_send, counted_sync, tally_send, tally_sync, cell.crosses, crossing.crosses, sendable) depth 60 fits 20000
+    teller_send = search (counted_send, counted_sync, tally_send, tally_sync, option.the_field_send, producer.the_field_send, producer.the_send, cell.crosses, crossing.crosses, sendable) depth 60 fits 20000
+
+    back_send : IsSend (back.the_row a N n)
+    back_send = search (teller_send, counted_send, counted_sync, cell.crosses, sendable) depth 60 fits 20000
+
+    ran_send : IsSend (Option.the_row (back.the_row a N n))
+    ran_send = search (back_send, option.the_send, sendable) depth 60 fits 20000
+
+    copier_send : IsSend (copier.the_field a N n).row
+    copier_send = search (counted_send, counted_sync, tally_send, tally_sync, cell.crosses, crossing.crosses, sendable) depth 60 fits 20000
+
+    raiser_send : IsSend (raiser.the_field a N n).row
+    raiser_send = search (counted_send, counted_sync, tally_send, tally_sync, consumer.the_field_send, cell.crosses, crossing.crosses, sendable) depth 60 fits 20000
 
     jobs_send : IsSend (job.the_row a N n)
-    jobs_send = search (loader_send, teller_send, counted_send, counted_sync, cell.crosses, sendable) depth 60 fits 20000
+    jobs_send = search (copier_send, raiser_send, teller_send, counted_send, counted_sync, tally_send, tally_sync, cell.crosses, crossing.crosses, sendable) depth 60 fits 20000
 
 pub map_vec-requires-send-J : goal.map_vec-requires-send-J
 map_vec-requires-send-J g c κs within = param_send _ _ (arg_send _ no _ (jobs_send (param 1 g.row.N) g.N.Naming _))
 
 pub map_vec-requires-send-X : goal.map_vec-requires-send-X
-map_vec-requires-send-X g c κs within = param_send _ _ (arg_send _ no _ (back_send (param 1 g.row.N) g.N.Naming))
+map_vec-requires-send-X g c κs within = param_send _ _ (arg_send _ no _ (ran_send (param 1 g.row.N) g.N.Naming _))

@@ -1,0 +1,215 @@
+//! What the options of `serve` ask for.
+ghost use Rattle.std.specs.Prelude.{◌≡◌, ◌+◌, ◌*◌, ◌-◌, ◌^◌, ◌<◌, ◌≤◌, [], vec_len, IsNone, IfOk};
+ghost use Rattle.std.specs.Result.{IsOkAnd};
+ghost use Rattle.command_line.specs.Patience.{IsPatience};
+ghost use Rattle.transfer_core.specs.declared.kept.TheConstants.{KEPT};
+
+use crate::command::{KEEP, MAX_KEEP, number_for};
+use crate::fault::CommandFault;
+use crate::secondaries::{Secondary, secondaries_of};
+use crate::store_options::{StorePlan, store_of};
+use clap::ArgMatches;
+use commands::Source;
+use dns_name::Name;
+use links::Limits;
+use std::alloc::{AllocError, Global};
+use std::net::{IpAddr, SocketAddr};
+
+/// A zone to be served, and how.
+#[derive(Drop)]
+pub struct Serve<'a> {
+    /// Where the zone's text comes from.
+    pub zone: Source<'a>,
+    /// The origin at the start of the zone's text.
+    pub origin: Name,
+    /// The addresses and the ports, each for datagrams and for connections.
+    pub listen: Vec<SocketAddr>,
+    /// How many workers there are; each has a thread for connections, and one for the datagrams of each address.
+    pub workers: usize,
+    /// How many older versions are kept beside the newest; at most [`MAX_KEEP`].
+    pub keep: usize,
+    /// After how many datagrams and connections, together, a worker ends.
+    pub most: u64,
+    /// The addresses that may update and transfer.
+    pub allowed: Vec<IpAddr>,
+    /// How many connections a worker may have open.
+    pub places: usize,
+    /// How long each may wait for its peer.
+    pub limits: Limits,
+    /// The secondaries that are told of each version; a thread tells them.
+    pub secondaries: Vec<Secondary>,
+    /// The folder in which updates last, if there is one.
+    pub store: Option<StorePlan<'a>>,
+    ghost few_kept: { keep ≤ KEPT },
+    ghost some_workers: { 0 < workers },
+    ghost few_threads: { workers * (vec_len listen + 1) ≤ 62 },
+    ghost some_places: { 0 < places },
+    ghost few_places: { places ≤ 100000 },
+    ghost idle: { IsPatience limits.idle },
+    ghost message: { IsPatience limits.message },
+    ghost reply: { IsPatience limits.reply },
+}
+
+/// The option for an address to listen on.
+pub const LISTEN: &str = "listen";
+
+/// The option for how many workers there are.
+pub const WORKERS: &str = "workers";
+
+/// The most workers.
+const MAX_WORKERS: usize = 31;
+
+/// The most threads of all workers, since each has a reader of the zone's versions; the engine has one more, and who judges updates another.
+pub const MAX_THREADS: usize = 62;
+
+/// The option for who may update and transfer.
+pub const ALLOW: &str = "allow";
+
+/// The option for after how many datagrams and connections a worker ends.
+pub const COUNT: &str = "count";
+
+/// The option for how many connections a worker may have open.
+pub const CONNECTIONS: &str = "connections";
+
+/// The most connections that a worker may have open.
+const MAX_CONNECTIONS: usize = 100_000;
+
+/// The options for how many seconds a connection may be idle, and a request and the taking of a reply may take.
+pub const IDLE: &str = "idle";
+
+pub const MESSAGE: &str = "message";
+
+pub const REPLY: &str = "reply";
+
+/// The most seconds of each.
+const MAX_SECONDS: usize = 3_600;
+
+/// The seconds of each where the option isn't given.
+const SECONDS: usize = 10;
+
+/// What the options ask for.
+pub fn serve_of<'a>(
+    alloc: Global,
+    found: &ArgMatches<'a>,
+    zone: Source<'a>,
+    origin: Name,
+) -> Result<Serve<'a>, CommandFault<'a>> {
+    let listen = listened(alloc, found)?;
+    let workers = number_for(found.get_str(WORKERS), WORKERS, 1, MAX_WORKERS, 4)?;
+    let secondaries = secondaries_of(alloc, found)?;
+    let threads = threads_beside(secondaries.as_slice());
+    if listen.len() >= threads || workers * (listen.len() + 1) > threads {
+        return Err(CommandFault::Threads(workers, listen.len()));
+    }
+    let keep = number_for(found.get_str(KEEP), KEEP, 0, MAX_KEEP, MAX_KEEP)?;
+    let allowed = addresses_of(alloc, found.get_str(ALLOW).unwrap_or(""))?;
+    let most = count_of(found.get_str(COUNT))?;
+    let places = number_for(
+        found.get_str(CONNECTIONS),
+        CONNECTIONS,
+        1,
+        MAX_CONNECTIONS,
+        1000,
+    )?;
+    let limits = limits_of(found)?;
+    let store = store_of(found)?;
+    Ok(Serve {
+        zone,
+        origin,
+        listen,
+        workers,
+        keep,
+        most,
+        allowed,
+        places,
+        limits,
+        secondaries,
+        store,
+    })
+}
+
+/// The most threads of all workers, beside the one that tells secondaries, where there are any.
+fn threads_beside(secondaries: &[Secondary]) -> usize
+    ensures { result ≤ 62 }
+{
+    if secondaries.is_empty() {
+        MAX_THREADS
+    } else {
+        MAX_THREADS - 1
+    }
+}
+
+/// The addresses and ports to listen on.
+fn listened<'a>(
+    alloc: Global,
+    found: &ArgMatches<'a>,
+) -> Result<Vec<SocketAddr>, CommandFault<'a>> {
+    let mut listen = Vec::new(alloc);
+    let Some(words) = found.get_strs(LISTEN) else {
+        return Ok(listen);
+    };
+    for word in words {
+        let Ok(address) = word.parse::<SocketAddr>() else {
+            return Err(CommandFault::Listen(*word));
+        };
+        if listen.push(address).is_err() {
+            return Err(CommandFault::from(AllocError));
+        }
+    }
+    Ok(listen)
+}
+
+/// How long connections may wait for their peers.
+fn limits_of<'a>(found: &ArgMatches<'a>) -> Result<Limits, CommandFault<'a>>
+    ensures idle { IfOk result (λ limits. IsPatience limits.idle) }
+    ensures message { IfOk result (λ limits. IsPatience limits.message) }
+    ensures reply { IfOk result (λ limits. IsPatience limits.reply) }
+{
+    Ok(Limits {
+        idle: nanos_for(found.get_str(IDLE), IDLE)?,
+        message: nanos_for(found.get_str(MESSAGE), MESSAGE)?,
+        reply: nanos_for(found.get_str(REPLY), REPLY)?,
+    })
+}
+
+/// A time in nanoseconds, by the seconds that a word gives an option.
+fn nanos_for<'a>(word: Option<&'a str>, option: &'static str) -> Result<u64, CommandFault<'a>>
+    ensures { IfOk result (λ nanos. IsPatience nanos) }
+{
+    let seconds = number_for(word, option, 1, MAX_SECONDS, SECONDS)?;
+    Ok(seconds as u64 * 1_000_000_000)
+}
+
+/// After how many datagrams and connections a worker ends, by the option's word; without one it never does.
+fn count_of<'a>(word: Option<&'a str>) -> Result<u64, CommandFault<'a>>
+    ensures { IsNone word.entry → IsOkAnd result (λ most. most ≡ 2 ^ 64 - 1) }
+{
+    let Some(word) = word else {
+        return Ok(u64::MAX);
+    };
+    word.parse::<u64>().map_err(|_| CommandFault::Number {
+        option: COUNT,
+        word,
+        least: 0,
+        most: u64::MAX,
+    })
+}
+
+/// The addresses of a list with commas between them; none of an empty one.
+fn addresses_of<'a>(alloc: Global, list: &'a str) -> Result<Vec<IpAddr>, CommandFault<'a>>
+    ensures { list.entry.now ≡ [] → IsOkAnd result (λ addresses. addresses.items ≡ []) }
+{
+    let mut addresses = Vec::new(alloc);
+    if list.is_empty() {
+        return Ok(addresses);
+    }
+    for word in list.split(',') {
+        let Ok(address) = word.parse::<IpAddr>() else {
+            return Err(CommandFault::Allow(word));
+        };
+        if addresses.push(address).is_err() {
+            return Err(CommandFault::from(AllocError));
+        }
+    }
+    Ok(addresses)
+}

@@ -1,0 +1,105 @@
+//! What the options of `serve` for updates that last ask for.
+ghost use Rattle.std.specs.Prelude.{◌≡◌, ◌≤◌, IsNone, IfOk};
+ghost use Rattle.std.specs.Result.{IsOkAnd};
+
+use crate::fault::CommandFault;
+use clap::ArgMatches;
+use stores::Take;
+
+/// A folder in which updates last, and how.
+#[derive(Clone, Copy, Debug)]
+pub struct StorePlan<'a> {
+    /// The folder.
+    pub dir: &'a str,
+    /// How many octets its journal has before a new zone text is written, and the journal begun anew behind it.
+    pub journal: u64,
+    /// Which is taken where the zone's text is another one than the store was begun from.
+    pub taken: Option<Take>,
+}
+
+/// The option for the folder in which updates last.
+pub const STORE: &str = "store";
+
+/// The option for how many octets a journal has before it is begun anew.
+pub const JOURNAL: &str = "journal";
+
+/// How many it has where the option isn't given (own).
+const JOURNAL_SIZE: u64 = 64_000_000;
+
+/// The least and the most octets that the option takes (own).
+const LEAST_SIZE: u64 = 4_096;
+
+const MOST_SIZE: u64 = 1_099_511_627_776;
+
+/// The option for which is taken, the store or the zone's text.
+pub const TAKE: &str = "take";
+
+/// The folder in which updates last, if there is one.
+pub fn store_of<'a>(found: &ArgMatches<'a>) -> Result<Option<StorePlan<'a>>, CommandFault<'a>> {
+    let journal = size_of(found.get_str(JOURNAL))?;
+    let taken = taken_of(found.get_str(TAKE))?;
+    if let Some(dir) = found.get_str(STORE) {
+        return Ok(Some(StorePlan {
+            dir,
+            journal,
+            taken,
+        }));
+    }
+    if found.get_str(JOURNAL).is_some() {
+        return Err(CommandFault::NoStore(JOURNAL));
+    }
+    if found.get_str(TAKE).is_some() {
+        return Err(CommandFault::NoStore(TAKE));
+    }
+    Ok(None)
+}
+
+/// How many octets a word tells: a number, and behind it K, M or G, or k, m or g, for 1,024 times as many once, twice or three times; the option's own where there is
+/// no word.
+fn size_of<'a>(word: Option<&'a str>) -> Result<u64, CommandFault<'a>>
+    ensures own { IsNone word.entry → IsOkAnd result (λ size. size ≡ 64000000) }
+    ensures least { IfOk result (λ size. 4096 ≤ size) }
+    ensures most { IfOk result (λ size. size ≤ 1099511627776) }
+{
+    let Some(word) = word else {
+        return Ok(JOURNAL_SIZE);
+    };
+    let (digits, unit) = unit_of(word);
+    match digits.parse::<u64>() {
+        Ok(number) => match number.checked_mul(unit) {
+            Some(size) if LEAST_SIZE <= size && size <= MOST_SIZE => Ok(size),
+            _ => Err(CommandFault::Size(word)),
+        },
+        Err(_) => Err(CommandFault::Size(word)),
+    }
+}
+
+/// A word without its last letter where that is one for a unit, and how many octets the unit has.
+fn unit_of(word: &str) -> (&str, u64) {
+    let units = [
+        ('K', 1u64 << 10),
+        ('k', 1 << 10),
+        ('M', 1 << 20),
+        ('m', 1 << 20),
+        ('G', 1 << 30),
+        ('g', 1 << 30),
+    ];
+    for (letter, unit) in units {
+        if let Some(digits) = word.strip_suffix(letter) {
+            return (digits, unit);
+        }
+    }
+    (word, 1)
+}
+
+/// Which of the two a word takes; neither where there is none.
+fn taken_of<'a>(word: Option<&'a str>) -> Result<Option<Take>, CommandFault<'a>>
+    ensures { IsNone word.entry → IsOkAnd result IsNone }
+{
+    match word {
+        None => Ok(None),
+        Some("store") => Ok(Some(Take::Store)),
+        Some("zone") => Ok(Some(Take::Zone)),
+        Some(word) => Err(CommandFault::Take(word)),
+    }
+}

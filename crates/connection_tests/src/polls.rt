@@ -1,0 +1,156 @@
+//! Polls that are made up, and where connections come in.
+
+use crate::pieces::{Behind, Pieces, address};
+use connections::Blocking;
+use std::alloc::{AllocError, Global};
+use std::cell::Cell;
+use turns::{Arrivals, Finished, NotWatched, Readiness, Refusal};
+
+/// A poll that tells readiness that isn't there, of keys that nobody has, and whose time is the test's.
+#[derive(Drop)]
+pub(crate) struct Poll {
+    /// Under how many each key is told by each wait, with as many that nobody has, the first of which is the first place's.
+    pub(crate) keys: usize,
+    /// How far the key that is told is from that which is watched, and is told once: 0, or so much that nobody has it.
+    pub(crate) beside: usize,
+    pub(crate) watches: bool,
+    /// How many waits don't fail.
+    pub(crate) waits: u32,
+    /// By how much its time goes on at a wait, at most.
+    pub(crate) step: u64,
+    pub(crate) now: u64,
+    pub(crate) told: Vec<usize>,
+}
+
+impl Poll {
+    /// One that tells each key under so many again and again, and never fails.
+    pub(crate) fn new(alloc: Global, keys: usize) -> Poll {
+        Poll {
+            keys,
+            beside: 0,
+            watches: true,
+            waits: u32::MAX,
+            step: 1,
+            now: 0,
+            told: Vec::new(alloc),
+        }
+    }
+
+    /// Puts the keys that it tells behind others.
+    fn tell(&mut self, keys: &mut Vec<usize>) -> Result<(), AllocError> {
+        for key in 0..self.keys {
+            keys.push(key)?;
+            keys.push(usize::MAX - key)?;
+        }
+        keys.extend_from_slice(&self.told)?;
+        self.told.clear();
+        Ok(())
+    }
+}
+
+impl<S: Blocking> Readiness<S> for Poll {
+    ghost time = { λ poll. poll.now };
+
+    fn watch(&mut self, _stream: &mut S, key: usize) -> Result<(), NotWatched> {
+        let told = key.saturating_add(self.beside);
+        if !self.watches || self.told.push(told).is_err() {
+            return Err(NotWatched);
+        }
+        Ok(())
+    }
+
+    fn wait(&mut self, most: u64, keys: &mut Vec<usize>) -> Result<u64, NotWatched> {
+        if self.waits == 0 || self.tell(keys).is_err() {
+            return Err(NotWatched);
+        }
+        self.waits = self.waits.saturating_sub(1);
+        self.now = self.now.saturating_add(self.step.min(most.max(1)));
+        Ok(self.now)
+    }
+}
+
+/// What tells the key that the test has put there, once.
+#[derive(Drop)]
+pub(crate) struct Told<'a> {
+    pub(crate) key: &'a Cell<Option<usize>>,
+}
+
+impl Finished for Told<'_> {
+    fn next(&mut self) -> Option<usize> {
+        self.key.take()
+    }
+}
+
+/// Connections that come one after another, with a failed one in front of each, from 192.0.2.1 and 192.0.2.2 by turns; and at first some for
+/// which there is no room.
+#[derive(Drop)]
+pub(crate) struct Comers<'a> {
+    pub(crate) alloc: Global,
+    /// How many come.
+    pub(crate) count: u8,
+    /// The octets that come on every other one, and those on the others, so many times.
+    pub(crate) even: &'a [u8],
+    pub(crate) odd: &'a [u8],
+    pub(crate) times: usize,
+    /// How many octets of one come or go at once, or up to two more.
+    pub(crate) size: usize,
+    pub(crate) may_block: bool,
+    pub(crate) behind: Behind,
+    pub(crate) no_room: u32,
+    pub(crate) is_odd: bool,
+    /// Why none comes behind them.
+    pub(crate) last: Refusal,
+}
+
+impl<'a> Comers<'a> {
+    /// So many on which these octets come, once, in pieces.
+    pub(crate) fn new(alloc: Global, count: u8, octets: &'a [u8]) -> Comers<'a> {
+        Comers {
+            alloc,
+            count,
+            even: octets,
+            odd: octets,
+            times: 1,
+            size: 1,
+            may_block: true,
+            behind: Behind::Nothing,
+            no_room: 0,
+            is_odd: false,
+            last: Refusal::Blocked,
+        }
+    }
+}
+
+impl<'a> Arrivals for Comers<'a> {
+    type Stream = Pieces;
+
+    fn take(&mut self) -> Result<Pieces, Refusal> {
+        if self.no_room > 0 {
+            self.no_room -= 1;
+            return Err(Refusal::Room);
+        }
+        self.is_odd = !self.is_odd;
+        if self.is_odd {
+            return Err(Refusal::Client);
+        }
+        if self.count == 0 {
+            return Err(self.last);
+        }
+        self.count -= 1;
+        let octets = if self.count % 2 == 0 {
+            self.even
+        } else {
+            self.odd
+        };
+        match Pieces::new(self.alloc, octets, self.times) {
+            Ok(stream) => Ok(Pieces {
+                from: address(1 + self.count % 2),
+                size: self.size.saturating_add(usize::from(self.count % 3)),
+                may_block: self.may_block,
+                behind: self.behind,
+                ..stream
+            }),
+            Err(_) => Err(Refusal::Room),
+        }
+    }
+}

@@ -1,0 +1,103 @@
+//! A worker with what it takes turns by.
+
+use crate::echo::{Both, Echo};
+use connections::Blocking;
+use conversation::Allowed;
+use links::Limits;
+use std::alloc::{AllocError, Global};
+use std::io::{self, ErrorKind};
+use std::net::{IpAddr, Ipv4Addr};
+use std::sync::Wait;
+use turns::{Arrivals, Plan, Readiness, Remote, TurnEnd, Turns};
+
+/// A second, in nanoseconds.
+pub(crate) const SECOND: u64 = 1_000_000_000;
+
+/// Who may update: 192.0.2.1 alone.
+fn may() -> [IpAddr; 1] {
+    [IpAddr::V4(Ipv4Addr::new(192, 0, 2, 1))]
+}
+
+/// Ten seconds for everything, and who may update.
+fn plan(addresses: &[IpAddr]) -> Plan<'_> {
+    Plan {
+        limits: Limits {
+            idle: 10 * SECOND,
+            message: 10 * SECOND,
+            reply: 10 * SECOND,
+        },
+        allowed: Allowed::new(addresses),
+    }
+}
+
+/// A worker with a poll, one place where connections come in, and one who answers.
+#[derive(Drop)]
+pub(crate) struct Running<S: Drop, P, L> {
+    pub(crate) turns: Turns<S, Both>,
+    pub(crate) poll: P,
+    pub(crate) places: Vec<L>,
+    pub(crate) echo: Echo,
+    room: Vec<u8>,
+    out: Vec<u8>,
+}
+
+impl<S: Blocking + Remote + Drop, P: Readiness<S> + Drop, L: Arrivals<Stream = S> + Drop> Running<
+    S,
+    P,
+    L,
+> {
+    /// One of eight places.
+    pub(crate) fn new(alloc: Global, poll: P, place: L) -> Result<Running<S, P, L>, AllocError> {
+        let mut places = Vec::new(alloc);
+        places.push(place)?;
+        Ok(Running {
+            turns: Turns::new(alloc, 8, 1)?,
+            poll,
+            places,
+            echo: Echo::new(u32::MAX),
+            room: vec![in alloc; 0; 4_096]?,
+            out: vec![in alloc; 0; 65_535]?,
+        })
+    }
+
+    /// Takes so many turns.
+    pub(crate) fn turn<R: Wait>(&mut self, rt: &R, count: usize) -> io::Result<()> {
+        let addresses = may();
+        for _turn in 0..count {
+            if self.room.is_empty() || self.out.len() < 65_535 {
+                return Err(io::Error::from(ErrorKind::InvalidInput));
+            }
+            let turned = self.turns.turn(
+                rt,
+                &mut self.poll,
+                plan(&addresses),
+                &mut self.places,
+                &mut self.echo,
+                &mut self.room,
+                &mut self.out,
+            );
+            if turned.is_err() {
+                return Err(io::Error::from(ErrorKind::Other));
+            }
+        }
+        Ok(())
+    }
+
+    /// Takes turns until so many connections have given their places, or no more turns can be taken.
+    pub(crate) fn run<R: Wait>(&mut self, rt: &R, gone: u64) -> Result<(), TurnEnd> {
+        if self.room.is_empty() || self.out.len() < 65_535 {
+            return Err(TurnEnd::NoMemory);
+        }
+        let addresses = may();
+        self.turns.run(
+            rt,
+            &mut self.poll,
+            plan(&addresses),
+            &mut self.places,
+            &mut self.echo,
+            gone,
+            &mut self.room,
+            &mut self.out,
+        )
+    }
+}

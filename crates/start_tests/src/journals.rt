@@ -1,0 +1,69 @@
+//! Updates for the tests, and journals of them.
+use dns_name::Name;
+use journal::{Head, TextSum, put_update, write_frame, write_head};
+use master_file::read_zone;
+use std::alloc::Global;
+use std::test::Fail;
+use stores::begin_store;
+
+/// An A record of 192.0.2.1 at a.example, added by an update that Python put together (RFC 2136, 2).
+pub(crate) const ADD_A: &str =
+    "000128000001000000010000076578616d706c6500000600010161076578616d706c6500000100010000012c0004c0000201";
+
+/// One of 192.0.2.2 at b.example.
+pub(crate) const ADD_B: &str =
+    "000128000001000000010000076578616d706c6500000600010162076578616d706c6500000100010000012c0004c0000202";
+
+/// One more of 192.0.2.3 at a.example.
+pub(crate) const ADD_MORE: &str =
+    "000128000001000000010000076578616d706c6500000600010161076578616d706c6500000100010000012c0004c0000203";
+
+/// All at b.example deleted.
+pub(crate) const DELETE_B: &str =
+    "000128000001000000010000076578616d706c6500000600010162076578616d706c650000ff00ff000000000000";
+
+/// All A records at a.example deleted.
+pub(crate) const DELETE_A: &str =
+    "000128000001000000010000076578616d706c6500000600010161076578616d706c6500000100ff000000000000";
+
+/// A zone text, of serial 7.
+pub(crate) const ZONE: &str = "example. 3600 IN SOA ns.example. host.example. 7 1 1 1 1
+example. 3600 IN NS ns.example.
+";
+
+/// The head of a store that is begun from a zone text, which is written as it was given.
+pub(crate) fn head_of(alloc: Global, zone: &str) -> Result<Head, Fail> {
+    let Ok(read) = read_zone(alloc, zone.as_bytes(), &Name::root()) else {
+        return Err(Fail::from("no zone"));
+    };
+    let origin = TextSum::of(b"as it was given");
+    let (text, head) = begin_store(alloc, &read, 3, [9; 16], origin)?;
+    if text.as_str() == zone {
+        return Ok(head);
+    }
+    Err(Fail::from("another text is written"))
+}
+
+/// The batch of these updates.
+fn batch_of(alloc: Global, messages: &[&str]) -> Result<Vec<u8>, Fail> {
+    let mut batch = Vec::new(alloc);
+    for message in messages {
+        let update = hex::decode(alloc, message.as_bytes())?;
+        if update.len() < 65_536 {
+            put_update(&mut batch, &update)?;
+        }
+    }
+    Ok(batch)
+}
+
+/// The journal of these batches, under the head of a store that is begun from a zone text.
+pub(crate) fn journal_of(alloc: Global, zone: &str, batches: &[&[&str]]) -> Result<Vec<u8>, Fail> {
+    let (mut octets, salt) = write_head(alloc, &head_of(alloc, zone)?)?;
+    for (number, messages) in batches.iter().enumerate() {
+        let batch = batch_of(alloc, messages)?;
+        if batch.len() < 1 << 32 {
+            octets.extend_from_slice(&write_frame(alloc, &salt, number as u64, &batch)?)?;
+        }
+    }
+    Ok(octets)
+}

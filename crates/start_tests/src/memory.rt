@@ -1,0 +1,49 @@
+//! Starts for which memory is refused.
+use dns_name::Name;
+use dns_rdata::Serial;
+use journal::TextSum;
+use master_file::{Cause, FileFault};
+use std::alloc::Global;
+use std::test::Fail;
+use stores::{Choice, Take, begin_store, choose};
+
+/// A zone text, of serial 11.
+const GIVEN: &[u8] = b"example. 60 IN SOA ns.example. host.example. 11 1 1 1 1
+example. 60 IN NS ns.example.
+";
+
+/// Want of memory, which is told on no line.
+const NO_MEMORY: FileFault = FileFault {
+    line: 0,
+    cause: Cause::NoMemory,
+};
+
+/// What is chosen of a store that was begun from a text, of serial 10, and the zone text of the tests.
+fn choice_of(alloc: Global, begun: &[u8], taken: Option<Take>) -> Result<Choice, FileFault> {
+    let begun = TextSum::of(begun);
+    choose(alloc, &begun, Serial(10), GIVEN, &Name::root(), taken)
+}
+
+/// Whether a start's choices are told, and a store begun, as they are with ample memory; None where memory is refused. The store that the text began, and one that is
+/// taken, want none.
+fn begun_and_chosen(alloc: Global) -> Option<bool> {
+    let same = matches!(choice_of(alloc, GIVEN, None), Ok(Choice::Same));
+    let store = matches!(choice_of(alloc, b"", Some(Take::Store)), Ok(Choice::Store));
+    match choice_of(alloc, b"", Some(Take::Zone)) {
+        Ok(Choice::Zone(zone)) => {
+            let (text, head) = begin_store(alloc, &zone, 2, [7; 16], TextSum::of(GIVEN)).ok()?;
+            let begun = text.as_bytes() == GIVEN && head.text.is_of(GIVEN) && head.serial == 11;
+            Some(same && store && begun)
+        }
+        Err(fault) if fault == NO_MEMORY && same && store => None,
+        _ => Some(false),
+    }
+}
+
+// Where a request for memory is refused, that is what is told, and nothing else.
+#[test]
+fn memory_is_refused(rt: HostRuntime) -> Result<(), Fail> {
+    let told = begun_and_chosen(rt.alloc());
+    assert!(rt; told != Some(false));
+    Ok(())
+}
