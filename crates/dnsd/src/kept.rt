@@ -94,6 +94,13 @@ fn tell_refusal<R: Eprint>(
             )?;
             Ok(REFUSED)
         }
+        Refusal::NotNewer { has, given } => {
+            let (has, given) = (has.0, given.0);
+            eprintln!(rt;
+                "error: --take zone needs a serial greater than the store's: the zone's text has {given}, the store '{dir}' has {has}: raise the text's serial, or serve the store by --take store"
+            )?;
+            Ok(REFUSED)
+        }
         Refusal::Text(fault) => {
             let mut errors = Vec::new(alloc);
             let status = tell(alloc, Err(Fault::Zone(fault)), text, &mut errors);
