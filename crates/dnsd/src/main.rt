@@ -17,7 +17,7 @@ pub mod stored;
 pub mod zone_file;
 
 use command_line::{Task, parse_words, tell_fault};
-use commands::{Command, FAILED, Source, run_text, run_with_zone, tell};
+use commands::{Command, FAILED, Source, run_text, run_with_zone, tell_of};
 use serve::run_serve;
 use std::env;
 use std::fs::{File, Files};
@@ -112,5 +112,11 @@ fn run_with_file<R: Files + Eprint + AllocGlobal, I: BufRead, O: Write + Drop>(
         return Ok(FAILED);
     };
     let done = run_with_zone(alloc, command, text.as_slice(), input, output);
-    Ok(tell(alloc, done, text.as_slice(), errors))
+    Ok(tell_of(
+        alloc,
+        done,
+        Source::File(path),
+        text.as_slice(),
+        errors,
+    ))
 }
