@@ -204,18 +204,18 @@ const SERVE_WORDS: &[WordRow] = &[
     },
     WordRow {
         name: IDLE,
-        form: Form::Default("SECONDS", "10"),
-        help: "how long a connection may be idle, from 1 to 3600",
+        form: Form::Default("TIME", "10"),
+        help: "how long a connection may be idle, from 1 to 3600 seconds, as 30, 30s or 5m",
     },
     WordRow {
         name: MESSAGE,
-        form: Form::Default("SECONDS", "10"),
-        help: "how long a request may take to come whole, from 1 to 3600",
+        form: Form::Default("TIME", "10"),
+        help: "how long a request may take to come whole, the same",
     },
     WordRow {
         name: REPLY,
-        form: Form::Default("SECONDS", "10"),
-        help: "how long the taking of a reply, or of a part of it, may take, from 1 to 3600",
+        form: Form::Default("TIME", "10"),
+        help: "how long the taking of a reply, or of a part of it, may take, the same",
     },
 ];
 
