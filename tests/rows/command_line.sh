@@ -54,6 +54,21 @@ row 0 'x.x.test. 300 IN NS ns.x.test.' check --origin X.test -
 row 0 'x.x.test. 300 IN NS ns.x.test.' check --origin x.test. -
 row 2 "'a..b' is no name for --origin" answer --origin a..b -
 
+# a zone at the root for which no origin is given: check and answer print a warning on standard error, after what they print else, and end as
+# ever; where the root is given, where the apex is another, where the zone is refused, and of the other commands there is none
+warning="warning: the zone's apex is the root: names without a final dot are below it; --origin NAME gives another origin"
+input=$'@ 300 SOA ns admin 1 7200 900 1209600 300\n@ 300 NS ns\n'
+written=$'. 300 IN SOA ns. admin. 1 7200 900 1209600 300\n. 300 IN NS ns.'
+row 0 "$written"$'\n'"$warning"$'\n' check -
+prints "$written" check --origin . -
+printf '%s' "$input" >"$room/zone"
+input=
+row 0 "$warning" answer "$room/zone"
+prints '' answer --origin . "$room/zone"
+prints '' steps "$room/zone"
+input=$'@ 300 SOA ns admin 1 7200 900 1209600 300\n'
+says 1 $'line 0: M11 Apex\nthe zone has no SOA, or no NS at the owner of its SOA' check -
+
 # what serve takes
 input=
 row 2 "--listen takes an address and a port, as 127.0.0.1:5353 or [::1]:5353, and 'localhost' is none" serve --listen localhost "$zone"

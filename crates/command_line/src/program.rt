@@ -56,8 +56,8 @@ struct CommandRow {
 /// The origin of a zone's text.
 const ORIGIN_ROW: WordRow = WordRow {
     name: ORIGIN,
-    form: Form::Default("NAME", "."),
-    help: "the origin at the start of the zone's text",
+    form: Form::Value("NAME"),
+    help: "the origin at the start of the zone's text; the root where it isn't given",
 };
 
 /// Where a zone's text comes from.
