@@ -113,7 +113,10 @@ impl<T: Drop> LogQueue<T> {
         }
         match at_most {
             None => mem::drop(self.added.wait_while(rt, state, is_waiting)),
-            Some(at_most) => mem::drop(self.added.wait_timeout_while(rt, state, at_most, is_waiting)),
+            Some(at_most) => mem::drop(
+                self.added
+                    .wait_timeout_while(rt, state, at_most, is_waiting),
+            ),
         }
         thread::sleep(rt, Duration::from_millis(GATHERED_MILLIS));
     }

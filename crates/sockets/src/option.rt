@@ -51,12 +51,24 @@ pub fn keep_received(socket: &UdpSocket, octets: u32) -> io::Result<u32> {
     value[..4].copy_from_slice(&octets.to_ne_bytes());
     // C reads the number in the first 4 of the 16 octets.
     check(unsafe {
-        c::setsockopt(socket.as_raw_fd(), c::SOL_SOCKET, c::SO_RCVBUF, &value, INT_OCTETS)
+        c::setsockopt(
+            socket.as_raw_fd(),
+            c::SOL_SOCKET,
+            c::SO_RCVBUF,
+            &value,
+            INT_OCTETS,
+        )
     })?;
     let mut size = INT_OCTETS;
     // C writes at most 4 octets.
     check(unsafe {
-        c::getsockopt(socket.as_raw_fd(), c::SOL_SOCKET, c::SO_RCVBUF, &mut value, &mut size)
+        c::getsockopt(
+            socket.as_raw_fd(),
+            c::SOL_SOCKET,
+            c::SO_RCVBUF,
+            &mut value,
+            &mut size,
+        )
     })?;
     let [a, b, c, d, ..] = value;
     // The system counts what it needs itself, as much again.

@@ -28,7 +28,13 @@ impl ServiceManager {
             _ => return None,
         };
         // The call takes three numbers, and no memory of ours.
-        let number = unsafe { c::socket(c::AF_UNIX, c::SOCK_DGRAM | c::SOCK_NONBLOCK | c::SOCK_CLOEXEC, 0) };
+        let number = unsafe {
+            c::socket(
+                c::AF_UNIX,
+                c::SOCK_DGRAM | c::SOCK_NONBLOCK | c::SOCK_CLOEXEC,
+                0,
+            )
+        };
         check(number).ok()?;
         // The number is the system's answer of the line before, so that nothing else has it or closes it.
         let socket = unsafe { OwnedFd::from_raw_fd(number) };
