@@ -151,6 +151,10 @@ pub struct Listening {
     pub records: usize,
     /// Whether updates may come, and are lost at the program's end.
     pub loses_updates: bool,
+    /// How many octets of datagrams the system keeps for a socket.
+    pub kept: u32,
+    /// How many were asked for.
+    pub wanted: u32,
 }
 
 /// The log: its lines wait for a thread that writes them, so that a thread that adds one doesn't wait for standard error.
@@ -313,7 +317,7 @@ impl Log {
         let _ = self.entries.close(rt, Duration::from_millis(END_MILLIS));
     }
 
-    /// Logs at which addresses the zone is served, and whether its updates are lost.
+    /// Logs at which addresses the zone is served, whether its updates are lost, and whether the system keeps fewer datagrams than were asked for.
     fn add_listening<R: Wait>(&self, rt: &R) {
         let Listening {
             addresses,
@@ -321,6 +325,8 @@ impl Log {
             serial,
             records,
             loses_updates,
+            kept,
+            wanted,
         } = &self.listening;
         for address in addresses.iter() {
             self.add(
@@ -335,6 +341,15 @@ impl Log {
         }
         if *loses_updates {
             self.add(rt, LogLine::NoStore);
+        }
+        if kept < wanted {
+            self.add(
+                rt,
+                LogLine::SmallBuffer {
+                    kept: *kept,
+                    wanted: *wanted,
+                },
+            );
         }
         self.entries.add(rt, Entry::Ready);
     }

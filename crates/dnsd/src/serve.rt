@@ -253,10 +253,12 @@ fn serve_bound<
         serial: zone.serial(),
         records: records_of(zone),
         loses_updates: serve.store.is_none() && !serve.allowed.is_empty(),
+        kept,
+        wanted: serve.udp_buffer,
     };
     let secondaries = secondaries.of_zone(zone.apex().copy());
     let log = Log::new(entries, listening);
-    warn(rt, serve, kept, &log);
+    warn(rt, serve, &log);
     let status = match serve_all(rt, rt.alloc(), serve, begun, workers, secondaries, &log) {
         Ok(()) => DONE,
         Err(fault) => {
@@ -269,7 +271,7 @@ fn serve_bound<
 }
 
 /// Warns of what may not be as the operator expects.
-fn warn<R: Files + AllocGlobal + Wait>(rt: &R, serve: &Serve<'_>, kept: u32, log: &Log) {
+fn warn<R: Files + AllocGlobal + Wait>(rt: &R, serve: &Serve<'_>, log: &Log) {
     for address in serve.listen.iter() {
         if address.ip().is_unspecified() {
             log.add(rt, LogLine::Wildcard(*address));
@@ -277,10 +279,6 @@ fn warn<R: Files + AllocGlobal + Wait>(rt: &R, serve: &Serve<'_>, kept: u32, log
     }
     if is_routed(serve.secondaries.as_slice(), serve.listen.as_slice()) {
         log.add(rt, LogLine::Routed);
-    }
-    if kept < serve.udp_buffer {
-        let wanted = serve.udp_buffer;
-        log.add(rt, LogLine::SmallBuffer { kept, wanted });
     }
     let wanted = descriptors::wanted(serve.workers, serve.places, serve.listen.len());
     match descriptors::limit(rt) {
