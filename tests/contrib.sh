@@ -50,22 +50,43 @@ start_nsd() {
     start "$2" nsd -d -c "$work/$2.conf"
 }
 
-# The serial that the server on a port has; none where it has no zone or doesn't answer.
-serial() {
-    dig @127.0.0.1 -p "$1" +short +tries=1 +timeout=1 "$d" SOA 2>/dev/null | awk '{ print $3 }'
+# Starts BIND as the primary of zones: the port that it listens on, and for each zone its name and its file in $work/primary.
+start_primary() {
+    local at=$1
+    shift
+    mkdir -p "$work/primary"
+    {
+        echo "options { directory \"$work/primary\"; pid-file none; session-keyfile none; listen-on port $at { 127.0.0.1; };"
+        echo "listen-on-v6 { none; }; recursion no; notify no; dnssec-validation no; allow-transfer { 127.0.0.1; }; }; controls { };"
+        while [ $# -gt 0 ]; do
+            echo "zone \"$1\" { type primary; file \"$2\"; };"
+            shift 2
+        done
+    } >"$work/primary.conf"
+    start primary named -g -n 1 -c "$work/primary.conf"
 }
 
-# Waits, at most half a minute, until the server on a port has a serial.
+# The serial that the server on a port has, of example.test. or another zone; none where it has none or doesn't answer.
+serial() {
+    dig @127.0.0.1 -p "$1" +short +tries=1 +timeout=1 "${2:-$d}" SOA 2>/dev/null | awk '{ print $3 }'
+}
+
+# Waits, at most half a minute, until the server on a port has a serial, of example.test. or another zone.
 reaches() {
     for _ in $(seq 150); do
-        [ "$(serial "$1")" != "$2" ] || return 0
+        [ "$(serial "$1" "${3:-}")" != "$2" ] || return 0
         sleep 0.2
     done
 }
 
-# All records of the server on a port as octets, in order (RFC 3597, 5).
+# All records of the server on a port as octets, in order (RFC 3597, 5), of example.test. or another zone.
 octets() {
-    dig @127.0.0.1 -p "$1" +noall +answer +onesoa +unknownformat "$d" axfr 2>&1 | awk 'NF { $1 = $1; print }' | LC_ALL=C sort
+    dig @127.0.0.1 -p "$1" +noall +answer +onesoa +unknownformat "${2:-$d}" axfr 2>&1 | awk 'NF { $1 = $1; print }' | LC_ALL=C sort
+}
+
+# A check that two lists of records are the same, of which it tells the first lines that differ.
+same() {
+    check "$1" '' "$(diff <(echo "$2") <(echo "$3") | head -6)"
 }
 
 # Makes an update of these lines.

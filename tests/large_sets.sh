@@ -46,7 +46,7 @@ all_hold() {
     for name in named knotd nsd; do
         at=$((at + 1))
         reaches $at "$1"
-        check "$name, serial $1, $(wc -l <<<"$want") records octet by octet" "$want" "$(octets $at)"
+        same "$name, serial $1, $(wc -l <<<"$want") records octet by octet" "$want" "$(octets $at)"
         check "$name, how serial $1 came" "$2" "$(taken $name)"
     done
 }
