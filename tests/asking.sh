@@ -30,7 +30,7 @@ serve() {
     server=$!
     started+=("$server")
     for _ in $(seq 100); do
-        ! grep -q '^listening on' "$work/dnsd.log" || return 0
+        ! grep -qs '^listening on' "$work/dnsd.log" || return 0
         kill -0 "$server" 2>/dev/null || break
         sleep 0.05
     done

@@ -22,7 +22,7 @@ start() {
 
 # Ends what was started by that name.
 stop() {
-    kill "${pids[$1]}"
+    kill "${pids[$1]}" 2>/dev/null || true
     wait "${pids[$1]}" 2>/dev/null || true
 }
 
@@ -81,7 +81,7 @@ reaches() {
 
 # All records of the server on a port as octets, in order (RFC 3597, 5), of example.test. or another zone.
 octets() {
-    dig @127.0.0.1 -p "$1" +noall +answer +onesoa +unknownformat "${2:-$d}" axfr 2>&1 | awk 'NF { $1 = $1; print }' | LC_ALL=C sort
+    { dig @127.0.0.1 -p "$1" +noall +answer +onesoa +unknownformat "${2:-$d}" axfr 2>&1 || true; } | awk 'NF { $1 = $1; print }' | LC_ALL=C sort
 }
 
 # A check that two lists of records are the same, of which it tells the first lines that differ.
