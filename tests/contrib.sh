@@ -84,6 +84,11 @@ octets() {
     { dig @127.0.0.1 -p "$1" +noall +answer +onesoa +unknownformat "${2:-$d}" axfr 2>&1 || true; } | awk 'NF { $1 = $1; print }' | LC_ALL=C sort
 }
 
+# The same in their own words, in lower case.
+words() {
+    { dig @127.0.0.1 -p "$1" +noall +answer +onesoa "${2:-$d}" axfr 2>&1 || true; } | awk 'NF { $1 = $1; print tolower($0) }' | LC_ALL=C sort
+}
+
 # A check that two lists of records are the same, of which it tells the first lines that differ.
 same() {
     check "$1" '' "$(diff <(echo "$2") <(echo "$3") | head -6)"

@@ -26,11 +26,6 @@ converts() {
     (cd "$work/primary" && DNSD=$program "$OLDPWD/contrib/convert" "$1" "$2" >"$work/$3" 2>"$work/$3.told")
 }
 
-# All records of the server on a port in their own words, in lower case and in order: the zone.
-words() {
-    dig @127.0.0.1 -p "$1" +noall +answer +onesoa "$2" axfr 2>&1 | awk 'NF { $1 = $1; print tolower($0) }' | LC_ALL=C sort
-}
-
 # What dnsd serves of a file that was converted is what BIND serves of it, but for the types that a pattern names: ZONE FILE PATTERN
 serves_the_same() {
     local want
