@@ -11,6 +11,7 @@ use cell_core::{
     word_examples, word_runs_show_runs, word_steps_show_the_cell, words_only_grow,
 };
 use std::alloc::Global;
+use std::test::Fail;
 
 /// Numbers that never fall.
 struct Rising;
@@ -80,10 +81,7 @@ fn laws() {
 type Row<T> = (WordStep<T>, Result<WordEvent, StepFault>);
 
 /// The first row that goes otherwise; None where there is none.
-fn first_wrong<T: Drop, const N: usize>(
-    machine: &mut WordMachine<T>,
-    rows: [Row<T>; N],
-) -> Option<usize> {
+fn first_wrong<T: Drop>(machine: &mut WordMachine<T>, rows: Vec<Row<T>>) -> Option<usize> {
     for (at, (step, given)) in rows.into_iter().enumerate() {
         if machine.step(step) != given {
             return Some(at);
@@ -139,13 +137,17 @@ const BURIED: [Row<u64>; 7] = [
 // The first value is loaded, published over, and buried when the loader and the publisher have released it. Its slot is then
 // used again.
 #[test]
-fn words_worked_example(rt: HostRuntime) {
+fn words_worked_example(rt: HostRuntime) -> Result<(), Fail> {
     let mut machine = WordMachine::new(rt.alloc(), 10u64).expect(&rt, "a machine");
-    assert_eq!(rt; first_wrong(&mut machine, PUBLISHED), None);
-    assert_eq!(rt; first_wrong(&mut machine, SETTLED), None);
+    let rows = Vec::from_array(rt.alloc(), PUBLISHED)?;
+    assert_eq!(rt; first_wrong(&mut machine, rows), None);
+    let rows = Vec::from_array(rt.alloc(), SETTLED)?;
+    assert_eq!(rt; first_wrong(&mut machine, rows), None);
     let values = [1, 2, 3].map(|slot| machine.value(slot).copied());
     assert!(rt; values == [Some(10), Some(20), None]);
-    assert_eq!(rt; first_wrong(&mut machine, BURIED), None);
+    let rows = Vec::from_array(rt.alloc(), BURIED)?;
+    assert_eq!(rt; first_wrong(&mut machine, rows), None);
+    Ok(())
 }
 
 /// A weak owner of the first value, which is raised once, and sees it buried. It is the last that knows it.
@@ -205,9 +207,11 @@ const WEAK: [Row<u64>; 26] = [
 // A version that nobody owns is raised before its bury; once it is buried it isn't raised, and its slot is free when the weak owner
 // has faded.
 #[test]
-fn weak_owners(rt: HostRuntime) {
+fn weak_owners(rt: HostRuntime) -> Result<(), Fail> {
     let mut machine = WordMachine::new(rt.alloc(), 10u64).expect(&rt, "a machine");
-    assert_eq!(rt; first_wrong(&mut machine, WEAK), None);
+    let rows = Vec::from_array(rt.alloc(), WEAK)?;
+    assert_eq!(rt; first_wrong(&mut machine, rows), None);
+    Ok(())
 }
 
 /// The release of the first version's only other owner leaves it before its publisher has settled, and the publisher's empties it.
@@ -228,10 +232,13 @@ const RELEASED: [Row<u64>; 5] = [
 // Until its publisher has settled, the version before keeps shares: the release of its only other owner leaves it, and the
 // publisher's empties it. It is buried once.
 #[test]
-fn release_before_settle(rt: HostRuntime) {
+fn release_before_settle(rt: HostRuntime) -> Result<(), Fail> {
     let mut machine = WordMachine::new(rt.alloc(), 10u64).expect(&rt, "a machine");
-    assert_eq!(rt; first_wrong(&mut machine, PUBLISHED), None);
-    assert_eq!(rt; first_wrong(&mut machine, RELEASED), None);
+    let rows = Vec::from_array(rt.alloc(), PUBLISHED)?;
+    assert_eq!(rt; first_wrong(&mut machine, rows), None);
+    let rows = Vec::from_array(rt.alloc(), RELEASED)?;
+    assert_eq!(rt; first_wrong(&mut machine, rows), None);
+    Ok(())
 }
 
 /// Steps that aren't due.
@@ -251,12 +258,14 @@ const NOT_ENABLED: [Row<u64>; 11] = [
 
 // A step that isn't due is refused.
 #[test]
-fn words_not_enabled(rt: HostRuntime) {
+fn words_not_enabled(rt: HostRuntime) -> Result<(), Fail> {
     let mut machine = WordMachine::new(rt.alloc(), 10u64).expect(&rt, "a machine");
-    assert_eq!(rt; first_wrong(&mut machine, NOT_ENABLED), None);
+    let rows = Vec::from_array(rt.alloc(), NOT_ENABLED)?;
+    assert_eq!(rt; first_wrong(&mut machine, rows), None);
+    Ok(())
 }
 
-/// A text is published behind the first one.
+/// A text is published after the first one.
 const TEXT_PUBLISHED: [Row<&'static str>; 5] = [
     (
         WordStep::Load,
@@ -273,11 +282,13 @@ const TEXT_PUBLISHED: [Row<&'static str>; 5] = [
 
 // Values that borrow: the first one's owner still finds it.
 #[test]
-fn borrowed_values(rt: HostRuntime) {
+fn borrowed_values(rt: HostRuntime) -> Result<(), Fail> {
     let mut machine = WordMachine::new(rt.alloc(), "one").expect(&rt, "a machine");
-    assert_eq!(rt; first_wrong(&mut machine, TEXT_PUBLISHED), None);
+    let rows = Vec::from_array(rt.alloc(), TEXT_PUBLISHED)?;
+    assert_eq!(rt; first_wrong(&mut machine, rows), None);
     let values = (machine.value(0).copied(), machine.last().copied());
     assert!(rt; values == (Some("one"), Some("two")));
+    Ok(())
 }
 
 /// Whether so many probes pass.
@@ -290,15 +301,12 @@ fn all_pass(machine: &mut WordMachine<u64>, count: u64) -> bool {
     true
 }
 
-/// Whether a value is published behind that with the number before it, where so many slots aren't free.
+/// Whether a value is published after that with the number before it, where so many slots aren't free.
 fn is_published(machine: &mut WordMachine<u64>, before: u64, taken: u64) -> bool {
-    let rows: [Row<u64>; 3] = [
-        (WordStep::Probe, Ok(WordEvent::Taken)),
-        (WordStep::Prepare(taken), Ok(WordEvent::Prepared)),
-        (WordStep::Swap, Ok(WordEvent::Swapped(before))),
-    ];
     all_pass(machine, taken)
-        && first_wrong(machine, rows) == None
+        && machine.step(WordStep::Probe) == Ok(WordEvent::Taken)
+        && machine.step(WordStep::Prepare(taken)) == Ok(WordEvent::Prepared)
+        && machine.step(WordStep::Swap) == Ok(WordEvent::Swapped(before))
         && machine.step(WordStep::Settle).is_ok()
         && machine.last().copied() == Some(taken)
 }
@@ -321,10 +329,12 @@ const FULL: [Row<u64>; 2] = [
 
 // Every slot in use: the 64th probe ends the publication, and the next one begins anew.
 #[test]
-fn no_slot(rt: HostRuntime) {
+fn no_slot(rt: HostRuntime) -> Result<(), Fail> {
     let mut machine = WordMachine::new(rt.alloc(), 0u64).expect(&rt, "a machine");
     assert!(rt; are_published(&mut machine, 63) && all_pass(&mut machine, 63));
-    assert_eq!(rt; first_wrong(&mut machine, FULL), None);
+    let rows = Vec::from_array(rt.alloc(), FULL)?;
+    assert_eq!(rt; first_wrong(&mut machine, rows), None);
+    Ok(())
 }
 
 /// A machine of words in which 0 is published, made once more where a growth was refused.

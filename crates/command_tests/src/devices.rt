@@ -2,7 +2,7 @@
 use crate::made::{Device, Kind, ZONE, tell, text_of};
 use std::alloc::Global;
 
-/// A command, what stands behind the zone, and what is written for it: a query and its reply, and the same in a script.
+/// A command, what stands after the zone, and what is written for it: a query and its reply, and the same in a script.
 const CASES: [(Kind, &str, &str); 2] = [
     (
         Kind::Answer,

@@ -66,7 +66,7 @@ fn fates_of(alloc: Global, random: &mut Random) -> Result<Vec<u8>, AllocError> {
     Ok(fates)
 }
 
-/// What was sent, as batches have it: updates that were told to be on the disk, and those of the batch behind them, if it was refused by the disk.
+/// What was sent, as batches have it: updates that were told to be on the disk, and those of the batch after them, if the disk refused it.
 #[derive(Drop)]
 struct Sent {
     told: Vec<u8>,
@@ -119,7 +119,7 @@ fn crashed(
     log.disk().crashed(alloc, &fates_of(alloc, random)?)
 }
 
-/// Whether these are the updates that were told, and behind them none, or the whole batch that the disk refused last.
+/// Whether these are the updates that were told, and after them none, or the whole batch that the disk refused last.
 fn is_sent(alloc: Global, found: &Recovered<'_>, sent: &Sent) -> Result<bool, AllocError> {
     let updates = batch_of(alloc, &found.updates)?;
     Ok(match updates.split_at_checked(sent.told.len()) {

@@ -5,7 +5,7 @@ use crate::journals::{
 use journal::{HeadFault, Refused};
 use std::alloc::{AllocError, Global};
 
-/// What is told where an octet is turned: in the head it is told by name; in a batch in front of another one it is damage, told at
+/// What is told where an octet is turned: in the head it is told by name; in a batch before another one it is damage, told at
 /// the octet at which the next whole frame begins; in the last one it is as a crash would leave it.
 fn of_turned(at: usize) -> Result<Found, Refused> {
     match at {
@@ -45,7 +45,7 @@ fn each_octet_turned(rt: HostRuntime) -> Result<(), AllocError> {
     Ok(())
 }
 
-/// What is told of so many octets: within the head it is too short; else the batches that are whole are recovered, and what is behind
+/// What is told of so many octets: within the head it is too short; else the batches that are whole are recovered, and what is after
 /// them is torn, but for the first three octets of a frame alone, which are zeros: its body has fewer than 256.
 fn of_cut(len: usize) -> Result<Found, Refused> {
     let mut wanted = bad_head(HeadFault::Short);
@@ -75,7 +75,7 @@ fn each_length(rt: HostRuntime) -> Result<(), AllocError> {
     Ok(())
 }
 
-/// What is told of parts of a journal behind one another.
+/// What is told of parts of a journal, one after another.
 fn told_of(alloc: Global, parts: &[&[u8]]) -> Result<Found, Refused> {
     let mut octets = Vec::new(alloc);
     for part in parts {
@@ -84,8 +84,8 @@ fn told_of(alloc: Global, parts: &[&[u8]]) -> Result<Found, Refused> {
     told(alloc, &octets)
 }
 
-/// The index of the first case that is told otherwise. Zeros behind the last batch are no damage, and octets are torn. A batch that is left
-/// out in front of one is damage. The first one again is torn, as its number isn't later.
+/// The index of the first case that is told otherwise. Zeros after the last batch are no damage, and octets are torn. A batch that is left
+/// out before one is damage. The first one again is torn, as its number isn't later.
 fn first_wrong_part(alloc: Global, octets: &[u8]) -> Option<usize> {
     let (Some(front), Some(first), Some(last)) = (
         octets.get(..FIRST),
@@ -109,7 +109,7 @@ fn first_wrong_part(alloc: Global, octets: &[u8]) -> Option<usize> {
 }
 
 #[test]
-fn what_stands_behind_and_frames_out_of_place(rt: HostRuntime) -> Result<(), AllocError> {
+fn octets_after_the_last_batch_and_frames_out_of_place(rt: HostRuntime) -> Result<(), AllocError> {
     let octets = journal_of(rt.alloc(), &BATCHES)?;
     assert_eq!(rt; first_wrong_part(rt.alloc(), &octets), None);
     Ok(())

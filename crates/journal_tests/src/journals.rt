@@ -1,6 +1,6 @@
 //! Journals for the tests, and what a start is told of octets.
 use journal::{
-    Head, HeadFault, Recovered, Refused, TextSum, put_update, recover, write_frame, write_head,
+    Head, HeadFault, Recovered, Refused, SUM, TextSum, put_update, recover, write_frame, write_head,
 };
 use std::alloc::{AllocError, Global};
 
@@ -18,6 +18,12 @@ pub(crate) fn head_of_zone() -> Head {
     }
 }
 
+/// The salt of its frames.
+pub(crate) fn salt(alloc: Global) -> Result<[u8; SUM], AllocError> {
+    let (_, salt) = write_head(alloc, &head_of_zone())?;
+    Ok(salt)
+}
+
 /// The updates of the batches of the tests, as octets that nobody reads.
 pub(crate) const BATCHES: [&[&[u8]]; 3] = [&[b"first"], &[b"", b"third update"], &[b"fourth"]];
 
@@ -27,7 +33,7 @@ pub(crate) const HEAD: usize = 156;
 /// Where the first batch ends: a head, and the frame of a body of 7 octets.
 pub(crate) const FIRST: usize = HEAD + (44 + 7);
 
-/// Where the last batch begins: the body in front of it has 16 octets.
+/// Where the last batch begins: the body before it has 16 octets.
 pub(crate) const LAST: usize = FIRST + (44 + 16);
 
 /// Where it ends: its body has 8.
@@ -87,7 +93,7 @@ pub(crate) struct Found {
     pub(crate) number: u64,
     /// Where the last batch ends.
     pub(crate) end: usize,
-    /// Whether a torn one is behind it.
+    /// Whether a torn one is after it.
     pub(crate) torn: bool,
 }
 

@@ -1,16 +1,11 @@
 //! Logs that stop, and go on with another journal.
-use crate::journals::{BATCHES, END, FIRST, batch_of, head_of_zone, journal_of, recovers, told};
-use journal::{SUM, write_head};
+use crate::journals::{
+    BATCHES, END, FIRST, batch_of, head_of_zone, journal_of, recovers, salt, told,
+};
 use journal_store::{Log, LogFault};
 use std::alloc::{AllocError, Global};
 use std::test::Fail;
 use told_disks::ToldDisk;
-
-/// The salt of the tests' journal.
-fn salt(alloc: Global) -> Result<[u8; SUM], AllocError> {
-    let (_, salt) = write_head(alloc, &head_of_zone())?;
-    Ok(salt)
-}
 
 /// Appends a batch: whether it is on the disk.
 fn append(alloc: Global, log: &mut Log<ToldDisk>, updates: &[&[u8]]) -> Result<bool, AllocError> {
@@ -41,7 +36,7 @@ fn stopped(rt: HostRuntime) -> Result<(), Fail> {
     Ok(())
 }
 
-// It goes on with another journal, behind the batches of that one.
+// It goes on with another journal, after the batches of that one.
 #[test]
 fn switched(rt: HostRuntime) -> Result<(), Fail> {
     let alloc: Global = rt.alloc();

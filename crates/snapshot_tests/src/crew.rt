@@ -68,7 +68,7 @@ fn job_of<'a, R: Abort, N: Naming>(
 }
 
 impl<'a, N: Naming> Players<'a, N> {
-    /// The last owner of the last version, behind which one more is published.
+    /// The last owner of the last version, after which one more is published.
     fn last_owner<R: Abort>(&mut self, rt: &R) -> NamedStrong<'a, Counted, Rising, N> {
         let mut reader = self.readers.pop().expect(rt, "a reader");
         let owner = self

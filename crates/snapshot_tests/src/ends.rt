@@ -55,7 +55,7 @@ fn readers_are_missing(rt: HostRuntime) {
 }
 
 /// While a version has an owner that is never let go, a weak one or not, the last version or one before it, the cell goes on with all readers, and
-/// so many values are dropped when two are published behind it. An owner borrows its cell, so only one that is never let go is there then, and such
+/// so many values are dropped when two are published after it. An owner borrows its cell, so only one that is never let go is there then, and such
 /// a cell can't be ended: the test ends by a panic that says so.
 fn go_on_beside<R: Abort>(rt: &R, alloc: Global, leak: Leak, drops: u64) {
     let mut begun = Begun::of(rt, alloc, TWO);

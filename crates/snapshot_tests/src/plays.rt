@@ -154,7 +154,7 @@ const ONE_GRANT: &[Rounds] = &[(
     ],
 )];
 
-/// A weak owner gives an owner of its very version, for a grant, as long as one is left; behind the last one's release it gives none, for none, however
+/// A weak owner gives an owner of its very version, for a grant, as long as one is left; after the last one's release it gives none, for none, however
 /// often it is asked. It is the last that knows the version then, and makes its slot free. A publisher can give 2^32 weak owners (own).
 const RAISED: &[Rounds] = &[(
     1,

@@ -21,7 +21,7 @@ fn started(rt: &HostRuntime, dir: &str) -> Result<Started, Fail> {
     }
 }
 
-/// Lays a store in a folder, with two batches and octets behind them that are no frame: the octets of its journal in front of these.
+/// Lays a store in a folder, with two batches and octets after them that are no frame: the octets of its journal before these.
 fn lay_torn(rt: &HostRuntime, dir: &str) -> Result<Vec<u8>, Fail> {
     let _ = fs::remove_dir_all(rt, dir);
     fs::create_dir(rt, dir)?;
@@ -48,7 +48,7 @@ fn line_of(alloc: Global, started: &Started) -> Result<String, Fail> {
     Ok(line)
 }
 
-// A server goes on with the versions of a journal, and the updates that made them, as they were received; what stands torn behind the last batch is cut off, and kept.
+// A server goes on with the versions of a journal, and the updates that made them, as they were received; what stands torn after the last batch is cut off, and kept.
 #[test]
 fn a_torn_journal_is_gone_on_with(rt: HostRuntime) -> Result<(), Fail> {
     let dir = "start_tests_torn";

@@ -56,12 +56,12 @@ fn newest_versions(rt: HostRuntime) -> Result<(), Fail> {
 }
 
 /// A version of the tests: what it changed of the one before, as the SOA before, the records that it took out, a line's end, and those that it put in; its zone; and the
-/// batches behind it, of a batch within which it is made what is left of it.
+/// batches after it, of a batch within which it is made what is left of it.
 #[derive(Drop)]
 struct Place {
     changed: &'static str,
     zone: &'static str,
-    behind: &'static [&'static [&'static str]],
+    after: &'static [&'static [&'static str]],
 }
 
 /// The versions of five updates in three batches.
@@ -69,7 +69,7 @@ const PLACES: [Place; 6] = [
     Place {
         changed: "",
         zone: ZONE,
-        behind: &[&[ADD_A], &[ADD_B, ADD_MORE, DELETE_B], &[DELETE_A]],
+        after: &[&[ADD_A], &[ADD_B, ADD_MORE, DELETE_B], &[DELETE_A]],
     },
     Place {
         changed: "example. 3600 IN SOA ns.example. host.example. 7 1 1 1 1
@@ -80,7 +80,7 @@ a.example. 300 IN A 192.0.2.1
 example. 3600 IN NS ns.example.
 a.example. 300 IN A 192.0.2.1
 ",
-        behind: &[&[ADD_B, ADD_MORE, DELETE_B], &[DELETE_A]],
+        after: &[&[ADD_B, ADD_MORE, DELETE_B], &[DELETE_A]],
     },
     Place {
         changed: "example. 3600 IN SOA ns.example. host.example. 8 1 1 1 1
@@ -92,7 +92,7 @@ example. 3600 IN NS ns.example.
 a.example. 300 IN A 192.0.2.1
 b.example. 300 IN A 192.0.2.2
 ",
-        behind: &[&[ADD_MORE, DELETE_B], &[DELETE_A]],
+        after: &[&[ADD_MORE, DELETE_B], &[DELETE_A]],
     },
     Place {
         changed: "example. 3600 IN SOA ns.example. host.example. 9 1 1 1 1
@@ -105,7 +105,7 @@ a.example. 300 IN A 192.0.2.1
 a.example. 300 IN A 192.0.2.3
 b.example. 300 IN A 192.0.2.2
 ",
-        behind: &[&[DELETE_B], &[DELETE_A]],
+        after: &[&[DELETE_B], &[DELETE_A]],
     },
     Place {
         changed: "example. 3600 IN SOA ns.example. host.example. 10 1 1 1 1
@@ -117,7 +117,7 @@ example. 3600 IN NS ns.example.
 a.example. 300 IN A 192.0.2.1
 a.example. 300 IN A 192.0.2.3
 ",
-        behind: &[&[DELETE_A]],
+        after: &[&[DELETE_A]],
     },
     Place {
         changed: "example. 3600 IN SOA ns.example. host.example. 11 1 1 1 1
@@ -128,11 +128,11 @@ a.example. 300 IN A 192.0.2.3
         zone: "example. 3600 IN SOA ns.example. host.example. 12 1 1 1 1
 example. 3600 IN NS ns.example.
 ",
-        behind: &[],
+        after: &[],
     },
 ];
 
-/// Puts a version behind a text: its number, what it changed of the one before it, and its zone.
+/// Puts a version after a text: its number, what it changed of the one before it, and its zone.
 fn put_version(alloc: Global, text: &mut String, version: &Version) -> Result<(), AllocError> {
     text.push_str(format!(in alloc; "version {}\n", version.number())?.as_str())?;
     if let Some(delta) = version.delta() {
@@ -171,16 +171,16 @@ fn versions_from(alloc: Global, first: usize) -> Result<String, AllocError> {
     Ok(text)
 }
 
-// A compaction behind each number of five updates, also within a batch: a start of the store that is begun there has the versions behind it, each with what it changed.
+// A compaction after each number of five updates, also within a batch: a start of the store that is begun there has the versions after it, each with what it changed.
 #[test]
 fn each_place(rt: HostRuntime) -> Result<(), Fail> {
     let alloc: Global = rt.alloc();
     for (first, place) in PLACES.iter().enumerate() {
-        let start = start_of(alloc, place.zone, place.behind)?;
+        let start = start_of(alloc, place.zone, place.after)?;
         assert_eq!(rt;
             versions_of(alloc, &start)?,
             versions_from(alloc, first)?,
-            "behind {first}"
+            "after {first}"
         );
     }
     Ok(())
