@@ -123,14 +123,6 @@ query_reply result transport query past kept before after holds line = record {
   goes_on = subst (λ (p : Past). Holds p kept) (sym (followed_same past past.newest refl)) holds;
 }
 
--- a query that asks for no transfer that is sent isn't permitted one
-pub not_permitted : (zone : List Record) (peer : Peer) (query : QueryAsked) → None ≡ transfer_in zone peer (Query query) → is_permitted zone peer query ≡ false
-not_permitted zone peer query none = by (is_permitted zone peer query) none
-  where
-    by : (b : Bool) → None ≡ cond b (Some query) None → b ≡ false
-    by true e = absurd (cc)
-    by false e = refl
-
 -- the messages of a transfer are the line for what a request says that asks for it, and the versions stay
 pub said_messages : {T E : Type 0} (result : Result T E) (transport : Transport) (said : Parsed) (query : QueryAsked) (past : Past) (kept : Keeping) (before after : Option (List ℕ)) → Holds past kept
     → Some query ≡ transfer_in kept.newest.zone (peer_over transport true) said
