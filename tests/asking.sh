@@ -26,11 +26,12 @@ check() {
 
 # Starts the server over a zone's file, with these options, and waits until it says that it listens.
 serve() {
+    rm -f "$work/dnsd.log"
     "$program" serve --listen "127.0.0.1:$port" --workers 8 "${@:2}" "$1" 2>"$work/dnsd.log" &
     server=$!
     started+=("$server")
     for _ in $(seq 100); do
-        ! grep -q '^listening on' "$work/dnsd.log" || return 0
+        ! grep -qs '^listening on' "$work/dnsd.log" || return 0
         kill -0 "$server" 2>/dev/null || break
         sleep 0.05
     done
@@ -41,7 +42,7 @@ serve() {
 
 # Ends the server.
 unserve() {
-    kill "$server"
+    kill "$server" 2>/dev/null || true
     wait "$server" 2>/dev/null || true
 }
 

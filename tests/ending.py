@@ -2,9 +2,11 @@
 """Tries how `dnsd serve` ends: with `--workers 1 --count 2` one datagram and one connection are answered, in either order, or two of one kind, with
 `--count 1` one of them, and its status is 0; behind updates, which made versions, too, of which the last is answered from to the end; where an address can't be
 listened on, because another program listens there by UDP or by TCP, or because it isn't this machine's, its status is 3, and no worker begins; so too where
-any one thread of it is refused, by tests/refuse.c in front of the C library.
+any one thread of it is refused, by tests/refuse.c in front of the C library. SIGTERM, SIGINT and SIGHUP end it, and SIGXFSZ where its store passes a file size limit.
 Usage: [DNSD=PROGRAM] tests/ending.py, by default crates/dnsd/out/dnsd. It takes a second; status 1 where one failed. It listens on 127.0.0.1 alone, and needs a C compiler, `cc` or $CC."""
 import os
+import resource
+import signal
 import socket
 import struct
 import subprocess
@@ -78,6 +80,32 @@ def ends_behind_updates(what, over, keep):
         server.kill()
 
 
+def ended_by(number):
+    """A signal ends a server: its status is the signal's."""
+    server, port = served("--listen", "127.0.0.1:0")
+    try:
+        answered = over_udp(port) == REPLY
+        server.send_signal(number)
+        told(answered and server.wait(10) == -number, f"{signal.Signals(number).name} ends it: status {server.returncode}")
+    finally:
+        server.kill()
+
+
+def over_file_size(limit):
+    """A server whose files may have so many octets is ended by SIGXFSZ at an update that passes them."""
+    with tempfile.TemporaryDirectory() as room:
+        words = [program, "serve", "--listen", "127.0.0.1:0", "--store", room, zone]
+        bound = lambda: resource.setrlimit(resource.RLIMIT_FSIZE, (limit, limit))
+        server = subprocess.Popen(words, stderr=subprocess.PIPE, text=True, preexec_fn=bound)
+        try:
+            line = next(line for line in server.stderr if line.startswith("listening on"))
+            with socket.socket(socket.AF_INET, socket.SOCK_DGRAM) as client:
+                client.sendto(ADDED, ("127.0.0.1", int(line.split(": ")[0].rsplit(":", 1)[1])))
+            told(server.wait(10) == -signal.SIGXFSZ, f"an update over a file size limit: status {server.returncode}, SIGXFSZ is {-signal.SIGXFSZ}")
+        finally:
+            server.kill()
+
+
 def refused(address, what, *kinds):
     """A server that can't listen on an address, whatever it may be beside."""
     others = []
@@ -121,6 +149,9 @@ for keep in ("0", "8"):
 refused(("127.0.0.1", 0), "another listens by TCP", socket.SOCK_STREAM)
 refused(("127.0.0.1", 0), "another has the port for UDP", socket.SOCK_DGRAM)
 refused(("192.0.2.1", 5353), "not an address of this machine")
+for number in (signal.SIGTERM, signal.SIGINT, signal.SIGHUP):
+    ended_by(number)
+over_file_size(4096)
 # the log's, and two for each worker
 without_a_thread(5)
 sys.exit(1 if failed else 0)

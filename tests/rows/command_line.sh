@@ -73,6 +73,12 @@ for word in 4096 100000 4K 4k 64M 64m 1024G 1099511627776; do
     row 3 "the store 'no/such/store' can't be read or written" serve --listen 127.0.0.1:0 --store no/such/store --journal "$word" "$zone"
 done
 row 2 "--journal is for a store, and no --store is given" serve --listen 127.0.0.1:0 --journal 64M "$zone"
+for word in 4095 2G 1025M 1T ''; do
+    row 2 "--udp-buffer takes a size from 4K to 1G, as 500K or 4M, and '$word' is none" serve --listen 127.0.0.1:0 "--udp-buffer=$word" "$zone"
+done
+for word in 4096 4K 4m 1G; do
+    row 3 "the store 'no/such/store' can't be read or written" serve --listen 127.0.0.1:0 --store no/such/store --udp-buffer "$word" "$zone"
+done
 row 2 "--take is for a store, and no --store is given" serve --listen 127.0.0.1:0 --take zone "$zone"
 row 3 "the store 'no/such/store' can't be read or written" serve --listen 127.0.0.1:0 --store no/such/store "$zone"
 row 3 "the zone's file 'no/such/zone' can't be read" serve --listen 127.0.0.1:0 no/such/zone

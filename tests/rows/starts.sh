@@ -1,12 +1,13 @@
 # What a server begins with whose updates last: what `dnsd serve --store` tells at its start, what it leaves in the store's folder, and the zone that `dnsd zone` prints of
-# that. Each run ends in front of its first request: its address is none of a machine (RFC 5737, 3). The sums of heads and frames are made by `sha256sum`.
+# that. Each run ends before its first request: its worker may answer none. The sums of heads and frames are made by `sha256sum`.
 store=$room/begun
-nowhere="error: 192.0.2.1:5353 can't be listened on by TCP: the address isn't one of this machine's"
+once=(serve --listen 127.0.0.1:0 --workers 1 --count 0 --store "$store")
 
 # zones of serials 6, 7 and 9; the second with an address at a.example, which an update adds that Python put together (RFC 2136, 2); a text that is no zone
 six=$'example. 3600 IN SOA ns.example. host.example. 6 1 1 1 1\nexample. 3600 IN NS ns.example.\n'
 seven=${six/ 6 / 7 }
 nine=${six/ 6 / 9 }
+ten=${six/ 6 / 10 }
 with_a=${six/ 6 / 8 }$'a.example. 300 IN A 192.0.2.1\n'
 none=$'example. 3600 IN NS ns.example.\n'
 add_a=000128000001000000010000076578616d706c6500000600010161076578616d706c6500000100010000012c0004c0000201
@@ -47,9 +48,12 @@ lays_store() {
 # starts TEXT TOLD [WORD..]: a server whose operator names this zone text begins, and tells this of it; nothing where that is empty
 starts() {
     input=$1
-    local right=${2:+$2$'\n'}$nowhere
+    local right=$2
     shift 2
-    says 3 "$right" serve --listen 192.0.2.1:5353 --store "$store" "$@" -
+    tries "${once[@]}" "$@" -
+    [[ $told == *'listening on 127.0.0.1:'* ]] || fails "dnsd serve $*: it doesn't listen: $told"
+    told=$(grep -v -e '^listening on 127\.0\.0\.1:' -e '^worker 1 (.*) has ended: 0 datagrams' -e '^UDP: the system keeps' <<<"$told" || true)
+    [[ $got == 0 && -z $said && $told == "$right" ]] || differs "status 0, and on errors '$right'" "${once[@]}" "$@"
 }
 
 # stops STATUS TEXT LINE [WORD..]: it doesn't, and ends with the status and this line, which is the first of the errors; the journal stays as it was
@@ -58,7 +62,7 @@ stops() {
     before=$(journal_now)
     input=$2
     shift 3
-    refuses "$status" "$line" serve --listen 192.0.2.1:5353 --store "$store" "$@" -
+    refuses "$status" "$line" "${once[@]}" "$@" -
     [ "$(journal_now)" = "$before" ] || fails "the journal was changed though nothing is served: $line"
 }
 
@@ -251,14 +255,28 @@ starts "${six/ 6 / 8 }" "the store '$store' is served, and not the zone's text: 
 stops 1 "$nine" "error: the zone's text is another one than the store '$store' was begun from, and has the serial 9, greater than the store's 8: --take store serves the store, --take zone the text, and keeps the store before beside it"
 has_journal "$whole"
 
-# what is taken is served, whatever the serials are; a store that is taken is served whatever the text says, and a text that is no zone is told by its fault
-for serial in 7 10 11; do
+# a store that is taken is served, whatever the serials are and whatever the text says; a text that is taken needs a serial greater than the store's (RFC 1982, 3.2), and one
+# that is no zone is told by its fault
+while read -r serial newer; do
     begins_with 10
     starts "${six/ 6 / $serial }" "the store '$store' is served, and not the zone's text" --take store
     prints_zone "${six/ 6 / 10 }"
-    starts "${six/ 6 / $serial }" "the zone's text is served, with which the store '$store' is begun anew; the one before is kept as '$store/old-1'" --take zone
-    prints_zone "${six/ 6 / $serial }"
-done
+    if [ "$newer" = newer ]; then
+        starts "${six/ 6 / $serial }" "the zone's text is served, with which the store '$store' is begun anew; the one before is kept as '$store/old-1'" --take zone
+        prints_zone "${six/ 6 / $serial }"
+    else
+        stops 1 "${six/ 6 / $serial }" "error: --take zone needs a serial greater than the store's: the zone's text has $serial, the store '$store' has 10: raise the text's serial, or serve the store by --take store" --take zone
+        has_files journal lock zone-3
+        prints_zone "${six/ 6 / 10 }"
+    fi
+done <<'end'
+7
+10
+11 newer
+2147483657 newer
+2147483658
+4294967295
+end
 begins_with 10
 line=$'example. 3600 IN A 192.0.2.256\n'
 stops 1 "$line" 'line 1: M6 BadData'
@@ -266,8 +284,8 @@ stops 1 "$line" 'line 1: M6 BadData' --take zone
 starts "$line" "the store '$store' is served, and not the zone's text" --take store
 has_files journal lock zone-3
 # names of the text are relative to the origin that is given
-starts $'@ 60 SOA ns host 9 1 1 1 1\n@ 60 NS ns\n' "the zone's text is served, with which the store '$store' is begun anew; the one before is kept as '$store/old-1'" --take zone --origin example.
-prints_zone $'example. 60 IN SOA ns.example. host.example. 9 1 1 1 1\nexample. 60 IN NS ns.example.\n'
+starts $'@ 60 SOA ns host 11 1 1 1 1\n@ 60 NS ns\n' "the zone's text is served, with which the store '$store' is begun anew; the one before is kept as '$store/old-1'" --take zone --origin example.
+prints_zone $'example. 60 IN SOA ns.example. host.example. 11 1 1 1 1\nexample. 60 IN NS ns.example.\n'
 
 # the store before one that is taken is kept in a folder of its own, where it is a store; what a crash has left of a pair is written over; the next start takes nothing, and
 # another text is another store
@@ -285,14 +303,14 @@ for taken in '' '--take store' '--take zone'; do
     starts "$nine" '' $taken
 done
 has_journal "$begun"
-starts "$six" "the zone's text is served, with which the store '$store' is begun anew; the one before is kept as '$store/old-2'" --take zone
+starts "$ten" "the zone's text is served, with which the store '$store' is begun anew; the one before is kept as '$store/old-2'" --take zone
 has_files journal lock old-1 old-2 zone-3 zone-4 zone-5
 holds old-1/zone-3 "$seven"
 has_journal "$whole" "$store/old-1"
 prints_zone "$with_a" "$store/old-1"
 holds old-2/zone-4 "$nine"
 has_journal "$begun" "$store/old-2"
-prints_zone "$six"
+prints_zone "$ten"
 
 # a text that can't be written leaves the store
 lays_store 3 "$seven" "$whole"
@@ -311,3 +329,23 @@ lays_store 0 "$seven" "$head"
 touch "$store"/zone-{10,11,18446744073709551615}
 starts "$seven" ''
 has_files journal lock zone-0
+
+# a start that can't listen at an address, which is none of a machine's (RFC 5737, 3), or notify a secondary from one, leaves the directory as it was: an empty one, and a
+# store that is torn
+sum_of_files() {
+    (cd "$store" && find . -type f -exec sha256sum {} + | sort)
+}
+for begun in '' yes; do
+    rm -rf "$store"
+    mkdir "$store"
+    if [ -n "$begun" ]; then
+        lays_store 3 "$seven" "${whole}746f726e"
+        touch "$store"/{journal.new,zone-9}
+    fi
+    before=$(sum_of_files)
+    input=$seven
+    refuses 3 "error: 192.0.2.1:5353 can't be listened on by TCP: the address isn't one of this machine's" serve --listen 192.0.2.1:5353 --store "$store" -
+    refuses 3 "error: 192.0.2.1:5353 can't be listened on by TCP: the address isn't one of this machine's" serve --listen 127.0.0.1:0 --listen 192.0.2.1:5353 --store "$store" -
+    refuses 3 "error: the secondary 127.0.0.1:5399 can't be told of versions: Cannot assign requested address (os error 99)" serve --listen 127.0.0.1:0 --notify 127.0.0.1:5399@192.0.2.1 --store "$store" -
+    [ "$(sum_of_files)" = "$before" ] || fails "a start that can't listen changed the store's directory"
+done

@@ -241,3 +241,92 @@ a CNAME stands beside other data or another CNAME, or an NS at a wildcard: `w.a.
 a. 5 TXT ␉␊ => line 1: M6 BadData
 the data isn't of its type's form, or a word is missing or too many: `a. 5 TXT \009`
 end
+
+# of two faults of an entry the first from left to right is told: a name, a number, a type, data, a parenthesis, a limit, in each order that
+# an entry can have, for a type that has a form, and behind it for one that has none (RFC 3597, 5)
+zone_text=
+faults --origin test. <<'end'
+a..b 2147483648 A 1.1.1.1 => line 1: M2 BadName
+a..b 2147483648 TYPE65280 \# 0 => line 1: M2 BadName
+a 1 MX ten b..c => line 1: M3 Number
+a..b 1h A 1.1.1.1 => line 1: M2 BadName
+a..b 1h TYPE65280 \# 0 => line 1: M2 BadName
+a 1h NS b..c => line 1: M5 UnknownType
+a..b 1 A 1.1.1 => line 1: M2 BadName
+a 1 NS b..c d => line 1: M2 BadName
+a..b 1 TYPE65280 x => line 1: M2 BadName
+a 1 SOA "b" c..d 1 2 3 4 5 => line 1: M6 BadData
+a..b 1 A ) 1.1.1.1 => line 1: M2 BadName
+a 1 NS b..c ) => line 1: M2 BadName
+a..b 1 TYPE65280 ) => line 1: M2 BadName
+a 1 NS ) b..c => line 1: M7 Unclosed
+) a..b 1 TYPE65280 \# 0 => line 1: M7 Unclosed
+a..b 1 A \# 4097 => line 1: M2 BadName
+a..b 1 TYPE65280 \# 4097 => line 1: M2 BadName
+a 1 NS \# 4097 b..c => line 1: M13 Limit
+a 1 TYPE65280 \# 4097 b..c => line 1: M13 Limit
+a 2147483648 1h A 1.1.1.1 => line 1: M3 Number
+a 2147483648 1h TYPE65280 \# 0 => line 1: M3 Number
+a 1h MX ten b => line 1: M5 UnknownType
+a 1h TYPE65280 \# x => line 1: M5 UnknownType
+a 1 MX ten => line 1: M3 Number
+a 1 A \# x 0 => line 1: M3 Number
+a 1 TYPE65280 \# x 0 => line 1: M3 Number
+a 1 SOA "b" c ten 2 3 4 5 => line 1: M6 BadData
+a 1 TYPE65280 x \# x => line 1: M6 BadData
+a 1 MX ten ) => line 1: M3 Number
+a 1 TYPE65280 \# x ) => line 1: M3 Number
+a 1 MX ) ten b => line 1: M7 Unclosed
+a 1 A \# ) x => line 1: M7 Unclosed
+a 1 TYPE65280 \# ) x => line 1: M7 Unclosed
+a 1 TYPE65280 ) \# x => line 1: M7 Unclosed
+a 2147483648 A \# 4097 => line 1: M3 Number
+a 2147483648 TYPE65280 \# 4097 => line 1: M3 Number
+a 1h A 1.1.1 => line 1: M5 UnknownType
+a 1h TYPE65280 x => line 1: M5 UnknownType
+a 1h A ) => line 1: M5 UnknownType
+a 1h TYPE65280 ) => line 1: M5 UnknownType
+a 1 ) 1h A 1.1.1.1 => line 1: M7 Unclosed
+a 1 ) 1h TYPE65280 \# 0 => line 1: M7 Unclosed
+a 1h A \# 4097 => line 1: M5 UnknownType
+a 1h TYPE65280 \# 4097 => line 1: M5 UnknownType
+a 1 A 1.1.1 ) => line 1: M6 BadData
+a 1 A \# 1 0 ) => line 1: M6 BadData
+a 1 TYPE65280 x ) => line 1: M6 BadData
+a 1 TYPE65280 x "y => line 1: M6 BadData
+a 1 TYPE65280 \# 1 0 ) => line 1: M6 BadData
+a 1 A ) 1.1.1 => line 1: M7 Unclosed
+a 1 A \# 1 ) 0 => line 1: M7 Unclosed
+a 1 TYPE65280 ) x => line 1: M7 Unclosed
+a 1 TYPE65280 "x => line 1: M7 Unclosed
+a 1 TYPE65280 \# 1 ) 0 => line 1: M7 Unclosed
+a 1 A x \# 4097 => line 1: M6 BadData
+a 1 TYPE65280 x \# 4097 => line 1: M6 BadData
+a 1 A \# 4097 0 => line 1: M13 Limit
+a 1 TYPE65280 \# 4097 0 => line 1: M13 Limit
+a 1 A ) \# 4097 => line 1: M7 Unclosed
+a 1 TYPE65280 ) \# 4097 => line 1: M7 Unclosed
+a 1 A \# 4097 ) => line 1: M13 Limit
+a 1 TYPE65280 \# 4097 ) => line 1: M13 Limit
+end
+# where no entry can have both in an order, the first of two entries is told
+faults --origin test. <<'end'
+a 2147483648 TYPE65280 \# 0␊a..b 1 A 1.1.1.1 => line 1: M3 Number
+a 1h TYPE65280 \# 0␊a..b 1 A 1.1.1.1 => line 1: M5 UnknownType
+a 1 TYPE65280 x␊a..b 1 A 1.1.1.1 => line 1: M6 BadData
+a 1 A \# 4097␊a 1 MX ten b => line 1: M13 Limit
+a 1 TYPE65280 \# 4097␊a 1 TYPE65280 \# x => line 1: M13 Limit
+a 1 A 1.1.1␊a 1h A 1.1.1.1 => line 1: M6 BadData
+a 1 TYPE65280 x␊a 1h TYPE65280 \# 0 => line 1: M6 BadData
+a 1 A \# 4097␊a 1h A 1.1.1.1 => line 1: M13 Limit
+a 1 TYPE65280 \# 4097␊a 1h TYPE65280 \# 0 => line 1: M13 Limit
+end
+
+# a quote or a parenthesis where the first word of the data of a type without a form is due, on its own line
+faults --origin test. <<'end'
+b 5 IN TYPE65280 " => line 1: M7 Unclosed
+b 5 IN TYPE65280 ) \# 1 54 => line 1: M7 Unclosed
+(␊b 5 IN TYPE65280 ( \# 1 ) 54 => line 2: M7 Unclosed
+b 5 IN TYPE65280 (␊"␊) => line 2: M7 Unclosed
+b 5 IN TYPE65280 "\#" 0 ) => line 1: M6 BadData
+end

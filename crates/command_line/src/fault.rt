@@ -39,8 +39,15 @@ pub enum CommandFault<'a> {
     Secondaries(&'a str),
     /// The word is for a secondary that another word is for.
     SecondaryTwice(&'a str),
-    /// The word is no size of a journal.
-    Size(&'a str),
+    /// The word for an option is no size of those that it takes.
+    Size {
+        /// The option.
+        option: &'static str,
+        /// Which sizes it takes, as the operator is told.
+        takes: &'static str,
+        /// The word.
+        word: &'a str,
+    },
     /// The word is neither of the two that can be taken.
     Take(&'a str),
     /// The option is one for a store, and none is named.
@@ -107,10 +114,12 @@ pub fn tell_fault<R: Print + Eprint>(rt: &R, fault: &CommandFault<'_>) -> io::Re
         CommandFault::SecondaryTwice(word) => {
             eprintln!(rt; "error: --notify takes a secondary once, and '{word}' is there already")?;
         }
-        CommandFault::Size(word) => {
-            eprintln!(rt;
-                "error: --journal takes a size from 4K to 1024G, as 100000, 500K or 64M, and '{word}' is none"
-            )?;
+        CommandFault::Size {
+            option,
+            takes,
+            word,
+        } => {
+            eprintln!(rt; "error: --{option} takes a size {takes}, and '{word}' is none")?;
         }
         CommandFault::Take(word) => {
             eprintln!(rt; "error: --take takes store or zone, and '{word}' is neither")?;

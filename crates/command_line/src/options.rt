@@ -7,7 +7,7 @@ ghost use Rattle.transfer_core.specs.declared.kept.TheConstants.{KEPT};
 use crate::command::{KEEP, MAX_KEEP, number_for};
 use crate::fault::CommandFault;
 use crate::secondaries::{Secondary, secondaries_of};
-use crate::store_options::{StorePlan, store_of};
+use crate::store_options::{StorePlan, UDP_BUFFER, store_of, udp_buffer};
 use clap::ArgMatches;
 use commands::Source;
 use dns_name::Name;
@@ -36,6 +36,8 @@ pub struct Serve<'a> {
     pub places: usize,
     /// How long each may wait for its peer.
     pub limits: Limits,
+    /// How many octets of datagrams may wait for a worker, at each address.
+    pub udp_buffer: u32,
     /// The secondaries that are told of each version; a thread tells them.
     pub secondaries: Vec<Secondary>,
     /// The folder in which updates last, if there is one.
@@ -112,6 +114,7 @@ pub fn serve_of<'a>(
         1000,
     )?;
     let limits = limits_of(found)?;
+    let udp_buffer = udp_buffer(found.get_str(UDP_BUFFER))?;
     let store = store_of(found)?;
     Ok(Serve {
         zone,
@@ -123,6 +126,7 @@ pub fn serve_of<'a>(
         allowed,
         places,
         limits,
+        udp_buffer,
         secondaries,
         store,
     })

@@ -2,7 +2,7 @@
 use crate::command::{BEFORE_FAULT, DIR, KEEP, ORIGIN, TCP, WINDOW, ZONE};
 use crate::options::{ALLOW, CONNECTIONS, COUNT, IDLE, LISTEN, MESSAGE, REPLY, WORKERS};
 use crate::secondaries::NOTIFY;
-use crate::store_options::{JOURNAL, STORE, TAKE};
+use crate::store_options::{JOURNAL, STORE, TAKE, UDP_BUFFER};
 use clap::{Arg, ArgAction, Command as Parser};
 use std::alloc::{AllocError, Global};
 
@@ -216,6 +216,11 @@ const SERVE_WORDS: &[WordRow] = &[
         name: REPLY,
         form: Form::Default("SECONDS", "10"),
         help: "how long the taking of a reply, or of a part of it, may take, from 1 to 3600",
+    },
+    WordRow {
+        name: UDP_BUFFER,
+        form: Form::Value("SIZE"),
+        help: "how many octets of datagrams may wait for a worker, at each address, as 500K or 4M, from 4K to 1G; 4M where it isn't given",
     },
 ];
 

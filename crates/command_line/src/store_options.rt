@@ -23,20 +23,48 @@ pub const STORE: &str = "store";
 /// The option for how many octets a journal has before it is begun anew.
 pub const JOURNAL: &str = "journal";
 
-/// How many it has where the option isn't given (own).
-const JOURNAL_SIZE: u64 = 64_000_000;
+/// The sizes of a journal (own).
+const JOURNAL_SIZES: Sizes = Sizes {
+    option: JOURNAL,
+    own: 64_000_000,
+    least: 4_096,
+    most: 1_099_511_627_776,
+    takes: "from 4K to 1024G, as 100000, 500K or 64M",
+};
 
-/// The least and the most octets that the option takes (own).
-const LEAST_SIZE: u64 = 4_096;
+/// The option for how many octets of datagrams wait for a worker, at each address.
+pub const UDP_BUFFER: &str = "udp-buffer";
 
-const MOST_SIZE: u64 = 1_099_511_627_776;
+/// The sizes of that (own).
+const UDP_SIZES: Sizes = Sizes {
+    option: UDP_BUFFER,
+    own: 4_194_304,
+    least: 4_096,
+    most: 1_073_741_824,
+    takes: "from 4K to 1G, as 500K or 4M",
+};
+
+/// The sizes that an option takes.
+#[derive(Clone, Copy)]
+struct Sizes {
+    /// The option.
+    option: &'static str,
+    /// How many octets there are where the option isn't given.
+    own: u64,
+    /// The least that it takes.
+    least: u64,
+    /// The most that it takes.
+    most: u64,
+    /// Both, as the operator is told.
+    takes: &'static str,
+}
 
 /// The option for which is taken, the store or the zone's text.
 pub const TAKE: &str = "take";
 
 /// The folder in which updates last, if there is one.
 pub fn store_of<'a>(found: &ArgMatches<'a>) -> Result<Option<StorePlan<'a>>, CommandFault<'a>> {
-    let journal = size_of(found.get_str(JOURNAL))?;
+    let journal = journal_size(found.get_str(JOURNAL))?;
     let taken = taken_of(found.get_str(TAKE))?;
     if let Some(dir) = found.get_str(STORE) {
         return Ok(Some(StorePlan {
@@ -54,23 +82,47 @@ pub fn store_of<'a>(found: &ArgMatches<'a>) -> Result<Option<StorePlan<'a>>, Com
     Ok(None)
 }
 
-/// How many octets a word tells: a number, and behind it K, M or G, or k, m or g, for 1,024 times as many once, twice or three times; the option's own where there is
-/// no word.
-fn size_of<'a>(word: Option<&'a str>) -> Result<u64, CommandFault<'a>>
+/// How many octets a journal has before it is begun anew.
+fn journal_size<'a>(word: Option<&'a str>) -> Result<u64, CommandFault<'a>>
     ensures own { IsNone word.entry → IsOkAnd result (λ size. size ≡ 64000000) }
     ensures least { IfOk result (λ size. 4096 ≤ size) }
     ensures most { IfOk result (λ size. size ≤ 1099511627776) }
 {
+    size_of(word, JOURNAL_SIZES)
+}
+
+/// How many octets of datagrams wait for a worker, at each address.
+pub fn udp_buffer<'a>(word: Option<&'a str>) -> Result<u32, CommandFault<'a>>
+    ensures own { IsNone word.entry → IsOkAnd result (λ size. size ≡ 4194304) }
+    ensures least { IfOk result (λ size. 4096 ≤ size) }
+    ensures most { IfOk result (λ size. size ≤ 1073741824) }
+{
+    let size = size_of(word, UDP_SIZES)?;
+    Ok(size as u32)
+}
+
+/// How many octets a word tells: a number, and after it K, M or G, or k, m or g, for 1,024 times as many once, twice or three times; the option's own where there is
+/// no word.
+fn size_of<'a>(word: Option<&'a str>, sizes: Sizes) -> Result<u64, CommandFault<'a>>
+    ensures own { IsNone word.entry → IsOkAnd result (λ size. size ≡ sizes.own) }
+    ensures least { sizes.least ≤ sizes.own → IfOk result (λ size. sizes.least ≤ size) }
+    ensures most { sizes.own ≤ sizes.most → IfOk result (λ size. size ≤ sizes.most) }
+{
     let Some(word) = word else {
-        return Ok(JOURNAL_SIZE);
+        return Ok(sizes.own);
+    };
+    let fault = CommandFault::Size {
+        option: sizes.option,
+        takes: sizes.takes,
+        word,
     };
     let (digits, unit) = unit_of(word);
     match digits.parse::<u64>() {
         Ok(number) => match number.checked_mul(unit) {
-            Some(size) if LEAST_SIZE <= size && size <= MOST_SIZE => Ok(size),
-            _ => Err(CommandFault::Size(word)),
+            Some(size) if sizes.least <= size && size <= sizes.most => Ok(size),
+            _ => Err(fault),
         },
-        Err(_) => Err(CommandFault::Size(word)),
+        Err(_) => Err(fault),
     }
 }
 

@@ -1,6 +1,6 @@
 //! The sockets that a zone is served on (RFC 1035, 4.2).
 use serve_workers::{Duty, Progress, Sockets};
-use sockets::{Turn, bind_datagrams, bind_listener};
+use sockets::{Turn, bind_datagrams, bind_listener, keep_received};
 use std::alloc::Global;
 use std::io::{self, ErrorKind};
 use std::net::{Net, SocketAddr, TcpListener, UdpSocket};
@@ -128,6 +128,24 @@ pub fn bind_all<R: Net>(
     }
     let none = SocketAddr::V4(std::net::SocketAddrV4::new(std::net::Ipv4Addr::new(0, 0, 0, 0), 0));
     Err(no_memory(none, io::Error::from(ErrorKind::OutOfMemory)))
+}
+
+/// Has the system keep so many octets of datagrams for each socket of workers, and gives how many it keeps for the one for which it keeps fewest.
+pub fn keep_datagrams(workers: &[WorkerSockets], octets: u32) -> u32 {
+    let mut fewest = octets;
+    for worker in workers {
+        fewest = fewest.min(keep_for(worker, octets));
+    }
+    fewest
+}
+
+/// The same of one worker.
+fn keep_for(worker: &WorkerSockets, octets: u32) -> u32 {
+    let mut fewest = octets;
+    for socket in worker.datagrams.iter() {
+        fewest = fewest.min(keep_received(socket, octets).unwrap_or(0));
+    }
+    fewest
 }
 
 /// What each thread does: of each worker one its listeners, and one more each of its sockets for datagrams. None where there is no memory.

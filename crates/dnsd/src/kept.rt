@@ -2,12 +2,14 @@
 ghost use Rattle.std.specs.Prelude.{IfOk};
 ghost use Rattle.store_service.specs.Resumed.{IsGiven};
 
+use crate::levels::Level;
 use command_line::{Serve, StorePlan};
 use commands::{FAILED, Fault, REFUSED, tell};
 use std::alloc::Global;
 use std::fs::{File, Files};
 use std::io;
 use std::random::RandomSource;
+use std::rt::Env;
 use store_start::{Given, Refusal, Served, Started, start_store};
 use stored_zone::ToldFault;
 
@@ -18,7 +20,7 @@ const SALT: usize = 16;
 /// from this text; or the program's status, where nothing is served, and standard error then has the reason.
 #[tactic(auto, using(crate::proofs::GivenLemmas::given))]
 pub fn start_kept<
-    R: Files<File = File> + Eprint + AllocGlobal + Alloc + RandomSource + Clone + Drop,
+    R: Files<File = File> + Env + Eprint + AllocGlobal + Alloc + RandomSource + Clone + Drop,
 >(rt: &R, plan: StorePlan<'_>, serve: &Serve<'_>, text: &[u8]) -> io::Result<Result<Started, u8>>
     ensures { IfOk result (λ r. IfOk r (λ started. IsGiven started.store)) }
 {
@@ -40,72 +42,88 @@ pub fn start_kept<
 }
 
 /// Tells which is served, and what was cut off.
-fn tell_started<R: Eprint>(rt: &R, dir: &str, started: &Started) -> io::Result<()> {
+fn tell_started<R: Env + AllocGlobal + Eprint>(
+    rt: &R,
+    dir: &str,
+    started: &Started,
+) -> io::Result<()> {
+    let (notice, warning) = (Level::Notice.mark_for(rt), Level::Warning.mark_for(rt));
     match &started.served {
-        Served::Begun => eprintln!(rt; "the store '{dir}' is begun from the zone's text")?,
+        Served::Begun => eprintln!(rt; "{notice}the store '{dir}' is begun from the zone's text")?,
         Served::Same => {}
-        Served::Store => eprintln!(rt; "the store '{dir}' is served, and not the zone's text")?,
+        Served::Store => eprintln!(rt;
+            "{notice}the store '{dir}' is served, and not the zone's text"
+        )?,
         Served::StoreThoughOther(serial) => {
             let serial = serial.0;
             eprintln!(rt;
-                "the store '{dir}' is served, and not the zone's text: that is another one than the store was begun from, and its serial, {serial}, isn't greater"
+                "{warning}the store '{dir}' is served, and not the zone's text: that is another one than the store was begun from, and its serial, {serial}, isn't greater"
             )?;
         }
         Served::Zone(kept) => eprintln!(rt;
-            "the zone's text is served, with which the store '{dir}' is begun anew; the one before is kept as '{kept}'"
+            "{warning}the zone's text is served, with which the store '{dir}' is begun anew; the one before is kept as '{kept}'"
         )?,
     }
     match &started.torn {
         Some(torn) => eprintln!(rt;
-            "the journal of '{dir}' ended with octets that are no whole batch: they are cut off, and kept as '{torn}'"
+            "{warning}the journal of '{dir}' ended with octets that are no whole batch: they are cut off, and kept as '{torn}'"
         ),
         None => Ok(()),
     }
 }
 
 /// Tells why nothing is served, and gives the program's status.
-fn tell_refusal<R: Eprint>(
+fn tell_refusal<R: Env + AllocGlobal + Eprint>(
     rt: &R,
     alloc: Global,
     dir: &str,
     text: &[u8],
     refusal: Refusal,
 ) -> io::Result<u8> {
+    let mark = Level::Error.mark_for(rt);
     match refusal {
         Refusal::Held => {
-            eprintln!(rt; "error: the store '{dir}' is held by another server")?;
+            eprintln!(rt; "{mark}error: the store '{dir}' is held by another server")?;
             Ok(REFUSED)
         }
         Refusal::NoText(number) => {
             eprintln!(rt;
-                "error: the journal of '{dir}' belongs to '{dir}/zone-{number}', which isn't there"
+                "{mark}error: the journal of '{dir}' belongs to '{dir}/zone-{number}', which isn't there"
             )?;
             Ok(REFUSED)
         }
         Refusal::NoStart(fault) => {
             let told = ToldFault { dir, fault };
-            eprintln!(rt; "error: {told}")?;
+            eprintln!(rt; "{mark}error: {told}")?;
             Ok(REFUSED)
         }
         Refusal::Newer { has, given } => {
             let (has, given) = (has.0, given.0);
             eprintln!(rt;
-                "error: the zone's text is another one than the store '{dir}' was begun from, and has the serial {given}, greater than the store's {has}: --take store serves the store, --take zone the text, and keeps the store before beside it"
+                "{mark}error: the zone's text is another one than the store '{dir}' was begun from, and has the serial {given}, greater than the store's {has}: --take store serves the store, --take zone the text, and keeps the store before beside it"
+            )?;
+            Ok(REFUSED)
+        }
+        Refusal::NotNewer { has, given } => {
+            let (has, given) = (has.0, given.0);
+            eprintln!(rt;
+                "{mark}error: --take zone needs a serial greater than the store's: the zone's text has {given}, the store '{dir}' has {has}: raise the text's serial, or serve the store by --take store"
             )?;
             Ok(REFUSED)
         }
         Refusal::Text(fault) => {
             let mut errors = Vec::new(alloc);
             let status = tell(alloc, Err(Fault::Zone(fault)), text, &mut errors);
+            rt.eprint(mark)?;
             rt.eprint(String::from_utf8_lossy(alloc, errors.as_slice())?)?;
             Ok(status)
         }
         Refusal::NoMemory => {
-            eprintln!(rt; "error: out of memory")?;
+            eprintln!(rt; "{mark}error: out of memory")?;
             Ok(FAILED)
         }
         Refusal::Device(fault) => {
-            eprintln!(rt; "error: the store '{dir}' can't be read or written: {fault}")?;
+            eprintln!(rt; "{mark}error: the store '{dir}' can't be read or written: {fault}")?;
             Ok(FAILED)
         }
     }

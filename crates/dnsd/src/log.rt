@@ -1,22 +1,29 @@
-//! The log of a running server, on standard error.
+//! The log of a running server, on standard error, and what a service manager is told beside it.
+use crate::levels::{Level, is_in_journal};
 use dns_name::Name;
 use dns_rdata::Serial;
 use log_lines::{LogQueue, Sink, Told};
 use serve_workers::ServeFault;
+use sockets::ServiceManager;
 use std::alloc::{AllocError, Global};
-use std::mem;
-use std::net::SocketAddr;
+use std::fmt::{self, Display, Formatter};
+use std::net::{Net, SocketAddr};
+use std::rt::Env;
 use std::sync::{Arc, Wait};
 use std::thread::{self, Threads};
 use std::time::{Clock, Duration};
+use std::{env, mem};
 use store_service::{StoreEvent, StoreLog};
-use zone_service::{Event, ServiceLog};
+use zone_service::{Event, Serials, ServiceLog};
 
 /// How many lines wait at most to be written (own).
 const MOST_WAITING: usize = 1024;
 
 /// How long the server's end waits at most for the lines that are left, in milliseconds (own).
 const END_MILLIS: u64 = 1000;
+
+/// How long there is at least between two states that a service manager is told, in seconds (own).
+const STATUS_SECONDS: u64 = 1;
 
 /// A line of the log.
 #[derive(Drop)]
@@ -25,6 +32,8 @@ pub enum LogLine {
     Listening {
         /// The address and the port.
         address: SocketAddr,
+        /// The zone's apex.
+        apex: Name,
         /// The zone's serial.
         serial: Serial,
         /// How many records the zone has.
@@ -32,14 +41,21 @@ pub enum LogLine {
     },
     /// An address for all of the machine's is listened on.
     Wildcard(SocketAddr),
-    /// The limit of descriptors is lower than what may be wanted.
+    /// The limit of descriptors is lower than what may be needed.
     FewDescriptors {
         /// The limit.
         limit: usize,
-        /// What may be wanted.
+        /// What may be needed.
         wanted: usize,
     },
-    /// Secondaries are told from addresses that routing picks.
+    /// The system keeps fewer octets of datagrams for a socket than were asked for.
+    SmallBuffer {
+        /// How many it keeps.
+        kept: u32,
+        /// How many were asked for.
+        wanted: u32,
+    },
+    /// Secondaries are notified from addresses that routing picks.
     Routed,
     /// Updates are lost at the program's end.
     NoStore,
@@ -51,116 +67,273 @@ pub enum LogLine {
     Fault(ServeFault),
 }
 
-/// What is told once all workers have begun.
+impl LogLine {
+    /// How grave it is.
+    pub fn level(&self) -> Level {
+        match self {
+            LogLine::Listening { .. } => Level::Notice,
+            LogLine::Wildcard(_)
+            | LogLine::FewDescriptors { .. }
+            | LogLine::SmallBuffer { .. }
+            | LogLine::Routed
+            | LogLine::NoStore => Level::Warning,
+            LogLine::Event(event) => Level::of_event(event),
+            LogLine::Store(event) => Level::of_store(event),
+            LogLine::Fault(_) => Level::Error,
+        }
+    }
+}
+
+impl Display for LogLine {
+    fn fmt<W: fmt::Write>(&self, f: &mut Formatter<W>) -> fmt::Result {
+        match self {
+            LogLine::Listening {
+                address,
+                apex,
+                serial,
+                records,
+            } => {
+                let (apex, serial) = (apex.to_text(), serial.0);
+                write!(
+                    f,
+                    "listening on {address}: {apex} with serial {serial}, {records} records"
+                )
+            }
+            LogLine::Wildcard(address) => write!(
+                f,
+                "{address}: a datagram is answered from the address that routing picks; on a host of several addresses, name each by a --listen of its own"
+            ),
+            LogLine::FewDescriptors { limit, wanted } => write!(
+                f,
+                "the limit of descriptors is {limit}, and all connections may want {wanted}"
+            ),
+            LogLine::SmallBuffer { kept, wanted } => write!(
+                f,
+                "UDP: the system keeps {kept} bytes of datagrams for a socket, and --udp-buffer asks for {wanted}: raise net.core.rmem_max"
+            ),
+            LogLine::Routed => f.write_str(
+                "some secondaries are told from the address that routing picks, since no other of their family is listened on; name it as --notify ADDR@FROM",
+            ),
+            LogLine::NoStore => {
+                f.write_str("updates are lost at the server's end: --store DIR keeps them")
+            }
+            LogLine::Event(event) => write!(f, "{event}"),
+            LogLine::Store(event) => write!(f, "{event}"),
+            LogLine::Fault(fault) => write!(f, "error: {fault}"),
+        }
+    }
+}
+
+/// What the log's thread takes.
+#[derive(Drop)]
+pub enum Entry {
+    /// A line.
+    Line(LogLine),
+    /// The zone is served: a service manager is told so.
+    Ready,
+    /// The server ends: a service manager is told so.
+    Stopping,
+}
+
+/// What waits for the thread that writes it.
+pub type Entries = Arc<LogQueue<Entry>, Global>;
+
+/// What is logged once all workers have begun.
 #[derive(Drop)]
 pub struct Listening {
     /// The addresses and the ports.
     pub addresses: Vec<SocketAddr>,
+    /// The zone's apex.
+    pub apex: Name,
     /// The zone's serial.
     pub serial: Serial,
     /// How many records the zone has.
     pub records: usize,
     /// Whether updates may come, and are lost at the program's end.
     pub loses_updates: bool,
+    /// How many octets of datagrams the system keeps for a socket.
+    pub kept: u32,
+    /// How many were asked for.
+    pub wanted: u32,
 }
 
-/// The log: its lines wait for a thread that writes them, so that who adds one doesn't wait for standard error.
+/// The log: its lines wait for a thread that writes them, so that a thread that adds one doesn't wait for standard error.
 #[derive(Drop)]
 pub struct Log {
-    lines: Arc<LogQueue<LogLine>, Global>,
+    entries: Entries,
     listening: Listening,
 }
 
-/// Standard error, for the log of the zone with this apex. What can't be written is lost.
+/// Standard error, and a service manager. What can't be written is lost.
 #[derive(Drop)]
 struct ErrorLines<E> {
     rt: E,
-    apex: Name,
+    in_journal: bool,
+    manager: Option<ServiceManager>,
+    /// The apex of the zone that is served, and its serial as it was logged last.
+    zone: Option<(Name, Serial)>,
+    /// Whether the service manager doesn't know that serial.
+    is_behind: bool,
+    /// When it was told a state, since the clock's beginning.
+    told_at: Duration,
 }
 
-impl<E: Eprint> Sink<LogLine> for ErrorLines<E> {
-    fn put<R: Wait>(&mut self, _rt: &R, told: Told<LogLine>) {
+impl<E: Eprint + AllocGlobal + Clock> Sink<Entry> for ErrorLines<E> {
+    fn put<R: Wait>(&mut self, _rt: &R, told: Told<Entry>) {
         let Told { lost, line } = told;
         if lost > 0 {
-            let _ = eprintln!(self.rt; "{lost} lines of the log are lost here");
+            let mark = Level::Warning.mark(self.in_journal);
+            let _ = eprintln!(self.rt; "{mark}{lost} lines of the log are lost here");
         }
-        let _ = match line {
-            Some(
-                LogLine::Listening {
-                    address,
-                    serial,
-                    records,
-                },
-            ) => {
-                let (apex, serial) = (self.apex.to_text(), serial.0);
-                eprintln!(self.rt;
-                    "listening on {address}: {apex} with serial {serial}, {records} records"
-                )
-            }
-            Some(LogLine::Wildcard(address)) => eprintln!(self.rt;
-                "{address}: a datagram is answered from the address that routing picks; on a host of several addresses, name each by a --listen of its own"
-            ),
-            Some(LogLine::FewDescriptors { limit, wanted }) => eprintln!(self.rt;
-                "the limit of descriptors is {limit}, and all connections may want {wanted}"
-            ),
-            Some(LogLine::Routed) => eprintln!(self.rt;
-                "some secondaries are told from the address that routing picks, since no other of their family is listened on; name it as --notify ADDR@FROM"
-            ),
-            Some(LogLine::NoStore) => eprintln!(self.rt;
-                "updates are lost at the server's end: --store DIR keeps them"
-            ),
-            Some(LogLine::Event(event)) => eprintln!(self.rt; "{event}"),
-            Some(LogLine::Store(event)) => eprintln!(self.rt; "{event}"),
-            Some(LogLine::Fault(fault)) => eprintln!(self.rt; "error: {fault}"),
-            None => Ok(()),
-        };
+        match line {
+            Some(Entry::Line(line)) => self.put_line(line),
+            Some(Entry::Ready) => self.notify_ready(),
+            Some(Entry::Stopping) => self.notify("STOPPING=1"),
+            None => {}
+        }
+    }
+
+    fn idle(&mut self) -> Option<Duration> {
+        if !self.is_behind || self.manager.is_none() {
+            return None;
+        }
+        let since = self.since_told();
+        let least = Duration::from_secs(STATUS_SECONDS);
+        if since < least {
+            return Some(least.saturating_sub(since));
+        }
+        self.notify_status();
+        None
     }
 }
 
+impl<E: Eprint + AllocGlobal + Clock> ErrorLines<E> {
+    /// Writes a line.
+    fn put_line(&mut self, line: LogLine) {
+        let mark = line.level().mark(self.in_journal);
+        let _ = eprintln!(self.rt; "{mark}{line}");
+        match line {
+            LogLine::Listening { apex, serial, .. } => self.zone = Some((apex, serial)),
+            LogLine::Event(
+                Event::Update {
+                    serials: Some(Serials { after, .. }),
+                    ..
+                },
+            ) => self.note_serial(after),
+            _ => {}
+        }
+    }
+
+    /// Notes the serial that an update has left.
+    fn note_serial(&mut self, after: Serial) {
+        if let Some((_, serial)) = &mut self.zone {
+            if *serial != after {
+                *serial = after;
+                self.is_behind = true;
+            }
+        }
+    }
+
+    /// How much time has passed since the service manager was told a state; much, where no clock says.
+    fn since_told(&self) -> Duration {
+        match self.rt.monotonic() {
+            Ok(now) => now.saturating_sub(self.told_at),
+            Err(_) => Duration::from_secs(STATUS_SECONDS),
+        }
+    }
+
+    /// Tells the service manager a state, if there is one.
+    fn notify(&self, state: &str) {
+        if let Some(manager) = &self.manager {
+            manager.notify(state);
+        }
+    }
+
+    /// Tells the service manager that the zone is served.
+    fn notify_ready(&mut self) {
+        self.notify("READY=1");
+        self.notify_status();
+    }
+
+    /// Tells the service manager the zone and its serial.
+    fn notify_status(&mut self) {
+        if let Some((apex, serial)) = &self.zone {
+            let (apex, serial) = (apex.to_text(), serial.0);
+            if let Ok(state) = format!(in self.rt.alloc(); "STATUS={apex} with serial {serial}") {
+                self.notify(state.as_str());
+            }
+        }
+        self.is_behind = false;
+        if let Ok(now) = self.rt.monotonic() {
+            self.told_at = now;
+        }
+    }
+}
+
+/// Starts the thread that writes the log and tells the service manager that `NOTIFY_SOCKET` names, if it names one (sd_notify(3)); want of memory, or a thread that is
+/// refused, starts none.
+pub fn start_entries<
+    R: Env + Eprint + AllocGlobal + Net + Threads + Wait + Clock + Copy + Send + Drop + 'static,
+>(rt: &R) -> Result<Entries, AllocError> {
+    let alloc = rt.alloc();
+    let entries = Arc::new(alloc, LogQueue::new(alloc, MOST_WAITING)?)?;
+    let written = Arc::try_clone(&entries)?;
+    let manager = match env::var(rt, "NOTIFY_SOCKET") {
+        Ok(name) => ServiceManager::at(rt, name.as_str()),
+        Err(_) => None,
+    };
+    let in_journal = is_in_journal(rt);
+    let rt = *rt;
+    // The thread isn't joined: one that standard error takes no line from would never end.
+    let writer = thread::spawn(&rt, move || {
+        let mut lines = ErrorLines {
+            rt,
+            in_journal,
+            manager,
+            zone: None,
+            is_behind: false,
+            told_at: Duration::from_secs(0),
+        };
+        written.write_to(&rt, &mut lines);
+    })?;
+    mem::drop(writer);
+    Ok(entries)
+}
+
 impl Log {
-    /// Starts the log of the zone with this apex, on a thread of its own; want of memory, or a thread that is refused, starts none.
-    pub fn start<R: Eprint + AllocGlobal + Threads + Wait + Clock + Copy + Send + Drop + 'static>(
-        rt: &R,
-        apex: Name,
-        listening: Listening,
-    ) -> Result<Log, AllocError> {
-        let alloc = rt.alloc();
-        let lines = Arc::new(alloc, LogQueue::new(alloc, MOST_WAITING)?)?;
-        let written = Arc::try_clone(&lines)?;
-        let rt = *rt;
-        // The thread isn't joined: one that standard error takes no line from would never end.
-        let writer = thread::spawn(&rt, move || {
-            written.write_to(&rt, &mut ErrorLines { rt, apex });
-        })?;
-        mem::drop(writer);
-        Ok(Log { lines, listening })
+    /// The log of a zone, whose entries a thread writes.
+    pub fn new(entries: Entries, listening: Listening) -> Log {
+        Log { entries, listening }
     }
 
     /// Adds a line; where the thread is so far behind that there is no room, it is counted as lost.
     pub fn add<R: Wait>(&self, rt: &R, line: LogLine) {
-        self.lines.add(rt, line);
+        self.entries.add(rt, Entry::Line(line));
     }
 
     /// Ends the log. It waits a second at most for the lines that are left, and those that aren't written then are lost.
     pub fn end<R: Wait + Clock>(self, rt: &R) {
-        let _ = self.lines.close(rt, Duration::from_millis(END_MILLIS));
+        self.entries.add(rt, Entry::Stopping);
+        let _ = self.entries.close(rt, Duration::from_millis(END_MILLIS));
     }
-}
 
-impl Log {
-    /// Tells at which addresses the zone is served, and whether its updates are lost.
+    /// Logs at which addresses the zone is served, whether its updates are lost, and whether the system keeps fewer datagrams than were asked for.
     fn add_listening<R: Wait>(&self, rt: &R) {
         let Listening {
             addresses,
+            apex,
             serial,
             records,
             loses_updates,
+            kept,
+            wanted,
         } = &self.listening;
         for address in addresses.iter() {
             self.add(
                 rt,
                 LogLine::Listening {
                     address: *address,
+                    apex: apex.copy(),
                     serial: *serial,
                     records: *records,
                 },
@@ -169,6 +342,16 @@ impl Log {
         if *loses_updates {
             self.add(rt, LogLine::NoStore);
         }
+        if kept < wanted {
+            self.add(
+                rt,
+                LogLine::SmallBuffer {
+                    kept: *kept,
+                    wanted: *wanted,
+                },
+            );
+        }
+        self.entries.add(rt, Entry::Ready);
     }
 }
 

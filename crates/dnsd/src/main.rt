@@ -10,6 +10,7 @@ pub mod begin;
 pub mod bound;
 pub mod descriptors;
 pub mod kept;
+pub mod levels;
 pub mod log;
 pub mod secondaries;
 pub mod serve;
@@ -18,6 +19,7 @@ pub mod zone_file;
 
 use command_line::{Task, parse_words, tell_fault};
 use commands::{Command, FAILED, Source, run_text, run_with_zone, tell};
+use levels::Level;
 use serve::run_serve;
 use std::env;
 use std::fs::{File, Files};
@@ -36,7 +38,8 @@ fn main(rt: HostRuntime) -> ExitCode {
     match run_words(&rt) {
         Ok(status) => ExitCode::from(status),
         Err(fault) => {
-            let _ = eprintln!(rt; "dnsd: {fault}");
+            let mark = Level::Error.mark_for(&rt);
+            let _ = eprintln!(rt; "{mark}dnsd: {fault}");
             ExitCode::from(FAILED)
         }
     }

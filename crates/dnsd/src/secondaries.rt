@@ -1,4 +1,5 @@
 //! The sockets by which secondaries are told of each version of the zone (RFC 1996).
+use crate::levels::Level;
 use command_line::{Secondary, source_of};
 use dns_name::Name;
 use serve_workers::{Duty, NotifySocket, Progress, Secondaries, Sockets};
@@ -6,6 +7,7 @@ use std::alloc::Global;
 use std::io::{self, ErrorKind};
 use std::net::{Net, SocketAddr, UdpSocket};
 use std::random::RandomSource;
+use std::rt::Env;
 
 /// How many octets the seed of IDs has.
 const SEED: usize = 32;
@@ -42,19 +44,40 @@ fn socket_for<R: Net>(rt: &R, source: SocketAddr, address: SocketAddr) -> io::Re
     NotifySocket::new(UdpSocket::bind(rt, source)?, address)
 }
 
-/// What is wanted to tell secondaries of the zone at an apex, where these addresses are listened on. None where one of them can't be told,
-/// which is said on standard error.
-pub fn secondaries_for<R: Net + Eprint + RandomSource>(
+/// What is needed to notify secondaries, whatever the zone is.
+#[derive(Drop)]
+pub struct SecondarySockets {
+    /// The socket of each.
+    sockets: Vec<NotifySocket>,
+    /// The seed of the messages' IDs.
+    seed: [u8; SEED],
+}
+
+impl SecondarySockets {
+    /// The same for the zone at an apex.
+    pub fn of_zone(self, apex: Name) -> Secondaries {
+        let SecondarySockets { sockets, seed } = self;
+        Secondaries {
+            sockets,
+            apex,
+            seed,
+        }
+    }
+}
+
+/// What is needed to notify secondaries, where these addresses are listened on. None where one of them can't be notified, which is said on standard error.
+pub fn secondaries_for<R: Env + AllocGlobal + Net + Eprint + RandomSource>(
     rt: &R,
-    alloc: Global,
     secondaries: &[Secondary],
     listen: &[SocketAddr],
-    apex: Name,
-) -> io::Result<Option<Secondaries>> {
-    let sockets = match bind_secondaries(rt, alloc, secondaries, listen) {
+) -> io::Result<Option<SecondarySockets>> {
+    let sockets = match bind_secondaries(rt, rt.alloc(), secondaries, listen) {
         Ok(sockets) => sockets,
         Err(Unreached { address, fault }) => {
-            eprintln!(rt; "error: the secondary {address} can't be told of versions: {fault}")?;
+            let mark = Level::Error.mark_for(rt);
+            eprintln!(rt;
+                "{mark}error: the secondary {address} can't be told of versions: {fault}"
+            )?;
             return Ok(None);
         }
     };
@@ -62,11 +85,7 @@ pub fn secondaries_for<R: Net + Eprint + RandomSource>(
     if !sockets.is_empty() {
         rt.fill_bytes(&mut seed)?;
     }
-    Ok(Some(Secondaries {
-        sockets,
-        apex,
-        seed,
-    }))
+    Ok(Some(SecondarySockets { sockets, seed }))
 }
 
 /// Puts what the thread for secondaries does, if there are any, behind what others do. None where there is no memory.

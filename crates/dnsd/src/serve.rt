@@ -4,13 +4,14 @@ ghost use Rattle.transfer_core.specs.declared.kept.TheConstants.{KEPT};
 ghost use Rattle.dnsd.specs.Begun.{CanBegin};
 
 use crate::begin::{Beginning, Begun, BegunStore, KeptIn, begin};
-use crate::bound::{Unbound, WorkerSockets, bind_all, duties_of};
+use crate::bound::{Unbound, WorkerSockets, bind_all, duties_of, keep_datagrams};
 use crate::descriptors;
 use crate::kept::start_kept;
-use crate::log::{Listening, Log, LogLine};
-use crate::secondaries::{put_secondaries, secondaries_for};
+use crate::levels::Level;
+use crate::log::{Entries, Listening, Log, LogLine, start_entries};
+use crate::secondaries::{SecondarySockets, put_secondaries, secondaries_for};
 use crate::zone_file::read_zone_file;
-use command_line::{MAX_THREADS, Serve, is_routed};
+use command_line::{MAX_THREADS, Serve, StorePlan, is_routed};
 use commands::{DONE, FAILED, Fault, Source, tell};
 use conversation::Allowed;
 use line_io::read_zone_text;
@@ -25,6 +26,7 @@ use std::marker::Brand;
 use std::mem;
 use std::net::{Net, SocketAddr, TcpListener, TcpStream};
 use std::random::RandomSource;
+use std::rt::Env;
 use std::sync::Wait;
 use std::sync::atomic::AtomicBool;
 use std::thread::Threads;
@@ -37,9 +39,11 @@ use zone_tree::{Zone, ZoneRead};
 const WAITING: usize = 1024;
 
 /// Serves a zone, and gives the program's status: 0 where each worker has done what it may, 1 where the zone is refused, 3 at a
-/// device's fault, a thread that can't be started or want of memory.
+/// device's fault, a thread that can't be started or want of memory. With a store, all that a server needs of the system is had before the store is begun, so that
+/// a start that fails leaves its directory as it was.
 pub fn run_serve<
     R: Files<File = File>
+        + Env
         + Eprint
         + Input
         + AllocGlobal
@@ -54,51 +58,48 @@ pub fn run_serve<
         + Drop
         + 'static,
 >(rt: &R, serve: &Serve<'_>) -> io::Result<u8> {
-    let alloc = rt.alloc();
-    let text = match serve.zone {
-        Source::Input => read_zone_text(alloc, &mut BufReader::new(alloc, rt.reader())?)?,
-        Source::File(path) => {
-            let Some(text) = read_zone_file(rt, path)? else {
-                return Ok(FAILED);
-            };
-            text
-        }
+    let Some(text) = text_for(rt, serve)? else {
+        return Ok(FAILED);
     };
-    match serve.store {
-        Some(plan) => match start_kept(rt, plan, serve, text.as_slice())? {
-            Ok(started) => {
-                mem::drop(text);
-                let kept = BegunStore {
-                    dir: format!(in alloc; "{}", plan.dir)?,
-                    journal: plan.journal,
-                    started,
-                };
-                serve_on(rt, serve, Begun::Store(kept))
-            }
-            Err(status) => Ok(status),
+    let zone = match serve.store {
+        Some(_) => None,
+        None => match read_zone(rt.alloc(), text.as_slice(), &serve.origin) {
+            Ok(zone) => Some(zone),
+            Err(fault) => return tell_zone(rt, text.as_slice(), fault),
         },
-        None => match read_zone(alloc, text.as_slice(), &serve.origin) {
-            Ok(zone) => {
-                mem::drop(text);
-                serve_on(rt, serve, Begun::Zone(zone))
-            }
-            Err(fault) => tell_zone(rt, text.as_slice(), fault),
-        },
+    };
+    let Some(bound) = bind(rt, serve)? else {
+        return Ok(FAILED);
+    };
+    match (zone, serve.store) {
+        (Some(zone), _) => {
+            mem::drop(text);
+            serve_bound(rt, serve, Begun::Zone(zone), bound)
+        }
+        (None, Some(plan)) => serve_store(rt, serve, plan, text, bound),
+        (None, None) => Ok(FAILED),
     }
 }
 
-/// Tells why a zone's text is refused, and gives the program's status.
-fn tell_zone<R: Eprint + AllocGlobal>(rt: &R, text: &[u8], fault: FileFault) -> io::Result<u8> {
+/// The zone's text; None where it can't be read, which is said on standard error.
+fn text_for<R: Files<File = File> + Env + Eprint + Input + AllocGlobal>(
+    rt: &R,
+    serve: &Serve<'_>,
+) -> io::Result<Option<Vec<u8>>> {
     let alloc = rt.alloc();
-    let mut errors = Vec::new(alloc);
-    let status = tell(alloc, Err(Fault::Zone(fault)), text, &mut errors);
-    rt.eprint(String::from_utf8_lossy(alloc, errors.as_slice())?)?;
-    Ok(status)
+    match serve.zone {
+        Source::Input => {
+            let text = read_zone_text(alloc, &mut BufReader::new(alloc, rt.reader())?)?;
+            Ok(Some(text))
+        }
+        Source::File(path) => read_zone_file(rt, path),
+    }
 }
 
-/// Serves a zone on sockets at addresses, once they stand.
-fn serve_on<
+/// Serves what a store has, or the zone of a text with which it begins.
+fn serve_store<
     R: Files<File = File>
+        + Env
         + Eprint
         + AllocGlobal
         + Net<Listener = TcpListener, Stream = TcpStream>
@@ -111,30 +112,100 @@ fn serve_on<
         + Sync
         + Drop
         + 'static,
->(rt: &R, serve: &Serve<'_>, begun: Begun) -> io::Result<u8>
-    requires { CanBegin begun }
-{
-    match bind_all(rt, rt.alloc(), serve.listen.as_slice(), serve.workers) {
-        Ok((sockets, addresses)) => serve_bound(rt, serve, begun, sockets, addresses),
+>(rt: &R, serve: &Serve<'_>, plan: StorePlan<'_>, text: Vec<u8>, bound: Bound) -> io::Result<u8> {
+    let started = match start_kept(rt, plan, serve, text.as_slice())? {
+        Ok(started) => started,
+        Err(status) => return Ok(status),
+    };
+    mem::drop(text);
+    let kept = BegunStore {
+        dir: format!(in rt.alloc(); "{}", plan.dir)?,
+        journal: plan.journal,
+        started,
+    };
+    serve_bound(rt, serve, Begun::Store(kept), bound)
+}
+
+/// Tells why a zone's text is refused, and gives the program's status.
+fn tell_zone<R: Env + Eprint + AllocGlobal>(
+    rt: &R,
+    text: &[u8],
+    fault: FileFault,
+) -> io::Result<u8> {
+    let alloc = rt.alloc();
+    let mut errors = Vec::new(alloc);
+    let status = tell(alloc, Err(Fault::Zone(fault)), text, &mut errors);
+    rt.eprint(Level::Error.mark_for(rt))?;
+    rt.eprint(String::from_utf8_lossy(alloc, errors.as_slice())?)?;
+    Ok(status)
+}
+
+/// What a server needs of the system before it has a zone.
+#[derive(Drop)]
+struct Bound {
+    /// The sockets of each worker.
+    workers: Vec<WorkerSockets>,
+    /// The addresses with the ports that they have.
+    addresses: Vec<SocketAddr>,
+    /// How many octets of datagrams the system keeps for each.
+    kept: u32,
+    /// The sockets for secondaries.
+    secondaries: SecondarySockets,
+    /// What the log's thread takes.
+    entries: Entries,
+}
+
+/// Binds all sockets, and starts the log's thread. None where an address can't be listened on, or a secondary can't be notified, which is said on standard error.
+fn bind<
+    R: Env
+        + Eprint
+        + AllocGlobal
+        + Net<Listener = TcpListener, Stream = TcpStream>
+        + Threads
+        + Wait
+        + Clock
+        + RandomSource
+        + Copy
+        + Send
+        + Drop
+        + 'static,
+>(rt: &R, serve: &Serve<'_>) -> io::Result<Option<Bound>> {
+    let listen = serve.listen.as_slice();
+    let (workers, addresses) = match bind_all(rt, rt.alloc(), listen, serve.workers) {
+        Ok(bound) => bound,
         Err(unbound) => {
             tell_unbound(rt, &unbound)?;
-            Ok(FAILED)
+            return Ok(None);
         }
-    }
+    };
+    let kept = keep_datagrams(workers.as_slice(), serve.udp_buffer);
+    let Some(secondaries) = secondaries_for(rt, serve.secondaries.as_slice(), listen)? else {
+        return Ok(None);
+    };
+    Ok(Some(Bound {
+        workers,
+        addresses,
+        kept,
+        secondaries,
+        entries: start_entries(rt)?,
+    }))
 }
 
 /// Says why an address can't be listened on.
-fn tell_unbound<R: Eprint>(rt: &R, unbound: &Unbound) -> io::Result<()> {
+fn tell_unbound<R: Env + AllocGlobal + Eprint>(rt: &R, unbound: &Unbound) -> io::Result<()> {
     let Unbound {
         listen,
         transport,
         fault,
     } = unbound;
+    let mark = Level::Error.mark_for(rt);
     match reason_of(fault) {
         Some(reason) => {
-            eprintln!(rt; "error: {listen} can't be listened on by {transport}: {reason}")
+            eprintln!(rt; "{mark}error: {listen} can't be listened on by {transport}: {reason}")
         }
-        None => eprintln!(rt; "error: {listen} can't be listened on by {transport}: {fault}"),
+        None => {
+            eprintln!(rt; "{mark}error: {listen} can't be listened on by {transport}: {fault}")
+        }
     }
 }
 
@@ -150,7 +221,7 @@ fn reason_of(fault: &io::Error) -> Option<&'static str> {
     }
 }
 
-/// Serves a zone on sockets that stand at addresses.
+/// Serves a zone on sockets that are bound.
 fn serve_bound<
     R: Files<File = File>
         + Eprint
@@ -165,31 +236,30 @@ fn serve_bound<
         + Sync
         + Drop
         + 'static,
->(
-    rt: &R,
-    serve: &Serve<'_>,
-    begun: Begun,
-    sockets: Vec<WorkerSockets>,
-    addresses: Vec<SocketAddr>,
-) -> io::Result<u8>
+>(rt: &R, serve: &Serve<'_>, begun: Begun, bound: Bound) -> io::Result<u8>
     requires { CanBegin begun }
 {
-    let (told, listen) = (serve.secondaries.as_slice(), serve.listen.as_slice());
+    let Bound {
+        workers,
+        addresses,
+        kept,
+        secondaries,
+        entries,
+    } = bound;
     let zone = begun.zone();
-    let apex = zone.apex().copy();
-    let Some(secondaries) = secondaries_for(rt, rt.alloc(), told, listen, zone.apex().copy())?
-    else {
-        return Ok(FAILED);
-    };
     let listening = Listening {
         addresses,
+        apex: zone.apex().copy(),
         serial: zone.serial(),
         records: records_of(zone),
         loses_updates: serve.store.is_none() && !serve.allowed.is_empty(),
+        kept,
+        wanted: serve.udp_buffer,
     };
-    let log = Log::start(rt, apex, listening)?;
+    let secondaries = secondaries.of_zone(zone.apex().copy());
+    let log = Log::new(entries, listening);
     warn(rt, serve, &log);
-    let status = match serve_all(rt, rt.alloc(), serve, begun, sockets, secondaries, &log) {
+    let status = match serve_all(rt, rt.alloc(), serve, begun, workers, secondaries, &log) {
         Ok(()) => DONE,
         Err(fault) => {
             log.add(rt, LogLine::Fault(fault));

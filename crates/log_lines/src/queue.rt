@@ -12,6 +12,21 @@ const GATHERED_MILLIS: u64 = 1;
 pub trait Sink<T> {
     /// Writes that lines were lost, if any were, and then the line, if there is one. It may wait as long as it likes.
     fn put<R: Wait>(&mut self, rt: &R, told: Told<T>);
+
+    /// Does what is due beside the lines, and says how long at most the next line may be waited for before this is called again; None: until there is one.
+    /// It is called after each line, and when that time has passed.
+    fn idle(&mut self) -> Option<Duration>;
+}
+
+/// What a thread that writes does next.
+#[derive(Drop)]
+enum Next<T> {
+    /// It writes this.
+    Line(Told<T>),
+    /// It waits again: no line has come in time.
+    Nothing,
+    /// It ends: the queue is closed, and nothing is left.
+    Ended,
 }
 
 /// Lines that wait, and what becomes of them.
@@ -20,6 +35,11 @@ struct State<T> {
     backlog: Backlog<T>,
     closed: bool,
     written: bool,
+}
+
+/// Whether nothing is to be written, and the queue isn't closed.
+fn is_waiting<T: Drop>(state: &mut State<T>) -> bool {
+    state.backlog.is_empty() && !state.closed
 }
 
 /// Lines that any thread adds, and that one writes. Who adds a line waits for no sink: the lock is held for as long as a line is put
@@ -61,32 +81,43 @@ impl<T: Drop> LogQueue<T> {
 
     /// Writes the lines to a sink, in the order in which they were added, until the queue is closed and nothing is left to be written.
     pub fn write_to<R: Wait + Clock, S: Sink<T>>(&self, rt: &R, sink: &mut S) {
+        let mut at_most = None;
         for _ in rt.forever() {
-            let Some(told) = self.next(rt) else {
-                break;
-            };
-            sink.put(rt, told);
+            match self.next(rt, at_most) {
+                Next::Line(told) => sink.put(rt, told),
+                Next::Nothing => {}
+                Next::Ended => break,
+            }
+            at_most = sink.idle();
         }
         self.state.lock(rt).written = true;
         self.ended.notify_all();
     }
 
-    /// What is to be written next, once there is something; none where the queue is closed and nothing is left.
-    fn next<R: Wait + Clock>(&self, rt: &R) -> Option<Told<T>> {
-        self.gather(rt);
-        self.state.lock(rt).backlog.take()
+    /// What is to be written next, once there is something, which is waited for at most so long.
+    fn next<R: Wait + Clock>(&self, rt: &R, at_most: Option<Duration>) -> Next<T> {
+        self.gather(rt, at_most);
+        let mut state = self.state.lock(rt);
+        match state.backlog.take() {
+            Some(told) => Next::Line(told),
+            None if state.closed => Next::Ended,
+            None => Next::Nothing,
+        }
     }
 
-    /// Waits, where nothing is to be written, until there is something, and then for what is added a moment later.
-    fn gather<R: Wait + Clock>(&self, rt: &R) {
+    /// Waits, where nothing is to be written, until there is something, at most so long, and then for what is added a moment later.
+    fn gather<R: Wait + Clock>(&self, rt: &R, at_most: Option<Duration>) {
         let state = self.state.lock(rt);
         if !state.backlog.is_empty() || state.closed {
             return;
         }
-        let state = self.added.wait_while(rt, state, |state| {
-            state.backlog.is_empty() && !state.closed
-        });
-        mem::drop(state);
+        match at_most {
+            None => mem::drop(self.added.wait_while(rt, state, is_waiting)),
+            Some(at_most) => mem::drop(
+                self.added
+                    .wait_timeout_while(rt, state, at_most, is_waiting),
+            ),
+        }
         thread::sleep(rt, Duration::from_millis(GATHERED_MILLIS));
     }
 

@@ -28,6 +28,10 @@ impl Sink<u64> for GatedSink<'_> {
     fn put<R: Wait>(&mut self, rt: &R, told: Told<u64>) {
         let _ = self.taken.lock(rt).push(told);
     }
+
+    fn idle(&mut self) -> Option<Duration> {
+        None
+    }
 }
 
 /// Adds lines while the sink takes none, closes the queue, which ends in vain, and then lets the sink take them.

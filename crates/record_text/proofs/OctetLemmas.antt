@@ -27,7 +27,7 @@ use Rattle.record_text.specs.declared.data.Field.TheVariants as field
 use Rattle.record_text.specs.declared.front.Mark.{Mark}
 use Rattle.record_text.specs.declared.front.Mark.TheVariants as mark
 use Rattle.record_text.specs.Address.{dotted, colon_hex, address_of, address6_of}
-use Rattle.record_text.specs.Data.{field_of, fields_of, form_of, text_of, octets_of_words, as_data, as_own_data, data_of_words}
+use Rattle.record_text.specs.Data.{field_of, unmarked_of, fields_of, form_of, text_of, octets_of_words, as_data, as_own_data, data_of_words}
 use Rattle.record_text.specs.Generic.{are_generic, size_of, hex_of, hexes_of, generic_of}
 use Rattle.record_text.specs.Front.{Front, ttl_of, type_mark, mark_of, front_from, front_of}
 use Rattle.record_text.specs.Private.{IsLasting}
@@ -218,7 +218,7 @@ fields_gives origin (f ∷ fields) [] h k = tt
 fields_gives origin (f ∷ fields) (word ∷ words) h k =
     then_gives (field_of origin f word) (λ front. on_ok (λ rest. front ++ rest) (fields_of origin fields words)) (field_gives origin f word h k.0) (λ front j. front_gives front (fields_of origin fields words) j (fields_gives origin fields words h k.1))
 
-form_gives : (form : Option (List Field)) (origin : List (List ℕ)) (words : List Written) → IsNamed origin → AreOfOctets words → GivesOctets (elim form as (λ _. Result (List ℕ) Cause) [ None ↦ Err BadData | Some fields ↦ fields_of origin fields words ])
+form_gives : (form : Option (List Field)) (origin : List (List ℕ)) (words : List Written) → IsNamed origin → AreOfOctets words → GivesOctets (elim form as (λ _. Result (List ℕ) Cause) [ None ↦ Err (unmarked_of words) | Some fields ↦ fields_of origin fields words ])
 form_gives None origin words h k = tt
 form_gives (Some fields) origin words h k = fields_gives origin fields words h k
 
@@ -228,7 +228,7 @@ either_gives false r s h k = k
 
 words_give : (rtype : ℕ) (origin : List (List ℕ)) (words : List Written) → IsNamed origin → AreOfOctets words → GivesOctets (octets_of_words rtype origin words)
 unfolding octets_of_words
-words_give rtype origin words h k = either_gives (rtype == 16) (text_of words) (elim (form_of rtype) as (λ _. Result (List ℕ) Cause) [ None ↦ Err BadData | Some fields ↦ fields_of origin fields words ]) (text_of_gives words k) (form_gives (form_of rtype) origin words h k)
+words_give rtype origin words h k = either_gives (rtype == 16) (text_of words) (elim (form_of rtype) as (λ _. Result (List ℕ) Cause) [ None ↦ Err (unmarked_of words) | Some fields ↦ fields_of origin fields words ]) (text_of_gives words k) (form_gives (form_of rtype) origin words h k)
 
 own_gives : (o : Option (List ℕ)) (b : Bool) → ((own : List ℕ) → o ≡ Some own → AreOctets own) → GivesOctets (elim o as (λ _. Result (List ℕ) Cause) [ None ↦ Err BadData | Some own ↦ cond b (Err Limit) (Ok own) ])
 own_gives None b h = tt

@@ -23,7 +23,7 @@ pub(crate) fn address_octets(address: SocketAddr) -> ([u8; c::_SS_SIZE], u32)
 }
 
 /// Puts octets into an address, from a place on.
-fn put(raw: &mut [u8; c::_SS_SIZE], at: usize, octets: &[u8])
+pub(crate) fn put(raw: &mut [u8; c::_SS_SIZE], at: usize, octets: &[u8])
     requires { at + length octets.now ≤ 128 }
     ensures { raw.new ≡ put_at raw.old at octets.now }
 {

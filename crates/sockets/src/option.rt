@@ -5,7 +5,11 @@ ghost use Rattle.libc.specs.Net.{SockOption};
 use crate::system::check;
 use libc::net as c;
 use std::io;
+use std::net::UdpSocket;
 use std::os::fd::{AsRawFd, OwnedFd};
+
+/// How many octets a number of the C type int has.
+const INT_OCTETS: u32 = 4;
 
 /// An option that a socket has or hasn't.
 #[derive(Clone, Copy)]
@@ -36,6 +40,37 @@ impl Choice {
         let mut on = [0; 16];
         on[..4].copy_from_slice(&1i32.to_ne_bytes());
         // The option's value is the number 1, in the first 4 of the 16 octets that C may read.
-        check(unsafe { c::setsockopt(socket.as_raw_fd(), level, name, &on, 4) })
+        check(unsafe { c::setsockopt(socket.as_raw_fd(), level, name, &on, INT_OCTETS) })
     }
+}
+
+/// Asks the system to keep so many octets of datagrams until they are read (SO_RCVBUF; socket(7)), and gives how many it keeps: at most
+/// `net.core.rmem_max`. An error is the system's.
+pub fn keep_received(socket: &UdpSocket, octets: u32) -> io::Result<u32> {
+    let mut value = [0; 16];
+    value[..4].copy_from_slice(&octets.to_ne_bytes());
+    // C reads the number in the first 4 of the 16 octets.
+    check(unsafe {
+        c::setsockopt(
+            socket.as_raw_fd(),
+            c::SOL_SOCKET,
+            c::SO_RCVBUF,
+            &value,
+            INT_OCTETS,
+        )
+    })?;
+    let mut size = INT_OCTETS;
+    // C writes at most 4 octets.
+    check(unsafe {
+        c::getsockopt(
+            socket.as_raw_fd(),
+            c::SOL_SOCKET,
+            c::SO_RCVBUF,
+            &mut value,
+            &mut size,
+        )
+    })?;
+    let [a, b, c, d, ..] = value;
+    // The system counts what it needs itself, as much again.
+    Ok(u32::from_ne_bytes([a, b, c, d]) / 2)
 }

@@ -18,11 +18,11 @@ use Rattle.recovery.specs.Rebased.{versions_in, rebased}
 use Rattle.recovery.specs.Start.{IsStarted, IsSound, IsStartFault}
 use Rattle.stores.specs.declared.choices.Take.{Take}
 use Rattle.stores.specs.declared.choices.Choice.{Choice}
-use Rattle.stores.specs.declared.choices.Choice.TheVariants.{Same as IsSame, Store as IsStore, Zone as IsZone, StoreThoughOther as IsOlder, RefuseNewer}
+use Rattle.stores.specs.declared.choices.Choice.TheVariants.{Same as IsSame, Store as IsStore, Zone as IsZone, StoreThoughOther as IsOlder, RefuseNewer, RefuseNotNewer}
 use Rattle.stores.specs.Begun.{IsBegun}
 use Rattle.stores.specs.Choice.{IsChoice}
 use Rattle.store_start.specs.declared.refusal.Refusal.{Refusal}
-use Rattle.store_start.specs.declared.refusal.Refusal.TheVariants.{Held, NoText, NoStart, Newer, Text, NoMemory, Device}
+use Rattle.store_start.specs.declared.refusal.Refusal.TheVariants.{Held, NoText, NoStart, Newer, NotNewer, Text, NoMemory, Device}
 use Rattle.store_start.specs.declared.resume.Resumed.{Resumed}
 use Rattle.store_start.specs.declared.start.Served.{Served}
 use Rattle.store_start.specs.declared.start.Served.TheVariants.{Begun, Same, Store, StoreThoughOther, Zone}
@@ -113,6 +113,8 @@ IsRefused given origin taken (NoText number) = ⊤
 IsRefused given origin taken (NoStart fault) = (text : List ℕ) × (octets : List ℕ) × IsStartFault text octets fault
 IsRefused given origin taken (Newer has serial) =
     (text : List ℕ) × (octets : List ℕ) × (is : IsChosen given origin taken text octets (RefuseNewer serial)) × (has.0 ≡ zone_serial is.start.newest.last.zone)
+IsRefused given origin taken (NotNewer has serial) =
+    (text : List ℕ) × (octets : List ℕ) × (is : IsChosen given origin taken text octets (RefuseNotNewer serial)) × (has.0 ≡ zone_serial is.start.newest.last.zone)
 IsRefused given origin taken (Text fault) = zone_of_text origin given ≡ Err fault
 IsRefused given origin taken NoMemory = ⊤
 IsRefused given origin taken (Device fault) = ⊤

@@ -22,6 +22,13 @@ pub enum Refusal {
         /// The serial of the zone text.
         given: Serial,
     },
+    /// The operator takes the zone text, which is another one than the store was begun from, and its zone has a serial that isn't greater (RFC 1982, 3.2).
+    NotNewer {
+        /// The serial of the store's last version.
+        has: Serial,
+        /// The serial of the zone text.
+        given: Serial,
+    },
     /// The zone text that the operator names is no zone.
     Text(FileFault),
     /// There is no memory.

@@ -123,6 +123,10 @@ fn start_found<R: Files<File = File> + Alloc + Clone + Drop>(
             let has = start.newest.last.serial();
             Err(Refusal::Newer { has, given })
         }
+        Choice::RefuseNotNewer(given) => {
+            let has = start.newest.last.serial();
+            Err(Refusal::NotNewer { has, given })
+        }
         Choice::Zone(zone) => take_text(
             rt, alloc, dir, given, random, lock, pair, start.head, zone,
         ),

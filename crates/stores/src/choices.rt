@@ -1,7 +1,7 @@
 //! Which is served at a start (own).
 ghost use Rattle.std.specs.Prelude.{◌≡◌, IfOk, IfErr};
 ghost use Rattle.stores.specs.Choice.{IsChoice, IsChoiceFault};
-ghost use Rattle.stores.specs.Private.{by_serial};
+ghost use Rattle.stores.specs.Private.{by_serial, taken_zone};
 
 use dns_name::Name;
 use dns_rdata::Serial;
@@ -15,7 +15,7 @@ use zone_tree::Zone;
 pub enum Take {
     /// The store: the text isn't looked into.
     Store,
-    /// The zone text, whatever its serial is: a new store is begun from it.
+    /// The zone text, whose serial has to be greater than the store's: a new store is begun from it.
     Zone,
 }
 
@@ -32,6 +32,9 @@ pub enum Choice {
     StoreThoughOther(Serial),
     /// Neither, until one of them is taken: the zone text is another one, and its zone has this serial, which is greater.
     RefuseNewer(Serial),
+    /// Neither: the zone text is taken, and its zone has this serial, which isn't greater than that of the store's last version, so that secondaries would not
+    /// see the change (RFC 1982, 3.2; RFC 1996, 4.5).
+    RefuseNotNewer(Serial),
 }
 
 /// Which is served at a start: a store that was begun from the text `begun` and whose last version has the serial `last`, or the zone text that the operator names,
@@ -57,12 +60,24 @@ pub fn choose(
         Some(Take::Store) => Ok(Choice::Store),
         Some(Take::Zone) => {
             let zone = read_zone(alloc, text, origin)?;
-            Ok(Choice::Zone(zone))
+            Ok(taken_zone(last, zone))
         }
         None => {
             let given = read_zone(alloc, text, origin)?;
             Ok(by_serial(last, given.serial()))
         }
+    }
+}
+
+/// Which is served where a text is taken, whose zone this is: the zone, if its serial is greater than that of the store's last version (RFC 1982, 3.2).
+fn taken_zone(last: Serial, zone: Zone) -> Choice
+    ensures { result ≡ taken_zone last.0 zone }
+{
+    let given = zone.serial();
+    if last.less(given) {
+        Choice::Zone(zone)
+    } else {
+        Choice::RefuseNotNewer(given)
     }
 }
 

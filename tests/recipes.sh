@@ -1,0 +1,133 @@
+#!/usr/bin/env bash
+# Runs each block of commands in docs/OPERATING.md, with addresses, ports and paths of its own in place of those there, and tries what it left: a zone
+# saved by a transfer, a store's backup, a backup restored to a new store, which a BIND with a greater serial takes, and a zone brought in from another
+# server. A block that it doesn't know is a failure, and so is a recipe that no block is of. It prints a line a check and a count, and its
+# status is 1 where one failed. It listens on 127.0.0.1 alone, and ends what it starts.
+# Usage: [DNSD=PROGRAM] tests/recipes.sh [--port N]
+#   --port N    dnsd listens on N (by default 17413), a secondary and another server on the two after it
+# It needs Debian's packages bind9-dnsutils, bind9-utils, bind9 and ldnsutils, and the program that `make dnsd` builds.
+set -euo pipefail
+cd "$(dirname "$0")/.."
+program=${DNSD:-$PWD/crates/dnsd/out/dnsd}
+port=17413
+while [ $# -gt 0 ]; do
+    case $1 in
+        --port) port=$2; shift 2 ;;
+        *) echo "recipes: no option $1" >&2; exit 2 ;;
+    esac
+done
+PATH=$PATH:/usr/sbin:/sbin
+. tests/asking.sh
+. tests/contrib.sh
+need "bind9-dnsutils, bind9-utils, bind9 and ldnsutils" dig nsupdate named named-compilezone ldns-read-zone
+
+secondary=$((port + 1))
+other=$((port + 2))
+# $room is where a block runs, with $work/zones and $work/store in place of /etc/dnsd and /var/lib/dnsd
+room=$work/room
+mkdir "$room" "$work/zones" "$work/bin" "$work/blocks"
+ln -s "$(realpath "$program")" "$work/bin/dnsd"
+
+# Which recipe a block is, by its first line.
+recipe_of() {
+    case $(head -1 "$1") in
+        'dig '*' @127.0.0.1 -p 5353 example.test. axfr > saved') echo saves_by_transfer ;;
+        'dnsd zone /var/lib/dnsd > saved'*) echo saves_a_store ;;
+        'serial=$(dig '*) echo restores ;;
+        'dig '*' @192.0.2.1 example.com. axfr > theirs') echo brings_in ;;
+    esac
+}
+
+# Runs a block, with what stands here in place of what it names; none of that may be left.
+runs() {
+    local told
+    sed "s|@127.0.0.1 -p 5353|@127.0.0.1 -p $port|; s|@192.0.2.7|@127.0.0.1 -p $secondary|; s|@192.0.2.1|@127.0.0.1 -p $other|
+        s|/etc/dnsd|$work/zones|g; s|/var/lib/dnsd|$work/store|g; s|contrib/convert|$PWD/contrib/convert|" "$1" >"$work/block"
+    check "$recipe: no address or folder of the page is left" '' "$(sed "s|$work||g" "$work/block" | grep -oE '192\.0\.2\.[0-9]+|/(etc|var)/[a-z]+|5353' || true)"
+    told=$(cd "$room" && PATH=$work/bin:$PATH bash -e "$work/block" 2>&1) && told=done || true
+    check "$recipe: the block runs" done "$told"
+}
+
+# Updates with types that dnsd has no words for, and a name with capital letters.
+update_all() {
+    update "update add client.$d 3600 DHCID AAIBY2/AuCccgoJbsaxcQc9TUapptP69lOjxfNuVAA2kjEA=" "update add $d 3600 CAA 0 issue \"Ca.Example.NET\"" \
+        "update add none.$d 3600 TYPE65280 \\# 0" "update add mx.$d 3600 MX 10 Mail.Example.TEST."
+}
+
+saves_by_transfer() {
+    local want
+    serve tests/interop.zone
+    update_all
+    want=$(octets "$port")
+    runs "$1"
+    unserve
+    serve "$work/zones/zone"
+    same "$recipe: a start serves the same, $(wc -l <<<"$want") records with serial $(serial "$port")" "$want" "$(octets "$port")"
+    unserve
+}
+
+saves_a_store() {
+    local want
+    mkdir "$work/store"
+    serve tests/interop.zone --store "$work/store"
+    update_all
+    want=$(octets "$port")
+    runs "$1"
+    unserve
+    serve "$room/backup.zone"
+    same "$recipe: a start from the backup serves the same, $(wc -l <<<"$want") records" "$want" "$(octets "$port")"
+    unserve
+    rm -r "$work/store"
+}
+
+# The backup has serial 2, and the secondary 3 when the block runs; the restored zone has 4.
+restores() {
+    local want
+    mkdir "$work/store"
+    serve tests/interop.zone --store "$work/store" --notify "127.0.0.1:$secondary"
+    start_named named.conf secondary "$secondary"
+    update_all
+    "$program" zone "$work/store" >"$room/backup.zone"
+    want=$(octets "$port" | awk '$4 != "TYPE6"')
+    update "update add late.$d 3600 A 192.0.2.99"
+    reaches "$secondary" 3
+    unserve
+    runs "$1"
+    serve "$work/zones/zone" --store "$work/store" --notify "127.0.0.1:$secondary"
+    reaches "$secondary" 4
+    check "$recipe: the serial here and at the secondary" '4 4' "$(serial "$port") $(serial "$secondary")"
+    same "$recipe: what the secondary has, but for the SOA" "$want" "$(octets "$secondary" | awk '$4 != "TYPE6"')"
+    check "$recipe: the store before is kept" 1 "$("$program" zone "$work/store.before" | grep -c '^late')"
+    unserve
+    stop secondary
+    rm -r "$work/store" "$work/store.before"
+}
+
+brings_in() {
+    local want
+    mkdir -p "$work/primary/tests"
+    cp tests/types.zone "$work/primary/tests"
+    { cat tests/convert.zone; echo 'mx MX 10 Mail.Example.COM.'; } >"$work/primary/zone"
+    start_primary "$other" example.com zone
+    reaches "$other" 1 example.com.
+    want=$(words "$other" example.com.)
+    runs "$1"
+    serve "$room/zone"
+    same "$recipe: a start serves what the other server has, $(wc -l <<<"$want") records" "$want" "$(words "$port" example.com.)"
+    unserve
+    stop primary
+}
+
+awk -v folder="$work/blocks" '/^```/ { inside = !inside; number += inside; next } inside { print > sprintf("%s/%03d", folder, number) }' docs/OPERATING.md
+seen=
+for block in "$work"/blocks/*; do
+    recipe=$(recipe_of "$block")
+    check "a block that this test knows: $(head -1 "$block")" yes "$([ -n "$recipe" ] && echo yes)"
+    [ -z "$recipe" ] || "$recipe" "$block"
+    seen="$seen $recipe"
+done
+for recipe in saves_by_transfer saves_a_store restores brings_in; do
+    check "$recipe: a block is of it" yes "$([[ " $seen " != *" $recipe "* ]] || echo yes)"
+done
+echo "$passed checks passed, $failed failed"
+[ $failed -eq 0 ]
