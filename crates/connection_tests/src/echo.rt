@@ -9,7 +9,7 @@ use std::sync::Wait;
 /// How many octets the longest message has (RFC 1035, 4.2.2).
 pub(crate) const LARGE: usize = 65_535;
 
-/// Two messages of an octet each, one behind the other.
+/// Two messages of an octet each, one after the other.
 #[derive(Drop)]
 pub(crate) struct Both {
     first: bool,

@@ -1,7 +1,7 @@
 //! Connections that are served each under its key, at a time that the test makes.
 
 use crate::echo::{Both, Echo};
-use crate::pieces::{Behind, Pieces, address, written};
+use crate::pieces::{After, Pieces, address, written};
 use crate::running::SECOND;
 use links::{Ends, Limits, Link, Room, make_room, serve_ready, sweep};
 use serve_core::{Peer, Transport};
@@ -17,7 +17,7 @@ pub(crate) struct Served {
     pub(crate) links: Slab<Link<Pieces, Both>>,
     pub(crate) ends: Ends,
     echo: Echo,
-    /// Which could go on behind the last share.
+    /// Which could go on after the last share.
     next: Vec<usize>,
     room: Vec<u8>,
     out: Vec<u8>,
@@ -105,8 +105,8 @@ fn keys_of(links: &Slab<Link<Pieces, Both>>) -> u64 {
     keys
 }
 
-/// How many have ended behind a step, which of the others are there, and how many of them could go on.
-fn behind<R: Wait>(
+/// How many have ended after a step, which of the others are there, and how many of them could go on.
+fn after_step<R: Wait>(
     rt: &R,
     served: &mut Served,
     step: &Step,
@@ -226,7 +226,7 @@ fn each_connection_has_its_time(rt: HostRuntime) -> Result<(), Fail> {
         // None of them could go on.
         let wanted = (step.ended, step.open, 0);
         assert_eq!(rt;
-            behind(&rt, &mut served, step)?,
+            after_step(&rt, &mut served, step)?,
             wanted,
             "at {} ns",
             step.swept
@@ -262,16 +262,16 @@ fn the_longest_idle_gives_its_place(rt: HostRuntime) -> Result<(), Fail> {
     Ok(())
 }
 
-/// Whether the peer of each connection may update, and what is behind its octets.
-const PEERS: [(bool, Behind); 5] = [
-    (true, Behind::Nothing),
-    (false, Behind::Nothing),
-    (true, Behind::End),
-    (false, Behind::Failure),
-    (true, Behind::Nothing),
+/// Whether the peer of each connection may update, and what is after its octets.
+const PEERS: [(bool, After); 5] = [
+    (true, After::Nothing),
+    (false, After::Nothing),
+    (true, After::End),
+    (false, After::Failure),
+    (true, After::Nothing),
 ];
 
-/// Serves five connections in forty rounds by some keys, of which some stand there twice, and one is nobody's; how many could go on behind a
+/// Serves five connections in forty rounds by some keys, of which some stand there twice, and one is nobody's; how many could go on after a
 /// round, at most.
 fn most_that_go_on<R: Wait>(rt: &R, served: &mut Served) -> Result<usize, AllocError> {
     let mut most = 0;
@@ -285,10 +285,10 @@ fn most_that_go_on<R: Wait>(rt: &R, served: &mut Served) -> Result<usize, AllocE
 #[test]
 fn each_connection_has_the_rights_of_its_peer(rt: HostRuntime) -> Result<(), Fail> {
     let mut served = Served::new(rt.alloc())?;
-    for (may, behind) in PEERS {
+    for (may, after) in PEERS {
         let stream = Pieces {
             size: 2,
-            behind,
+            after,
             ..Pieces::new(rt.alloc(), &[0, 1, b'?'], 2)?
         };
         served.put(stream, may, 0)?;

@@ -1,7 +1,7 @@
 //! Want of memory: what holds where each request for it is refused in turn, as `refused.sh` does.
 
 use crate::linked::Served;
-use crate::pieces::{Behind, Pieces, repeated, written};
+use crate::pieces::{After, Pieces, repeated, written};
 use crate::polls::{Comers, Poll};
 use crate::running::{Running, SECOND};
 use crate::streams::end_of;
@@ -9,14 +9,14 @@ use conversation::StreamEnd;
 use std::alloc::{AllocError, Global};
 use std::sync::Wait;
 
-/// A frame of 259 octets, which is its own reply, and these octets behind it, both twice: queues have to grow several times for them.
+/// A frame of 259 octets, which is its own reply, and these octets after it, both twice: queues have to grow several times for them.
 fn long_and(alloc: Global, octets: &[u8]) -> Result<Vec<u8>, AllocError> {
     let mut both = repeated(alloc, &[1], 259)?;
     both.extend_from_slice(octets)?;
     repeated(alloc, &both, 2)
 }
 
-/// Requests: behind each long one another, whose reply has two messages.
+/// Requests: after each long one another, whose reply has two messages.
 fn requests(alloc: Global) -> Result<Vec<u8>, AllocError> {
     long_and(alloc, &[0, 2, b'a', b'b'])
 }
@@ -38,7 +38,7 @@ fn is_served<R: Wait>(rt: &R, alloc: Global) -> Result<bool, AllocError> {
     let replies = replies(alloc)?;
     let mut stream = Pieces {
         size: 70,
-        behind: Behind::End,
+        after: After::End,
         ..Pieces::new(alloc, &sent, 1)?
     };
     let end = end_of(rt, alloc, &mut stream, 9)?;

@@ -112,7 +112,7 @@ const VISITS: [Visit; 5] = [
         ended: 4,
         ..SOME
     },
-    // A request of 19,532 octets, whose length is two `L` itself, fills the worker's room several times; what is behind it has come too, and isn't
+    // A request of 19,532 octets, whose length is two `L` itself, fills the worker's room several times; what is after it has come too, and isn't
     // told again. The connection is taken before, and told to be ready for writing, so that nothing but the request is told later.
     Visit {
         first: &[],

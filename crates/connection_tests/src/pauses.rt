@@ -94,7 +94,7 @@ impl<'a, C: Clock> Connected<'a, C> {
     }
 }
 
-/// Of how many sockets a wait tells once so many clients have sent an octet, of how many the next one, which may be so long, and one behind it;
+/// Of how many sockets a wait tells once so many clients have sent an octet, of how many the next one, which may be so long, and one after it;
 /// and how many pauses there have been before each of the two that follow.
 fn told<C: Clock>(
     connected: &mut Connected<'_, Counting<'_, C>>,
@@ -110,13 +110,13 @@ fn told<C: Clock>(
 }
 
 #[test]
-fn a_wait_behind_one_that_told_of_several_begins_with_a_pause(rt: HostRuntime) -> Result<(), Fail> {
+fn a_wait_after_one_that_told_of_several_begins_with_a_pause(rt: HostRuntime) -> Result<(), Fail> {
     let clock = Counting {
         clock: &rt,
         pauses: Cell::new(0),
     };
     let mut connected = Connected::new(&rt, rt.alloc(), &clock, 20)?;
-    // How many clients send, how long the next wait may be, and how many pauses there have been behind it.
+    // How many clients send, how long the next wait may be, and how many pauses there have been after it.
     let rows = [
         (1, MILLISECOND, 0),
         (2, MILLISECOND, 1),
@@ -126,12 +126,12 @@ fn a_wait_behind_one_that_told_of_several_begins_with_a_pause(rt: HostRuntime) -
         (20, MILLISECOND, 2),
     ];
     for (count, most, pauses) in rows {
-        // A wait that told of nothing has no pause behind it.
+        // A wait that told of nothing has no pause after it.
         let wanted = [count, 0, pauses, 0, pauses];
         assert_eq!(rt;
             told(&mut connected, count, most)?,
             wanted,
-            "behind {count} of them"
+            "after {count} of them"
         );
     }
     Ok(())

@@ -10,9 +10,9 @@ use std::alloc::{AllocError, Global};
 use std::net::{Ipv4Addr, SocketAddr, SocketAddrV4};
 use turns::Remote;
 
-/// What is behind the octets of a stream.
+/// What is after the octets of a stream.
 #[derive(Clone, Copy)]
-pub(crate) enum Behind {
+pub(crate) enum After {
     /// Its end.
     End,
     /// A failure.
@@ -31,11 +31,11 @@ pub(crate) struct Pieces {
     pub(crate) size: usize,
     pub(crate) spread: u64,
     pub(crate) number: u64,
-    /// Behind which of the first 64 octets that come, and of those that go, a piece ends at the latest, a bit each.
+    /// After which of the first 64 octets that come, and of those that go, a piece ends at the latest, a bit each.
     pub(crate) cuts: (u64, u64),
     pub(crate) may_block: bool,
     pub(crate) would_block: bool,
-    pub(crate) behind: Behind,
+    pub(crate) after: After,
     /// How many octets it takes before it fails.
     pub(crate) room: usize,
     pub(crate) faults: u64,
@@ -68,7 +68,7 @@ pub(crate) fn written(
     Ok(all)
 }
 
-/// How many octets a piece has at most that begins behind so many: up to the next cut, if there is one.
+/// How many octets a piece has at most that begins after so many: up to the next cut, if there is one.
 fn up_to_cut(cuts: u64, gone: usize) -> usize
     ensures { 0 < result }
 {
@@ -91,7 +91,7 @@ impl Pieces {
             cuts: (0, 0),
             may_block: true,
             would_block: false,
-            behind: Behind::Nothing,
+            after: After::Nothing,
             room: usize::MAX,
             faults: 0,
             written: Vec::with_capacity(alloc, 1_000)?,
@@ -149,10 +149,10 @@ impl Blocking for Pieces {
         };
         let left = self.octets.as_slice().get(self.at..).unwrap_or(&[]);
         if left.is_empty() {
-            match self.behind {
-                Behind::End => return Ok(0),
-                Behind::Failure => return Err(self.fail()),
-                Behind::Nothing => return Err(Fault::Blocked),
+            match self.after {
+                After::End => return Ok(0),
+                After::Failure => return Err(self.fail()),
+                After::Nothing => return Err(Fault::Blocked),
             }
         }
         let most = size.min(up_to_cut(self.cuts.0, self.at));

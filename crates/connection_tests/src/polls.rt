@@ -1,6 +1,6 @@
 //! Polls that are made up, and where connections come in.
 
-use crate::pieces::{Behind, Pieces, address};
+use crate::pieces::{After, Pieces, address};
 use connections::Blocking;
 use std::alloc::{AllocError, Global};
 use std::cell::Cell;
@@ -36,7 +36,7 @@ impl Poll {
         }
     }
 
-    /// Puts the keys that it tells behind others.
+    /// Puts the keys that it tells after others.
     fn tell(&mut self, keys: &mut Vec<usize>) -> Result<(), AllocError> {
         for key in 0..self.keys {
             keys.push(key)?;
@@ -81,7 +81,7 @@ impl Finished for Told<'_> {
     }
 }
 
-/// Connections that come one after another, with a failed one in front of each, from 192.0.2.1 and 192.0.2.2 by turns; and at first some for
+/// Connections that come one after another, with a failed one before each, from 192.0.2.1 and 192.0.2.2 by turns; and at first some for
 /// which there is no room.
 #[derive(Drop)]
 pub(crate) struct Comers<'a> {
@@ -95,10 +95,10 @@ pub(crate) struct Comers<'a> {
     /// How many octets of one come or go at once, or up to two more.
     pub(crate) size: usize,
     pub(crate) may_block: bool,
-    pub(crate) behind: Behind,
+    pub(crate) after: After,
     pub(crate) no_room: u32,
     pub(crate) is_odd: bool,
-    /// Why none comes behind them.
+    /// Why none comes after them.
     pub(crate) last: Refusal,
 }
 
@@ -113,7 +113,7 @@ impl<'a> Comers<'a> {
             times: 1,
             size: 1,
             may_block: true,
-            behind: Behind::Nothing,
+            after: After::Nothing,
             no_room: 0,
             is_odd: false,
             last: Refusal::Blocked,
@@ -147,7 +147,7 @@ impl<'a> Arrivals for Comers<'a> {
                 from: address(1 + self.count % 2),
                 size: self.size.saturating_add(usize::from(self.count % 3)),
                 may_block: self.may_block,
-                behind: self.behind,
+                after: self.after,
                 ..stream
             }),
             Err(_) => Err(Refusal::Room),

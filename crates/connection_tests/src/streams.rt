@@ -2,7 +2,7 @@
 ghost use Rattle.std.specs.Prelude.{◌<◌, ◌≤◌, length};
 
 use crate::echo::Echo;
-use crate::pieces::{Behind, Pieces};
+use crate::pieces::{After, Pieces};
 use connections::{Conversation, serve_some};
 use conversation::{OpenGate, StreamEnd};
 use std::alloc::{AllocError, Global};
@@ -58,11 +58,11 @@ const SENT: [u8; 12] = [0, 1, b'a', 0, 2, b'b', b'c', 0, 0, 0, 1, b'd'];
 /// Their replies.
 const REPLIES: [u8; 12] = [0, 1, b'a', 0, 1, 1, 0, 1, 2, 0, 1, b'd'];
 
-/// Some octets of the requests, what is behind them, and how the stream is to end.
+/// Some octets of the requests, what is after them, and how the stream is to end.
 #[derive(Drop)]
 struct Case {
     sent: usize,
-    behind: Behind,
+    after: After,
     /// How many requests are answered.
     requests: u32,
     /// How many octets of replies the stream takes.
@@ -75,7 +75,7 @@ struct Case {
 /// All of the requests.
 const WHOLE: Case = Case {
     sent: 12,
-    behind: Behind::End,
+    after: After::End,
     requests: 4,
     room: usize::MAX,
     end: StreamEnd::Clean,
@@ -87,7 +87,7 @@ fn ends_so<R: Wait>(rt: &R, alloc: Global, case: &Case, size: usize) -> Result<b
     let sent = SENT.get(..case.sent).unwrap_or(&[]);
     let mut stream = Pieces {
         size,
-        behind: case.behind,
+        after: case.after,
         room: case.room,
         ..Pieces::new(alloc, sent, 1)?
     };
@@ -107,7 +107,7 @@ fn all_end_so<R: Wait>(rt: &R, alloc: Global, case: Case) -> Result<bool, AllocE
     Ok(true)
 }
 
-/// How a stream ends that has so many octets of the requests, and how many octets of the replies are written: in front of a request, within
+/// How a stream ends that has so many octets of the requests, and how many octets of the replies are written: before a request, within
 /// its length, or within its message.
 const ENDS: [(usize, StreamEnd, usize); 13] = [
     (0, StreamEnd::Clean, 0),
@@ -126,7 +126,7 @@ const ENDS: [(usize, StreamEnd, usize); 13] = [
 ];
 
 #[test]
-fn streams_end_behind_any_octet(rt: HostRuntime) -> Result<(), Fail> {
+fn streams_end_after_any_octet(rt: HostRuntime) -> Result<(), Fail> {
     for (sent, end, replied) in ENDS {
         let case = Case {
             sent,
@@ -136,25 +136,25 @@ fn streams_end_behind_any_octet(rt: HostRuntime) -> Result<(), Fail> {
         };
         assert!(rt;
             all_end_so(&rt, rt.alloc(), case)?,
-            "an end behind {sent} octets"
+            "an end after {sent} octets"
         );
     }
     Ok(())
 }
 
 #[test]
-fn streams_fail_behind_any_octet(rt: HostRuntime) -> Result<(), Fail> {
+fn streams_fail_after_any_octet(rt: HostRuntime) -> Result<(), Fail> {
     for (sent, _end, replied) in ENDS {
         let case = Case {
             sent,
-            behind: Behind::Failure,
+            after: After::Failure,
             end: StreamEnd::Device,
             replied,
             ..WHOLE
         };
         assert!(rt;
             all_end_so(&rt, rt.alloc(), case)?,
-            "a failure behind {sent} octets"
+            "a failure after {sent} octets"
         );
     }
     Ok(())
@@ -172,7 +172,7 @@ fn streams_end_where_no_version_is_loaded(rt: HostRuntime) -> Result<(), Fail> {
         };
         assert!(rt;
             all_end_so(&rt, rt.alloc(), case)?,
-            "behind {requests} requests"
+            "after {requests} requests"
         );
     }
     Ok(())
@@ -204,7 +204,7 @@ fn are_echoed<R: Wait>(
         size,
         spread,
         number,
-        behind: Behind::End,
+        after: After::End,
         ..Pieces::new(alloc, sent, 1)?
     };
     let end = end_of(rt, alloc, &mut stream, 10_000)?;
@@ -243,7 +243,7 @@ fn many_requests_that_come_at_once_are_answered_in_order(rt: HostRuntime) -> Res
 /// The frames of two requests, and so those of their replies.
 const FRAMES: [u8; 8] = [0, 3, b'a', b'b', b'c', 0, 1, b'd'];
 
-/// Whether two frames are answered that come in these pieces, and whose replies go in those, a bit for each octet behind which one ends.
+/// Whether two frames are answered that come in these pieces, and whose replies go in those, a bit for each octet after which one ends.
 fn is_answered<R: Wait>(
     rt: &R,
     alloc: Global,
@@ -254,7 +254,7 @@ fn is_answered<R: Wait>(
         size: 8,
         cuts,
         may_block: false,
-        behind: Behind::End,
+        after: After::End,
         ..Pieces::new(alloc, &FRAMES, 1)?
     };
     let mut room = vec![in alloc; 0; 64]?;

@@ -1,6 +1,6 @@
 //! A worker's turns over polls that are made up.
 
-use crate::pieces::{Behind, Pieces, repeated, written};
+use crate::pieces::{After, Pieces, repeated, written};
 use crate::polls::{Comers, Poll, Told};
 use crate::running::{Running, SECOND};
 use std::alloc::{AllocError, Global};
@@ -24,7 +24,7 @@ struct Stage {
     octets: &'static [u8],
     times: usize,
     size: usize,
-    behind: Behind,
+    after: After,
     no_room: u32,
     last: Refusal,
     /// How many connections have given their places when it ends, how it does, and whether waits are then left.
@@ -51,7 +51,7 @@ const PLAIN: Stage = Stage {
     octets: &[0, 1, b'a'],
     times: 1,
     size: 1,
-    behind: Behind::Nothing,
+    after: After::Nothing,
     no_room: 0,
     last: Refusal::Blocked,
     gone: u64::MAX,
@@ -78,7 +78,7 @@ const STAGES: [Stage; 16] = [
     },
     // Those that end by themselves give their places back,
     Stage {
-        behind: Behind::End,
+        after: After::End,
         counts: [7, 7, 0, 7, 0, 0, 0, 0],
         ..PLAIN
     },
@@ -177,13 +177,13 @@ const STAGES: [Stage; 16] = [
         waits: 20,
         step: 1,
         comers: 5,
-        behind: Behind::End,
+        after: After::End,
         counts: [5, 5, 0, 5, 0, 0, 0, 0],
         ..PLAIN
     },
     // Turns end once so many are gone: at once,
     Stage {
-        behind: Behind::End,
+        after: After::End,
         gone: 0,
         end: Ok(()),
         waits_on: true,
@@ -191,7 +191,7 @@ const STAGES: [Stage; 16] = [
     },
     // or with the last one;
     Stage {
-        behind: Behind::End,
+        after: After::End,
         gone: 7,
         end: Ok(()),
         waits_on: true,
@@ -249,7 +249,7 @@ fn begin(
         times: stage.times,
         size: stage.size,
         may_block: stage.keys > 0,
-        behind: stage.behind,
+        after: stage.after,
         no_room: stage.no_room,
         is_odd: false,
         last: stage.last,
@@ -296,7 +296,7 @@ const UPDATE: [u8; 9] = [0, 1, b'a', 0, 1, b'u', 0, 1, b'b'];
 
 const OTHER: [u8; 9] = [0, 1, b'a', 0, 1, b'c', 0, 1, b'b'];
 
-/// All replies on four connections, by turns of the other kind and of the first, but for those to the second that waits and to the request behind it.
+/// All replies on four connections, by turns of the other kind and of the first, but for those to the second that waits and to the request after it.
 const REPLIES: [u8; 30] = [
     0, 1, b'a', 0, 1, b'c', 0, 1, b'b', 0, 1, b'a', 0, 1, b'a', 0, 1, b'c', 0, 1, b'b', 0, 1, b'a',
     0, 1, b'u', 0, 1, b'b',
@@ -310,7 +310,7 @@ const WAKINGS: [(Option<usize>, Option<usize>, u32, usize); 6] = [
     (None, None, 0, 24),
     // One that is told too early waits on, and so does the other.
     (Some(3), None, 1, 24),
-    // A reply that is made comes once its key is told, with that of the request behind it.
+    // A reply that is made comes once its key is told, with that of the request after it.
     (None, Some(3), 0, 24),
     (Some(3), Some(3), 1, 30),
     // A key of nobody changes nothing.

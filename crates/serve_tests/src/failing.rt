@@ -1,10 +1,10 @@
 //! Streams that end or fail at each place of two requests and their replies, frames too short for a header, and streams that find no grant left
 //! (RFC 1035, 4.1.1 and 4.2.2).
-use crate::streams::{Row, TRANSFER, is_right};
+use crate::served::{Course, first_wrong, told};
+use crate::streams::{ALL, Row, TRANSFER};
 use conversation::{Counted, StreamEnd};
-use played_zones::{is_played_by, zone};
-use std::alloc::{AllocError, Global};
-use std::sync::Wait;
+use dns_engine::KEPT;
+use std::test::Fail;
 use told_streams::Tape;
 
 /// A query for the address of www.example.test., in a frame, and ten octets of one that has 34; its reply has the alias and the address of
@@ -47,26 +47,16 @@ const SHORT: Row = Row {
     ..TWICE
 };
 
-/// Streams that end by themselves.
-const ENDS: [Row; 3] = [CUT, TWICE, SHORT];
-
-/// By how many octets at once they come and go.
-const STEPS: [usize; 7] = [1, 2, 3, 34, 36, 70, 9999];
-
-/// Whether a row's stream goes as it says by whatever many octets at once.
-fn is_right_by_steps<R: Wait>(rt: &R, alloc: Global, row: &Row) -> bool {
-    for step in STEPS {
-        if !is_right(rt, alloc, &Row { step, ..*row }) {
-            return false;
-        }
-    }
-    true
-}
-
+// Streams that end by themselves, by whatever many octets at once they come and go.
 #[test]
-fn streams_end_within_a_frame_and_behind_it(rt: HostRuntime) {
-    for row in ENDS {
-        assert!(rt; is_right_by_steps(&rt, rt.alloc(), &row));
+fn streams_end_within_a_frame_and_after_it(rt: HostRuntime) {
+    for step in [1usize, 2, 3, 34, 36, 70, 9999] {
+        let rows = [
+            Course::Stream(Row { step, ..CUT }),
+            Course::Stream(Row { step, ..TWICE }),
+            Course::Stream(Row { step, ..SHORT }),
+        ];
+        assert_eq!(rt; first_wrong(&rt, rt.alloc(), ALL, &rows), None, "{step}");
     }
 }
 
@@ -78,69 +68,49 @@ fn front_of(text: &'static str, octets: usize) -> &'static str {
     }
 }
 
-/// The query twice on a stream that fails, on which so many octets are written till then.
-fn failed(octets: usize) -> Row {
-    Row {
+/// The query twice, on a stream that takes so many octets and no more, some at once or one by one; and on one of which so many calls go well after 36
+/// reads, an octet each, which are the first request: 70 writes, which are its reply, and then reads of the second one.
+fn failing(calls: u8) -> [Course; 3] {
+    let room = usize::from(calls);
+    let some = Row {
+        room,
         end: StreamEnd::Device,
-        written: front_of(TWICE.written, octets),
+        written: front_of(TWICE.written, room),
         ..TWICE
+    };
+    let one = Row { step: 1, ..some };
+    let fails = Row {
+        room: 9999,
+        calls: 36 + u64::from(calls),
+        written: front_of(TWICE.written, room.min(70)),
+        ..one
+    };
+    [
+        Course::Stream(some),
+        Course::Stream(one),
+        Course::Stream(fails),
+    ]
+}
+
+// A stream that takes no more, or whose write or read fails, ends by its device, and just the octets that it took are written.
+#[test]
+fn a_stream_that_fails_has_what_it_took(rt: HostRuntime) {
+    for calls in 0..106u8 {
+        let rows = failing(calls);
+        assert_eq!(rt; first_wrong(&rt, rt.alloc(), ALL, &rows), None, "{calls}");
     }
 }
 
-// A stream that takes so many octets of a reply and no more, up to all but the last, ends by its device, and just those are written.
+// A write to a stream with room for one octet takes that; and each further one, which takes none, is a failure.
 #[test]
-fn a_stream_that_takes_no_more_has_what_it_took(rt: HostRuntime) {
-    for room in 0..70usize {
-        let all = Row {
-            room,
-            ..failed(room)
-        };
-        let one = Row { step: 1, ..all };
-        assert!(rt; is_right(&rt, rt.alloc(), &all), "{room} at once");
-        assert!(rt; is_right(&rt, rt.alloc(), &one), "{room} one by one");
-    }
-}
-
-// So does one whose write fails, an octet at a time: 36 reads are the first request.
-#[test]
-fn a_write_that_fails_leaves_what_was_taken(rt: HostRuntime) {
-    for octets in 0..70u8 {
-        let row = Row {
-            step: 1,
-            calls: 36 + u64::from(octets),
-            ..failed(usize::from(octets))
-        };
-        assert!(rt; is_right(&rt, rt.alloc(), &row), "{octets}");
-    }
-}
-
-// One whose read fails in the second frame, of 36 octets, has the first reply: 36 reads and 70 writes go well before.
-#[test]
-fn a_read_that_fails_leaves_the_first_reply(rt: HostRuntime) {
-    for octets in 0..36u64 {
-        let row = Row {
-            step: 1,
-            calls: 106 + octets,
-            ..failed(70)
-        };
-        assert!(rt; is_right(&rt, rt.alloc(), &row), "{octets}");
-    }
-}
-
-/// Whether writes to a stream with room for one octet are counted as failures once that is taken.
-fn are_counted(alloc: Global) -> Result<bool, AllocError> {
-    let mut stream = Counted::new(Tape::new(alloc, Vec::new(alloc), 1, 9)?);
-    let first = stream.write(b"ab");
-    let is_one = matches!(first, Ok(1)) && stream.faults == 0;
-    let second = stream.write(b"b").is_err() && stream.faults == 1;
-    let third = stream.write(b"b").is_err() && stream.faults == 2;
-    Ok(is_one && second && third)
-}
-
-// A write that takes no octet is a failure.
-#[test]
-fn a_write_of_nothing_is_counted(rt: HostRuntime) {
-    assert!(rt; matches!(are_counted(rt.alloc()), Ok(true)));
+fn a_write_of_nothing_is_counted(rt: HostRuntime) -> Result<(), Fail> {
+    let tape = Tape::new(rt.alloc(), Vec::new(rt.alloc()), 1, 9)?;
+    let mut stream = Counted::new(tape);
+    let first = (stream.write(b"ab").unwrap_or(0), stream.faults);
+    let second = (stream.write(b"b").is_err(), stream.faults);
+    let third = (stream.write(b"b").is_err(), stream.faults);
+    assert_eq!(rt; (first, second, third), ((1, 0), (true, 1), (true, 2)));
+    Ok(())
 }
 
 /// The query, a header that can't be read as one, and the query again, for which no grant is left.
@@ -194,36 +164,53 @@ const NO_CHANGES: Row = Row {
     ..CHANGES
 };
 
-// A reader of one grant answers one query, and ends the stream at the next one (own).
-#[test]
-fn no_grant_ends_a_stream_of_queries(rt: HostRuntime) {
-    let zone = zone(rt.alloc()).expect(&rt, "a zone");
-    assert!(rt; is_played_by(&rt, rt.alloc(), zone, 1, &QUERIES) == Some(true));
-}
+/// Updates, of which the third and the fourth find no grant left for the version that they would make; the fifth changes nothing, and wants none. The SOA is then
+/// that of the second one.
+const UPDATES: Row = Row {
+    input: "\
+0032432128000001000000010000076578616d706c6504746573740000060001036e6577c00c0001000100000e100004c000024d\
+0032432128000001000000010000076578616d706c6504746573740000060001036e6577c00c0001000100000e100004c000024e\
+0032432128000001000000010000076578616d706c6504746573740000060001036e6577c00c0001000100000e100004c000024f\
+0032432128000001000000010000076578616d706c6504746573740000060001036e6577c00c0001000100000e100004c000024f\
+0032432128000001000000010000076578616d706c6504746573740000060001036e6577c00c0001000100000e100004c000024e\
+001e123401000001000000000000076578616d706c6504746573740000060001",
+    written: "\
+000c4321a8000000000000000000\
+000c4321a8000000000000000000\
+000c4321a8020000000000000000\
+000c4321a8020000000000000000\
+000c4321a8000000000000000000\
+004c123485000001000100000000076578616d706c6504746573740000060001c00c0006000100000e100022036e7331c00c0561646d696ec00c\
+0000000300001c2000000384001275000000012c",
+    told: "\
+update from 192.0.2.7:4711: NOERROR, serial 1 to 2;\
+update from 192.0.2.7:4711: NOERROR, serial 2 to 3;\
+update from 192.0.2.7:4711: SERVFAIL, serial 3 stays;\
+update from 192.0.2.7:4711: SERVFAIL, serial 3 stays;\
+update from 192.0.2.7:4711: NOERROR, serial 3 stays;",
+    ..TRANSFER
+};
 
-// A transfer wants two: one where it is seen to be permitted, and one where it is begun.
-#[test]
-fn no_grant_ends_a_stream_of_transfers(rt: HostRuntime) {
-    for grants in [2, 3u64] {
-        let zone = zone(rt.alloc()).expect(&rt, "a zone");
-        let told = is_played_by(&rt, rt.alloc(), zone, grants, &TRANSFERS);
-        assert!(rt; told == Some(true), "{grants}");
-    }
-}
+/// Streams by how many grants the reader of the server and that of who asks have each, and whether they go as their rows say. Without a grant there is no
+/// server, whose engine takes one for the first version and one for each version more. A query takes one; a transfer two: one where it is seen
+/// to be permitted, and one where it is begun; one that tells what an update changed a third, for the version that the update made. What is
+/// written has no part of a reply for which they are too few (own).
+const BY_GRANTS: &[(u64, Row, Option<bool>)] = &[
+    (0, QUERIES, None),
+    (1, QUERIES, Some(true)),
+    (2, TRANSFERS, Some(true)),
+    (3, TRANSFERS, Some(true)),
+    (2, NO_CHANGES, Some(true)),
+    (3, CHANGES, Some(true)),
+    (4, CHANGES, Some(true)),
+    (5, CHANGES, Some(true)),
+    (3, UPDATES, Some(true)),
+];
 
-// One that tells what an update changed wants three: the third is for the version that the update made. What is written has no part of a reply
-// for which they are too few.
 #[test]
-fn no_grant_ends_a_stream_of_changes(rt: HostRuntime) {
-    let rows = [
-        (2u64, &NO_CHANGES),
-        (3, &CHANGES),
-        (4, &CHANGES),
-        (5, &CHANGES),
-    ];
-    for (grants, row) in rows {
-        let zone = zone(rt.alloc()).expect(&rt, "a zone");
-        let told = is_played_by(&rt, rt.alloc(), zone, grants, row);
-        assert!(rt; told == Some(true), "{grants}");
+fn no_grant_ends_a_stream(rt: HostRuntime) {
+    for (grants, row, right) in BY_GRANTS {
+        let got = told(&rt, rt.alloc(), *grants, KEPT, &Course::Stream(*row));
+        assert_eq!(rt; got, *right, "{grants} and {}", row.input);
     }
 }

@@ -1,7 +1,7 @@
 //! What a running server tells of versions that are there, and in whole of one that has gone (RFC 1995, 4; own).
-use crate::streams::{Row, TRANSFER, told_by};
-use dns_engine::{FirstZone, Naming, VersionCell, VersionPublisher, VersionReader};
-use played_zones::{Play, Played, is_played, zone};
+use crate::served::{Course, told};
+use crate::streams::{self, ALL, Row, TRANSFER};
+use dns_engine::{FirstZone, Naming, VersionReader};
 use std::alloc::Global;
 use std::sync::Wait;
 use zone_service::Server;
@@ -45,80 +45,28 @@ c00c0006000100000e100018c02ac0300000000300001c2000000384001275000000012c",
     ..TRANSFER
 };
 
-/// Streams over a server that keeps no version beside the last, while the version between two updates is owned and once it isn't.
-struct OwnedAWhile;
-
-/// Whether a stream goes as its row says, behind an owner of the version that is the last one before it.
-fn told_behind<R: Wait, Z: FirstZone, N: Naming>(
+/// Streams while the version between two updates is owned and once it isn't.
+pub(crate) fn go<R: Wait, Z: FirstZone, N: Naming>(
     rt: &R,
     alloc: Global,
-    cell: &VersionCell<Z, N>,
     server: &Server<'_, Z, N>,
     readers: &mut Vec<VersionReader<N>>,
-    row: &Row,
 ) -> Option<bool> {
+    let first = streams::go(rt, alloc, server, readers, &FIRST_UPDATE);
     let mut reader = readers.pop()?;
-    let loaded = cell.load(&mut reader);
+    let owner = server.cell().load(&mut reader).ok();
     let _ = readers.push(reader);
-    let owner = loaded.ok()?;
-    let told = told_by(rt, alloc, server, readers, row);
-    let _ = owner.release();
-    told
-}
-
-/// Whether the streams go as their rows say, one after the other.
-fn all_told<R: Wait, Z: FirstZone, N: Naming>(
-    rt: &R,
-    alloc: Global,
-    cell: &VersionCell<Z, N>,
-    server: &Server<'_, Z, N>,
-    readers: &mut Vec<VersionReader<N>>,
-) -> Option<bool> {
-    let made = told_by(rt, alloc, server, readers, &FIRST_UPDATE)?;
-    let owned = told_behind(rt, alloc, cell, server, readers, &WHILE_OWNED)?;
-    let gone = told_by(rt, alloc, server, readers, &ONCE_GONE)?;
-    Some(made && owned && gone)
-}
-
-impl Play for OwnedAWhile {
-    fn play<R: Wait, Z: FirstZone, N: Naming>(
-        &self,
-        rt: &R,
-        alloc: Global,
-        cell: &VersionCell<Z, N>,
-        publisher: VersionPublisher<Z, N>,
-        mut readers: Vec<VersionReader<N>>,
-    ) -> Played<Z, N> {
-        let Some(reader) = readers.pop() else {
-            return Played {
-                told: None,
-                publisher,
-                readers,
-            };
-        };
-        let (told, publisher, reader) = match Server::new(alloc, cell, publisher, reader, 0) {
-            Ok(server) => {
-                let told = all_told(rt, alloc, cell, &server, &mut readers);
-                let (publisher, reader) = server.finish();
-                (told, publisher, reader)
-            }
-            Err(refused) => (None, refused.publisher, refused.reader),
-        };
-        let _ = readers.push(reader);
-        Played {
-            told,
-            publisher,
-            readers,
-        }
-    }
+    let owned = streams::go(rt, alloc, server, readers, &WHILE_OWNED);
+    let buried = owner?.release().buried();
+    let gone = streams::go(rt, alloc, server, readers, &ONCE_GONE);
+    Some((first?, owned?, buried, gone?) == (true, true, Some(1), true))
 }
 
 // What changed is told as long as the versions are there, whoever owns them, and in whole once one has gone (RFC 1995, 4).
 #[test]
 fn a_version_is_told_as_long_as_it_is_there(rt: HostRuntime) {
-    let told = match zone(rt.alloc()) {
-        Some(zone) => is_played(&rt, rt.alloc(), zone, &OwnedAWhile),
-        None => None,
-    };
-    assert_eq!(rt; told, Some(true));
+    assert_eq!(rt;
+        told(&rt, rt.alloc(), ALL, 0, &Course::OwnedAWhile),
+        Some(true)
+    );
 }

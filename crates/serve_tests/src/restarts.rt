@@ -3,20 +3,16 @@ ghost use Rattle.std.specs.Prelude.{◌≡◌};
 ghost use Rattle.std.specs.List.{All};
 ghost use Rattle.dns_engine.specs.Versions.{IsFirst, AreNext};
 
+use crate::streams::{self, Row, TRANSFER};
 use conversation::OpenGate;
 use dns_engine::{FirstZone, KEPT, Naming, SharedVersion, VersionReader, ZoneVersions};
-use journal::{Head, TextSum, put_update, write_frame, write_head};
-use played_zones::{NamedParts, asker, end, named_parts, octets_of};
+use played_zones::{NamedParts, last_of, named_parts, octets_of};
 use recovery::{Start, recover_zone};
-use serve_core::{Peer, Transport};
 use snapshot_cell::{Cell, Parts};
 use std::alloc::Global;
 use std::marker::Brand;
 use std::process::Abort;
 use std::sync::Wait;
-use std::test::Fail;
-use told_streams::{Tape, answer_tape};
-use zone_replies::Replies;
 use zone_service::{NoLog, Server};
 use zone_tree::Version;
 
@@ -27,115 +23,106 @@ example.test. 3600 IN NS ns1.example.test.
 ns1.example.test. 3600 IN A 192.0.2.1
 ";
 
-/// An update of it (RFC 2136, 2) that adds an address of 192.0.2.0/24 at `new`, but for the address's last octet.
-const UPDATE: &str =
-    "432128000001000000010000076578616d706c6504746573740000060001036e6577c00c0001000100000e100004c00002";
+/// Ten updates of it (RFC 2136, 2), each of which adds an address at `new`, as they come on a stream: each after its length (RFC 1035, 4.2.2). So they
+/// stand in a journal's frame too. The serial goes from 1 to 11.
+const UPDATES: &str = "\
+0032432128000001000000010000076578616d706c6504746573740000060001036e6577c00c0001000100000e100004c000020b\
+0032432128000001000000010000076578616d706c6504746573740000060001036e6577c00c0001000100000e100004c000020c\
+0032432128000001000000010000076578616d706c6504746573740000060001036e6577c00c0001000100000e100004c000020d\
+0032432128000001000000010000076578616d706c6504746573740000060001036e6577c00c0001000100000e100004c000020e\
+0032432128000001000000010000076578616d706c6504746573740000060001036e6577c00c0001000100000e100004c000020f\
+0032432128000001000000010000076578616d706c6504746573740000060001036e6577c00c0001000100000e100004c0000210\
+0032432128000001000000010000076578616d706c6504746573740000060001036e6577c00c0001000100000e100004c0000211\
+0032432128000001000000010000076578616d706c6504746573740000060001036e6577c00c0001000100000e100004c0000212\
+0032432128000001000000010000076578616d706c6504746573740000060001036e6577c00c0001000100000e100004c0000213\
+0032432128000001000000010000076578616d706c6504746573740000060001036e6577c00c0001000100000e100004c0000214";
 
-/// The last octets of the addresses that are added: the serial goes from 1 to 11.
-const ADDRESSES: [u8; 10] = [11, 12, 13, 14, 15, 16, 17, 18, 19, 20];
+/// A journal of them, put together by Python: the head, what stands before the updates, and the sum after them.
+const HEAD: &str = "\
+646e7364206a6f75726e616c2c20310a00000000000000017369787465656e206f63746574732e2e00000000000000a8ab638bb7ce898f9beee31da5f30b72e4b307b035d9c1eeeafd8b0a0005ffff9a\
+00000001000000000000000f278032eeecbdc02092f0ecada9e54ea83a4035196c8e09db8bae8234e8ff741346c32f1e310042ece15f752f0c245fa1b9cecd3564771ebf7f7a19249bb1f809";
 
-/// An IXFR on a stream (RFC 1995, 3), up to the serial that the asker holds, behind which 16 octets stand, all of them zeros.
-const TRANSFER: &str =
-    "0040123400000001000000010000076578616d706c6504746573740000fb0001c00c000600010000000000160000";
+const LEAD: &str = "000002080000000000000000";
 
-/// The updates.
-fn updates(alloc: Global) -> Option<Vec<Vec<u8>>> {
-    let mut updates = Vec::new(alloc);
-    for address in ADDRESSES {
-        let mut update = octets_of(alloc, UPDATE)?;
-        update.push(address).ok()?;
-        updates.push(update).ok()?;
+const SUM: &str = "14dff89dfa2ed72e408d39c9cfb4d36a4a86aa4310d2f2846b79b39cfc6d6912";
+
+/// The updates on a stream of one who may update, and the reply to each: NOERROR.
+const TAKEN: Row = Row {
+    input: UPDATES,
+    written: "\
+000c4321a8000000000000000000000c4321a8000000000000000000000c4321a8000000000000000000000c4321a8000000000000000000000c4321a8000000000000000000\
+000c4321a8000000000000000000000c4321a8000000000000000000000c4321a8000000000000000000000c4321a8000000000000000000000c4321a8000000000000000000",
+    told: "\
+update from 192.0.2.7:4711: NOERROR, serial 1 to 2;\
+update from 192.0.2.7:4711: NOERROR, serial 2 to 3;\
+update from 192.0.2.7:4711: NOERROR, serial 3 to 4;\
+update from 192.0.2.7:4711: NOERROR, serial 4 to 5;\
+update from 192.0.2.7:4711: NOERROR, serial 5 to 6;\
+update from 192.0.2.7:4711: NOERROR, serial 6 to 7;\
+update from 192.0.2.7:4711: NOERROR, serial 7 to 8;\
+update from 192.0.2.7:4711: NOERROR, serial 8 to 9;\
+update from 192.0.2.7:4711: NOERROR, serial 9 to 10;\
+update from 192.0.2.7:4711: NOERROR, serial 10 to 11;",
+    ..TRANSFER
+};
+
+/// IXFRs on a stream (RFC 1995, 3), of askers who hold the serials from 3 to 11, and of one who holds serial 2.
+const CHANGES: Row = Row {
+    input: "\
+0040123400000001000000010000076578616d706c6504746573740000fb0001c00c0006000100000000001600000000000300000000000000000000000000000000\
+0040123400000001000000010000076578616d706c6504746573740000fb0001c00c0006000100000000001600000000000400000000000000000000000000000000\
+0040123400000001000000010000076578616d706c6504746573740000fb0001c00c0006000100000000001600000000000500000000000000000000000000000000\
+0040123400000001000000010000076578616d706c6504746573740000fb0001c00c0006000100000000001600000000000600000000000000000000000000000000\
+0040123400000001000000010000076578616d706c6504746573740000fb0001c00c0006000100000000001600000000000700000000000000000000000000000000\
+0040123400000001000000010000076578616d706c6504746573740000fb0001c00c0006000100000000001600000000000800000000000000000000000000000000\
+0040123400000001000000010000076578616d706c6504746573740000fb0001c00c0006000100000000001600000000000900000000000000000000000000000000\
+0040123400000001000000010000076578616d706c6504746573740000fb0001c00c0006000100000000001600000000000a00000000000000000000000000000000\
+0040123400000001000000010000076578616d706c6504746573740000fb0001c00c0006000100000000001600000000000b00000000000000000000000000000000\
+0040123400000001000000010000076578616d706c6504746573740000fb0001c00c0006000100000000001600000000000200000000000000000000000000000000",
+    ..TRANSFER
+};
+
+/// A journal of these parts, in hexadecimal.
+fn journal_of(alloc: Global, parts: &[&str]) -> Option<Vec<u8>> {
+    let mut journal = Vec::new(alloc);
+    for part in parts {
+        let octets = octets_of(alloc, part)?;
+        journal.extend_from_slice(&octets).ok()?;
     }
-    Some(updates)
+    Some(journal)
 }
 
-/// Messages as they come on a stream, each behind its length (RFC 1035, 4.2.2).
-fn on_stream(alloc: Global, messages: &[Vec<u8>]) -> Option<Vec<u8>> {
-    let mut stream = Vec::new(alloc);
-    for message in messages {
-        let len = u16::try_from(message.len()).ok()?;
-        stream.extend_from_slice(&len.to_be_bytes()).ok()?;
-        stream.extend_from_slice(message).ok()?;
-    }
-    Some(stream)
-}
-
-/// IXFRs of askers who hold these serials.
-fn transfers(alloc: Global, serials: &[u32]) -> Option<Vec<u8>> {
-    let mut stream = Vec::new(alloc);
-    for serial in serials {
-        let transfer = octets_of(alloc, TRANSFER)?;
-        stream.extend_from_slice(&transfer).ok()?;
-        stream.extend_from_slice(&serial.to_be_bytes()).ok()?;
-        stream.extend_from_slice(&[0; 16]).ok()?;
-    }
-    Some(stream)
-}
-
-/// The journal of a batch of updates that belongs to the zone text; of none where there are none.
-fn journal_of(alloc: Global, updates: &[Vec<u8>]) -> Result<Vec<u8>, Fail> {
-    let head = Head {
-        number: 1,
-        random: *b"sixteen octets..",
-        text: TextSum::of(ZONE),
-        serial: 1,
-        origin: TextSum::of(b"as it was given"),
-    };
-    let (mut octets, salt) = write_head(alloc, &head)?;
-    let mut batch = Vec::new(alloc);
-    for update in updates {
-        if update.len() < 65_536 {
-            put_update(&mut batch, update)?;
-        }
-    }
-    if !batch.is_empty() && batch.len() < 1 << 32 {
-        octets.extend_from_slice(&write_frame(alloc, &salt, 0, &batch)?)?;
-    }
-    Ok(octets)
-}
-
-/// What is written on a stream of these octets, by a server whom one of these readers asks, which comes back to them.
-fn written_by<R: Wait, Z: FirstZone, N: Naming>(
+/// What is written on the stream of IXFRs, by a server that one of these readers asks, which comes back to them.
+fn written<R: Wait, Z: FirstZone, N: Naming>(
     rt: &R,
     alloc: Global,
     server: &Server<'_, Z, N>,
     readers: &mut Vec<VersionReader<N>>,
-    stream: Vec<u8>,
 ) -> Option<Vec<u8>> {
-    let tape = Tape::new(alloc, stream, 65_536, 4_096).ok()?;
-    let reader = readers.pop()?;
-    let peer = Peer {
-        may_update: true,
-        may_transfer: true,
-        transport: Transport::Tcp,
-    };
-    let mut replies = Replies::new(alloc, server, reader, &NoLog, peer, asker(4711));
-    let mut room = [0u8; 4_096];
-    let mut out = [0u8; 65_535];
-    let (_, tape) = answer_tape(
-        rt,
-        alloc,
-        &mut replies,
-        tape,
-        &OpenGate,
-        &mut room,
-        &mut out,
-    );
-    let _ = readers.push(replies.into_reader());
-    let mut written = Vec::new(alloc);
-    written.extend_from_slice(tape.written()).ok()?;
-    Some(written)
+    let (_end, tape) = streams::serve(rt, alloc, server, readers, &CHANGES, &NoLog, &OpenGate)?;
+    tape.written().to_vec(alloc).ok()
 }
 
-/// What is written on the second of two streams, by a server that keeps as many versions as it may, over a cell in which these are first published
-/// behind the first one.
+/// What a server does.
+#[derive(Drop)]
+struct Ran {
+    /// Whether the first stream goes as its row says.
+    is_taken: bool,
+    /// What is written on the second one.
+    changes: Vec<u8>,
+    /// The number and the serial of the version with which the server's cell ends.
+    last: (u64, u32),
+}
+
+/// What a server does with the updates of a row and with the IXFRs, that keeps as many versions as it may, over a cell in which these are first
+/// published after the first one.
 fn written_in<R: Wait + Abort, Z: FirstZone, N: Naming>(
     rt: &R,
     alloc: Global,
     parts: Parts<SharedVersion, ZoneVersions<Z>>,
     later: Vec<SharedVersion>,
-    streams: (Vec<u8>, Vec<u8>),
-) -> Vec<u8>
+    updates: &Row,
+) -> Ran
     requires cell { (parts.cell ≡ N.cell) × (parts.publisher.cell ≡ N.cell) }
     requires readers { All (λ r. r.cell ≡ N.cell) parts.readers.items }
     requires first { parts.publisher.number ≡ 0 }
@@ -155,13 +142,11 @@ fn written_in<R: Wait + Abort, Z: FirstZone, N: Naming>(
     let Ok(server) = Server::resume(alloc, &cell, publisher, reader, KEPT, later) else {
         panic!(rt; "there is no server");
     };
-    let (first, second) = streams;
-    let before = written_by(rt, alloc, &server, &mut readers, first);
-    assert!(rt; before.is_some());
-    let written = written_by(rt, alloc, &server, &mut readers, second);
+    let is_taken = streams::go(rt, alloc, &server, &mut readers, updates) == Some(true);
+    let changes = written(rt, alloc, &server, &mut readers).unwrap_or(Vec::new(alloc));
     let (publisher, reader) = server.finish();
     readers.push(reader).ok().expect(rt, "memory");
-    end(
+    let last = last_of(
         rt,
         NamedParts {
             cell,
@@ -169,7 +154,11 @@ fn written_in<R: Wait + Abort, Z: FirstZone, N: Naming>(
             readers,
         },
     );
-    written.expect(rt, "what is written")
+    Ran {
+        is_taken,
+        changes,
+        last: (last.get().number(), last.get().serial().0),
+    }
 }
 
 /// The same over a cell that begins with a version.
@@ -178,8 +167,8 @@ fn written_from<R: Wait + Abort, Z: FirstZone>(
     alloc: Global,
     first: Version,
     later: Vec<Version>,
-    streams: (Vec<u8>, Vec<u8>),
-) -> Vec<u8>
+    updates: &Row,
+) -> Ran
     requires first { IsFirst Z.zone first }
     requires follow { AreNext first later.items }
 {
@@ -190,56 +179,39 @@ fn written_from<R: Wait + Abort, Z: FirstZone>(
         panic!(rt; "there is no memory");
     };
     match Cell::<SharedVersion, ZoneVersions<Z>>::new(alloc, 2, first) {
-        Ok(parts) => written_in::<R, Z, Brand>(rt, alloc, parts, later, streams),
+        Ok(parts) => written_in::<R, Z, Brand>(rt, alloc, parts, later, updates),
         Err(_) => panic!(rt; "there is no cell"),
     }
 }
 
 /// The same over a cell that begins with what a start has of a journal over the zone text.
-fn written_after<R: Wait + Abort>(
-    rt: &R,
-    alloc: Global,
-    journal: &[u8],
-    streams: (Vec<u8>, Vec<u8>),
-) -> Vec<u8> {
+fn written_after<R: Wait + Abort>(rt: &R, alloc: Global, journal: &[u8], updates: &Row) -> Ran {
     let Ok(start) = recover_zone(alloc, ZONE, journal) else {
         panic!(rt; "there is no start");
     };
     let Start { newest, .. } = start;
     let (first, later) = newest.rebased();
-    written_from::<R, Brand>(rt, alloc, first, later, streams)
+    written_from::<R, Brand>(rt, alloc, first, later, updates)
 }
 
 // Who is at most eight versions back is told the same of what changed, by the server that took the updates and by the next one: from serial 3, the
-// SOAs that begin and end the reply, and of eight versions three records each.
+// SOAs that begin and end the reply, and of eight versions three records each; 4190 octets to all of them. Who is nine versions back is told by
+// the next server the zone in whole: two SOAs, NS, the address of its host, and ten at `new`.
 #[test]
-fn what_changed_is_told_behind_a_restart(rt: HostRuntime) -> Result<(), Fail> {
+fn what_changed_is_told_after_a_restart(rt: HostRuntime) {
     let alloc = rt.alloc();
-    let updates = updates(alloc).ok_or("memory")?;
-    let none = journal_of(alloc, &[])?;
-    let all = journal_of(alloc, &updates)?;
-    let taken = on_stream(alloc, &updates).ok_or("memory")?;
-    for serial in 3..12 {
-        let asked = transfers(alloc, &[serial]).ok_or("memory")?;
-        let again = transfers(alloc, &[serial]).ok_or("memory")?;
-        let mut first = Vec::new(alloc);
-        first.extend_from_slice(&taken)?;
-        let before = written_after(&rt, alloc, &none, (first, asked));
-        let after = written_after(&rt, alloc, &all, (Vec::new(alloc), again));
-        assert!(rt; before == after, "from {serial}");
-        assert!(rt; serial != 3 || after.get(8..10) == Some(&[0, 26]));
-    }
-    Ok(())
-}
-
-// Who is nine versions back is told the zone in whole: two SOAs, NS, the address of its host, and ten at `new`.
-#[test]
-fn the_zone_is_told_in_whole_further_back(rt: HostRuntime) -> Result<(), Fail> {
-    let alloc = rt.alloc();
-    let updates = updates(alloc).ok_or("memory")?;
-    let all = journal_of(alloc, &updates)?;
-    let asked = transfers(alloc, &[2]).ok_or("memory")?;
-    let written = written_after(&rt, alloc, &all, (Vec::new(alloc), asked));
-    assert!(rt; written.get(8..10) == Some(&[0, 14]));
-    Ok(())
+    let none = journal_of(alloc, &[HEAD]).expect(&rt, "memory");
+    let all = journal_of(alloc, &[HEAD, LEAD, UPDATES, SUM]).expect(&rt, "memory");
+    let before = written_after(&rt, alloc, &none, &TAKEN);
+    let after = written_after(&rt, alloc, &all, &TRANSFER);
+    assert!(rt; before.changes.get(..4190) == after.changes.get(..4190));
+    let counts = (
+        after.changes.get(8..10),
+        after.changes.get(4198..4200),
+        before.changes.get(4198..4200),
+    );
+    assert!(rt; counts == (Some(&[0, 26]), Some(&[0, 14]), Some(&[0, 29])));
+    // The last version is left; the next server's are numbered from the oldest that is kept.
+    let ends = (before.is_taken, before.last, after.is_taken, after.last);
+    assert_eq!(rt; ends, (true, (10, 11), true, (8, 11)));
 }

@@ -1,5 +1,5 @@
 -- What is served, and the store that goes on with it.
-use Rattle.std.proofs.Common.{◌≡◌, ℕ, List, Option, Result, Ok, Err, IfOk, sym, subst}
+use Rattle.std.proofs.Common.{◌≡◌, ℕ, List, Option, Result, Ok, Err, IfOk, IfErr, sym, subst}
 use Rattle.dns_name.specs.Name.{Name}
 use Rattle.dns_rdata.specs.Record.{Record}
 use Rattle.dns_rdata.specs.declared.numbers.Serial.{Serial}
@@ -10,11 +10,24 @@ use Rattle.stores.specs.declared.choices.Choice.{Choice}
 use Rattle.stores.specs.declared.choices.Choice.TheVariants.{Same as IsSame, Store as IsStore, Zone as IsZone, StoreThoughOther as IsOlder}
 use Rattle.stores.specs.Choice.{IsChoice}
 use Rattle.store_start.specs.declared.refusal.Refusal.{Refusal}
+use Rattle.store_start.specs.declared.refusal.Refusal.TheVariants.{Held, NoText, NoStart, Newer, NotNewer, Text, NoMemory, Device}
 use Rattle.store_start.specs.declared.resume.Resumed.{Resumed}
 use Rattle.store_start.specs.declared.start.Served.{Served}
 use Rattle.store_start.specs.declared.start.Served.TheVariants.{Begun, Same, Store, StoreThoughOther, Zone}
 use Rattle.store_start.specs.declared.start.Started.{Started}
-use Rattle.store_start.specs.Started.{GoesOn, IsBegunStore, IsChosen, IsServedBy, IsServed, IsKept}
+use Rattle.store_start.specs.Started.{GoesOn, IsBegunStore, IsChosen, IsServedBy, IsServed, IsKept, IsOwnFault, IsRefused}
+
+-- want of memory and a device's fault refuse a start
+pub own_refused : (given : List ℕ) (origin : Name) (taken : Option Take) (result : Result Started Refusal) → IfErr result IsOwnFault → IfErr result (λ refusal. IsRefused given origin taken refusal)
+own_refused given origin taken (Ok started) own = tt
+own_refused given origin taken (Err Held) own = absurd own
+own_refused given origin taken (Err (NoText number)) own = absurd own
+own_refused given origin taken (Err (NoStart fault)) own = absurd own
+own_refused given origin taken (Err (Newer has serial)) own = absurd own
+own_refused given origin taken (Err (NotNewer has serial)) own = absurd own
+own_refused given origin taken (Err (Text fault)) own = absurd own
+own_refused given origin taken (Err NoMemory) own = tt
+own_refused given origin taken (Err (Device fault)) own = tt
 
 module _ (given : List ℕ) (origin : Name) (taken : Option Take) (random text octets : List ℕ) where
   -- a choice, as it was made

@@ -1,5 +1,5 @@
 //! What clients of a server are replied (RFC 1035, 4.2): datagrams that lie in a socket together, as much as a worker may answer, and updates, each of which is told its
-//! code by who judges them, and seen by a query that comes behind its reply (RFC 2136, 3).
+//! code by who judges them, and seen by a query that comes after its reply (RFC 2136, 3).
 
 use crate::ending::{BEGUN, HOST, add_worker, served, sockets};
 use crate::frames::{QUERY, REPLY, frame_of};
@@ -12,7 +12,7 @@ use std::test::Fail;
 use std::thread::{self, Threads};
 use std::time::{Clock, Duration};
 
-/// An update that adds an address, behind its ID (RFC 2136, 2.5.1), and its reply: NOERROR, and nothing of the request (RFC 2136, 3.8).
+/// An update that adds an address, after its ID (RFC 2136, 2.5.1), and its reply: NOERROR, and nothing of the request (RFC 2136, 3.8).
 const UPDATE: &[u8] =
     b"\x28\x00\x00\x01\x00\x00\x00\x01\x00\x00\x07example\x04test\x00\x00\x06\x00\x01\x04host\xc0\x0c\x00\x01\x00\x01\x00\x00\x00\x3c\x00\x04\xc0\x00\x02\x07";
 
@@ -25,7 +25,7 @@ const HOST_QUERY: &[u8] =
 const FOUND: &[u8] =
     b"\x85\x00\x00\x01\x00\x01\x00\x00\x00\x00\x04host\x07example\x04test\x00\x00\x01\x00\x01\xc0\x0c\x00\x01\x00\x01\x00\x00\x00\x3c\x00\x04\xc0\x00\x02\x07";
 
-/// What is asked with an ID, and what that is replied, both behind the ID.
+/// What is asked with an ID, and what that is replied, both after the ID.
 #[derive(Clone, Copy)]
 struct Asked {
     id: u16,
@@ -81,7 +81,7 @@ const ADDED: Asked = Asked {
 };
 
 const CASES: [Case; 8] = [
-    // Those behind the first 32 are taken without waiting, and the last replies of these are sent when the worker ends.
+    // Those after the first 32 are taken without waiting, and the last replies of these are sent when the worker ends.
     Case {
         name: "all that came before a worker ends are replied",
         takes: Takes::Datagrams,
@@ -125,7 +125,7 @@ const CASES: [Case; 8] = [
     },
     // The reply is sent by who judges.
     Case {
-        name: "an update by a datagram is told, and seen by a query behind its reply",
+        name: "an update by a datagram is told, and seen by a query after its reply",
         takes: Takes::Datagrams,
         most: 2,
         has_idle: false,

@@ -95,7 +95,7 @@ fn break_listener(listener: &TcpListener) -> io::Result<()> {
     same.shutdown(Shutdown::Both)
 }
 
-/// Puts what a worker's threads do on its sockets, by its number, behind `duties`.
+/// Puts what a worker's threads do on its sockets, by its number, after `duties`.
 pub(crate) fn add_worker<'a>(
     alloc: Global,
     worker: usize,

@@ -2,7 +2,7 @@ use Rattle.std.proofs.Common.{List, ℕ, subst}
 use Rattle.recovery.specs.Start.{IsStarted}
 use Rattle.stores.specs.declared.choices.Choice.TheVariants.{Same as IsSame, Store as IsStore, Zone as IsZone, StoreThoughOther as IsOlder, RefuseNewer, RefuseNotNewer}
 use Rattle.store_start.specs.Started.{IsChosen}
-use Rattle.store_start.proofs.ServedLemmas.{chosen_as, same_served, store_served, older_served, zone_served}
+use Rattle.store_start.proofs.ServedLemmas.{chosen_as, same_served, store_served, older_served, zone_served, own_refused}
 use Rattle.store_start.proofs.start.start_found.Goals as goal
 
 pub returns-in-Same-clause-served : goal.returns-in-Same-clause-served
@@ -64,7 +64,7 @@ returns-in-RefuseNotNewer-clause-refused g c =
     subst (λ (t : List ℕ). IsStarted t octets start) c.deref.ensures.value (subst (λ (o : List ℕ). IsStarted c.deref.result.now o start) c.deref-2.ensures.value c.in_ok-start.ensures.started) in
     let chosen : IsChosen given.text.now given.origin.now given.taken text octets (RefuseNotNewer c.in-RefuseNotNewer.given) =
     record { start = start; is = is; chosen = chosen_as given.text.now given.origin.now given.taken c.args.random text octets start _ (RefuseNotNewer c.in-RefuseNotNewer.given) c.in-RefuseNotNewer.is c.in_ok-choice_of.ensures.chosen } in
-    (text, octets, chosen, c.serial-has-2.ensures)
+    (text, octets, chosen, c.serial-has-in-RefuseNotNewer.ensures)
 
 pub returns-in-Zone-clause-served : goal.returns-in-Zone-clause-served
 returns-in-Zone-clause-served g c =
@@ -78,3 +78,7 @@ returns-in-Zone-clause-served g c =
     let chosen : IsChosen given.text.now given.origin.now given.taken text octets (IsZone zone) =
     record { start = start; is = is; chosen = chosen_as given.text.now given.origin.now given.taken c.args.random text octets start _ (IsZone zone) c.in-Zone.is c.in_ok-choice_of.ensures.chosen } in
     zone_served given.text.now given.origin.now given.taken c.args.random text octets zone chosen c.take_text.result c.take_text.ensures.served c.take_text.ensures.begun
+
+pub returns-in-Zone-clause-refused : goal.returns-in-Zone-clause-refused
+returns-in-Zone-clause-refused g c =
+    own_refused c.args.given.text.now c.args.given.origin.now c.args.given.taken c.take_text.result c.take_text.ensures.refused

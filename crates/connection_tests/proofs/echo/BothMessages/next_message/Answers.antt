@@ -1,4 +1,4 @@
--- The message stands in front of what was in the buffer.
+-- The message stands before what was in the buffer.
 use Rattle.std.proofs.Common.{◌≡◌, [], ◌∷◌, refl, arith, take, set, length-set}
 use Rattle.std.proofs.lemmas.Grind.{take-set_at}
 use Rattle.connection_tests.proofs.echo.BothMessages.next_message.Goals as goal

@@ -1,0 +1,121 @@
+//! Updates and queries while memory is refused: what was published last stays, queries are answered by it, and the same update sent anew makes the
+//! next version.
+use crate::served::{Course, told};
+use crate::slots::update_of;
+use crate::streams::ALL;
+use dns_engine::{FirstZone, Naming, VersionChain, VersionReader};
+use dns_rdata::{Rcode, Serial};
+use serve_core::{Peer, Transport};
+use std::alloc::Global;
+use std::sync::Wait;
+use transfer_core::{ChainView, VersionList};
+use zone_service::{Now, Server, answer_now};
+use zone_tree::ZoneRead;
+
+/// The query for www.example.test., type A, and its reply: the alias and the address of its target (RFC 1035, 4.1).
+const QUERY: &[u8] =
+    b"\x12\x34\x01\x00\x00\x01\x00\x00\x00\x00\x00\x00\x03www\x07example\x04test\x00\x00\x01\x00\x01";
+
+const REPLY: &[u8] =
+    b"\x12\x34\x85\x00\x00\x01\x00\x02\x00\x00\x00\x00\x03www\x07example\x04test\x00\x00\x01\x00\x01\xc0\x0c\x00\x05\x00\x01\x00\x00\x0e\x10\x00\x06\x03web\xc0\x10\xc0\x2e\x00\x01\x00\x01\x00\x00\x0e\x10\x00\x04\xc0\x00\x02\x0a";
+
+/// Whether the query is answered at once.
+fn is_answered<Z: FirstZone, N: Naming>(
+    server: &Server<'_, Z, N>,
+    reader: &mut VersionReader<N>,
+) -> bool {
+    let mut out = [0u8; 65_535];
+    let peer = Peer::over(Transport::Tcp, true);
+    match answer_now(server.cell(), reader, peer, QUERY, &mut out) {
+        Now::Bytes(len) => out.get(..len) == Some(REPLY),
+        _ => false,
+    }
+}
+
+/// Two queries.
+pub(crate) fn ask_twice<Z: FirstZone, N: Naming>(
+    server: &Server<'_, Z, N>,
+    readers: &mut Vec<VersionReader<N>>,
+) -> Option<bool> {
+    let mut reader = readers.pop()?;
+    let first = is_answered(server, &mut reader);
+    let second = is_answered(server, &mut reader);
+    let _ = readers.push(reader);
+    Some(first && second)
+}
+
+/// Whether the first version is still the last one: its number, its serial and its five sets, and its answer to the query.
+fn has_first<Z: FirstZone, N: Naming>(
+    server: &Server<'_, Z, N>,
+    reader: &mut VersionReader<N>,
+) -> bool {
+    let Ok(owner) = server.cell().load(reader) else {
+        return false;
+    };
+    let version = owner.get().get();
+    let mut sets = 0u64;
+    for _set in version.zone().walk() {
+        sets = sets.saturating_add(1);
+    }
+    let is_first = (version.number(), version.serial().0, sets) == (0, 1, 5);
+    let _ = owner.release();
+    is_first && is_answered(server, reader)
+}
+
+/// The code of an update, or, where it is SERVFAIL and all is as it was, that of the same update sent anew; None where there is no memory for it.
+fn sent_anew<R: Wait, Z: FirstZone, N: Naming>(
+    rt: &R,
+    alloc: Global,
+    server: &Server<'_, Z, N>,
+    reader: &mut VersionReader<N>,
+) -> Option<Rcode> {
+    let update = update_of(alloc, 77)?;
+    let (code, _serials) = server.update(rt, alloc, reader, &update, true);
+    if code != Rcode::ServFail || !has_first(server, reader) {
+        return Some(code);
+    }
+    let (code, _serials) = server.update(rt, alloc, reader, &update, true);
+    Some(code)
+}
+
+/// An update, sent anew where memory is refused, which is then published, and told of as what changed since the first version.
+pub(crate) fn update_anew<R: Wait, Z: FirstZone, N: Naming>(
+    rt: &R,
+    alloc: Global,
+    server: &Server<'_, Z, N>,
+    readers: &mut Vec<VersionReader<N>>,
+) -> Option<bool> {
+    let mut reader = readers.pop()?;
+    let code = sent_anew(rt, alloc, server, &mut reader);
+    let number = server.meet(rt, &mut reader);
+    let chain = VersionChain::of(rt, server.chain(rt, &mut reader, Serial(1), 1));
+    let _ = readers.push(reader);
+    let chain = chain.ok()?;
+    Some((code?, number, chain.is_whole(), chain.len()) == (Rcode::NoError, 1, true, 1))
+}
+
+/// Whether a course goes as it should; it is begun anew where there is no memory for it.
+fn told_anew<R: Wait>(rt: &R, alloc: Global, course: &Course) -> Option<bool> {
+    match told(rt, alloc, ALL, 2, course) {
+        Some(told) => Some(told),
+        None => told(rt, alloc, ALL, 2, course),
+    }
+}
+
+// With any one growth refused, the version published last stays, with its answers, and the same update makes the next one once it is sent anew.
+#[test]
+fn refused_growth(rt: HostRuntime) {
+    assert_eq!(rt; told_anew(&rt, rt.alloc(), &Course::UpdateAnew), Some(true));
+}
+
+// With any one request for memory refused, no query is answered otherwise: none asks for any.
+#[test]
+fn answers_at_once_where_memory_is_refused(rt: HostRuntime) {
+    assert_eq!(rt; told_anew(&rt, rt.alloc(), &Course::TwoQueries), Some(true));
+}
+
+// The same with all requests refused from one of them on: where there is a zone in its cell, its queries are answered.
+#[test]
+fn answers_at_once_where_memory_is_refused_ever_after(rt: HostRuntime) {
+    assert!(rt; told(&rt, rt.alloc(), ALL, 2, &Course::TwoQueries) != Some(false));
+}

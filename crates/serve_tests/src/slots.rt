@@ -1,0 +1,111 @@
+//! Slots that are used up: what is told then, and that what was published stays.
+use crate::served::{Course, told};
+use crate::streams::ALL;
+use dns_engine::{FirstZone, Naming, VersionOwner, VersionReader};
+use dns_message::{Parsed, Update, parse};
+use dns_rdata::Rcode;
+use played_zones::octets_of;
+use std::alloc::Global;
+use std::collections::VecDeque;
+use std::sync::Wait;
+use zone_service::Server;
+
+/// An update of `example.test.` (RFC 2136, 2) that adds an address of 192.0.2.0/24 at `new`, but for the address's last octet.
+const UPDATE: &str =
+    "432128000001000000010000076578616d706c6504746573740000060001036e6577c00c0001000100000e100004c00002";
+
+/// The update that adds the address of this last octet; None where memory is refused.
+pub(crate) fn update_of(alloc: Global, last: u8) -> Option<Update> {
+    let mut octets = octets_of(alloc, UPDATE)?;
+    octets.push(last).ok()?;
+    match parse(alloc, &octets) {
+        Parsed::Update(update) => Some(update),
+        _ => None,
+    }
+}
+
+/// The code of the update that adds the address of this last octet, and the serial after it; None where memory is refused.
+fn told_of<R: Wait, Z: FirstZone, N: Naming>(
+    rt: &R,
+    alloc: Global,
+    server: &Server<'_, Z, N>,
+    reader: &mut VersionReader<N>,
+    last: u8,
+) -> Option<(Rcode, u32)> {
+    let update = update_of(alloc, last)?;
+    let (code, serials) = server.update(rt, alloc, reader, &update, true);
+    Some((code, serials.after.0))
+}
+
+/// Owners of versions, the first one first.
+type Owners<'a, Z, N> = VecDeque<VersionOwner<'a, Z, N>>;
+
+/// Owners of the first version and of 63 more, which updates make; None where one of them isn't made.
+fn hold_all<'a, R: Wait, Z: FirstZone, N: Naming>(
+    rt: &R,
+    alloc: Global,
+    server: &Server<'a, Z, N>,
+    reader: &mut VersionReader<N>,
+) -> Option<Owners<'a, Z, N>> {
+    let mut owners = VecDeque::new(alloc);
+    let first = server.cell().load(reader).ok()?;
+    owners.push_back(first).ok()?;
+    for last in 1..64u8 {
+        if told_of(rt, alloc, server, reader, last)? != (Rcode::NoError, u32::from(last) + 1) {
+            return None;
+        }
+        let owner = server.cell().load(reader).ok()?;
+        owners.push_back(owner).ok()?;
+    }
+    Some(owners)
+}
+
+/// The number of the version that an owner's release buries.
+fn buried<Z: FirstZone, N: Naming>(owner: Option<VersionOwner<'_, Z, N>>) -> Option<u64> {
+    owner?.release().buried()
+}
+
+/// Each slot has a version: of owners of all versions that of the 60th is let go, and then that of the first; only then one more update is taken.
+pub(crate) fn go<R: Wait, Z: FirstZone, N: Naming>(
+    rt: &R,
+    alloc: Global,
+    server: &Server<'_, Z, N>,
+    readers: &mut Vec<VersionReader<N>>,
+) -> Option<bool> {
+    let mut reader = readers.pop()?;
+    let held = hold_all(rt, alloc, server, &mut reader);
+    let told = match held {
+        Some(owners) => goes_on(rt, alloc, server, &mut reader, owners),
+        None => None,
+    };
+    let _ = readers.push(reader);
+    told
+}
+
+/// What one more update is told while all versions are owned, and after each release; and whether that is right.
+fn goes_on<R: Wait, Z: FirstZone, N: Naming>(
+    rt: &R,
+    alloc: Global,
+    server: &Server<'_, Z, N>,
+    reader: &mut VersionReader<N>,
+    mut owners: Owners<'_, Z, N>,
+) -> Option<bool> {
+    let full = told_of(rt, alloc, server, reader, 64)?;
+    let sixtieth = buried(owners.remove(60));
+    // The history owns that version weakly, so that its slot isn't free.
+    let still_full = told_of(rt, alloc, server, reader, 64)?;
+    let first = buried(owners.pop_front());
+    let taken = told_of(rt, alloc, server, reader, 64)?;
+    let refused = (Rcode::ServFail, 64);
+    let is_right = taken == (Rcode::NoError, 65) && (sixtieth, first) == (Some(60), Some(0));
+    Some(is_right && full == refused && still_full == refused)
+}
+
+// With each version owned there is no slot for one more, and an update gets SERVFAIL until one is free (own).
+#[test]
+fn no_slot_until_a_version_is_let_go(rt: HostRuntime) {
+    assert_eq!(rt;
+        told(&rt, rt.alloc(), ALL, 0, &Course::AllSlots),
+        Some(true)
+    );
+}
