@@ -98,7 +98,7 @@ refuses 1 'line 1: M6 BadData' check -
 
 # the greatest data
 input='. 5 SOA . . 1 2 3 4 5'$'\n''. 5 NS .'$'\n''a. 5 TYPE65280 \# 4096 '$(repeat 2048 '0A ')$(repeat 2048 '0b')
-prints ". 5 IN SOA . . 1 2 3 4 5"$'\n'". 5 IN NS ."$'\n'"a. 5 IN TYPE65280 \\# 4096 $(repeat 2048 0a)$(repeat 2048 0b)" check -
+prints ". 5 IN SOA . . 1 2 3 4 5"$'\n'". 5 IN NS ."$'\n'"a. 5 IN TYPE65280 \\# 4096 $(repeat 2048 0a)$(repeat 2048 0b)" check --origin . -
 
 # such a record beside an alias
 zone_text=${example}'www.example.test. 3600 IN '

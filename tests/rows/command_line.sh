@@ -54,6 +54,21 @@ row 0 'x.x.test. 300 IN NS ns.x.test.' check --origin X.test -
 row 0 'x.x.test. 300 IN NS ns.x.test.' check --origin x.test. -
 row 2 "'a..b' is no name for --origin" answer --origin a..b -
 
+# a zone at the root for which no origin is given: check and answer print a warning on standard error, after what they print else, and end as
+# ever; where the root is given, where the apex is another, where the zone is refused, and of the other commands there is none
+warning="warning: the zone's apex is the root: names without a final dot are below it; --origin NAME gives another origin"
+input=$'@ 300 SOA ns admin 1 7200 900 1209600 300\n@ 300 NS ns\n'
+written=$'. 300 IN SOA ns. admin. 1 7200 900 1209600 300\n. 300 IN NS ns.'
+row 0 "$written"$'\n'"$warning"$'\n' check -
+prints "$written" check --origin . -
+printf '%s' "$input" >"$room/zone"
+input=
+row 0 "$warning" answer "$room/zone"
+prints '' answer --origin . "$room/zone"
+prints '' steps "$room/zone"
+input=$'@ 300 SOA ns admin 1 7200 900 1209600 300\n'
+says 1 $'line 0: M11 Apex\nthe zone has no SOA, or no NS at the owner of its SOA' check -
+
 # what serve takes
 input=
 row 2 "--listen takes an address and a port, as 127.0.0.1:5353 or [::1]:5353, and 'localhost' is none" serve --listen localhost "$zone"
@@ -62,6 +77,23 @@ row 2 "--workers takes a number from 1 to 31, and '32' is none" serve --listen 1
 row 2 "--keep takes a number from 0 to 8, and '9' is none" serve --listen 127.0.0.1:0 --keep 9 "$zone"
 row 2 "--count takes a number from 0 to 18446744073709551615, and '-' is none" serve --listen 127.0.0.1:0 --count - "$zone"
 row 2 "--allow takes addresses with commas between them, as 127.0.0.1,192.0.2.7, and 'x' is none" serve --listen 127.0.0.1:0 --allow 127.0.0.1,x "$zone"
+for list in '127.0.0.1 ::1' ' ' '::1, 127.0.0.1 x'; do
+    word=${list##*, }
+    row 2 "and '${word# }' is none" serve --listen 127.0.0.1:0 --allow "$list" "$zone"
+done
+row 2 "and '' is none" serve --listen 127.0.0.1:0 --allow '127.0.0.1, ' "$zone"
+for option in idle message reply; do
+    for word in 0 0s 3601 3601s 61m 2h 18446744073709551615h 18446744073709551616 1d 5M 1.5m -1 s ''; do
+        row 2 "--$option takes 1 to 3600 seconds, as 30, 30s or 5m, and '$word' is none" serve --listen 127.0.0.1:0 "--$option=$word" "$zone"
+    done
+done
+# what is taken is shown by a store that isn't there
+for list in '127.0.0.1, ::1' ' 127.0.0.1 ,  192.0.2.7 ' '127.0.0.1,::1' ''; do
+    row 3 "the store 'no/such/store' can't be read or written" serve --listen 127.0.0.1:0 --store no/such/store --allow "$list" "$zone"
+done
+for word in 1 3600 1s 3600s 5m 60m 1h 001m; do
+    row 3 "the store 'no/such/store' can't be read or written" serve --listen 127.0.0.1:0 --store no/such/store --idle "$word" --message "$word" --reply "$word" "$zone"
+done
 
 # a file that isn't there is a device's fault; a refused zone is told by its line
 row 3 "the zone's file 'no/such/zone' can't be read" check no/such/zone

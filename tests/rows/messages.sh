@@ -435,11 +435,11 @@ asked=123401000001000000000000'00000f0001'
 exchanges f.isi.arpa. foo.f.isi.arpa. arpa. .
 put_exchanges 01660369736904617270'6100' 03666f6fc01e c024 00
 expect 'the names of RFC 1035, 4.1.4' "$asked" "$message"
-run_expected "$zone" answer --tcp -
+run_expected "$zone" answer --tcp --origin . -
 exchanges a.b. a.b. c.a.b. c.a.b. a.b.
 put_exchanges 0161016200 c01e 0163c01e c03f c01e
 expect 'names, and a label in front of them, once more' "$asked" "$message"
-run_expected "$zone" answer --tcp -
+run_expected "$zone" answer --tcp --origin . -
 
 # names of up to 120 labels, each with one more than the one before, so that the last is read through 119 pointers; two names below that; and one
 # whose 61st label is another, of which what is behind that label is a pointer
@@ -449,7 +449,7 @@ deep=${names[119]}
 exchanges "${names[@]}" "x.$deep" "y.$deep" "x.${deep:0:118}b.${deep:0:120}"
 reply 8500 . MX "$answer" '' ''
 expect 'names through many pointers' "$asked" "$message"
-run_expected "$zone" answer --tcp -
+run_expected "$zone" answer --tcp --origin . -
 
 # The positions of 256 labels are remembered (own): here of twice 127 labels, and of x and y. The last name is in full.
 first=$(repeat 127 a.)
@@ -457,7 +457,7 @@ second=$(repeat 127 b.)
 exchanges "$first" "$second" x.y.z. y.z. z.
 put_exchanges "$(repeat 127 0161)00" "$(repeat 127 0162)00" 01780179017a00 c238 017a00
 expect 'labels beyond 256' "$asked" "$message"
-run_expected "$zone" answer --tcp -
+run_expected "$zone" answer --tcp --origin . -
 # Of names that differ in their last label but one the last label alone is a pointer; a name that stands in front whole is one to it. Of the
 # fifth name 15 labels are remembered, which makes 256, so that the sixth is a pointer and the seventh isn't.
 first=$(repeat 119 a.)
@@ -465,7 +465,7 @@ exchanges "${first}b.z." "${first}c.z." "${first}b.z." "${first:2}c.z." "${first
 first=$(repeat 119 0161)
 put_exchanges "${first}0162017a00" "${first}0163c10e" c01e c120 "${first}0164c10e" c257 "${first:60}0164c10e"
 expect 'names that differ late' "$asked" "$message"
-run_expected "$zone" answer --tcp -
+run_expected "$zone" answer --tcp --origin . -
 
 # The last position that a pointer can tell is 16,383 (RFC 1035, 4.1.4): the owner a.b of the first address stands there, or one octet behind,
 # and what is behind its first label is no pointer for the last address. In front are a header, a question, texts of 4096 octets and of so many,
@@ -490,7 +490,7 @@ while read -r len again; do
     at=$((${#message} / 2))
     put 0161016200 00010001 00000e10 0004 c0000201 "$again" 00010001 00000e10 0004 c0000202 016200 00010001 00000e10 0004 c0000203
     expect "an owner at $at" 1234010000010000000000000377777700'00ff0001' "$message"
-    run_expected "$zone" answer --tcp -
+    run_expected "$zone" answer --tcp --origin . -
 done <<'text'
 3982 ffff
 3983 0161016200

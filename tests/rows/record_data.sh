@@ -232,7 +232,7 @@ end
 
 # a string has at most 255 octets (RFC 1035, 3.3), and data 4,096, which seventeen strings pass
 input=$'. 5 SOA . . 1 2 3 4 5\n. 5 NS .\na. 5 TXT '$(repeat 255 x)$'\n'
-prints $'. 5 IN SOA . . 1 2 3 4 5\n. 5 IN NS .\na. 5 IN TXT "'"$(repeat 255 x)\"" check -
+prints $'. 5 IN SOA . . 1 2 3 4 5\n. 5 IN NS .\na. 5 IN TXT "'"$(repeat 255 x)\"" check --origin . -
 input='a. 5 TXT '$(repeat 256 x)$'\n'
 refuses 1 'line 1: M6 BadData' check -
 input='a. 5 TXT'$(repeat 17 " $(repeat 255 x)")$'\n'

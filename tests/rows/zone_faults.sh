@@ -207,7 +207,7 @@ while IFS= read -r line && IFS= read -r reason; do
     says 1 "${line##* => }"$'\n'"$reason" check -
 done <<'end'
 a.test. IN A 192.0.2.1␊ => line 1: M8 NoTtl
-a TTL is due, and none is in force: `a.test. IN A 192.0.2.1`
+no TTL is in force; write $TTL before the first record: `a.test. IN A 192.0.2.1`
 $INCLUDE more.zone␊ => line 1: M1 Directive
 a directive is due, $ORIGIN or $TTL with its argument: `$INCLUDE`, in `$INCLUDE more.zone`
 a. 5 NS (␊ b..c. )␊ => line 1: M2 BadName
@@ -239,8 +239,153 @@ the zone has no SOA, or no NS at the owner of its SOA
 $TTL 5␊a. SOA a. a. 1 2 3 4 5␊ NS a.␊w.a. CNAME a.␊ A 192.0.2.1␊ => line 5: M12 Conflict
 a CNAME stands beside other data or another CNAME, or an NS at a wildcard: `w.a.`, in ` A 192.0.2.1`
 a. 5 TXT ␉␊ => line 1: M6 BadData
-the data isn't of its type's form, or a word is missing or too many: `a. 5 TXT \009`
+the STRING is missing (TXT STRING): `a. 5 TXT  `
+a.␉5␉IN␉A␉192.0.2␊ => line 1: M6 BadData
+the data isn't of its type's form, or a word is missing or too many: `a. 5 IN A 192.0.2`
+a. 5 TXT "b␉c" \300␊ => line 1: M6 BadData
+the data isn't of its type's form, or a word is missing or too many: `a. 5 TXT "b c" \300`
 end
+
+# a time with units where seconds are due: s, m, h, d and w of 1, 60, 3600, 86400 and 604800 seconds, in either case, one after another; more
+# than 2^31 - 1 seconds, another letter and a last number without a unit are none
+while IFS= read -r line && IFS= read -r reason; do
+    spell "${line% => *}"
+    input=$spelt
+    says 1 "${line##* => }"$'\n'"$reason" check --origin test. -
+done <<'end'
+a 1h IN A 192.0.2.1␊ => line 1: M5 UnknownType
+TTLs are in seconds here: 3600 for 1h: `1h`, in `a 1h IN A 192.0.2.1`
+a IN 5M A 192.0.2.1␊ => line 1: M5 UnknownType
+TTLs are in seconds here: 300 for 5M: `5M`, in `a IN 5M A 192.0.2.1`
+a 1 A 192.0.2.1␊␉1w2d3h4m5s A 192.0.2.2␊ => line 2: M5 UnknownType
+TTLs are in seconds here: 788645 for 1w2d3h4m5s: `1w2d3h4m5s`, in ` 1w2d3h4m5s A 192.0.2.2`
+$TTL 1D␊ => line 1: M3 Number
+TTLs are in seconds here: 86400 for 1D: `$TTL 1D`
+a 3550w4d IN A 192.0.2.1␊ => line 1: M5 UnknownType
+TTLs are in seconds here: 2147385600 for 3550w4d: `3550w4d`, in `a 3550w4d IN A 192.0.2.1`
+a 3551w IN A 192.0.2.1␊ => line 1: M5 UnknownType
+a type is due, by a name that is known here or by its number (CAA is written TYPE257 \# ..): `3551w`, in `a 3551w IN A 192.0.2.1`
+a 99999999999999999999w A 192.0.2.1␊ => line 1: M5 UnknownType
+a type is due, by a name that is known here or by its number (CAA is written TYPE257 \# ..): `99999999999999999999w`, in `a 99999999999999999999w A 192.0.2.1`
+a 1y A 192.0.2.1␊ => line 1: M5 UnknownType
+a type is due, by a name that is known here or by its number (CAA is written TYPE257 \# ..): `1y`, in `a 1y A 192.0.2.1`
+a 1h30 A 192.0.2.1␊ => line 1: M5 UnknownType
+a type is due, by a name that is known here or by its number (CAA is written TYPE257 \# ..): `1h30`, in `a 1h30 A 192.0.2.1`
+$TTL x␊ => line 1: M3 Number
+a number is due, and this is none, or too great for its field: `$TTL x`
+@ 5 SOA 1d a (␊ 1 2h 15m 1w 5m )␊ => line 1: M3 Number
+times are in seconds here: 7200 for 2h: `@ 5 SOA 1d a (`
+1d 5 MX 65536 1d␊ => line 1: M3 Number
+a number is due, and this is none, or too great for its field: `1d 5 MX 65536 1d`
+end
+
+# a type that other servers know by name, in any case: its number (IANA, DNS parameters)
+while read -r word number; do
+    input="a. 5 IN $word x"$'\n'
+    says 1 $'line 1: M5 UnknownType\n'"${word^^} is TYPE$number here, and its data \# LENGTH HEX (RFC 3597, 5); contrib/convert converts a file (named-compilezone | ldns-read-zone): \`$word\`, in \`a. 5 IN $word x\`" check -
+done <<'end'
+HINFO 13
+RP 17
+AFSDB 18
+LOC 29
+NAPTR 35
+KX 36
+CERT 37
+DNAME 39
+APL 42
+DS 43
+SSHFP 44
+DNSKEY 48
+DHCID 49
+tlsa 52
+SMIMEA 53
+CDS 59
+CDNSKEY 60
+OPENPGPKEY 61
+CSYNC 62
+ZONEMD 63
+SVCB 64
+Https 65
+URI 256
+CAA 257
+end
+
+# which word is missing: the type, the first number in whose place another word stands, or the one after the last; of no type whose data is
+# written as RFC 3597 has it, and of none that has as many words as are due
+while IFS= read -r line && IFS= read -r reason; do
+    input=${line% => *}$'\n'
+    says 1 "${line##* => }"$'\n'"$reason: \`${line% => *}\`" check -
+done <<'end'
+a. 5 MX mail => line 1: M3 Number
+the PREFERENCE is missing (MX PREFERENCE NAME)
+a. 5 IN MX 10 => line 1: M6 BadData
+the NAME is missing (MX PREFERENCE NAME)
+a. 5 MX => line 1: M6 BadData
+the PREFERENCE is missing (MX PREFERENCE NAME)
+a. 5 MX ten mail => line 1: M3 Number
+a number is due, and this is none, or too great for its field
+a. 5 MX 65536 => line 1: M3 Number
+a number is due, and this is none, or too great for its field
+a. 5 SRV 0 5060 sip. => line 1: M3 Number
+the PORT is missing (SRV PRIORITY WEIGHT PORT NAME)
+a. 5 SRV 0 0 5060 => line 1: M6 BadData
+the NAME is missing (SRV PRIORITY WEIGHT PORT NAME)
+a. 5 SOA a. b. 1 2 3 4 => line 1: M6 BadData
+the MINIMUM is missing (SOA SERVER MAILBOX SERIAL REFRESH RETRY EXPIRE MINIMUM)
+a. 5 A => line 1: M6 BadData
+the ADDRESS is missing (A ADDRESS)
+a. 5 AAAA => line 1: M6 BadData
+the ADDRESS is missing (AAAA ADDRESS)
+a. 5 NS => line 1: M6 BadData
+the NAME is missing (NS NAME)
+a. 5 CNAME => line 1: M6 BadData
+the NAME is missing (CNAME NAME)
+a. 5 PTR => line 1: M6 BadData
+the NAME is missing (PTR NAME)
+a. 5 TXT => line 1: M6 BadData
+the STRING is missing (TXT STRING)
+a. 5 IN => line 1: M6 BadData
+the type is missing
+a. => line 1: M6 BadData
+the type is missing
+a. 5 A 192.0.2.1 b => line 1: M6 BadData
+the data isn't of its type's form, or a word is missing or too many
+a. 5 SOA \# 1 00 => line 1: M6 BadData
+the data isn't of its type's form, or a word is missing or too many
+a. 5 TYPE52 => line 1: M6 BadData
+the data isn't of its type's form, or a word is missing or too many
+$TTL 5 6 => line 1: M6 BadData
+the data isn't of its type's form, or a word is missing or too many
+end
+
+# a string of 256 octets, and one of 255 that are written as four each, before an escape that is none (RFC 1035, 3.3 and 5.1)
+input="a. 5 TXT b $(repeat 256 c)"$'\n'
+says 1 $'line 1: M6 BadData\na string has at most 255 octets; a longer text is written as several strings: `'"${input%$'\n'}\`" check -
+input="a. 5 TXT \"$(repeat 255 'c ')cd\""$'\n'
+says 1 $'line 1: M6 BadData\na string has at most 255 octets; a longer text is written as several strings: `'"${input:0:400}\`..." check -
+input="a. 5 TXT $(repeat 255 '\\099') \300"$'\n'
+says 1 $'line 1: M6 BadData\nthe data isn\'t of its type\'s form, or a word is missing or too many: `'"${input:0:400}\`..." check -
+
+# a byte order mark at the start of the text, which is read as a part of its first word: of a directive, a comment, an owner
+input=$'\xef\xbb\xbf$TTL 60\n@ SOA a b 1 2 3 4 5\n@ NS a\n'
+says 1 $'line 1: M6 BadData\nthe file begins with a byte order mark: `\\239\\187\\191$TTL 60`' check -
+input=$'\xef\xbb\xbf; a zone\n$TTL 60\n@ SOA a b 1 2 3 4 5\n@ NS a\n'
+says 1 $'line 1: M6 BadData\nthe file begins with a byte order mark: `\\239\\187\\191; a zone`' check -
+input=$'\xef\xbb\xbf@ 60 SOA a b 1 2 3 4 5\n@ NS a\n'
+says 1 $'line 0: M11 Apex\nthe file begins with a byte order mark' check -
+input=$'\xef\xbb\xbfa 60 SOA a b 1 2 3 4 5\n NS a\na NS a\n'
+says 1 $'line 3: M10 Outside\nthe file begins with a byte order mark: `a`, in `a NS a`' check -
+input=$'\xef\xbb\xbfa 60 SOA a b 1 2 3 4 5\n NS a\n NS a..b\n'
+says 1 $'line 3: M2 BadName\na name is due, and this is none: `a..b`, in ` NS a..b`' check -
+
+# of a file the second line begins with its path, and the number of the line where there is one
+input=
+printf 'a. 5 NS b.\na. 5 A 192.0.2.256\n' >"$room/zone"
+for word in check answer apply steps; do
+    says 1 $'line 2: M6 BadData\n'"$room/zone:2: the data isn't of its type's form, or a word is missing or too many: \`a. 5 A 192.0.2.256\`" "$word" "$room/zone"
+done
+printf 'a. 5 NS b.\n' >"$room/zone"
+says 1 $'line 0: M11 Apex\n'"$room/zone: the zone has no SOA, or no NS at the owner of its SOA" check "$room/zone"
 
 # of two faults of an entry the first from left to right is told: a name, a number, a type, data, a parenthesis, a limit, in each order that
 # an entry can have, for a type that has a form, and behind it for one that has none (RFC 3597, 5)

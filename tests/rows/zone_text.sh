@@ -42,7 +42,7 @@ a 5 A 192.0.2.1
 end
 prints '. 5 IN SOA a. b. 1 2 3 4 5
 . 5 IN NS a.
-a. 5 IN A 192.0.2.1' check -
+a. 5 IN A 192.0.2.1' check --origin . -
 for origin in X.test x.test.; do
     prints 'x.test. 5 IN SOA a.x.test. b.x.test. 1 2 3 4 5
 x.test. 5 IN NS a.x.test.
@@ -63,7 +63,7 @@ a\.\;\032b. 7 IN PTR .
 b. 8 IN CNAME c.
 _x._tcp.b. 9 IN SRV 0 65535 53 a.
 end
-prints "${input%$'\n'}" check -
+prints "${input%$'\n'}" check --origin . -
 
 # data have at most 4,096 octets: sixteen strings of 255, each behind its length
 takes_zone <zones/example.test.zone
@@ -89,7 +89,7 @@ for number in {0..255}; do input+="many. 5 IN MX $number ."$'\n'; done
 printed=${input%$'\n'}
 printed=${printed/5 NS/5 IN NS}
 input+=$'many. 5 MX 255 .\nmany. 5 MX 0 .\n'
-prints "${printed//5 SOA/5 IN SOA}" check -
+prints "${printed//5 SOA/5 IN SOA}" check --origin . -
 input+=$'many. 5 MX 256 .\n'
 refuses 1 'line 261: M13 Limit' check -
 

@@ -11,7 +11,9 @@ use Rattle.dns_message.specs.declared.query.Query.{Query as QueryAsked}
 use Rattle.dns_message.specs.declared.query.Parsed.{Parsed}
 use Rattle.dns_message.specs.declared.query.Parsed.TheVariants.{Silent, Fault, BadOpt, Query, Update, NoMemory}
 use Rattle.serve_core.specs.Served.{Got, ForNothing, got_of, limit_for, StandsIn, IsBehind, ServesSaid}
-use Rattle.serve_core.specs.Transfers.{peer_over, is_permitted, messages_to}
+use Rattle.serve_core.specs.Transfers.{peer_over, is_permitted, messages_to, reply_to_peer}
+use Rattle.serve_core.specs.Transport.{limit_of}
+use Rattle.dns_message.specs.Octets.{fit}
 use Rattle.serve_core.specs.declared.peer.Peer.{Peer}
 use Rattle.serve_core.specs.declared.served.Responded.{Responded}
 use Rattle.serve_core.specs.declared.transport.Transport.{Transport}
@@ -111,6 +113,15 @@ pub said_reply : {T E : Type 0} (result : Result T E) (transport : Transport) (s
 said_reply result transport said past kept behind before after holds none reply =
     let on : transfer_in past.newest (peer_over transport true) said ≡ None = ap (λ (z : List Record). transfer_in z (peer_over transport true) said) holds.newest ∙ sym none in
     record { want = reply.want; line = rw on reply.line; goes_on = reply.goes_on }
+
+-- a query gets its reply, and the versions stay
+pub query_reply : {T E : Type 0} (result : Result T E) (transport : Transport) (query : QueryAsked) (past : Past) (kept : Keeping) (before after : Option (List ℕ)) → Holds past kept
+    → Writes result before after (encode_lower (fit (reply_to_peer kept.newest.zone (peer_over transport true) query) (limit_of transport query.edns)) ++ 10 ∷ []) → WritesReply result transport (Query query) past kept before after
+query_reply result transport query past kept before after holds line = record {
+  want = ForNothing;
+  line = subst (λ (z : List Record). Writes result before after (encode_lower (fit (reply_to_peer z (peer_over transport true) query) (limit_of transport query.edns)) ++ 10 ∷ [])) (sym holds.newest) line;
+  goes_on = subst (λ (p : Past). Holds p kept) (sym (followed_same past past.newest refl)) holds;
+}
 
 -- the messages of a transfer are the line for what a request says that asks for it, and the versions stay
 pub said_messages : {T E : Type 0} (result : Result T E) (transport : Transport) (said : Parsed) (query : QueryAsked) (past : Past) (kept : Keeping) (before after : Option (List ℕ)) → Holds past kept

@@ -1,5 +1,5 @@
 //! Requests in hexadecimal, a line each, and their replies.
-ghost use Rattle.std.specs.Prelude.{◌≡◌, ℕ, ◌<◌, ◌≤◌, ◌+◌, ◌*◌, ◌/◌, ◌^◌, ◌↔◌, true, List, [], ◌∷◌, ◌++◌, length, take, Some, None, unwrap_or, Ok, IfOk, OnOk, OnErr, IfSome, MatchBool, MatchOption, codes};
+ghost use Rattle.std.specs.Prelude.{◌≡◌, ℕ, ◌<◌, ◌≤◌, ◌+◌, ◌*◌, ◌/◌, ◌^◌, ◌↔◌, false, true, List, [], ◌∷◌, ◌++◌, length, take, Some, None, unwrap_or, Ok, IfOk, OnOk, OnErr, IfSome, MatchBool, MatchOption, codes};
 ghost use Rattle.std.specs.Option.{option_copied};
 ghost use Rattle.std.specs.Io.BufRead.{strip_last};
 ghost use Rattle.std.specs.Io.KnownBytes.{Appends};
@@ -8,8 +8,9 @@ ghost use Rattle.line_io.specs.declared.lines.TheConstants.{MAX_REQUEST};
 ghost use Rattle.command_answer.specs.declared.answer.TheConstants.{MAX_DIGITS};
 ghost use Rattle.serve_core.specs.declared.transport.TheConstants.{TCP_LIMIT};
 ghost use Rattle.serve_core.specs.Replies.{IsNoTransfer};
-ghost use Rattle.serve_core.specs.Transfers.{peer_over, is_permitted, messages_to};
-ghost use Rattle.serve_core.specs.Transport.{room_of};
+ghost use Rattle.dns_message.specs.Octets.{fit};
+ghost use Rattle.serve_core.specs.Transfers.{peer_over, is_permitted, messages_to, reply_to_peer};
+ghost use Rattle.serve_core.specs.Transport.{limit_of, room_of};
 ghost use Rattle.command_answer.specs.Versions.{Past, begun, changes_for, Holds};
 ghost use Rattle.command_answer.specs.Answers.{request_on, transfer_in, Answers, BeginsToAnswer, TakesLine, WritesFor, WritesReply, WritesSaid};
 ghost use Rattle.line_io.specs.Lines.{spaced, spaced_behind, Writes};
@@ -17,10 +18,13 @@ ghost use Rattle.line_io.specs.Lines.{spaced, spaced_behind, Writes};
 use crate::kept::Kept;
 use dns_message::{Parsed, Query, parse};
 use line_io::{MAX_READS, MAX_REQUEST, endless, without_lf, write_whole};
-use serve_core::{Peer, Responded, TCP_LIMIT, Transport, is_permitted, respond, transfer_reply};
+use serve_core::{
+    Peer, Responded, TCP_LIMIT, Transport, is_permitted, respond, respond_by, transfer_reply,
+};
 use std::alloc::Global;
 use std::io::{self, BufRead, Write};
 use transfer_core::{ChainView, MAX_MESSAGE, Packer};
+use wire_names::NameWriter;
 use zone_tree::{Version, Zone};
 
 /// The most digits of a reply.
@@ -37,6 +41,8 @@ struct Buffers {
     reply: Vec<u8>,
     /// These octets in hexadecimal.
     digits: Vec<u8>,
+    /// The names of the reply; it is large, and each reply begins it anew.
+    names: NameWriter,
     ghost request_room: { length request.items ≡ MAX_REQUEST },
     ghost reply_room: { length reply.items ≡ TCP_LIMIT },
     ghost digits_room: { length digits.items ≡ MAX_DIGITS },
@@ -50,6 +56,7 @@ impl Buffers {
             request: vec![in alloc; 0u8; MAX_REQUEST]?,
             reply: vec![in alloc; 0u8; TCP_LIMIT]?,
             digits: vec![in alloc; 0u8; MAX_DIGITS]?,
+            names: NameWriter::new(),
         })
     }
 }
@@ -167,6 +174,7 @@ fn write_line<W: Write>(
                 kept,
                 transport,
                 request,
+                &mut buffers.names,
                 &mut buffers.reply,
                 &mut buffers.digits,
                 writer,
@@ -181,6 +189,7 @@ fn write_reply<W: Write>(
     kept: &mut Kept,
     transport: Transport,
     request: &[u8],
+    names: &mut NameWriter,
     reply: &mut [u8],
     digits: &mut [u8],
     writer: &mut W,
@@ -194,7 +203,7 @@ fn write_reply<W: Write>(
         (W.contents writer.old) (W.contents writer.new) }
 {
     let said = parse(alloc, request);
-    write_said(alloc, kept, transport, &said, reply, digits, writer)
+    write_said(alloc, kept, transport, &said, names, reply, digits, writer)
 }
 
 /// Writes the line for what a request says, and goes on to the next version, where there is one.
@@ -203,6 +212,7 @@ fn write_said<W: Write>(
     kept: &mut Kept,
     transport: Transport,
     said: &Parsed,
+    names: &mut NameWriter,
     reply: &mut [u8],
     digits: &mut [u8],
     writer: &mut W,
@@ -218,8 +228,31 @@ fn write_said<W: Write>(
     let peer = Peer::over(transport, true);
     match transfer_in(kept.last_version(), said, peer) {
         Some(query) => write_messages(kept, query, peer, reply, digits, writer),
-        None => write_served(alloc, kept, transport, said, reply, digits, writer),
+        None => match said {
+            Parsed::Query(query) => write_found(kept, query, peer, names, reply, digits, writer),
+            _ => write_served(alloc, kept, transport, said, reply, digits, writer),
+        },
     }
+}
+
+/// Writes the line for a query that asks for no transfer that is sent: its reply (RFC 1034, 4.3.2).
+fn write_found<W: Write>(
+    kept: &Kept,
+    query: &Query,
+    peer: Peer,
+    names: &mut NameWriter,
+    reply: &mut [u8],
+    digits: &mut [u8],
+    writer: &mut W,
+) -> io::Result<()>
+    requires reply_room { room_of peer.transport ≤ length reply.old }
+    requires digits_room { 2 * length reply.old ≤ length digits.old }
+    requires no_transfer { is_permitted kept.now.newest.zone peer query.now ≡ false }
+    ensures { Writes result (W.contents writer.old) (W.contents writer.new)
+        (encode_lower (fit (reply_to_peer kept.now.newest.zone peer query.now) (limit_of peer.transport query.now.edns)) ++ 10 ∷ []) }
+{
+    let len = respond_by(names, kept.last_version().zone(), query, peer, reply);
+    write_octets(&reply[..len], digits, writer)
 }
 
 /// Writes the line for what a request says that asks for no transfer, and goes on to the next version, where there is one.

@@ -17,7 +17,12 @@ use stored_zone::Part;
 #[derive(Drop)]
 pub enum Task<'a> {
     /// A command over standard input and output.
-    Lines(Command<'a>),
+    Lines {
+        /// The command.
+        command: Command<'a>,
+        /// Whether an origin is given for its zone's text.
+        has_origin: bool,
+    },
     /// A zone served on sockets.
     Serve(Serve<'a>),
     /// The zone of a store, printed.
@@ -65,7 +70,10 @@ fn task_of<'a>(
     if name == "serve" {
         return Ok(Task::Serve(serve_of(alloc, found, zone, origin)?));
     }
-    Ok(Task::Lines(command_of(name, found, zone, origin)?))
+    Ok(Task::Lines {
+        command: command_of(name, found, zone, origin)?,
+        has_origin: found.get_str(ORIGIN).is_some(),
+    })
 }
 
 /// The store whose zone is printed.

@@ -27,6 +27,8 @@ pub enum CommandFault<'a> {
         /// The greatest number that it takes.
         most: u64,
     },
+    /// The word for the option is no time of those that it takes.
+    Time(&'static str, &'a str),
     /// The word for the address to listen on is no address with a port.
     Listen(&'a str),
     /// A word of the list of addresses that may update and transfer is no address.
@@ -84,6 +86,11 @@ pub fn tell_fault<R: Print + Eprint>(rt: &R, fault: &CommandFault<'_>) -> io::Re
         } => {
             eprintln!(rt;
                 "error: --{option} takes a number from {least} to {most}, and '{word}' is none"
+            )?;
+        }
+        CommandFault::Time(option, word) => {
+            eprintln!(rt;
+                "error: --{option} takes 1 to 3600 seconds, as 30, 30s or 5m, and '{word}' is none"
             )?;
         }
         CommandFault::Listen(word) => {

@@ -7,7 +7,7 @@ ghost use Rattle.transfer_core.specs.declared.kept.TheConstants.{KEPT};
 use crate::command::{KEEP, MAX_KEEP, number_for};
 use crate::fault::CommandFault;
 use crate::secondaries::{Secondary, secondaries_of};
-use crate::store_options::{StorePlan, UDP_BUFFER, store_of, udp_buffer};
+use crate::store_options::{StorePlan, UDP_BUFFER, split_unit, store_of, udp_buffer};
 use clap::ArgMatches;
 use commands::Source;
 use dns_name::Name;
@@ -76,7 +76,7 @@ pub const CONNECTIONS: &str = "connections";
 /// The most connections that a worker may have open.
 const MAX_CONNECTIONS: usize = 100_000;
 
-/// The options for how many seconds a connection may be idle, and a request and the taking of a reply may take.
+/// The options for how long a connection may be idle, and a request and the taking of a reply may take.
 pub const IDLE: &str = "idle";
 
 pub const MESSAGE: &str = "message";
@@ -84,10 +84,13 @@ pub const MESSAGE: &str = "message";
 pub const REPLY: &str = "reply";
 
 /// The most seconds of each.
-const MAX_SECONDS: usize = 3_600;
+const MAX_SECONDS: u64 = 3_600;
 
 /// The seconds of each where the option isn't given.
-const SECONDS: usize = 10;
+const SECONDS: u64 = 10;
+
+/// The units of a time, and how many seconds each has.
+const TIMES: &[(char, u64)] = &[('s', 1), ('m', 60), ('h', 3_600)];
 
 /// What the options ask for.
 pub fn serve_of<'a>(
@@ -176,12 +179,31 @@ fn limits_of<'a>(found: &ArgMatches<'a>) -> Result<Limits, CommandFault<'a>>
     })
 }
 
-/// A time in nanoseconds, by the seconds that a word gives an option.
+/// A time in nanoseconds, by a word for an option: a number of seconds, or of what the letter behind it says; the options' own where there is
+/// no word.
 fn nanos_for<'a>(word: Option<&'a str>, option: &'static str) -> Result<u64, CommandFault<'a>>
     ensures { IfOk result (λ nanos. IsPatience nanos) }
 {
-    let seconds = number_for(word, option, 1, MAX_SECONDS, SECONDS)?;
-    Ok(seconds as u64 * 1_000_000_000)
+    let seconds = match word {
+        Some(word) => seconds_for(word, option)?,
+        None => SECONDS,
+    };
+    Ok(seconds * 1_000_000_000)
+}
+
+/// The seconds that a word for an option says.
+fn seconds_for<'a>(word: &'a str, option: &'static str) -> Result<u64, CommandFault<'a>>
+    ensures least { IfOk result (λ seconds. 1 ≤ seconds) }
+    ensures most { IfOk result (λ seconds. seconds ≤ 3600) }
+{
+    let (digits, unit) = split_unit(word, TIMES);
+    match digits.parse::<u64>() {
+        Ok(number) => match number.checked_mul(unit) {
+            Some(seconds) if 1 <= seconds && seconds <= MAX_SECONDS => Ok(seconds),
+            _ => Err(CommandFault::Time(option, word)),
+        },
+        Err(_) => Err(CommandFault::Time(option, word)),
+    }
 }
 
 /// After how many datagrams and connections a worker ends, by the option's word; without one it never does.
@@ -199,7 +221,7 @@ fn count_of<'a>(word: Option<&'a str>) -> Result<u64, CommandFault<'a>>
     })
 }
 
-/// The addresses of a list with commas between them; none of an empty one.
+/// The addresses of a list with commas between them, and blanks beside these; none of an empty one.
 fn addresses_of<'a>(alloc: Global, list: &'a str) -> Result<Vec<IpAddr>, CommandFault<'a>>
     ensures { list.entry.now ≡ [] → IsOkAnd result (λ addresses. addresses.items ≡ []) }
 {
@@ -207,7 +229,8 @@ fn addresses_of<'a>(alloc: Global, list: &'a str) -> Result<Vec<IpAddr>, Command
     if list.is_empty() {
         return Ok(addresses);
     }
-    for word in list.split(',') {
+    for part in list.split(',') {
+        let word = part.trim_ascii();
         let Ok(address) = word.parse::<IpAddr>() else {
             return Err(CommandFault::Allow(word));
         };

@@ -56,8 +56,8 @@ struct CommandRow {
 /// The origin of a zone's text.
 const ORIGIN_ROW: WordRow = WordRow {
     name: ORIGIN,
-    form: Form::Default("NAME", "."),
-    help: "the origin at the start of the zone's text",
+    form: Form::Value("NAME"),
+    help: "the origin at the start of the zone's text; the root where it isn't given",
 };
 
 /// Where a zone's text comes from.
@@ -204,18 +204,18 @@ const SERVE_WORDS: &[WordRow] = &[
     },
     WordRow {
         name: IDLE,
-        form: Form::Default("SECONDS", "10"),
-        help: "how long a connection may be idle, from 1 to 3600",
+        form: Form::Default("TIME", "10"),
+        help: "how long a connection may be idle, from 1 to 3600 seconds, as 30, 30s or 5m",
     },
     WordRow {
         name: MESSAGE,
-        form: Form::Default("SECONDS", "10"),
-        help: "how long a request may take to come whole, from 1 to 3600",
+        form: Form::Default("TIME", "10"),
+        help: "how long a request may take to come whole, the same",
     },
     WordRow {
         name: REPLY,
-        form: Form::Default("SECONDS", "10"),
-        help: "how long the taking of a reply, or of a part of it, may take, from 1 to 3600",
+        form: Form::Default("TIME", "10"),
+        help: "how long the taking of a reply, or of a part of it, may take, the same",
     },
     WordRow {
         name: UDP_BUFFER,

@@ -59,6 +59,16 @@ struct Sizes {
     takes: &'static str,
 }
 
+/// The units of a size, and how many octets each has.
+const SIZES: &[(char, u64)] = &[
+    ('K', 1 << 10),
+    ('k', 1 << 10),
+    ('M', 1 << 20),
+    ('m', 1 << 20),
+    ('G', 1 << 30),
+    ('g', 1 << 30),
+];
+
 /// The option for which is taken, the store or the zone's text.
 pub const TAKE: &str = "take";
 
@@ -116,7 +126,7 @@ fn size_of<'a>(word: Option<&'a str>, sizes: Sizes) -> Result<u64, CommandFault<
         takes: sizes.takes,
         word,
     };
-    let (digits, unit) = unit_of(word);
+    let (digits, unit) = split_unit(word, SIZES);
     match digits.parse::<u64>() {
         Ok(number) => match number.checked_mul(unit) {
             Some(size) if sizes.least <= size && size <= sizes.most => Ok(size),
@@ -126,19 +136,11 @@ fn size_of<'a>(word: Option<&'a str>, sizes: Sizes) -> Result<u64, CommandFault<
     }
 }
 
-/// A word without its last letter where that is one for a unit, and how many octets the unit has.
-fn unit_of(word: &str) -> (&str, u64) {
-    let units = [
-        ('K', 1u64 << 10),
-        ('k', 1 << 10),
-        ('M', 1 << 20),
-        ('m', 1 << 20),
-        ('G', 1 << 30),
-        ('g', 1 << 30),
-    ];
+/// A word without its last letter where that is one for a unit, and how many the unit has; 1 where it is none.
+pub fn split_unit<'a>(word: &'a str, units: &[(char, u64)]) -> (&'a str, u64) {
     for (letter, unit) in units {
-        if let Some(digits) = word.strip_suffix(letter) {
-            return (digits, unit);
+        if let Some(digits) = word.strip_suffix(*letter) {
+            return (digits, *unit);
         }
     }
     (word, 1)

@@ -121,10 +121,10 @@ pub(crate) fn tell(
     let mut reader = Cursor::new(text);
     let mut writer = BufWriter::new(alloc, output).ok()?;
     let mut errors = errors;
-    let status = run_text(alloc, &command(kind), &mut reader, &mut writer, &mut errors);
+    let ended = run_text(alloc, &command(kind), &mut reader, &mut writer, &mut errors);
     let (output, _) = writer.into_parts();
     Some(Told {
-        status,
+        status: ended.status,
         written: output.taken,
         errors: errors.taken,
     })

@@ -1,5 +1,5 @@
 -- Lemmas on the messages of a transfer, a line each, and on what is printed behind it.
-use Rattle.std.proofs.Common.{◌≡◌, ℕ, ◌<◌, List, [], ◌∷◌, ◌++◌, append_assoc, length, map, Option, Some, None, IfSome, Result, Ok, Err, IsOk, IfOk, IfErr, ◌⊎◌, inl, inr, refl, sym, ap, ◌∙◌, subst, arith}
+use Rattle.std.proofs.Common.{◌≡◌, ℕ, Bool, OnOk, ◌<◌, List, [], ◌∷◌, ◌++◌, append_assoc, length, map, Option, Some, None, IfSome, Result, Ok, Err, IsOk, IfOk, IfErr, ◌⊎◌, inl, inr, refl, sym, ap, ◌∙◌, subst, arith}
 use Rattle.std.specs.Global.{Vec}
 use Rattle.std.specs.Io.BufRead.{take_through, drop_through, strip_last}
 use Rattle.std.proofs.lemmas.List.{append-nil}
@@ -14,7 +14,7 @@ use Rattle.commands.specs.declared.command.Command.{Command}
 use Rattle.commands.specs.declared.command.Command.TheVariants.{Answer, Check, Apply, Steps}
 use Rattle.commands.specs.declared.fault.Fault.{Fault}
 use Rattle.commands.specs.declared.fault.Fault.TheVariants.{Zone, Transfer}
-use Rattle.commands.specs.Run.{TellsIn}
+use Rattle.commands.specs.Run.{TellsIn, TellsRoot}
 use Rattle.master_file.specs.declared.fault.FileFault.{FileFault}
 use Rattle.commands.specs.Apply.{message_on, messages_on, taken, text_of, taken_text, IsOfTransfer}
 use Rattle.line_io.specs.Lines.{input_lines, Begins}
@@ -133,3 +133,10 @@ tells_by_zone (Some input) command (Err fault) outcome told is refused tells = b
     by : (o : Result (List Record) FileFault) → IfOk o (λ zone. TellsIn command zone input told)
     by (Ok zone) = subst (λ (t : Result (Unit {0}) Fault). TellsIn command zone input t) (sym refused) (tells_zone command zone input fault)
     by (Err e) = tt
+
+-- what is told of the apex of what was read is told of the text's, where the command is done
+pub tells_root : (read outcome : Result (List Record) FileFault) (told : Result (Unit {0}) Fault) (at_root : Bool) → IfOk read (λ zone. outcome ≡ Ok zone) → IfErr read (λ fault. told ≡ Err (Zone fault)) → TellsRoot read at_root
+    → OnOk told (TellsRoot outcome at_root)
+tells_root (Ok zone) outcome (Ok done) at_root is refused root = subst (λ (o : Result (List Record) FileFault). TellsRoot o at_root) (sym is) root
+tells_root (Ok zone) outcome (Err fault) at_root is refused root = tt
+tells_root (Err fault) outcome told at_root is refused root = subst (λ (t : Result (Unit {0}) Fault). OnOk t (TellsRoot outcome at_root)) (sym refused) tt

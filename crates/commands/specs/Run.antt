@@ -1,7 +1,8 @@
 -- What a run of the program comes to (own).
-use Rattle.std.specs.Prelude.{◌≡◌, ℕ, ◌⊎◌, List, Option, IfSome, IfOk, Result, Ok, Err, IsOk}
+use Rattle.std.specs.Prelude.{◌≡◌, ◌↔◌, ℕ, ◌⊎◌, Bool, IsTrue, List, [], Option, IfSome, IfOk, Result, Ok, Err, IsOk}
 use Rattle.std.specs.Io.KnownBytes.{Appends}
 use Rattle.dns_rdata.specs.Record.{Record}
+use Rattle.zone_tree.specs.Zone.{apex_of}
 use Rattle.master_file.specs.declared.fault.FileFault.{FileFault}
 use Rattle.master_file.specs.ZoneText.{zone_of_text}
 use Rattle.master_file.specs.WrittenZone.{zone_text}
@@ -99,6 +100,11 @@ TellsIn (Apply zone origin) records input told = TellsTransfer (taken records in
 TellsIn (Answer zone origin transport) records input told = Unit
 TellsIn (Check zone origin) records input told = Unit
 TellsIn (Steps zone origin keep window) records input told = Unit
+
+-- whether the apex of what was read of a zone's text is the root, where it is a zone (RFC 1034, 4.2)
+abbrev pub TellsRoot : Result (List Record) FileFault → Bool → Type 0
+TellsRoot (Ok zone) at_root = IsTrue at_root ↔ (apex_of zone ≡ [])
+TellsRoot (Err fault) at_root = Unit
 
 -- the zone of a command's text, or the fault that is told of it (RFC 1035, 5)
 abbrev pub zone_for : Command → List ℕ → Result (List Record) FileFault

@@ -9,12 +9,16 @@ mod apply;
 mod check;
 mod command;
 mod fault;
+mod hint;
+mod reason;
 mod run;
+mod seen;
 mod shown;
 mod told;
+mod units;
 
 pub use check::run_check;
 pub use command::{Command, Source};
 pub use fault::{DONE, FAILED, Fault, REFUSED};
-pub use run::{run_text, run_with_zone};
-pub use told::tell;
+pub use run::{Ended, Run, run_text, run_with_zone};
+pub use told::{tell, tell_of};

@@ -2,7 +2,7 @@
 ghost use Rattle.std.specs.Prelude.{◌≡◌, ◌⊎◌, [], Ok, Err, OnOk, OnErr, IfOk, IfErr, IfSome};
 ghost use Rattle.std.specs.Io.Buffered.{writer_buffer, writer_contents};
 ghost use Rattle.line_io.specs.Input.{zone_text_of, behind_zone_text};
-ghost use Rattle.commands.specs.Run.{status_of, AtRefusedZone, AtDevice, IsOfInput, IsOfRun, IsOfZone, IsRefused, zone_for, TellsIn, TellsOf, Does, DoesIn, BeginsToDo, BeginsToDoIn};
+ghost use Rattle.commands.specs.Run.{status_of, AtRefusedZone, AtDevice, IsOfInput, IsOfRun, IsOfZone, IsRefused, zone_for, TellsIn, TellsOf, TellsRoot, Does, DoesIn, BeginsToDo, BeginsToDoIn};
 
 use crate::apply::run_apply;
 use crate::check::run_check;
@@ -16,7 +16,25 @@ use master_file::{FileFault, read_zone};
 use std::alloc::Global;
 use std::io::{BufRead, BufWriter, Write};
 use world_run::Options;
-use zone_tree::Zone;
+use zone_tree::{Zone, ZoneRead};
+
+/// How a command ended.
+#[derive(Clone, Copy, Debug, PartialEq, Eq)]
+pub struct Ended {
+    /// The program's status.
+    pub status: u8,
+    /// Whether the apex of the zone is the root.
+    pub at_root: bool,
+}
+
+/// What became of a command over a zone's text.
+#[derive(Drop)]
+pub struct Run {
+    /// That it is done, or why it isn't.
+    pub done: Result<(), Fault>,
+    /// Whether the apex of the zone is the root.
+    pub at_root: bool,
+}
 
 /// Does one parsed command whose zone's text is the front of the reader, up to a line `%` or its end; the command's input
 /// follows it. What is wrong goes to `errors`, on a line, and for a zone's text or a transfer what it means below it. Gives the program's
@@ -28,28 +46,39 @@ pub fn run_text<R: BufRead, W: Write + Drop, E: Write>(
     reader: &mut R,
     writer: &mut BufWriter<W>,
     errors: &mut E,
-) -> u8
+) -> Ended
     // Where the reader tells its octets, and the writers those that they hold.
-    ensures done { result ≡ 0 → IfSome (R.remaining reader.old) (λ input.
+    ensures done { result.status ≡ 0 → IfSome (R.remaining reader.old) (λ input.
         Does command.now (zone_text_of input) (behind_zone_text input) (writer_contents W.contents writer.old) (writer_contents W.contents writer.new)) }
-    ensures flushed { result ≡ 0 → writer_buffer writer.new ≡ [] }
-    ensures taken { result ≡ 0 → IfSome (R.remaining reader.old) (λ input.
+    ensures flushed { result.status ≡ 0 → writer_buffer writer.new ≡ [] }
+    ensures taken { result.status ≡ 0 → IfSome (R.remaining reader.old) (λ input.
         TellsOf command.now (zone_text_of input) (behind_zone_text input) (Ok tt)) }
-    ensures quiet { result ≡ 0 → E.contents errors.new ≡ E.contents errors.old }
-    ensures refused { result ≡ 1 → IsRefused command.now (R.remaining reader.old)
+    ensures quiet { result.status ≡ 0 → E.contents errors.new ≡ E.contents errors.old }
+    ensures refused { result.status ≡ 1 → IsRefused command.now (R.remaining reader.old)
         (E.contents errors.old) (E.contents errors.new) }
-    ensures unwritten { result ≡ 1 → writer_contents W.contents writer.new ≡ writer_contents W.contents writer.old }
-    ensures failed { result ≡ 3 → (writer_contents W.contents writer.new ≡ writer_contents W.contents writer.old)
+    ensures unwritten { result.status ≡ 1 → writer_contents W.contents writer.new ≡ writer_contents W.contents writer.old }
+    ensures failed { result.status ≡ 3 → (writer_contents W.contents writer.new ≡ writer_contents W.contents writer.old)
         ⊎ IfSome (R.remaining reader.old) (λ input.
         BeginsToDo command.now (zone_text_of input) (behind_zone_text input) (writer_contents W.contents writer.old) (writer_contents W.contents writer.new)) }
-    ensures statuses { (result ≡ 0) ⊎ (result ≡ 1) ⊎ (result ≡ 3) }
+    ensures at_root { result.status ≡ 0 → IfSome (R.remaining reader.old) (λ input. TellsRoot (zone_for command.now (zone_text_of input)) result.at_root) }
+    ensures statuses { (result.status ≡ 0) ⊎ (result.status ≡ 1) ⊎ (result.status ≡ 3) }
 {
     match read_zone_text(alloc, reader) {
         Ok(text) => {
-            let done = run_with_zone(alloc, command, text.as_slice(), reader, writer);
-            tell(alloc, done, text.as_slice(), errors)
+            let Run { done, at_root } = run_with_zone(
+                alloc,
+                command,
+                text.as_slice(),
+                reader,
+                writer,
+            );
+            let status = tell(alloc, done, text.as_slice(), errors);
+            Ended { status, at_root }
         }
-        Err(fault) => tell(alloc, Err(Fault::Device(fault)), b"", errors),
+        Err(fault) => Ended {
+            status: tell(alloc, Err(Fault::Device(fault)), b"", errors),
+            at_root: false,
+        },
     }
 }
 
@@ -60,22 +89,35 @@ pub fn run_with_zone<R: BufRead, W: Write + Drop>(
     text: &[u8],
     reader: &mut R,
     writer: &mut BufWriter<W>,
-) -> Result<(), Fault>
+) -> Run
     // Where the reader tells its octets and the writer those that it holds.
-    ensures ok { OnOk result (IfSome (R.remaining reader.old) (λ input.
+    ensures ok { OnOk result.done (IfSome (R.remaining reader.old) (λ input.
         Does command.now text.now input (writer_contents W.contents writer.old) (writer_contents W.contents writer.new))) }
-    ensures flushed { OnOk result (writer_buffer writer.new ≡ []) }
-    ensures zone { IfErr result (λ fault. IsOfZone (zone_for command.now text.now) fault) }
-    ensures transfer { IfSome (R.remaining reader.old) (λ input. TellsOf command.now text.now input result) }
-    ensures fault { IfErr result (λ fault. IfSome (R.remaining reader.old) (λ input. IsOfRun command.now input fault)) }
-    ensures unread { IfErr result (λ fault. AtRefusedZone fault (R.remaining reader.new ≡ R.remaining reader.old)) }
-    ensures unwritten { IfErr result (λ fault. status_of fault ≡ 1
+    ensures at_root { OnOk result.done (TellsRoot (zone_for command.now text.now) result.at_root) }
+    ensures flushed { OnOk result.done (writer_buffer writer.new ≡ []) }
+    ensures zone { IfErr result.done (λ fault. IsOfZone (zone_for command.now text.now) fault) }
+    ensures transfer { IfSome (R.remaining reader.old) (λ input. TellsOf command.now text.now input result.done) }
+    ensures fault { IfErr result.done (λ fault. IfSome (R.remaining reader.old) (λ input. IsOfRun command.now input fault)) }
+    ensures unread { IfErr result.done (λ fault. AtRefusedZone fault (R.remaining reader.new ≡ R.remaining reader.old)) }
+    ensures unwritten { IfErr result.done (λ fault. status_of fault ≡ 1
         → writer_contents W.contents writer.new ≡ writer_contents W.contents writer.old) }
-    ensures failed { IfErr result (λ fault. AtDevice fault (IfSome (R.remaining reader.old) (λ input.
+    ensures failed { IfErr result.done (λ fault. AtDevice fault (IfSome (R.remaining reader.old) (λ input.
         BeginsToDo command.now text.now input (writer_contents W.contents writer.old) (writer_contents W.contents writer.new)))) }
 {
     let read = read_zone(alloc, text, command.origin());
-    run_read(alloc, command, read, reader, writer)
+    let at_root = is_at_root(&read);
+    let done = run_read(alloc, command, read, reader, writer);
+    Run { done, at_root }
+}
+
+/// Whether a zone that was read has the root as its apex.
+fn is_at_root(read: &Result<Zone, FileFault>) -> bool
+    ensures { TellsRoot read.now result }
+{
+    match read {
+        Ok(zone) => zone.apex().is_root(),
+        Err(_) => false,
+    }
 }
 
 /// Does one parsed command over what was read of a zone's text.

@@ -18,7 +18,7 @@ pub mod stored;
 pub mod zone_file;
 
 use command_line::{Task, parse_words, tell_fault};
-use commands::{Command, FAILED, Source, run_text, run_with_zone, tell};
+use commands::{Command, Ended, FAILED, Run, Source, run_text, run_with_zone, tell_of};
 use levels::Level;
 use serve::run_serve;
 use std::env;
@@ -67,23 +67,40 @@ fn run_words<
     let alloc = rt.alloc();
     let words: Vec<String> = env::args(rt)?.collect(alloc)?;
     match parse_words(alloc, words.as_slice()) {
-        Ok(Task::Lines(command)) => run_command(rt, &command),
+        Ok(
+            Task::Lines {
+                command,
+                has_origin,
+            },
+        ) => run_command(rt, &command, has_origin),
         Ok(Task::Serve(serve)) => run_serve(rt, &serve),
         Ok(Task::Stored(stored)) => run_stored(rt, stored),
         Err(fault) => tell_fault(rt, &fault),
     }
 }
 
-/// Does a command over standard input and output, and writes what it says of a failure to standard error.
+/// Does a command over standard input and output, and writes what it says of a failure to standard error; where its zone's apex is the
+/// root, and no origin is given, a warning, since names without a final dot are then below the root.
 fn run_command<R: Files + Print + Eprint + Input + AllocGlobal>(
     rt: &R,
     command: &Command<'_>,
+    has_origin: bool,
 ) -> io::Result<u8> {
     let alloc = rt.alloc();
     let mut errors = Vec::new(alloc);
-    let status = run_on_streams(rt, command, &mut errors)?;
+    let ended = run_on_streams(rt, command, &mut errors)?;
     rt.eprint(String::from_utf8_lossy(alloc, errors.as_slice())?)?;
-    Ok(status)
+    if ended.at_root && !has_origin && is_warned_of(command) {
+        eprintln!(rt;
+            "warning: the zone's apex is the root: names without a final dot are below it; --origin NAME gives another origin"
+        )?;
+    }
+    Ok(ended.status)
+}
+
+/// Whether a command is one for trying a zone's text, which warns of an origin that is missing.
+fn is_warned_of(command: &Command<'_>) -> bool {
+    matches!(command, Command::Check { .. } | Command::Answer { .. })
 }
 
 /// Does a command over standard input and output; what it says of a failure goes to the end of `errors`.
@@ -91,7 +108,7 @@ fn run_on_streams<R: Files + Print + Eprint + Input + AllocGlobal>(
     rt: &R,
     command: &Command<'_>,
     errors: &mut Vec<u8>,
-) -> io::Result<u8> {
+) -> io::Result<Ended> {
     let alloc = rt.alloc();
     let mut reader = BufReader::new(alloc, rt.reader())?;
     let mut writer = BufWriter::new(alloc, io::writer(rt))?;
@@ -109,11 +126,16 @@ fn run_with_file<R: Files + Eprint + AllocGlobal, I: BufRead, O: Write + Drop>(
     input: &mut I,
     output: &mut BufWriter<O>,
     errors: &mut Vec<u8>,
-) -> io::Result<u8> {
+) -> io::Result<Ended> {
     let alloc = rt.alloc();
     let Some(text) = read_zone_file(rt, path)? else {
-        return Ok(FAILED);
+        return Ok(Ended {
+            status: FAILED,
+            at_root: false,
+        });
     };
-    let done = run_with_zone(alloc, command, text.as_slice(), input, output);
-    Ok(tell(alloc, done, text.as_slice(), errors))
+    let Run { done, at_root } = run_with_zone(alloc, command, text.as_slice(), input, output);
+    let source = Source::File(path);
+    let status = tell_of(alloc, done, source, text.as_slice(), errors);
+    Ok(Ended { status, at_root })
 }

@@ -1,0 +1,133 @@
+//! What a fault means, in words.
+use crate::command::Source;
+use crate::hint::{Hint, hint_of};
+use crate::seen::{Seen, seen};
+use crate::shown::{push_octets, push_quoted};
+use master_file::{Cause, FileFault};
+use std::alloc::{AllocError, Global};
+use transfer_core::TransferFault;
+
+/// What a fault of a zone's text means: the file and the line, where the text is a file's; what is wrong; the word or the owner that is at
+/// fault, where it is known; and the line of the text.
+///
+/// The fault is a growth that was refused.
+pub fn reason(
+    alloc: Global,
+    fault: FileFault,
+    source: Source<'_>,
+    text: &[u8],
+) -> Result<String, AllocError> {
+    let mut reason = String::new(alloc);
+    push_place(&mut reason, source, fault.line)?;
+    let found = seen(alloc, fault, text)?;
+    if is_by_order_mark(fault, text) {
+        reason.push_str("the file begins with a byte order mark")?;
+    } else {
+        push_meaning(&mut reason, fault, found.as_ref())?;
+    }
+    if let Some(found) = &found {
+        push_seen(&mut reason, found)?;
+    }
+    Ok(reason)
+}
+
+/// Puts a file, and a line of it where there is one, behind a text.
+fn push_place(to: &mut String, source: Source<'_>, line: u64) -> Result<(), AllocError> {
+    match source {
+        Source::Input => Ok(()),
+        Source::File(path) if line == 0 => write!(to, "{path}: "),
+        Source::File(path) => write!(to, "{path}:{line}: "),
+    }
+}
+
+/// Whether a fault may come from a byte order mark at the start of a text, which is then read as a part of its first word.
+fn is_by_order_mark(fault: FileFault, text: &[u8]) -> bool {
+    text.starts_with(b"\xef\xbb\xbf")
+        && (fault.line == 1 || matches!(fault.cause, Cause::Outside | Cause::Apex))
+}
+
+/// Puts what is wrong behind a text: what would be right, where that is known.
+fn push_meaning(
+    to: &mut String,
+    fault: FileFault,
+    found: Option<&Seen<'_>>,
+) -> Result<(), AllocError> {
+    let Some(hint) = found.and_then(|found| hint_of(fault.cause, found)) else {
+        return to.push_str(reason_of(fault));
+    };
+    match hint {
+        Hint::Ttl(word, seconds) => {
+            write!(to, "TTLs are in seconds here: {seconds} for ")?;
+            push_octets(to, word)
+        }
+        Hint::Time(word, seconds) => {
+            write!(to, "times are in seconds here: {seconds} for ")?;
+            push_octets(to, word)
+        }
+        Hint::Numbered(name, number) => {
+            write!(
+                to,
+                "{name} is TYPE{number} here, and its data \\# LENGTH HEX (RFC 3597, 5); contrib/convert converts a file (named-compilezone | ldns-read-zone)"
+            )
+        }
+        Hint::NoType => to.push_str("the type is missing"),
+        Hint::LongString => to.push_str(
+            "a string has at most 255 octets; a longer text is written as several strings",
+        ),
+        Hint::Missing(name, line) => write!(to, "the {name} is missing ({line})"),
+    }
+}
+
+/// Puts the word or the owner that is at fault behind a text, where it is known, and the line.
+fn push_seen(to: &mut String, found: &Seen<'_>) -> Result<(), AllocError> {
+    to.push_str(": ")?;
+    if let Some(word) = found.word {
+        push_quoted(to, word)?;
+        to.push_str(", in ")?;
+    }
+    push_quoted(to, found.line)
+}
+
+/// What a fault of a zone's text means, in words.
+pub fn reason_of(fault: FileFault) -> &'static str {
+    match fault.cause {
+        Cause::Directive => "a directive is due, $ORIGIN or $TTL with its argument",
+        Cause::BadName => "a name is due, and this is none",
+        Cause::Number => "a number is due, and this is none, or too great for its field",
+        Cause::BadClass => "the class isn't IN",
+        Cause::UnknownType => {
+            "a type is due, by a name that is known here or by its number (CAA is written TYPE257 \\# ..)"
+        }
+        Cause::BadData => "the data isn't of its type's form, or a word is missing or too many",
+        Cause::Unclosed =>
+            "a quote or a parenthesis has no other one, or stands within parentheses",
+        Cause::NoTtl => "no TTL is in force; write $TTL before the first record",
+        Cause::NoOwner => "an owner is due, and no record before this one has one",
+        Cause::Outside => "the owner is neither the apex nor below it",
+        Cause::Apex if fault.line == 0 => "the zone has no SOA, or no NS at the owner of its SOA",
+        Cause::Apex => "the zone has an SOA already, and this is another",
+        Cause::Conflict => {
+            "a CNAME stands beside other data or another CNAME, or an NS at a wildcard"
+        }
+        Cause::Limit => {
+            "more than 1000000 records, 256 records of an owner and type, or 4096 octets of data"
+        }
+        Cause::NoMemory => "the zone needs more memory than there is",
+    }
+}
+
+/// What a fault of a transfer means, in words.
+pub fn reason_of_transfer(fault: TransferFault) -> &'static str {
+    match fault {
+        TransferFault::Broken => {
+            "a message can't be read, or the records aren't a list that begins and is closed by an SOA"
+        }
+        TransferFault::WrongBase => {
+            "the records begin at another serial, delete what isn't there, or add what is"
+        }
+        TransferFault::NotInZone => {
+            "a record is outside the zone or over a limit, or the records are no zone"
+        }
+        TransferFault::NoMemory => "the transfer needs more memory than there is",
+    }
+}
