@@ -20,5 +20,5 @@ mod units;
 pub use check::run_check;
 pub use command::{Command, Source};
 pub use fault::{DONE, FAILED, Fault, REFUSED};
-pub use run::{Ended, Run, run_text, run_with_zone};
+pub use run::{Ended, Outcome, run_text, run_with_zone};
 pub use told::{tell, tell_of};

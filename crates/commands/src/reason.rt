@@ -1,7 +1,7 @@
 //! What a fault means, in words.
 use crate::command::Source;
 use crate::hint::{Hint, hint_of};
-use crate::seen::{Seen, seen};
+use crate::seen::{Seen, seen_at};
 use crate::shown::{push_octets, push_quoted};
 use master_file::{Cause, FileFault};
 use std::alloc::{AllocError, Global};
@@ -19,7 +19,7 @@ pub fn reason(
 ) -> Result<String, AllocError> {
     let mut reason = String::new(alloc);
     push_place(&mut reason, source, fault.line)?;
-    let found = seen(alloc, fault, text)?;
+    let found = seen_at(alloc, fault, text)?;
     if is_by_order_mark(fault, text) {
         reason.push_str("the file begins with a byte order mark")?;
     } else {

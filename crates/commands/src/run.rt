@@ -29,7 +29,7 @@ pub struct Ended {
 
 /// What became of a command over a zone's text.
 #[derive(Drop)]
-pub struct Run {
+pub struct Outcome {
     /// That it is done, or why it isn't.
     pub done: Result<(), Fault>,
     /// Whether the apex of the zone is the root.
@@ -65,7 +65,7 @@ pub fn run_text<R: BufRead, W: Write + Drop, E: Write>(
 {
     match read_zone_text(alloc, reader) {
         Ok(text) => {
-            let Run { done, at_root } = run_with_zone(
+            let Outcome { done, at_root } = run_with_zone(
                 alloc,
                 command,
                 text.as_slice(),
@@ -89,7 +89,7 @@ pub fn run_with_zone<R: BufRead, W: Write + Drop>(
     text: &[u8],
     reader: &mut R,
     writer: &mut BufWriter<W>,
-) -> Run
+) -> Outcome
     // Where the reader tells its octets and the writer those that it holds.
     ensures ok { OnOk result.done (IfSome (R.remaining reader.old) (λ input.
         Does command.now text.now input (writer_contents W.contents writer.old) (writer_contents W.contents writer.new))) }
@@ -107,7 +107,7 @@ pub fn run_with_zone<R: BufRead, W: Write + Drop>(
     let read = read_zone(alloc, text, command.origin());
     let at_root = is_at_root(&read);
     let done = run_read(alloc, command, read, reader, writer);
-    Run { done, at_root }
+    Outcome { done, at_root }
 }
 
 /// Whether a zone that was read has the root as its apex.

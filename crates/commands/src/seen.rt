@@ -22,7 +22,11 @@ pub struct Seen<'a> {
 /// What stands in a text where a fault is told of it. None where the text hasn't the line.
 ///
 /// The fault is a growth that was refused.
-pub fn seen(alloc: Global, fault: FileFault, text: &[u8]) -> Result<Option<Seen<'_>>, AllocError> {
+pub fn seen_at(
+    alloc: Global,
+    fault: FileFault,
+    text: &[u8],
+) -> Result<Option<Seen<'_>>, AllocError> {
     let rest = from_line(text, fault.line);
     let Some(line) = lines_of(rest).next() else {
         return Ok(None);

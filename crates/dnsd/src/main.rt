@@ -18,7 +18,7 @@ pub mod stored;
 pub mod zone_file;
 
 use command_line::{Task, parse_words, tell_fault};
-use commands::{Command, Ended, FAILED, Run, Source, run_text, run_with_zone, tell_of};
+use commands::{Command, Ended, FAILED, Outcome, Source, run_text, run_with_zone, tell_of};
 use levels::Level;
 use log::ROOT_APEX;
 use serve::run_serve;
@@ -133,7 +133,7 @@ fn run_with_file<R: Files + Eprint + AllocGlobal, I: BufRead, O: Write + Drop>(
             at_root: false,
         });
     };
-    let Run { done, at_root } = run_with_zone(alloc, command, text.as_slice(), input, output);
+    let Outcome { done, at_root } = run_with_zone(alloc, command, text.as_slice(), input, output);
     let source = Source::File(path);
     let status = tell_of(alloc, done, source, text.as_slice(), errors);
     Ok(Ended { status, at_root })
