@@ -6,7 +6,7 @@
 # Usage: [DNSD=PROGRAM] tests/interop.sh [--port N] [--without-transfers]
 #   --port N               dnsd listens on N (by default 15353), the secondaries on the three behind it, and BIND as a primary on the next
 #   --without-transfers    leaves out transfers and secondaries
-# It needs Debian's packages bind9-dnsutils, knot-dnsutils, bind9-utils, bind9, knot and nsd, and the program that `make dnsd` builds.
+# It needs Debian's packages bind9-dnsutils, knot-dnsutils, bind9-utils, bind9, knot, nsd and ldnsutils, and the program that `make dnsd` builds.
 set -euo pipefail
 cd "$(dirname "$0")/.."
 . tests/secondary.sh
@@ -23,10 +23,10 @@ done
 [ -x "$program" ] || { echo "interop: no program at $program: run make dnsd first" >&2; exit 2; }
 PATH=$PATH:/usr/sbin:/sbin
 needed="dig nsupdate kdig knsupdate"
-[ $transfers = no ] || needed="$needed named-compilezone named knotd nsd dnssec-signzone dnssec-keygen"
+[ $transfers = no ] || needed="$needed named-compilezone named knotd nsd dnssec-signzone dnssec-keygen ldns-read-zone"
 for command in $needed; do
     command -v "$command" >/dev/null || {
-        echo "interop: no $command: it needs Debian's bind9-dnsutils, knot-dnsutils, bind9-utils, bind9, knot and nsd" >&2
+        echo "interop: no $command: it needs Debian's bind9-dnsutils, knot-dnsutils, bind9-utils, bind9, knot, nsd and ldnsutils" >&2
         exit 2
     }
 done
@@ -516,12 +516,9 @@ applied_at() {
     { "$program" check - <<<"$2 3600 IN SOA . . 0 1 1 1 1"$'\n'"$2 3600 IN NS ."; echo %; messages_at "$1" "$2"; } | "$program" apply - || true
 }
 
-# What dig prints of a zone that another server has, made fit as docs/OPERATING.md says: the records of the nine types in their own words, where
-# names in any case are read, and the others as octets, without those that signing puts beside an alias.
+# What dig prints of a zone that another server has, made fit by contrib/convert.
 made_fit() {
-    dig +noall +answer +onesoa @127.0.0.1 -p "$1" "$2" axfr | awk '$4 ~ /^(A|NS|CNAME|SOA|PTR|MX|TXT|AAAA|SRV)$/'
-    dig +unknownformat +noall +answer +onesoa @127.0.0.1 -p "$1" "$2" axfr |
-        awk '$4 !~ /^TYPE(1|2|5|6|12|15|16|28|33|46|47|50|51)$/'
+    dig +onesoa @127.0.0.1 -p "$1" "$2" axfr | DNSD=$program contrib/convert "$2" - 2>"$work/converted" || cat "$work/converted"
 }
 
 # That dnsd refuses what dig prints of a zone as it is, at which line and why: PORT ZONE CODE RECORD, the owner and type of the line.

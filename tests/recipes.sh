@@ -38,14 +38,25 @@ recipe_of() {
     esac
 }
 
-# Runs a block, with what stands here in place of what it names; none of that may be left.
-runs() {
-    local told
+# Writes a block as $work/block, with what stands here in place of what it names.
+ours() {
     sed "s|@127.0.0.1 -p 5353|@127.0.0.1 -p $port|; s|@192.0.2.7|@127.0.0.1 -p $secondary|; s|@192.0.2.1|@127.0.0.1 -p $other|
         s|/etc/dnsd|$work/zones|g; s|/var/lib/dnsd|$work/store|g; s|contrib/convert|$PWD/contrib/convert|" "$1" >"$work/block"
+}
+
+# Runs $work/block: its status is printed, and what it says goes to $work/said.
+block() {
+    (cd "$room" && PATH=$work/bin:$PATH bash -e "$work/block" >"$work/said" 2>&1) && echo 0 || echo $?
+}
+
+# Runs a block, in which no address or folder of the page may be left.
+runs() {
+    local status
+    ours "$1"
     check "$recipe: no address or folder of the page is left" '' "$(sed "s|$work||g" "$work/block" | grep -oE '192\.0\.2\.[0-9]+|/(etc|var)/[a-z]+|5353' || true)"
-    told=$(cd "$room" && PATH=$work/bin:$PATH bash -e "$work/block" 2>&1) && told=done || true
-    check "$recipe: the block runs" done "$told"
+    status=$(block)
+    check "$recipe: the block runs" 0 "$status"
+    [ "$status" = 0 ] || sed 's/^/           /' "$work/said"
 }
 
 # Updates with types that dnsd has no words for, and a name with capital letters.
@@ -92,6 +103,9 @@ restores() {
     update "update add late.$d 3600 A 192.0.2.99"
     reaches "$secondary" 3
     unserve
+    secondary=$other ours "$1"
+    check "$recipe: the block fails where the secondary doesn't answer, and the store stays" yes \
+        "$([ "$(block)" != 0 ] && [ -e "$work/store/journal" ] && [ ! -e "$work/store.before" ] && echo yes)"
     runs "$1"
     serve "$work/zones/zone" --store "$work/store" --notify "127.0.0.1:$secondary"
     reaches "$secondary" 4

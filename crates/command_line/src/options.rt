@@ -4,7 +4,7 @@ ghost use Rattle.std.specs.Result.{IsOkAnd};
 ghost use Rattle.command_line.specs.Patience.{IsPatience};
 ghost use Rattle.transfer_core.specs.declared.kept.TheConstants.{KEPT};
 
-use crate::command::{KEEP, MAX_KEEP, number_for};
+use crate::command::{KEEP, MAX_KEEP, ORIGIN, number_for};
 use crate::fault::CommandFault;
 use crate::secondaries::{Secondary, secondaries_of};
 use crate::store_options::{StorePlan, UDP_BUFFER, split_unit, store_of, udp_buffer};
@@ -22,6 +22,8 @@ pub struct Serve<'a> {
     pub zone: Source<'a>,
     /// The origin at the start of the zone's text.
     pub origin: Name,
+    /// Whether that was given, and isn't the root by default.
+    pub has_origin: bool,
     /// The addresses and the ports, each for datagrams and for connections.
     pub listen: Vec<SocketAddr>,
     /// How many workers there are; each has a thread for connections, and one for the datagrams of each address.
@@ -122,6 +124,7 @@ pub fn serve_of<'a>(
     Ok(Serve {
         zone,
         origin,
+        has_origin: found.get_str(ORIGIN).is_some(),
         listen,
         workers,
         keep,

@@ -121,18 +121,22 @@ fn size_of<'a>(word: Option<&'a str>, sizes: Sizes) -> Result<u64, CommandFault<
     let Some(word) = word else {
         return Ok(sizes.own);
     };
-    let fault = CommandFault::Size {
-        option: sizes.option,
-        takes: sizes.takes,
-        word,
-    };
     let (digits, unit) = split_unit(word, SIZES);
     match digits.parse::<u64>() {
         Ok(number) => match number.checked_mul(unit) {
             Some(size) if sizes.least <= size && size <= sizes.most => Ok(size),
-            _ => Err(fault),
+            _ => Err(no_size(word, sizes)),
         },
-        Err(_) => Err(fault),
+        Err(_) => Err(no_size(word, sizes)),
+    }
+}
+
+/// That a word is no size of those that an option takes.
+fn no_size<'a>(word: &'a str, sizes: Sizes) -> CommandFault<'a> {
+    CommandFault::Size {
+        option: sizes.option,
+        takes: sizes.takes,
+        word,
     }
 }
 

@@ -25,9 +25,10 @@ fn causes(alloc: Global) -> [Option<Cause>; 6] {
 
 #[test]
 fn words_of_no_text(rt: HostRuntime) {
-    let [data @ .., count, unknown] = causes(rt.alloc());
-    assert!(rt; data == [Some(Cause::BadData); 4]);
-    assert!(rt; [count, unknown] == [Some(Cause::Number), Some(Cause::UnknownType)]);
+    let told = causes(rt.alloc());
+    let bad = Some(Cause::BadData);
+    let (count, unknown) = (Some(Cause::Number), Some(Cause::UnknownType));
+    assert!(rt; told == [bad, bad, bad, bad, count, unknown]);
     assert!(rt; !is_number(Word::Plain(b"")));
 }
 

@@ -25,6 +25,10 @@ const END_MILLIS: u64 = 1000;
 /// How long there is at least between two states that a service manager is told, in seconds (own).
 const STATUS_SECONDS: u64 = 1;
 
+/// What is said of a zone at the root for which no origin was given.
+pub const ROOT_APEX: &str =
+    "warning: the zone's apex is the root: names without a final dot are below it; --origin NAME gives another origin";
+
 /// A line of the log.
 #[derive(Drop)]
 pub enum LogLine {
@@ -57,6 +61,8 @@ pub enum LogLine {
     },
     /// Secondaries are notified from addresses that routing picks.
     Routed,
+    /// The apex is the root, and no origin was given.
+    RootApex,
     /// Updates are lost at the program's end.
     NoStore,
     /// Something has happened.
@@ -76,6 +82,7 @@ impl LogLine {
             | LogLine::FewDescriptors { .. }
             | LogLine::SmallBuffer { .. }
             | LogLine::Routed
+            | LogLine::RootApex
             | LogLine::NoStore => Level::Warning,
             LogLine::Event(event) => Level::of_event(event),
             LogLine::Store(event) => Level::of_store(event),
@@ -114,6 +121,7 @@ impl Display for LogLine {
             LogLine::Routed => f.write_str(
                 "some secondaries are told from the address that routing picks, since no other of their family is listened on; name it as --notify ADDR@FROM",
             ),
+            LogLine::RootApex => f.write_str(ROOT_APEX),
             LogLine::NoStore => {
                 f.write_str("updates are lost at the server's end: --store DIR keeps them")
             }

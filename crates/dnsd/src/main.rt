@@ -20,6 +20,7 @@ pub mod zone_file;
 use command_line::{Task, parse_words, tell_fault};
 use commands::{Command, Ended, FAILED, Outcome, Source, run_text, run_with_zone, tell_of};
 use levels::Level;
+use log::ROOT_APEX;
 use serve::run_serve;
 use std::env;
 use std::fs::{File, Files};
@@ -91,9 +92,7 @@ fn run_command<R: Files + Print + Eprint + Input + AllocGlobal>(
     let ended = run_on_streams(rt, command, &mut errors)?;
     rt.eprint(String::from_utf8_lossy(alloc, errors.as_slice())?)?;
     if ended.at_root && !has_origin && is_warned_of(command) {
-        eprintln!(rt;
-            "warning: the zone's apex is the root: names without a final dot are below it; --origin NAME gives another origin"
-        )?;
+        eprintln!(rt; "{ROOT_APEX}")?;
     }
     Ok(ended.status)
 }

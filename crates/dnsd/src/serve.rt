@@ -256,9 +256,13 @@ fn serve_bound<
         kept,
         wanted: serve.udp_buffer,
     };
+    let at_root = zone.apex().is_root() && !serve.has_origin;
     let secondaries = secondaries.of_zone(zone.apex().copy());
     let log = Log::new(entries, listening);
     warn(rt, serve, &log);
+    if at_root {
+        log.add(rt, LogLine::RootApex);
+    }
     let status = match serve_all(rt, rt.alloc(), serve, begun, workers, secondaries, &log) {
         Ok(()) => DONE,
         Err(fault) => {

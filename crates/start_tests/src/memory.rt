@@ -6,6 +6,7 @@ use master_file::{Cause, FileFault};
 use std::alloc::Global;
 use std::test::Fail;
 use stores::{Choice, Take, begin_store, choose};
+use zone_tree::Zone;
 
 /// A zone text, of serial 11.
 const GIVEN: &[u8] = b"example. 60 IN SOA ns.example. host.example. 11 1 1 1 1
@@ -24,20 +25,33 @@ fn choice_of(alloc: Global, begun: &[u8], taken: Option<Take>) -> Result<Choice,
     choose(alloc, &begun, Serial(10), GIVEN, &Name::root(), taken)
 }
 
+/// Whether a store of a zone is begun as it is with ample memory; None where memory is refused.
+fn is_begun(alloc: Global, zone: Zone) -> Option<bool> {
+    let (text, head) = begin_store(alloc, &zone, 2, [7; 16], TextSum::of(GIVEN)).ok()?;
+    Some(text.as_bytes() == GIVEN && head.text.is_of(GIVEN) && head.serial == 11)
+}
+
+/// Whether a zone is chosen, and a store of it begun; None where memory is refused.
+fn is_zone(alloc: Global, choice: Result<Choice, FileFault>) -> Option<bool> {
+    match choice {
+        Ok(Choice::Zone(zone)) => is_begun(alloc, zone),
+        Ok(other) => {
+            drop(other);
+            Some(false)
+        }
+        Err(fault) => (fault != NO_MEMORY).then_some(false),
+    }
+}
+
 /// Whether a start's choices are told, and a store begun, as they are with ample memory; None where memory is refused. The store that the text began, and one that is
 /// taken, want none.
 fn begun_and_chosen(alloc: Global) -> Option<bool> {
     let same = matches!(choice_of(alloc, GIVEN, None), Ok(Choice::Same));
     let store = matches!(choice_of(alloc, b"", Some(Take::Store)), Ok(Choice::Store));
-    match choice_of(alloc, b"", Some(Take::Zone)) {
-        Ok(Choice::Zone(zone)) => {
-            let (text, head) = begin_store(alloc, &zone, 2, [7; 16], TextSum::of(GIVEN)).ok()?;
-            let begun = text.as_bytes() == GIVEN && head.text.is_of(GIVEN) && head.serial == 11;
-            Some(same && store && begun)
-        }
-        Err(fault) if fault == NO_MEMORY && same && store => None,
-        _ => Some(false),
+    if !same || !store {
+        return Some(false);
     }
+    is_zone(alloc, choice_of(alloc, b"", Some(Take::Zone)))
 }
 
 // Where a request for memory is refused, that is what is told, and nothing else.

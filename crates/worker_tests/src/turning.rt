@@ -310,6 +310,20 @@ fn places_of(alloc: Global, comers: &[Comes]) -> Option<Vec<Comers>> {
     Vec::from_array(alloc, [Comers { left, has_come }]).ok()
 }
 
+/// The job of a case, which is told of keys where the case says so.
+fn heard<'a>(
+    job: ConnectionsJob<'a, Comer, Poll, Comers, Steps>,
+    alloc: Global,
+    case: &Case,
+    told: &'a ToldKeys,
+) -> ConnectionsJob<'a, Comer, Poll, Comers, Steps> {
+    if case.hears {
+        job.hearing(alloc, told)
+    } else {
+        job
+    }
+}
+
 /// Whether the job of a case ends as it should, with what is told and asked; None where there is no memory for it.
 fn is_done<R: Wait>(rt: &R, alloc: Global, case: &Case) -> Option<bool> {
     let places = places_of(alloc, case.comers)?;
@@ -337,11 +351,7 @@ fn is_done<R: Wait>(rt: &R, alloc: Global, case: &Case) -> Option<bool> {
     };
     let standing = Standing::new(&muster, &progress);
     let job = ConnectionsJob::new(3, poll, places, turns, plan, standing, &clock, scratch);
-    let mut job = if case.hears {
-        job.hearing(alloc, &told)
-    } else {
-        job
-    };
+    let mut job = heard(job, alloc, case, &told);
     let log = Kept::new(alloc);
     let mut putting = Putting {
         peer: Peer::over(Transport::Tcp, false),
