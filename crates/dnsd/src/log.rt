@@ -220,14 +220,14 @@ impl<E: Eprint + AllocGlobal + Clock> ErrorLines<E> {
     fn put_line(&mut self, line: LogLine) {
         let mark = line.level().mark(self.in_journal);
         let _ = eprintln!(self.rt; "{mark}{line}");
-        match line {
-            LogLine::Listening { apex, serial, .. } => self.zone = Some((apex, serial)),
+        match &line {
+            LogLine::Listening { apex, serial, .. } => self.zone = Some((apex.copy(), *serial)),
             LogLine::Event(
                 Event::Update {
                     serials: Some(Serials { after, .. }),
                     ..
                 },
-            ) => self.note_serial(after),
+            ) => self.note_serial(*after),
             _ => {}
         }
     }

@@ -61,24 +61,38 @@ pub fn run_serve<
     let Some(text) = text_for(rt, serve)? else {
         return Ok(FAILED);
     };
-    let zone = match serve.store {
-        Some(_) => None,
-        None => match read_zone(rt.alloc(), text.as_slice(), &serve.origin) {
-            Ok(zone) => Some(zone),
-            Err(fault) => return tell_zone(rt, text.as_slice(), fault),
-        },
+    match serve.store {
+        Some(plan) => serve_store(rt, serve, plan, text),
+        None => serve_text(rt, serve, text),
+    }
+}
+
+/// Serves the zone of a text, whose updates are lost at the program's end.
+fn serve_text<
+    R: Files<File = File>
+        + Env
+        + Eprint
+        + AllocGlobal
+        + Net<Listener = TcpListener, Stream = TcpStream>
+        + Threads
+        + Wait
+        + Clock
+        + RandomSource
+        + Copy
+        + Send
+        + Sync
+        + Drop
+        + 'static,
+>(rt: &R, serve: &Serve<'_>, text: Vec<u8>) -> io::Result<u8> {
+    let zone = match read_zone(rt.alloc(), text.as_slice(), &serve.origin) {
+        Ok(zone) => zone,
+        Err(fault) => return tell_zone(rt, text.as_slice(), fault),
     };
+    mem::drop(text);
     let Some(bound) = bind(rt, serve)? else {
         return Ok(FAILED);
     };
-    match (zone, serve.store) {
-        (Some(zone), _) => {
-            mem::drop(text);
-            serve_bound(rt, serve, Begun::Zone(zone), bound)
-        }
-        (None, Some(plan)) => serve_store(rt, serve, plan, text, bound),
-        (None, None) => Ok(FAILED),
-    }
+    serve_bound(rt, serve, Begun::Zone(zone), bound)
 }
 
 /// The zone's text; None where it can't be read, which is said on standard error.
@@ -112,7 +126,10 @@ fn serve_store<
         + Sync
         + Drop
         + 'static,
->(rt: &R, serve: &Serve<'_>, plan: StorePlan<'_>, text: Vec<u8>, bound: Bound) -> io::Result<u8> {
+>(rt: &R, serve: &Serve<'_>, plan: StorePlan<'_>, text: Vec<u8>) -> io::Result<u8> {
+    let Some(bound) = bind(rt, serve)? else {
+        return Ok(FAILED);
+    };
     let started = match start_kept(rt, plan, serve, text.as_slice())? {
         Ok(started) => started,
         Err(status) => return Ok(status),
