@@ -1,7 +1,7 @@
 //! Connections that are served each under its key, at a time that the test makes.
 
 use crate::echo::{Both, Echo};
-use crate::pieces::{After, Pieces, address, written};
+use crate::pieces::{After, Pieces, address, room_of, written};
 use crate::running::SECOND;
 use links::{Ends, Limits, Link, Room, make_room, serve_ready, sweep};
 use serve_core::{Peer, Transport};
@@ -32,8 +32,8 @@ impl Served {
             ends: Ends::default(),
             echo: Echo::new(u32::MAX),
             next: Vec::new(alloc),
-            room: vec![in alloc; 0; 512]?,
-            out: vec![in alloc; 0; 65_535]?,
+            room: room_of(alloc, 512)?,
+            out: room_of(alloc, 65_535)?,
         })
     }
 

@@ -1,7 +1,7 @@
 //! A worker's turns over sockets of this machine.
 
 use crate::echo::LARGE;
-use crate::pieces::repeated;
+use crate::pieces::{repeated, room_of};
 use crate::running::{Running, SECOND};
 use mio::net::TcpListener;
 use ready_sockets::{TcpPeer, TcpPlace, Watch};
@@ -54,7 +54,7 @@ fn read_all<R: Wait, C: Clock>(
     most: usize,
 ) -> io::Result<usize> {
     client.set_nonblocking(true)?;
-    let mut buf = vec![in alloc; 0; 65_536]?;
+    let mut buf = room_of(alloc, 65_536)?;
     let mut count = 0usize;
     for _turn in 0..most {
         running.turn(rt, 1)?;

@@ -1,5 +1,5 @@
 //! A stream in memory that gives and takes its octets in pieces, and would block before each of them; or fails once it has taken so many.
-ghost use Rattle.std.specs.Prelude.{◌≡◌, ◌<◌, ◌-◌, ◌^◌, IfSome};
+ghost use Rattle.std.specs.Prelude.{◌≡◌, ◌<◌, ◌-◌, ◌^◌, IfOk, IfSome, vec_len};
 ghost use Rattle.connections.specs.declared.blocking.Fault.{Fault as FaultOf};
 
 use crate::echo::Both;
@@ -45,6 +45,13 @@ pub(crate) struct Pieces {
 /// An address of 192.0.2.0/24.
 pub(crate) fn address(last: u8) -> SocketAddr {
     SocketAddr::V4(SocketAddrV4::new(Ipv4Addr::new(192, 0, 2, last), 5_353))
+}
+
+/// Room for so many octets. What is in it isn't told: a goal in which so many zeros stand is computed octet by octet.
+pub(crate) fn room_of(alloc: Global, len: usize) -> Result<Vec<u8>, AllocError>
+    ensures { IfOk result (λ room. vec_len room ≡ len) }
+{
+    vec![in alloc; 0; len]
 }
 
 /// These octets, so many times.

@@ -1,6 +1,7 @@
 //! A worker with what it takes turns by.
 
 use crate::echo::{Both, Echo};
+use crate::pieces::room_of;
 use connections::Blocking;
 use conversation::Allowed;
 use links::Limits;
@@ -55,8 +56,8 @@ impl<S: Blocking + Remote + Drop, P: Readiness<S> + Drop, L: Arrivals<Stream = S
             poll,
             places,
             echo: Echo::new(u32::MAX),
-            room: vec![in alloc; 0; 4_096]?,
-            out: vec![in alloc; 0; 65_535]?,
+            room: room_of(alloc, 4_096)?,
+            out: room_of(alloc, 65_535)?,
         })
     }
 

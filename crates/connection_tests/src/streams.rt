@@ -2,7 +2,7 @@
 ghost use Rattle.std.specs.Prelude.{◌<◌, ◌≤◌, length};
 
 use crate::echo::Echo;
-use crate::pieces::{After, Pieces};
+use crate::pieces::{After, Pieces, room_of};
 use connections::{Conversation, serve_some};
 use conversation::{OpenGate, StreamEnd};
 use std::alloc::{AllocError, Global};
@@ -47,8 +47,8 @@ pub(crate) fn end_of<R: Wait>(
     stream: &mut Pieces,
     requests: u32,
 ) -> Result<StreamEnd, AllocError> {
-    let mut room = vec![in alloc; 0; 4_096]?;
-    let mut out = vec![in alloc; 0; 65_535]?;
+    let mut room = room_of(alloc, 4_096)?;
+    let mut out = room_of(alloc, 65_535)?;
     Ok(serve_to_end(rt, alloc, stream, requests, &mut room, &mut out))
 }
 
@@ -257,7 +257,7 @@ fn is_answered<R: Wait>(
         after: After::End,
         ..Pieces::new(alloc, &FRAMES, 1)?
     };
-    let mut room = vec![in alloc; 0; 64]?;
+    let mut room = room_of(alloc, 64)?;
     if out.len() < 65_535 {
         return Ok(false);
     }
@@ -267,7 +267,7 @@ fn is_answered<R: Wait>(
 
 #[test]
 fn two_frames_in_any_pieces_are_answered(rt: HostRuntime) -> Result<(), Fail> {
-    let mut out = vec![in rt.alloc(); 0; 65_535]?;
+    let mut out = room_of(rt.alloc(), 65_535)?;
     // There are seven places between their octets: each two of them, of those that come, and of those that go.
     for number in 0..0x4000u64 {
         let cuts = (number % 0x80, number / 0x80);

@@ -1,5 +1,6 @@
 //! A worker's turns over polls that are made up.
 
+use crate::echo::Echo;
 use crate::pieces::{After, Pieces, repeated, written};
 use crate::polls::{Comers, Poll, Told};
 use crate::running::{Running, SECOND};
@@ -317,6 +318,12 @@ const WAKINGS: [(Option<usize>, Option<usize>, u32, usize); 6] = [
     (Some(7), None, 0, 30),
 ];
 
+/// Has one who answers begin a row: nothing was asked for later yet, and the reply on the connection under this key is made.
+fn begin_row(echo: &mut Echo, made: Option<usize>) {
+    echo.made = made;
+    echo.asked = 0;
+}
+
 #[test]
 fn other_connections_go_on(rt: HostRuntime) -> Result<(), Fail> {
     let alloc = rt.alloc();
@@ -331,8 +338,7 @@ fn other_connections_go_on(rt: HostRuntime) -> Result<(), Fail> {
     let mut worker = Running::new(alloc, poll, comers)?;
     for (at, (told, made, asked, len)) in WAKINGS.into_iter().enumerate() {
         key.set(told);
-        worker.echo.made = made;
-        worker.echo.asked = 0;
+        begin_row(&mut worker.echo, made);
         worker.turn(&rt, 9)?;
         let gone = written(alloc, worker.turns.links())?;
         let is_written = REPLIES.get(..len) == Some(gone.as_slice());
