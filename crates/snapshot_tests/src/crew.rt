@@ -92,9 +92,9 @@ impl<'a, N: Naming> Players<'a, N> {
         }
         let Players {
             mut teller,
-            mut readers,
+            readers,
         } = self;
-        while let Some(reader) = readers.pop() {
+        for reader in readers {
             let job = job_of(rt, alloc, &mut teller, crew, reader);
             jobs.push(job).ok().expect(rt, "memory");
         }

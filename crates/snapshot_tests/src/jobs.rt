@@ -71,7 +71,7 @@ impl<'a, N: Naming> Raiser<'a, N> {
 
     /// The reader, where so many weak owners came, and each went as it should.
     fn finish(mut self, weaks: u64) -> Option<Back<'a, N>> {
-        let mut raised = 0;
+        let mut raised = 0u64;
         for _ in 0..TURNS {
             if raised == weaks {
                 return Some(Back::Read(self.reader));
@@ -81,7 +81,7 @@ impl<'a, N: Naming> Raiser<'a, N> {
                     if !self.raise(weak) {
                         return None;
                     }
-                    raised += 1;
+                    raised = raised.wrapping_add(1);
                 }
                 Err(_) => thread::yield_now(),
             }

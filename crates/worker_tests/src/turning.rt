@@ -324,17 +324,34 @@ fn heard<'a>(
     }
 }
 
-/// Whether the job of a case ends as it should, with what is told and asked; None where there is no memory for it.
-fn is_done<R: Wait>(rt: &R, alloc: Global, case: &Case) -> Option<bool> {
-    let places = places_of(alloc, case.comers)?;
-    let told = ToldKeys::new(alloc, 8).ok()?;
-    let turns = Turns::new(alloc, 8, 1).ok()?;
-    let scratch = Scratch::new(alloc).ok()?;
-    let (muster, progress) = (Muster::new(1), Progress::new(case.most));
-    let clock = Steps {
-        read: AtomicU64::new(2),
-        step: case.step,
-    };
+/// What the job of a case shares with others.
+#[derive(Drop)]
+struct Shared {
+    told: ToldKeys,
+    muster: Muster,
+    progress: Progress,
+    clock: Steps,
+}
+
+/// What the job of a case shares with others; None where there is no memory for it.
+fn shared_for(alloc: Global, case: &Case) -> Option<Shared> {
+    Some(Shared {
+        told: ToldKeys::new(alloc, 8).ok()?,
+        muster: Muster::new(1),
+        progress: Progress::new(case.most),
+        clock: Steps {
+            read: AtomicU64::new(2),
+            step: case.step,
+        },
+    })
+}
+
+/// The job of a case.
+fn job_of<'a>(
+    alloc: Global,
+    case: &Case,
+    shared: &'a Shared,
+) -> Option<ConnectionsJob<'a, Comer, Poll, Comers, Steps>> {
     let plan = Plan {
         limits: Limits {
             idle: LIMIT,
@@ -349,15 +366,39 @@ fn is_done<R: Wait>(rt: &R, alloc: Global, case: &Case) -> Option<bool> {
         now: 0,
         left: case.turns,
     };
-    let standing = Standing::new(&muster, &progress);
-    let job = ConnectionsJob::new(3, poll, places, turns, plan, standing, &clock, scratch);
-    let mut job = heard(job, alloc, case, &told);
+    let job = ConnectionsJob::new(
+        3,
+        poll,
+        places_of(alloc, case.comers)?,
+        Turns::new(alloc, 8, 1).ok()?,
+        plan,
+        Standing::new(&shared.muster, &shared.progress),
+        &shared.clock,
+        Scratch::new(alloc).ok()?,
+    );
+    Some(heard(job, alloc, case, &shared.told))
+}
+
+/// Whether the job of a case ends as it should, with what is told and asked; None where there is no memory for it.
+fn is_done<R: Wait>(rt: &R, alloc: Global, case: &Case) -> Option<bool> {
+    let shared = shared_for(alloc, case)?;
+    is_done_with(rt, alloc, case, &shared)
+}
+
+/// The same over what the job shares.
+fn is_done_with<'a, R: Wait>(
+    rt: &R,
+    alloc: Global,
+    case: &Case,
+    shared: &'a Shared,
+) -> Option<bool> {
+    let mut job = job_of(alloc, case, shared)?;
     let log = Kept::new(alloc);
     let mut putting = Putting {
         peer: Peer::over(Transport::Tcp, false),
         asker: 0,
         asked: 0,
-        told: &told,
+        told: &shared.told,
         tells: case.tells,
     };
     let end = job.serve(rt, &mut putting, &log);
