@@ -71,7 +71,7 @@ def try_rows(_):
         said, status = said_by(["tests/compile.sh", room], TOP)
         if status:
             return 0, 1, f"dnsd doesn't compile:\n{said[-3000:]}"
-        said, status = said_by(["tests/rows.sh"], TOP, env={**os.environ, "DNSD": f"{room}/dnsd", "ROW_SECONDS": "100"})
+        said, status = said_by(["tests/rows.sh"], TOP, env={**os.environ, "DNSD": f"{room}/dnsd", "ROW_SECONDS": "600"})
     counted = re.search(r"^(\d+) passed, (\d+) failed\Z", said.strip(), re.M)
     if not counted:
         return 0, 1, said[-3000:]

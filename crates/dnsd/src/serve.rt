@@ -335,15 +335,55 @@ fn serve_all<
         return Err(ServeFault::NoMemory);
     };
     let telling = Progress::new(u64::MAX);
-    let Some(mut duties) = duties_of(alloc, sockets, progresses.as_slice()) else {
+    let duties = duties_for(alloc, sockets, secondaries, progresses.as_slice(), &telling);
+    let Some(duties) = duties else {
         return Err(ServeFault::NoMemory);
     };
-    if put_secondaries(&mut duties, &telling, secondaries).is_none() {
-        return Err(ServeFault::NoMemory);
-    }
+    serve_planned(rt, alloc, serve, begun, duties, log)
+}
+
+/// What each thread does: of each worker its listeners, and its sockets for datagrams, and one more the secondaries. None where there is no memory.
+fn duties_for<'a>(
+    alloc: Global,
+    sockets: Vec<WorkerSockets>,
+    secondaries: Secondaries,
+    progresses: &'a [Progress],
+    telling: &'a Progress,
+) -> Option<Vec<Duty<'a>>> {
+    let mut duties = duties_of(alloc, sockets, progresses)?;
+    put_secondaries(&mut duties, telling, secondaries)?;
+    Some(duties)
+}
+
+/// Serves a zone by threads with these duties.
+fn serve_planned<
+    R: Files<File = File>
+        + AllocGlobal
+        + Net
+        + Threads
+        + Wait
+        + Clock
+        + RandomSource
+        + Copy
+        + Sync
+        + Drop,
+>(
+    rt: &R,
+    alloc: Global,
+    serve: &Serve<'_>,
+    begun: Begun,
+    duties: Vec<Duty<'_>>,
+    log: &Log,
+) -> Result<(), ServeFault>
+    requires { CanBegin begun }
+{
     if duties.len() > MAX_THREADS {
         return Err(ServeFault::NotStarted);
     }
+    let dir = serve.store.map_or("", |plan| plan.dir);
+    let Ok(dir) = format!(in alloc; "{dir}") else {
+        return Err(ServeFault::NoMemory);
+    };
     let muster = Muster::new(duties.len());
     let plan = Plan {
         muster: &muster,
@@ -353,10 +393,6 @@ fn serve_all<
             limits: serve.limits,
             allowed: Allowed::new(serve.allowed.as_slice()),
         },
-    };
-    let dir = serve.store.map_or("", |plan| plan.dir);
-    let Ok(dir) = format!(in alloc; "{dir}") else {
-        return Err(ServeFault::NoMemory);
     };
     let texts = ThreadTexts::new(*rt, dir);
     serve_duties(rt, alloc, serve.keep, begun, texts, duties, plan, log)
