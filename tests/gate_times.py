@@ -6,7 +6,7 @@ Usage: tests/gate_times.py record LOG COMMAND [WORD..]   runs the command, which
                                                          so many cores (2) need for the same checks, in the order that `rt ci` takes
 A line of a log is: the crate, what was done (proof, tests, edits, or program: a proved program is compiled), processor seconds, seconds of
 the clock, and when it began, in seconds from the start of the run; the last line has what the run took besides, for tests and programs as
-they ran among others. Later logs replace what earlier ones say of a crate. It reads /proc, twice a second."""
+they ran among others; a line that begins with # says something of the log. Later logs replace what earlier ones say of a crate. It reads /proc, twice a second."""
 import os
 import resource
 import subprocess
@@ -101,6 +101,8 @@ def read(logs):
         seen = {}
         with open(log, encoding="utf-8") as it:
             for line in it:
+                if line.startswith("#"):
+                    continue
                 name, what, seconds, _, _ = line.split()
                 seen[name, what] = seen.get((name, what), 0.0) + float(seconds)
         found.update(seen)
