@@ -1,5 +1,6 @@
 //! The log of a running server, on standard error, and what a service manager is told beside it.
 use crate::levels::{Level, is_in_journal};
+use crate::refusals::{Refusal, Refusals};
 use dns_name::Name;
 use dns_rdata::Serial;
 use log_lines::{LogQueue, Sink, Told};
@@ -9,12 +10,12 @@ use std::alloc::{AllocError, Global};
 use std::fmt::{self, Display, Formatter};
 use std::net::{Net, SocketAddr};
 use std::rt::Env;
-use std::sync::{Arc, Wait};
+use std::sync::{Arc, Mutex, Wait};
 use std::thread::{self, Threads};
 use std::time::{Clock, Duration};
 use std::{env, mem};
 use store_service::{StoreEvent, StoreLog};
-use zone_service::{Event, Serials, ServiceLog};
+use zone_service::{Event, Serials, ServiceLog, Wanted};
 
 /// How many lines wait at most to be written (own).
 const MOST_WAITING: usize = 1024;
@@ -137,14 +138,23 @@ impl Display for LogLine {
 pub enum Entry {
     /// A line.
     Line(LogLine),
+    /// Peers were refused what they may not have.
+    Refusals,
     /// The zone is served: a service manager is told so.
     Ready,
     /// The server ends: a service manager is told so.
     Stopping,
 }
 
-/// What waits for the thread that writes it.
-pub type Entries = Arc<LogQueue<Entry>, Global>;
+/// What waits for the thread that writes it, and what peers were refused.
+#[derive(Drop)]
+pub struct Shared {
+    queue: LogQueue<Entry>,
+    refusals: Mutex<Refusals>,
+}
+
+/// The same, of the log and its thread.
+pub type Entries = Arc<Shared, Global>;
 
 /// What is logged once all workers have begun.
 #[derive(Drop)]
@@ -184,9 +194,14 @@ struct ErrorLines<E> {
     is_behind: bool,
     /// When it was told a state, since the clock's beginning.
     told_at: Duration,
+    shared: Entries,
+    /// Whether peers were refused what they may not have, and no line tells it yet.
+    has_refusals: bool,
+    /// When such lines were written, since the clock's beginning.
+    refused_at: Duration,
 }
 
-impl<E: Eprint + AllocGlobal + Clock> Sink<Entry> for ErrorLines<E> {
+impl<E: Eprint + AllocGlobal + Wait + Clock> Sink<Entry> for ErrorLines<E> {
     fn put<R: Wait>(&mut self, _rt: &R, told: Told<Entry>) {
         let Told { lost, line } = told;
         if lost > 0 {
@@ -195,6 +210,7 @@ impl<E: Eprint + AllocGlobal + Clock> Sink<Entry> for ErrorLines<E> {
         }
         match line {
             Some(Entry::Line(line)) => self.put_line(line),
+            Some(Entry::Refusals) => self.has_refusals = true,
             Some(Entry::Ready) => self.notify_ready(),
             Some(Entry::Stopping) => self.notify("STOPPING=1"),
             None => {}
@@ -202,20 +218,17 @@ impl<E: Eprint + AllocGlobal + Clock> Sink<Entry> for ErrorLines<E> {
     }
 
     fn idle(&mut self) -> Option<Duration> {
-        if !self.is_behind || self.manager.is_none() {
-            return None;
+        let refused = self.write_refusals();
+        let told = self.follow_status();
+        match (refused, told) {
+            (Some(refused), Some(told)) => Some(refused.min(told)),
+            (Some(one), None) | (None, Some(one)) => Some(one),
+            (None, None) => None,
         }
-        let since = self.since_told();
-        let least = Duration::from_secs(STATUS_SECONDS);
-        if since < least {
-            return Some(least.saturating_sub(since));
-        }
-        self.notify_status();
-        None
     }
 }
 
-impl<E: Eprint + AllocGlobal + Clock> ErrorLines<E> {
+impl<E: Eprint + AllocGlobal + Wait + Clock> ErrorLines<E> {
     /// Writes a line.
     fn put_line(&mut self, line: LogLine) {
         let mark = line.level().mark(self.in_journal);
@@ -232,6 +245,59 @@ impl<E: Eprint + AllocGlobal + Clock> ErrorLines<E> {
         }
     }
 
+    /// Tells the service manager a serial that it doesn't know, a second after the last at the earliest; how long that is from now, where it is later.
+    fn follow_status(&mut self) -> Option<Duration> {
+        if !self.is_behind || self.manager.is_none() {
+            return None;
+        }
+        let left = self.left_of(self.told_at);
+        if left.is_none() {
+            self.notify_status();
+        }
+        left
+    }
+
+    /// Writes what peers were refused, a second after the last such lines at the earliest; how long that is from now, where it is later.
+    fn write_refusals(&mut self) -> Option<Duration> {
+        if !self.has_refusals {
+            return None;
+        }
+        let left = self.left_of(self.refused_at);
+        if left.is_none() {
+            self.has_refusals = false;
+            self.refused_at = self.rt.monotonic().unwrap_or(self.refused_at);
+            let (peers, others) = self.shared.refusals.lock(&self.rt).take();
+            self.put_refusals(peers.as_slice(), others);
+        }
+        left
+    }
+
+    /// Writes what peers were refused.
+    fn put_refusals(&self, peers: &[Refusal], others: u64) {
+        let mark = Level::Warning.mark(self.in_journal);
+        for refusal in peers {
+            let _ = eprintln!(self.rt; "{mark}{refusal}");
+        }
+        if others > 0 {
+            let _ = eprintln!(self.rt;
+                "{mark}{others} more requests of other peers refused: not permitted by --allow"
+            );
+        }
+    }
+
+    /// How much of a second is left since a time; None where it has passed.
+    fn left_of(&self, since: Duration) -> Option<Duration> {
+        let least = Duration::from_secs(STATUS_SECONDS);
+        let passed = match self.rt.monotonic() {
+            Ok(now) => now.saturating_sub(since),
+            Err(_) => least,
+        };
+        if passed < least {
+            return Some(least.saturating_sub(passed));
+        }
+        None
+    }
+
     /// Notes the serial that an update has left.
     fn note_serial(&mut self, after: Serial) {
         if let Some((_, serial)) = &mut self.zone {
@@ -239,14 +305,6 @@ impl<E: Eprint + AllocGlobal + Clock> ErrorLines<E> {
                 *serial = after;
                 self.is_behind = true;
             }
-        }
-    }
-
-    /// How much time has passed since the service manager was told a state; much, where no clock says.
-    fn since_told(&self) -> Duration {
-        match self.rt.monotonic() {
-            Ok(now) => now.saturating_sub(self.told_at),
-            Err(_) => Duration::from_secs(STATUS_SECONDS),
         }
     }
 
@@ -284,8 +342,12 @@ pub fn start_entries<
     R: Env + Eprint + AllocGlobal + Net + Threads + Wait + Clock + Copy + Send + Drop + 'static,
 >(rt: &R) -> Result<Entries, AllocError> {
     let alloc = rt.alloc();
-    let entries = Arc::new(alloc, LogQueue::new(alloc, MOST_WAITING)?)?;
-    let written = Arc::try_clone(&entries)?;
+    let shared = Shared {
+        queue: LogQueue::new(alloc, MOST_WAITING)?,
+        refusals: Mutex::new(Refusals::new()),
+    };
+    let entries = Arc::new(alloc, shared)?;
+    let (written, read) = (Arc::try_clone(&entries)?, Arc::try_clone(&entries)?);
     let manager = match env::var(rt, "NOTIFY_SOCKET") {
         Ok(name) => ServiceManager::at(rt, name.as_str()),
         Err(_) => None,
@@ -301,8 +363,11 @@ pub fn start_entries<
             zone: None,
             is_behind: false,
             told_at: Duration::from_secs(0),
+            shared: read,
+            has_refusals: false,
+            refused_at: Duration::from_secs(0),
         };
-        written.write_to(&rt, &mut lines);
+        written.queue.write_to(&rt, &mut lines);
     })?;
     mem::drop(writer);
     Ok(entries)
@@ -316,13 +381,23 @@ impl Log {
 
     /// Adds a line; where the thread is so far behind that there is no room, it is counted as lost.
     pub fn add<R: Wait>(&self, rt: &R, line: LogLine) {
-        self.entries.add(rt, Entry::Line(line));
+        self.entries.queue.add(rt, Entry::Line(line));
+    }
+
+    /// Notes that a peer was refused what it may not have; the thread that writes is woken for the first since it wrote what was noted.
+    fn add_refusal<R: Wait>(&self, rt: &R, from: SocketAddr, wanted: Wanted) {
+        if self.entries.refusals.lock(rt).add(from, wanted) {
+            self.entries.queue.add(rt, Entry::Refusals);
+        }
     }
 
     /// Ends the log. It waits a second at most for the lines that are left, and those that aren't written then are lost.
     pub fn end<R: Wait + Clock>(self, rt: &R) {
-        self.entries.add(rt, Entry::Stopping);
-        let _ = self.entries.close(rt, Duration::from_millis(END_MILLIS));
+        self.entries.queue.add(rt, Entry::Stopping);
+        let _ = self
+            .entries
+            .queue
+            .close(rt, Duration::from_millis(END_MILLIS));
     }
 
     /// Logs at which addresses the zone is served, whether its updates are lost, and whether the system keeps fewer datagrams than were asked for.
@@ -359,7 +434,7 @@ impl Log {
                 },
             );
         }
-        self.entries.add(rt, Entry::Ready);
+        self.entries.queue.add(rt, Entry::Ready);
     }
 }
 
@@ -367,6 +442,7 @@ impl ServiceLog for Log {
     fn tell<R: Wait>(&self, rt: &R, event: Event) {
         match event {
             Event::Serving => self.add_listening(rt),
+            Event::Refused { from, wanted } => self.add_refusal(rt, from, wanted),
             other => self.add(rt, LogLine::Event(other)),
         }
     }

@@ -12,6 +12,7 @@ pub mod descriptors;
 pub mod kept;
 pub mod levels;
 pub mod log;
+pub mod refusals;
 pub mod secondaries;
 pub mod serve;
 pub mod stored;

@@ -32,7 +32,7 @@ use update_desk::{Done, Fetched};
 use wire_names::NameWriter;
 use zone_service::{
     Hand, Handed, Now, Serials, Served, Server, ServiceLog, Told, answer_kept, hand_in, serve_one,
-    tell_update, write_done, write_transfer,
+    tell_refused, tell_update, write_done, write_transfer,
 };
 
 /// A server that answers the peers of connections, with a worker's reader, of which contracts know what it has seen published. A log is told of
@@ -420,7 +420,10 @@ impl<'a, 's, Z: FirstZone, N: Naming, L: ServiceLog> Answering<Transfer>
             request,
             out,
         ) {
-            Now::Bytes(len) => Ok(Reply::One(len)),
+            Now::Bytes(len) => {
+                tell_refused(rt, self.log, self.peer, self.from, &self.query, &out[..len]);
+                Ok(Reply::One(len))
+            }
             Now::Silent => Ok(Reply::Silent),
             Now::Later => self.reply_later(rt, request, out),
             Now::Spent => Err(Unmade::Spent),

@@ -31,6 +31,13 @@ pub enum Event {
         /// The zone's serials; none of an update that the engine wasn't asked for, since it can't be read or memory was wanted.
         serials: Option<Serials>,
     },
+    /// A peer was refused what it may not have (RFC 2136, 3.3; RFC 5936, 2.2.1).
+    Refused {
+        /// Where the peer asks from.
+        from: SocketAddr,
+        /// What it asked for.
+        wanted: Wanted,
+    },
     /// A thread of a worker has ended.
     End {
         /// The worker's number, from 1.
@@ -96,6 +103,24 @@ pub struct Serials {
     pub after: Serial,
 }
 
+/// What a peer may have only where it is permitted.
+#[derive(Clone, Copy, Debug, PartialEq, Eq)]
+pub enum Wanted {
+    /// An update of the zone.
+    Update,
+    /// A transfer of the zone.
+    Transfer,
+}
+
+impl Display for Wanted {
+    fn fmt<W: fmt::Write>(&self, f: &mut Formatter<W>) -> fmt::Result {
+        f.write_str(match self {
+            Wanted::Update => "update",
+            Wanted::Transfer => "transfer",
+        })
+    }
+}
+
 /// How a worker's job has ended.
 #[derive(Clone, Copy)]
 pub enum JobEnd {
@@ -120,6 +145,9 @@ impl Display for Event {
                 let code = name_of(*code);
                 write!(f, "update from {from}: {code}")?;
                 write_serials(f, *serials)
+            }
+            Event::Refused { from, wanted } => {
+                write!(f, "{wanted} from {from} refused: not permitted by --allow")
             }
             Event::End {
                 worker,
