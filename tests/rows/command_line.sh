@@ -66,6 +66,9 @@ input=
 row 0 "$warning" answer "$room/zone"
 prints '' answer --origin . "$room/zone"
 prints '' steps "$room/zone"
+row 0 "$warning" serve --listen 127.0.0.1:0 --workers 1 --count 0 "$room/zone"
+tries serve --listen 127.0.0.1:0 --workers 1 --count 0 --origin . "$room/zone"
+[[ $got == 0 && $told != *"$warning"* ]] || differs 'no warning of a zone at the root' serve --origin .
 input=$'@ 300 SOA ns admin 1 7200 900 1209600 300\n'
 says 1 $'line 0: M11 Apex\nthe zone has no SOA, or no NS at the owner of its SOA' check -
 
