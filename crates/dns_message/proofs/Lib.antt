@@ -11,3 +11,4 @@ pub mod SetLemmas
 pub mod SizeLemmas
 pub mod TrueLemmas
 pub mod UpdatesLemmas
+pub mod TsigLemmas

@@ -15,3 +15,4 @@ pub use Rattle.dns_name.specs.Name
 pub use Rattle.dns_rdata.specs.Numbers
 pub use Rattle.dns_rdata.specs.Record
 pub use Rattle.dns_rdata.specs.Shown
+pub mod Tsig

@@ -18,6 +18,7 @@ mod received;
 mod records;
 mod reply;
 mod sent;
+mod tsig;
 mod update;
 mod write;
 
@@ -28,5 +29,6 @@ pub use query::{Head, Parsed, Query, Question, Said};
 pub use read::{HEADER, OPCODE_UPDATE, QR, is_update, parse, parse_into, parse_other};
 pub use received::received_records;
 pub use reply::Reply;
+pub use tsig::{Place, tsig_place};
 pub use update::{RawRecords, Update, ZoneEntry};
 pub use write::{MAX_LIMIT, MIN_LIMIT, write_reply, write_reply_by};

@@ -84,7 +84,7 @@ fn answer_at(octets: &Message<'_>) -> Option<usize>
 }
 
 /// The position behind so many questions; None where one of them can't be read (RFC 1035, 4.1.2).
-fn behind_questions(octets: &Message<'_>, at: usize, count: u16) -> Option<usize>
+pub(crate) fn behind_questions(octets: &Message<'_>, at: usize, count: u16) -> Option<usize>
     ensures { result ≡ option_map (λ r. r.1) (questions_at count octets.now at) }
 {
     let mut place = at;
