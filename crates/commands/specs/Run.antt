@@ -2,6 +2,9 @@
 use Rattle.std.specs.Prelude.{◌≡◌, ◌↔◌, ℕ, ◌⊎◌, Bool, IsTrue, List, [], Option, IfSome, IfOk, Result, Ok, Err, IsOk}
 use Rattle.std.specs.Io.KnownBytes.{Appends}
 use Rattle.dns_rdata.specs.Record.{Record}
+use Rattle.notify.specs.declared.large.Large.{Large}
+use Rattle.notify.specs.Large.{IsFound, IsLarge}
+use Rattle.zone_tree.specs.Sets.{sets_in}
 use Rattle.zone_tree.specs.Zone.{apex_of}
 use Rattle.master_file.specs.declared.fault.FileFault.{FileFault}
 use Rattle.master_file.specs.ZoneText.{zone_of_text}
@@ -105,6 +108,14 @@ TellsIn (Steps zone origin keep window) records input told = Unit
 abbrev pub TellsRoot : Result (List Record) FileFault → Bool → Type 0
 TellsRoot (Ok zone) at_root = IsTrue at_root ↔ (apex_of zone ≡ [])
 TellsRoot (Err fault) at_root = Unit
+
+-- what a zone that is checked has more of than stock secondaries take; of another command nothing is told
+abbrev pub TellsLarge : Command → Result (List Record) FileFault → Option Large → Type 0
+TellsLarge (Check zone origin) (Ok records) large = IsFound (sets_in records) (IsLarge records) large
+TellsLarge (Check zone origin) (Err fault) large = large ≡ None
+TellsLarge (Answer zone origin transport) read large = large ≡ None
+TellsLarge (Apply zone origin) read large = large ≡ None
+TellsLarge (Steps zone origin keep window) read large = large ≡ None
 
 -- the zone of a command's text, or the fault that is told of it (RFC 1035, 5)
 abbrev pub zone_for : Command → List ℕ → Result (List Record) FileFault

@@ -2,7 +2,7 @@
 ghost use Rattle.std.specs.Prelude.{◌≡◌, ◌⊎◌, [], Ok, Err, OnOk, OnErr, IfOk, IfErr, IfSome};
 ghost use Rattle.std.specs.Io.Buffered.{writer_buffer, writer_contents};
 ghost use Rattle.line_io.specs.Input.{zone_text_of, behind_zone_text};
-ghost use Rattle.commands.specs.Run.{status_of, AtRefusedZone, AtDevice, IsOfInput, IsOfRun, IsOfZone, IsRefused, zone_for, TellsIn, TellsOf, TellsRoot, Does, DoesIn, BeginsToDo, BeginsToDoIn};
+ghost use Rattle.commands.specs.Run.{status_of, AtRefusedZone, AtDevice, IsOfInput, IsOfRun, IsOfZone, IsRefused, zone_for, TellsIn, TellsOf, TellsLarge, TellsRoot, Does, DoesIn, BeginsToDo, BeginsToDoIn};
 
 use crate::apply::run_apply;
 use crate::check::run_check;
@@ -13,18 +13,21 @@ use command_answer::run_answer;
 use command_steps::run_steps;
 use line_io::read_zone_text;
 use master_file::{FileFault, read_zone};
+use notify::{Large, large_in};
 use std::alloc::Global;
 use std::io::{BufRead, BufWriter, Write};
 use world_run::Options;
 use zone_tree::{Zone, ZoneRead};
 
 /// How a command ended.
-#[derive(Clone, Copy, Debug, PartialEq, Eq)]
+#[derive(Drop)]
 pub struct Ended {
     /// The program's status.
     pub status: u8,
     /// Whether the apex of the zone is the root.
     pub at_root: bool,
+    /// What the zone has more of than stock secondaries take, of a zone that is checked.
+    pub large: Option<Large>,
 }
 
 /// What became of a command over a zone's text.
@@ -34,6 +37,8 @@ pub struct Outcome {
     pub done: Result<(), Fault>,
     /// Whether the apex of the zone is the root.
     pub at_root: bool,
+    /// What the zone has more of than stock secondaries take, of a zone that is checked.
+    pub large: Option<Large>,
 }
 
 /// Does one parsed command whose zone's text is the front of the reader, up to a line `%` or its end; the command's input
@@ -61,23 +66,27 @@ pub fn run_text<R: BufRead, W: Write + Drop, E: Write>(
         ⊎ IfSome (R.remaining reader.old) (λ input.
         BeginsToDo command.now (zone_text_of input) (behind_zone_text input) (writer_contents W.contents writer.old) (writer_contents W.contents writer.new)) }
     ensures at_root { result.status ≡ 0 → IfSome (R.remaining reader.old) (λ input. TellsRoot (zone_for command.now (zone_text_of input)) result.at_root) }
+    ensures large { result.status ≡ 0 → IfSome (R.remaining reader.old) (λ input. TellsLarge command.now (zone_for command.now (zone_text_of input)) result.large) }
     ensures statuses { (result.status ≡ 0) ⊎ (result.status ≡ 1) ⊎ (result.status ≡ 3) }
 {
     match read_zone_text(alloc, reader) {
         Ok(text) => {
-            let Outcome { done, at_root } = run_with_zone(
-                alloc,
-                command,
-                text.as_slice(),
-                reader,
-                writer,
-            );
+            let Outcome {
+                done,
+                at_root,
+                large,
+            } = run_with_zone(alloc, command, text.as_slice(), reader, writer);
             let status = tell(alloc, done, text.as_slice(), errors);
-            Ended { status, at_root }
+            Ended {
+                status,
+                at_root,
+                large,
+            }
         }
         Err(fault) => Ended {
             status: tell(alloc, Err(Fault::Device(fault)), b"", errors),
             at_root: false,
+            large: None,
         },
     }
 }
@@ -94,6 +103,7 @@ pub fn run_with_zone<R: BufRead, W: Write + Drop>(
     ensures ok { OnOk result.done (IfSome (R.remaining reader.old) (λ input.
         Does command.now text.now input (writer_contents W.contents writer.old) (writer_contents W.contents writer.new))) }
     ensures at_root { OnOk result.done (TellsRoot (zone_for command.now text.now) result.at_root) }
+    ensures large { OnOk result.done (TellsLarge command.now (zone_for command.now text.now) result.large) }
     ensures flushed { OnOk result.done (writer_buffer writer.new ≡ []) }
     ensures zone { IfErr result.done (λ fault. IsOfZone (zone_for command.now text.now) fault) }
     ensures transfer { IfSome (R.remaining reader.old) (λ input. TellsOf command.now text.now input result.done) }
@@ -106,8 +116,13 @@ pub fn run_with_zone<R: BufRead, W: Write + Drop>(
 {
     let read = read_zone(alloc, text, command.origin());
     let at_root = is_at_root(&read);
+    let large = large_of(command, &read);
     let done = run_read(alloc, command, read, reader, writer);
-    Outcome { done, at_root }
+    Outcome {
+        done,
+        at_root,
+        large,
+    }
 }
 
 /// Whether a zone that was read has the root as its apex.
@@ -117,6 +132,16 @@ fn is_at_root(read: &Result<Zone, FileFault>) -> bool
     match read {
         Ok(zone) => zone.apex().is_root(),
         Err(_) => false,
+    }
+}
+
+/// What a zone that is checked has more of than stock secondaries take; None where it has no more, nothing is checked, or no zone was read.
+fn large_of(command: &Command<'_>, read: &Result<Zone, FileFault>) -> Option<Large>
+    ensures { TellsLarge command.now read.now result }
+{
+    match (command, read) {
+        (Command::Check { .. }, Ok(zone)) => large_in(zone),
+        _ => None,
     }
 }
 

@@ -3,10 +3,10 @@ ghost use Rattle.std.specs.Prelude.{IfOk};
 ghost use Rattle.dns_engine.specs.Versions.{IsFirst, AreNext};
 ghost use Rattle.dnsd.specs.Begun.{CanBegin, IsIn, Begins};
 
-use crate::log::Log;
 use compaction::StoreWriter;
 use dns_engine::SharedVersion;
 use file_disks::FileDisk;
+use server_log::Log;
 use std::alloc::{AllocError, Global};
 use std::fs::{File, Files};
 use std::sync::Wait;

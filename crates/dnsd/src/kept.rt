@@ -2,9 +2,9 @@
 ghost use Rattle.std.specs.Prelude.{IfOk};
 ghost use Rattle.store_service.specs.Resumed.{IsGiven};
 
-use crate::levels::Level;
 use command_line::{Serve, StorePlan};
 use commands::{FAILED, Fault, REFUSED, tell};
+use server_log::Level;
 use std::alloc::Global;
 use std::fs::{File, Files};
 use std::io;

@@ -10,8 +10,6 @@ pub mod begin;
 pub mod bound;
 pub mod descriptors;
 pub mod kept;
-pub mod levels;
-pub mod log;
 pub mod secondaries;
 pub mod serve;
 pub mod stored;
@@ -19,9 +17,8 @@ pub mod zone_file;
 
 use command_line::{Task, parse_words, tell_fault};
 use commands::{Command, Ended, FAILED, Outcome, Source, run_text, run_with_zone, tell_of};
-use levels::Level;
-use log::ROOT_APEX;
 use serve::run_serve;
+use server_log::{Level, ROOT_APEX};
 use std::env;
 use std::fs::{File, Files};
 use std::io::{self, BufRead, BufReader, BufWriter, Write};
@@ -81,7 +78,7 @@ fn run_words<
 }
 
 /// Does a command over standard input and output, and writes what it says of a failure to standard error; where its zone's apex is the
-/// root, and no origin is given, a warning, since names without a final dot are then below the root.
+/// root, and no origin is given, a warning, since names without a final dot are then below the root; and one of a zone that stock secondaries don't take.
 fn run_command<R: Files + Print + Eprint + Input + AllocGlobal>(
     rt: &R,
     command: &Command<'_>,
@@ -93,6 +90,9 @@ fn run_command<R: Files + Print + Eprint + Input + AllocGlobal>(
     rt.eprint(String::from_utf8_lossy(alloc, errors.as_slice())?)?;
     if ended.at_root && !has_origin && is_warned_of(command) {
         eprintln!(rt; "{ROOT_APEX}")?;
+    }
+    if let Some(large) = &ended.large {
+        eprintln!(rt; "warning: {large}")?;
     }
     Ok(ended.status)
 }
@@ -131,10 +131,19 @@ fn run_with_file<R: Files + Eprint + AllocGlobal, I: BufRead, O: Write + Drop>(
         return Ok(Ended {
             status: FAILED,
             at_root: false,
+            large: None,
         });
     };
-    let Outcome { done, at_root } = run_with_zone(alloc, command, text.as_slice(), input, output);
+    let Outcome {
+        done,
+        at_root,
+        large,
+    } = run_with_zone(alloc, command, text.as_slice(), input, output);
     let source = Source::File(path);
     let status = tell_of(alloc, done, source, text.as_slice(), errors);
-    Ok(Ended { status, at_root })
+    Ok(Ended {
+        status,
+        at_root,
+        large,
+    })
 }

@@ -1,8 +1,8 @@
 //! The sockets by which secondaries are told of each version of the zone (RFC 1996).
-use crate::levels::Level;
 use command_line::{Secondary, source_of};
 use dns_name::Name;
 use serve_workers::{Duty, NotifySocket, Progress, Secondaries, Sockets};
+use server_log::Level;
 use std::alloc::Global;
 use std::io::{self, ErrorKind};
 use std::net::{Net, SocketAddr, UdpSocket};

@@ -7,8 +7,6 @@ use crate::begin::{Beginning, Begun, BegunStore, KeptIn, begin};
 use crate::bound::{Unbound, WorkerSockets, bind_all, duties_of, keep_datagrams};
 use crate::descriptors;
 use crate::kept::start_kept;
-use crate::levels::Level;
-use crate::log::{Entries, Listening, Log, LogLine, start_entries};
 use crate::secondaries::{SecondarySockets, put_secondaries, secondaries_for};
 use crate::zone_file::read_zone_file;
 use command_line::{MAX_THREADS, Serve, StorePlan, is_routed};
@@ -16,9 +14,11 @@ use commands::{DONE, FAILED, Fault, Source, tell};
 use conversation::Allowed;
 use line_io::read_zone_text;
 use master_file::{FileFault, read_zone};
+use notify::large_in;
 use serve_workers::{
     ConnectionPlan, Duty, Handing, Muster, Plan, Progress, Secondaries, ServeFault, serve_zone,
 };
+use server_log::{Entries, Level, Listening, Log, LogLine, start_entries};
 use std::alloc::Global;
 use std::fs::{File, Files};
 use std::io::{self, BufReader, ErrorKind};
@@ -274,11 +274,15 @@ fn serve_bound<
         wanted: serve.udp_buffer,
     };
     let at_root = zone.apex().is_root() && !serve.has_origin;
+    let large = large_in(zone);
     let secondaries = secondaries.of_zone(zone.apex().copy());
     let log = Log::new(entries, listening);
     warn(rt, serve, &log);
     if at_root {
         log.add(rt, LogLine::RootApex);
+    }
+    if let Some(large) = large {
+        log.add(rt, LogLine::Large(large));
     }
     let status = match serve_all(rt, rt.alloc(), serve, begun, workers, secondaries, &log) {
         Ok(()) => DONE,

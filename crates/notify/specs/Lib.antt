@@ -4,3 +4,4 @@ pub mod Notified
 pub mod Turns
 pub mod Course
 pub mod Runs
+pub mod Large

@@ -12,16 +12,43 @@ use crate::codes::code_of;
 use crate::replying::Replying;
 use dns_engine::{FirstZone, SharedVersion, VersionReader};
 use lasting_engine::judge_asked;
+use notify::{Large, passed_by};
 use serve_core::{Peer, Transport, UDP_LIMIT};
 use snapshot_cell::Naming;
 use std::alloc::Global;
 use std::marker::Model;
+use std::mem;
 use std::sync::Wait;
 use update_desk::Done;
 use update_group::{Group, Judgement, Judging};
 use update_job::Publishing;
 use wire_names::NameWriter;
-use zone_service::{Serials, Server, ServiceLog, Told, Waiting, Way, tell_update, write_done};
+use zone_service::{
+    Event, Serials, Server, ServiceLog, Told, Waiting, Way, tell_update, write_done,
+};
+use zone_tree::Version;
+
+/// The first owner that one of these versions gives more than stock secondaries take, each of them made from the one before it, and the first from this one; None where
+/// there is none, or that one isn't known.
+fn passed_in(first: Option<SharedVersion>, versions: &[SharedVersion]) -> Option<Large> {
+    let first = first?;
+    let mut before = first.get();
+    for version in versions {
+        let version = version.get();
+        let large = passed_of(before, version);
+        if large.is_some() {
+            return large;
+        }
+        before = version;
+    }
+    None
+}
+
+/// The first owner that a version gives more than stock secondaries take, made from the one before it.
+fn passed_of(before: &Version, version: &Version) -> Option<Large> {
+    let delta = version.delta()?;
+    passed_by(before.zone(), version.zone(), delta.additions())
+}
 
 /// Who publishes the versions of batches in a server, and tells those whose updates waited, with a reader, of which contracts know what it has seen published.
 #[derive(Drop)]
@@ -39,6 +66,8 @@ pub struct Teller<'a, 's, Z: FirstZone, N: Naming, L, P: Replying + Drop> {
     begun: u64,
     /// The serials of the zone before that batch, and after it.
     serials: Serials,
+    /// That version, until the batch is published.
+    first: Option<SharedVersion>,
 }
 
 impl<'a, 's, Z: FirstZone, N: Naming, L, P: Replying + Drop> Model for Teller<'a, 's, Z, N, L, P> {
@@ -87,6 +116,7 @@ impl<'a, 's, Z: FirstZone, N: Naming, L: ServiceLog, P: Replying + Drop> Teller<
                 before: serial,
                 after: serial,
             },
+            first: None,
         }
     }
 
@@ -105,6 +135,7 @@ impl<'a, 's, Z: FirstZone, N: Naming, L: ServiceLog, P: Replying + Drop> Teller<
             last: _,
             begun: _,
             serials: _,
+            first: _,
         } = self;
         (reader, replying)
     }
@@ -163,6 +194,7 @@ impl<'a, 's, Z: FirstZone, N: Naming, L: ServiceLog, P: Replying + Drop> Publish
             before: serial,
             after: serial,
         };
+        self.first = Some(begun.last.share(rt));
         (begun.last, begun.room)
     }
 
@@ -178,10 +210,14 @@ impl<'a, 's, Z: FirstZone, N: Naming, L: ServiceLog, P: Replying + Drop> Publish
         ensures brought { self.new.brought ≡ self.old.brought }
         ensures turned_back { IfErr result (λ _. IsTurnedBack Z.zone self.old.seen self.new.seen (versions_of group)) }
     {
+        let large = passed_in(mem::take(&mut self.first), group.versions());
         let (number, published) = self.server.publish(rt, &mut self.reader, self.last, group);
         self.last = number;
         let (codes, after) = published?;
         self.serials.after = after;
+        if let Some(large) = large {
+            self.log.tell(rt, Event::Large(large));
+        }
         Ok(codes)
     }
 

@@ -32,7 +32,7 @@ use update_desk::{Done, Fetched};
 use wire_names::NameWriter;
 use zone_service::{
     Hand, Handed, Now, Serials, Served, Server, ServiceLog, Told, answer_kept, hand_in, serve_one,
-    tell_update, write_done, write_transfer,
+    tell_refused, tell_signed, tell_update, write_done, write_transfer,
 };
 
 /// A server that answers the peers of connections, with a worker's reader, of which contracts know what it has seen published. A log is told of
@@ -210,6 +210,7 @@ impl<'a, 's, Z: FirstZone, N: Naming, L: ServiceLog> Replies<'a, 's, Z, N, L> {
         ensures unspent { IfErr result (λ unmade. unmade ≡ WhyUnmade.Later) }
     {
         let (key, peer) = (self.asker, self.peer);
+        tell_signed(rt, self.log, self.from, request);
         let known = Snapshot::of(&self.reader);
         let hand = if self.taken.make_room(key) {
             Some(hand)
@@ -326,6 +327,7 @@ impl<'a, 's, Z: FirstZone, N: Naming, L: ServiceLog> Replies<'a, 's, Z, N, L> {
         ensures spent { OnErr result (IsTransfer Z.zone self.old.peer request.now × (self.new.reader.left ≡ 0)) }
     {
         let peer = self.peer;
+        tell_signed(rt, self.log, self.from, request);
         match serve_one(
             rt,
             self.alloc,
@@ -420,7 +422,10 @@ impl<'a, 's, Z: FirstZone, N: Naming, L: ServiceLog> Answering<Transfer>
             request,
             out,
         ) {
-            Now::Bytes(len) => Ok(Reply::One(len)),
+            Now::Bytes(len) => {
+                tell_refused(rt, self.log, self.peer, self.from, &self.query, &out[..len]);
+                Ok(Reply::One(len))
+            }
             Now::Silent => Ok(Reply::Silent),
             Now::Later => self.reply_later(rt, request, out),
             Now::Spent => Err(Unmade::Spent),

@@ -3,3 +3,4 @@ pub mod Notified
 pub mod Waiting
 pub mod Updated
 pub mod Replied
+pub mod Signed

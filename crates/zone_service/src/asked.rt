@@ -14,7 +14,7 @@ use crate::handing::{Hand, hand_over};
 use crate::notifying::{NextTurn, Notifying};
 use crate::server::Server;
 use crate::service_log::ServiceLog;
-use crate::telling::tell_update;
+use crate::telling::{tell_refused, tell_signed, tell_update};
 use crate::transfer::write_transfer;
 use conversation::Answering;
 use dns_engine::{FirstZone, VersionReader};
@@ -208,9 +208,15 @@ impl<'a, 's, Z: FirstZone, N: Naming, L: ServiceLog> Answering for Asked<'a, 's,
             request,
             out,
         ) {
-            Now::Bytes(len) => Ok(Some(len)),
+            Now::Bytes(len) => {
+                tell_refused(rt, self.log, peer, self.from, &self.query, &out[..len]);
+                Ok(Some(len))
+            }
             Now::Silent => Ok(None),
-            Now::Later => self.answer_datagram_later(rt, peer, request, out),
+            Now::Later => {
+                tell_signed(rt, self.log, self.from, request);
+                self.answer_datagram_later(rt, peer, request, out)
+            }
             Now::Spent => Err(Spent),
         }
     }

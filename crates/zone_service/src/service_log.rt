@@ -1,5 +1,7 @@
 //! What an operator is told of a running server: a line for each change of the zone, and one for each end of a worker.
+use dns_name::Name;
 use dns_rdata::{Rcode, Serial};
+use notify::Large;
 use serve_core::Transport;
 use std::fmt::{self, Display, Formatter};
 use std::net::SocketAddr;
@@ -20,7 +22,7 @@ impl ServiceLog for NoLog {
 }
 
 /// What is told of a running server. Its text is a line's.
-#[derive(Clone, Copy)]
+#[derive(Drop)]
 pub enum Event {
     /// A peer that may update has sent an update, which has got its code (RFC 2136, 3).
     Update {
@@ -31,6 +33,24 @@ pub enum Event {
         /// The zone's serials; none of an update that the engine wasn't asked for, since it can't be read or memory was wanted.
         serials: Option<Serials>,
     },
+    /// A peer was refused what it may not have (RFC 2136, 3.3; RFC 5936, 2.2.1).
+    Refused {
+        /// Where the peer asks from.
+        from: SocketAddr,
+        /// What it asked for.
+        wanted: Wanted,
+    },
+    /// A request is signed (RFC 8945), and no keys are configured: the signature isn't checked.
+    Signed {
+        /// Where the peer asks from.
+        from: SocketAddr,
+        /// What it asked for.
+        wanted: Wanted,
+        /// The name of the key.
+        key: Name,
+    },
+    /// An update has added records to an owner that then has more than stock secondaries take.
+    Large(Large),
     /// A thread of a worker has ended.
     End {
         /// The worker's number, from 1.
@@ -96,6 +116,24 @@ pub struct Serials {
     pub after: Serial,
 }
 
+/// What a peer may have only where it is permitted.
+#[derive(Clone, Copy, Debug, PartialEq, Eq)]
+pub enum Wanted {
+    /// An update of the zone.
+    Update,
+    /// A transfer of the zone.
+    Transfer,
+}
+
+impl Display for Wanted {
+    fn fmt<W: fmt::Write>(&self, f: &mut Formatter<W>) -> fmt::Result {
+        f.write_str(match self {
+            Wanted::Update => "update",
+            Wanted::Transfer => "transfer",
+        })
+    }
+}
+
 /// How a worker's job has ended.
 #[derive(Clone, Copy)]
 pub enum JobEnd {
@@ -121,6 +159,17 @@ impl Display for Event {
                 write!(f, "update from {from}: {code}")?;
                 write_serials(f, *serials)
             }
+            Event::Refused { from, wanted } => {
+                write!(f, "{wanted} from {from} refused: not permitted by --allow")
+            }
+            Event::Signed { from, wanted, key } => {
+                let key = key.to_text();
+                write!(
+                    f,
+                    "{wanted} from {from}: signed with key {key}, but no keys are configured; signature not checked"
+                )
+            }
+            Event::Large(large) => write!(f, "{large}"),
             Event::End {
                 worker,
                 transport,

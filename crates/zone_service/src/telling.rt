@@ -1,29 +1,40 @@
-//! What a log is told of updates.
-ghost use Rattle.std.specs.Prelude.{◌≡◌, Some, None, if◌then◌else◌};
-ghost use Rattle.zone_service.specs.declared.service_log.Event.TheVariants.{Update as ToldOfUpdate};
+//! What is logged of requests: updates, and transfers and updates that are refused, or signed where there are no keys.
+ghost use Rattle.std.specs.Prelude.{◌≡◌, ◌≤◌, length, if◌then◌else◌};
+ghost use Rattle.zone_service.specs.Signed.{key_in};
+ghost use Rattle.zone_service.specs.declared.service_log.Event.TheVariants.{Update as UpdateEvent, Refused as RefusedEvent};
+ghost use Rattle.zone_service.specs.declared.service_log.Wanted.TheVariants.{Update as AnUpdate};
 
 use crate::answer::Told;
-use crate::service_log::{Event, ServiceLog};
+use crate::service_log::{Event, ServiceLog, Wanted};
+use dns_message::{HEADER, Place, Query, is_update, tsig_place};
+use dns_name::Name;
+use dns_rdata::RType;
 use serve_core::Peer;
 use std::net::SocketAddr;
 use std::sync::Wait;
+use wire_names::Message;
 
-/// What a log is told of an update that a peer asks for from an address: its code and its serials, where the peer may update; nothing of
-/// others, who could fill the log (own).
-fn event_of(peer: Peer, from: SocketAddr, told: Told) -> Option<Event>
-    ensures { result ≡ (if peer.may_update then Some (ToldOfUpdate from told.code told.serials) else None) }
+/// The code REFUSED in the fourth octet of a reply (RFC 1035, 4.1.1).
+const REFUSED: u8 = 5;
+
+/// What is logged of an update that a peer asks for from an address: its code and its serials, where the peer may update, and else that it is refused (own).
+fn event_of(peer: Peer, from: SocketAddr, told: Told) -> Event
+    ensures { result ≡ (if peer.may_update then UpdateEvent from told.code told.serials else RefusedEvent from AnUpdate) }
 {
     if !peer.may_update {
-        return None;
+        return Event::Refused {
+            from,
+            wanted: Wanted::Update,
+        };
     }
-    Some(Event::Update {
+    Event::Update {
         from,
         code: told.code,
         serials: told.serials,
-    })
+    }
 }
 
-/// Tells a log of an update that a peer asks for from an address, where the peer may update (own).
+/// Logs an update that a peer asks for from an address (own).
 pub fn tell_update<R: Wait, L: ServiceLog>(
     rt: &R,
     log: &L,
@@ -31,7 +42,65 @@ pub fn tell_update<R: Wait, L: ServiceLog>(
     from: SocketAddr,
     told: Told,
 ) {
-    if let Some(event) = event_of(peer, from, told) {
-        log.tell(rt, event);
+    log.tell(rt, event_of(peer, from, told));
+}
+
+/// Logs a query for a transfer that a peer asks from an address, where this reply refuses it since the peer may have none (own).
+pub fn tell_refused<R: Wait, L: ServiceLog>(
+    rt: &R,
+    log: &L,
+    peer: Peer,
+    from: SocketAddr,
+    query: &Query,
+    reply: &[u8],
+) {
+    if !peer.may_transfer && is_refused(reply) && asks_transfer(query) {
+        let wanted = Wanted::Transfer;
+        log.tell(rt, Event::Refused { from, wanted });
     }
+}
+
+/// Logs that an update, or a query for a transfer, has a TSIG, which isn't checked, since there are no keys (RFC 8945, 5.2).
+pub fn tell_signed<R: Wait, L: ServiceLog>(rt: &R, log: &L, from: SocketAddr, request: &[u8]) {
+    if request.len() < HEADER {
+        return;
+    }
+    if let Some(key) = key_of(request) {
+        let wanted = if is_update(request) {
+            Wanted::Update
+        } else {
+            Wanted::Transfer
+        };
+        log.tell(rt, Event::Signed { from, wanted, key });
+    }
+}
+
+/// The name of the key that a request is signed by; None where no TSIG counts, or the request can't be read (RFC 8945, 4.2 and 5.2).
+fn key_of(request: &[u8]) -> Option<Name>
+    requires { HEADER ≤ length request.now }
+    ensures { result ≡ key_in request.now }
+{
+    let message = Message::new(request);
+    match tsig_place(&message)? {
+        Place::At(at) => match message.read_name(at) {
+            Ok((key, _)) => Some(key),
+            Err(_) => None,
+        },
+        Place::Bare => None,
+        Place::Bad => None,
+    }
+}
+
+/// Whether the code of a reply is REFUSED (RFC 1035, 4.1.1).
+fn is_refused(reply: &[u8]) -> bool {
+    match reply.get(3) {
+        Some(octet) => *octet & 15 == REFUSED,
+        None => false,
+    }
+}
+
+/// Whether a query is for a transfer (RFC 5936, 2.1; RFC 1995, 3).
+fn asks_transfer(query: &Query) -> bool {
+    let qtype = query.question.rtype;
+    qtype == RType::AXFR || qtype == RType::IXFR
 }

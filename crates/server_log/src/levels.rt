@@ -43,7 +43,11 @@ impl Level {
             Event::Update { .. } => Level::Info,
             Event::End { end, .. } | Event::Untold { end } => Level::of_end(end),
             Event::Serving | Event::Again { .. } => Level::Notice,
-            Event::Lost { .. } | Event::Silent { .. } => Level::Warning,
+            Event::Lost { .. }
+            | Event::Silent { .. }
+            | Event::Refused { .. }
+            | Event::Signed { .. }
+            | Event::Large(_) => Level::Warning,
         }
     }
 

@@ -1,0 +1,13 @@
+//! The log of a running server: its lines with their levels, the thread that writes them to standard error, and what a service manager is told beside it.
+#![tactic(auto)]
+
+mod levels;
+mod lines;
+mod log;
+mod peer_lines;
+mod writer;
+
+pub use levels::{Level, is_in_journal};
+pub use lines::{LogLine, ROOT_APEX};
+pub use log::{Listening, Log};
+pub use writer::{Entries, Entry, start_entries};
