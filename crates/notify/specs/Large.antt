@@ -1,5 +1,5 @@
 -- What of a zone BIND takes as a secondary only where it is configured so (`max-records-per-type`, `max-types-per-name`).
-use Rattle.std.specs.Prelude.{◌≡◌, ℕ, ◌<◌, ◌≤◌, List, Option, Some, None, length, ⊥, All, Contains}
+use Rattle.std.specs.Prelude.{◌≡◌, ℕ, ◌<◌, ◌≤◌, List, Option, Some, None, length, All, Contains}
 use Rattle.dns_name.specs.Name.{Name}
 use Rattle.dns_rdata.specs.Record.{Record, owner_of, rtype_of}
 use Rattle.zone_tree.specs.Zone.{rrset_of, rrsets_of}
