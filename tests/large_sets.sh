@@ -1,7 +1,7 @@
 #!/usr/bin/env bash
 # Tries BIND, Knot and NSD, by the configurations of contrib/, as secondaries of a zone with a set of 200 records and a name of 120 types: each must hold
 # dnsd's records, octet by octet, after the transfer in whole and after an update, which has a set and a name pass a hundred and is taken as what
-# changed (RFC 1995). Then BIND without max-records-per-type or max-types-per-name, which refuses such a zone and such an update.
+# changed (RFC 1995), and the log must warn of the zone and of the update, once each. Then BIND without max-records-per-type or max-types-per-name, which refuses such a zone and such an update.
 # It prints a line a check and a count, and its status is 1 where one failed. It listens on 127.0.0.1 alone, and ends what it starts.
 # Usage: [DNSD=PROGRAM] tests/large_sets.sh [--port N]
 #   --port N    dnsd listens on N (by default 17353), and the secondaries on the four after it
@@ -51,6 +51,11 @@ all_hold() {
     done
 }
 
+# So many lines of the log begin so, and each tells what BIND needs.
+warned() {
+    check "the log warns of $3" "$2" "$(grep -cE "$1.* (a set of more than 100 records|more than 100 types): BIND as a secondary takes the zone only with 'max-records-per-type 256; max-types-per-name 0;'$" "$work/dnsd.log" || true)"
+}
+
 # BIND without an option refuses the zone: the option, and why it does.
 refuses_zone() {
     local name=without-$1
@@ -92,6 +97,11 @@ update "update add set.$d 3600 A 198.51.100.201" "update add set.$d 3600 A 198.5
     "update add grows.$d 3600 TXT 99" "update add grows.$d 3600 TXT 100" "update add grows.$d 3600 TXT 101" \
     "update add gains.$d 3600 TYPE65501 \\# 0" "update add gains.$d 3600 TYPE65502 \\# 0" "update add gains.$d 3600 TYPE65503 \\# 0"
 all_hold 2 changes
+warned '^warning: set\.' 1 "the zone"
+warned '^(grows|gains)\.' 1 "an update by which owners pass a hundred"
+update "update add set.$d 3600 A 198.51.100.203" "update add grows.$d 3600 TXT 102" "update add gains.$d 3600 TYPE65504 \\# 0"
+all_hold 3 changes
+warned '^(warning: )?(set|types|grows|gains)\.' 2 "an update to owners that have passed it (nothing further)"
 refuses_zone max-records-per-type 'too many records'
 refuses_zone max-types-per-name 'too many records'
 unserve

@@ -45,6 +45,12 @@ def query(qtype, more=b"", count=0):
     return struct.pack(">6H", 0x1234, 0, 1, 0, 0, count) + APEX + struct.pack(">HH", qtype, 1) + more
 
 
+def changes():
+    """A query for the changes after serial 1 (RFC 1995, 3)."""
+    soa = bytes.fromhex("c00c000600010000000000160000") + struct.pack(">5L", 1, 2, 3, 4, 5)
+    return struct.pack(">6H", 0x1234, 0, 1, 0, 1, 0) + APEX + struct.pack(">HH", 251, 1) + soa
+
+
 class Server:
     """A server with these words, and what it logs."""
 
@@ -92,7 +98,7 @@ def try_refused():
     """Updates and transfers that aren't permitted, a few and many."""
     server = Server("--allow", "")
     codes = [server.ask(update(1)) for _ in range(4)] + [server.ask(update(2), "127.0.0.2"), server.ask_stream(update(3), "127.0.0.3")]
-    codes += [server.ask_stream(query(252), "127.0.0.3"), server.ask(query(251), "127.0.0.4"), server.ask(query(1))]
+    codes += [server.ask_stream(query(252), "127.0.0.3"), server.ask(changes(), "127.0.0.4"), server.ask(query(1))]
     told(codes == [5] * 8 + [0], f"refused, but for a query: {codes}")
     text = server.end()
     right = {("update", "127.0.0.1"): 4, ("update", "127.0.0.2"): 1, ("update", "127.0.0.3"): 1, ("transfer", "127.0.0.3"): 1, ("transfer", "127.0.0.4"): 1}

@@ -72,6 +72,35 @@ tries serve --listen 127.0.0.1:0 --workers 1 --count 0 --origin . "$room/zone"
 input=$'@ 300 SOA ns admin 1 7200 900 1209600 300\n'
 says 1 $'line 0: M11 Apex\nthe zone has no SOA, or no NS at the owner of its SOA' check -
 
+# a zone with a set of more than 100 records, or an owner of more than 100 types, which a stock BIND refuses as a secondary: check prints a warning on
+# standard error, and serve logs one; of 100 there is none
+limits="BIND as a secondary takes the zone only with 'max-records-per-type 256; max-types-per-name 0;'"
+large_zone() {
+    printf '%s\n' 'x. 300 IN SOA ns. admin. 1 7200 900 1209600 300' 'x. 300 IN NS ns.'
+    for ((i = 1; i <= $1; i++)); do echo "a.x. 300 IN A 10.0.$((i / 256)).$((i % 256))"; done
+    for ((i = 1; i <= $2; i++)); do echo "b.x. 300 IN TYPE$((i + $3)) \\# 0"; done
+}
+for sizes in '101 100 65279' '256 1 999' '1 101 65279' '100 101 299' '1 200 999'; do
+    read -r records types from <<<"$sizes"
+    large_zone "$records" "$types" "$from" >"$room/zone"
+    much='a.x. has a set of more than 100 records'
+    ((records > 100)) || much='b.x. has more than 100 types'
+    tries check "$room/zone"
+    [[ $got == 0 && $told == "warning: $much: $limits"$'\n' ]] || differs "a warning of $sizes" check "$room/zone"
+    row 0 "warning: $much: $limits" serve --listen 127.0.0.1:0 --workers 1 --count 0 "$room/zone"
+done
+large_zone 100 100 299 >"$room/zone"
+for words in "check $room/zone" "serve --listen 127.0.0.1:0 --workers 1 --count 0 $room/zone"; do
+    tries $words
+    [[ $got == 0 && $told != *'BIND as a secondary'* ]] || differs 'no warning of 100' $words
+done
+large_zone 101 101 299 >"$room/zone"
+input=
+for words in "answer $room/zone" "steps $room/zone"; do
+    tries $words
+    [[ $got == 0 && $told != *'BIND as a secondary'* ]] || differs 'no warning of another command' $words
+done
+
 # what serve takes
 input=
 row 2 "--listen takes an address and a port, as 127.0.0.1:5353 or [::1]:5353, and 'localhost' is none" serve --listen localhost "$zone"
