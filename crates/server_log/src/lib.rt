@@ -1,4 +1,4 @@
-//! The log of a running server: its lines with their levels, the thread that writes them to standard error, and what a service manager is told beside it.
+//! The log of a running server: its lines with their levels, the thread that writes them to standard error, and what a service manager is notified of.
 #![tactic(auto)]
 
 mod levels;

@@ -44,7 +44,7 @@ impl Log {
         Log { entries, listening }
     }
 
-    /// Adds a line; where the thread is so far behind that there is no room, it is counted as lost.
+    /// Adds a line; where as many lines wait as may, it is counted as lost.
     pub fn add<R: Wait>(&self, rt: &R, line: LogLine) {
         self.entries.queue.add(rt, Entry::Line(line));
     }

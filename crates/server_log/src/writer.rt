@@ -1,4 +1,4 @@
-//! The thread that writes the log to standard error, and tells a service manager what is served.
+//! The thread that writes the log to standard error, and notifies a service manager.
 use crate::levels::{Level, is_in_journal};
 use crate::lines::LogLine;
 use crate::peer_lines::{PeerLine, PeerLines};
@@ -18,7 +18,7 @@ use zone_service::{Event, Serials};
 /// How many lines wait at most to be written (own).
 const MOST_WAITING: usize = 1024;
 
-/// How long there is at least between two states that a service manager is told, and between two lines of one peer, in seconds (own).
+/// How many seconds there are at least between two notifications of a service manager, and between two lines of one peer (own).
 const LEAST_SECONDS: u64 = 1;
 
 /// What the log's thread takes.
@@ -28,9 +28,9 @@ pub enum Entry {
     Line(LogLine),
     /// There are lines about peers.
     Peers,
-    /// The zone is served: a service manager is told so.
+    /// The zone is served: a service manager is notified.
     Ready,
-    /// The server ends: a service manager is told so.
+    /// The server ends: a service manager is notified.
     Stopping,
 }
 
@@ -52,10 +52,10 @@ struct ErrorLines<E> {
     manager: Option<ServiceManager>,
     /// The apex of the zone that is served, and its serial as it was logged last.
     zone: Option<(Name, Serial)>,
-    /// Whether the service manager doesn't know that serial.
-    is_behind: bool,
-    /// When it was told a state, since the clock's beginning.
-    told_at: Duration,
+    /// Whether the service manager was notified of an older serial.
+    is_stale: bool,
+    /// When it was notified, since the clock's beginning.
+    notified_at: Duration,
     shared: Entries,
     /// Whether lines about peers wait.
     has_peers: bool,
@@ -81,9 +81,9 @@ impl<E: Eprint + AllocGlobal + Wait + Clock> Sink<Entry> for ErrorLines<E> {
 
     fn idle(&mut self) -> Option<Duration> {
         let peers = self.write_peers();
-        let told = self.follow_status();
-        match (peers, told) {
-            (Some(peers), Some(told)) => Some(peers.min(told)),
+        let status = self.follow_status();
+        match (peers, status) {
+            (Some(peers), Some(status)) => Some(peers.min(status)),
             (Some(one), None) | (None, Some(one)) => Some(one),
             (None, None) => None,
         }
@@ -107,12 +107,12 @@ impl<E: Eprint + AllocGlobal + Wait + Clock> ErrorLines<E> {
         }
     }
 
-    /// Tells the service manager a serial that it doesn't know, a second after the last at the earliest; how long that is from now, where it is later.
+    /// Notifies the service manager of a serial that it doesn't have, a second after the last at the earliest; how long that is from now, where it is later.
     fn follow_status(&mut self) -> Option<Duration> {
-        if !self.is_behind || self.manager.is_none() {
+        if !self.is_stale || self.manager.is_none() {
             return None;
         }
-        let left = self.left_of(self.told_at);
+        let left = self.left_of(self.notified_at);
         if left.is_none() {
             self.notify_status();
         }
@@ -165,25 +165,25 @@ impl<E: Eprint + AllocGlobal + Wait + Clock> ErrorLines<E> {
         if let Some((_, serial)) = &mut self.zone {
             if *serial != after {
                 *serial = after;
-                self.is_behind = true;
+                self.is_stale = true;
             }
         }
     }
 
-    /// Tells the service manager a state, if there is one.
+    /// Notifies the service manager of a state, if there is one.
     fn notify(&self, state: &str) {
         if let Some(manager) = &self.manager {
             manager.notify(state);
         }
     }
 
-    /// Tells the service manager that the zone is served.
+    /// Notifies the service manager that the zone is served.
     fn notify_ready(&mut self) {
         self.notify("READY=1");
         self.notify_status();
     }
 
-    /// Tells the service manager the zone and its serial.
+    /// Notifies the service manager of the zone and its serial.
     fn notify_status(&mut self) {
         if let Some((apex, serial)) = &self.zone {
             let (apex, serial) = (apex.to_text(), serial.0);
@@ -191,14 +191,14 @@ impl<E: Eprint + AllocGlobal + Wait + Clock> ErrorLines<E> {
                 self.notify(state.as_str());
             }
         }
-        self.is_behind = false;
+        self.is_stale = false;
         if let Ok(now) = self.rt.monotonic() {
-            self.told_at = now;
+            self.notified_at = now;
         }
     }
 }
 
-/// Starts the thread that writes the log and tells the service manager that `NOTIFY_SOCKET` names, if it names one (sd_notify(3)); want of memory, or a thread that is
+/// Starts the thread that writes the log and notifies the service manager that `NOTIFY_SOCKET` names, if it names one (sd_notify(3)); want of memory, or a thread that is
 /// refused, starts none.
 pub fn start_entries<
     R: Env + Eprint + AllocGlobal + Net + Threads + Wait + Clock + Copy + Send + Drop + 'static,
@@ -223,8 +223,8 @@ pub fn start_entries<
             in_journal,
             manager,
             zone: None,
-            is_behind: false,
-            told_at: Duration::from_secs(0),
+            is_stale: false,
+            notified_at: Duration::from_secs(0),
             shared: read,
             has_peers: false,
             peers_at: Duration::from_secs(0),
