@@ -1,8 +1,9 @@
 //! Lines about peers whose requests were refused, or signed where there are no keys: of each peer one at most once a second.
+use peer_groups::PeerGroup;
 use std::alloc::Global;
 use std::fmt::{self, Display, Formatter};
 use std::mem;
-use std::net::{IpAddr, Ipv6Addr};
+use std::net::SocketAddr;
 use zone_service::Event;
 
 /// How many lines are kept apart at most until they are written (own).
@@ -79,7 +80,7 @@ fn is_alike(one: &Event, other: &Event) -> bool {
                 from: other_from,
                 wanted: other_wanted,
             },
-        ) => wanted == other_wanted && group_of(from.ip()) == group_of(other_from.ip()),
+        ) => wanted == other_wanted && is_one_peer(*from, *other_from),
         (
             Event::Signed { from, wanted, .. },
             Event::Signed {
@@ -87,18 +88,12 @@ fn is_alike(one: &Event, other: &Event) -> bool {
                 wanted: other_wanted,
                 ..
             },
-        ) => wanted == other_wanted && group_of(from.ip()) == group_of(other_from.ip()),
+        ) => wanted == other_wanted && is_one_peer(*from, *other_from),
         _ => false,
     }
 }
 
-/// The addresses that count as one peer's: an address of IPv4, and a /64 of IPv6 (RFC 4291, 2.5.4).
-fn group_of(address: IpAddr) -> IpAddr {
-    match address {
-        IpAddr::V4(address) => IpAddr::V4(address),
-        IpAddr::V6(address) => {
-            let [a, b, c, d, ..] = address.segments();
-            IpAddr::V6(Ipv6Addr::new(a, b, c, d, 0, 0, 0, 0))
-        }
-    }
+/// Whether two addresses are one peer's.
+fn is_one_peer(one: SocketAddr, other: SocketAddr) -> bool {
+    PeerGroup::of(one.ip()).is_same(PeerGroup::of(other.ip()))
 }
