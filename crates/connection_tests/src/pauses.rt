@@ -1,4 +1,4 @@
-//! When a wait for sockets begins with a pause, by a clock that counts them.
+//! That no wait for sockets sleeps, however many the one before told of, by a clock that counts.
 use mio::net::TcpListener;
 use ready_sockets::{TcpPeer, TcpPlace, Watch};
 use std::alloc::Global;
@@ -110,24 +110,23 @@ fn told<C: Clock>(
 }
 
 #[test]
-fn a_wait_after_one_that_told_of_several_begins_with_a_pause(rt: HostRuntime) -> Result<(), Fail> {
+fn no_wait_begins_with_a_pause(rt: HostRuntime) -> Result<(), Fail> {
     let clock = Counting {
         clock: &rt,
         pauses: Cell::new(0),
     };
     let mut connected = Connected::new(&rt, rt.alloc(), &clock, 20)?;
-    // How many clients send, how long the next wait may be, and how many pauses there have been after it.
+    // How many clients send, and how long the next wait may be.
     let rows = [
-        (1, MILLISECOND, 0),
-        (2, MILLISECOND, 1),
-        (2, 0, 1),
-        (15, MILLISECOND, 2),
-        (16, MILLISECOND, 2),
-        (20, MILLISECOND, 2),
+        (1, MILLISECOND),
+        (2, MILLISECOND),
+        (2, 0),
+        (15, MILLISECOND),
+        (16, MILLISECOND),
+        (20, MILLISECOND),
     ];
-    for (count, most, pauses) in rows {
-        // A wait that told of nothing has no pause after it.
-        let wanted = [count, 0, pauses, 0, pauses];
+    for (count, most) in rows {
+        let wanted = [count, 0, 0, 0, 0];
         assert_eq!(rt;
             told(&mut connected, count, most)?,
             wanted,

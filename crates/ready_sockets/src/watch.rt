@@ -7,21 +7,13 @@ use crate::place::TcpPlace;
 use mio::event::Event;
 use mio::{Events, Interest, Poll, Token, Waker};
 use std::alloc::Global;
+use std::io;
 use std::net::Net;
 use std::time::{Clock, Duration};
-use std::{io, thread};
 use turns::{NotWatched, Readiness};
 
 /// How many events are told at once, at most (own).
 const EVENTS: usize = 1024;
-
-/// Of how many sockets a wait has told at least, and of how many fewer, where the next one begins with a pause (own).
-const SEVERAL: usize = 2;
-
-const MANY: usize = 16;
-
-/// How long that pause is, in nanoseconds (own).
-const PAUSE: u64 = 50_000;
 
 /// Who ends a wait: nobody's key, and no place's number (own).
 const WAKER: Token = Token(usize::MAX / 2);
@@ -36,8 +28,6 @@ pub struct Watch<'a, C> {
     alloc: Global,
     /// By key, what is known of the connection that was watched last under it.
     news: Vec<Option<News>>,
-    /// Of how many sockets the last wait has told.
-    told: usize,
 }
 
 impl<'a, C: Clock> Watch<'a, C> {
@@ -50,7 +40,6 @@ impl<'a, C: Clock> Watch<'a, C> {
             now: 0,
             alloc,
             news: Vec::new(alloc),
-            told: 0,
         })
     }
 
@@ -76,14 +65,6 @@ impl<'a, C: Clock> Watch<'a, C> {
     fn tell(&self, event: &Event) {
         if let Some(Some(news)) = self.news.get(event.token().0) {
             news.tell(event.is_read_closed() || event.is_error());
-        }
-    }
-
-    /// Lets more come where the last wait has told of several sockets, but not many. Then clients ask faster than turns begin, and what comes meanwhile is
-    /// read, answered and written together. Where something could be done at once, it isn't put off.
-    fn pause(&self, most: u64) {
-        if most > 0 && self.told >= SEVERAL && self.told < MANY {
-            thread::sleep(self.clock, Duration::from_nanos(PAUSE));
         }
     }
 
@@ -125,9 +106,6 @@ impl<C: Clock> Readiness<TcpPeer> for Watch<'_, C> {
     }
 
     fn wait(&mut self, most: u64, keys: &mut Vec<usize>) -> Result<u64, NotWatched> {
-        self.pause(most);
-        self.told = 0;
-        let before = keys.len();
         if self
             .poll
             .poll(&mut self.events, Some(Duration::from_nanos(most)))
@@ -144,7 +122,6 @@ impl<C: Clock> Readiness<TcpPeer> for Watch<'_, C> {
                 return Err(NotWatched);
             }
         }
-        self.told = keys.len().saturating_sub(before);
         match self.clock.monotonic() {
             Ok(now) => {
                 self.now = nanos_of(now);
