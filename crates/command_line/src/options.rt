@@ -7,7 +7,9 @@ ghost use Rattle.transfer_core.specs.declared.kept.TheConstants.{KEPT};
 use crate::command::{KEEP, MAX_KEEP, ORIGIN, number_for};
 use crate::fault::CommandFault;
 use crate::secondaries::{Secondary, secondaries_of};
-use crate::store_options::{StorePlan, UDP_BUFFER, split_unit, store_of, udp_buffer};
+use crate::store_options::{
+    StorePlan, TRANSFER_RATE, UDP_BUFFER, split_unit, store_of, transfer_rate, udp_buffer,
+};
 use clap::ArgMatches;
 use commands::Source;
 use dns_name::Name;
@@ -36,7 +38,7 @@ pub struct Serve<'a> {
     pub allowed: Vec<IpAddr>,
     /// How many connections a worker may have open.
     pub places: usize,
-    /// How long each may wait for its peer.
+    /// How long each may wait for its peer, and how fast that takes what is written to it at least.
     pub limits: Limits,
     /// How many octets of datagrams may wait for a worker, at each address.
     pub udp_buffer: u32,
@@ -52,6 +54,7 @@ pub struct Serve<'a> {
     ghost idle: { IsPatience limits.idle },
     ghost message: { IsPatience limits.message },
     ghost reply: { IsPatience limits.reply },
+    ghost rate: { limits.rate ≤ 1073741824 },
 }
 
 /// The option for an address to listen on.
@@ -169,16 +172,18 @@ fn listened<'a>(
     Ok(listen)
 }
 
-/// How long connections may wait for their peers.
+/// How long connections may wait for their peers, and how fast these take what is written to them at least.
 fn limits_of<'a>(found: &ArgMatches<'a>) -> Result<Limits, CommandFault<'a>>
     ensures idle { IfOk result (λ limits. IsPatience limits.idle) }
     ensures message { IfOk result (λ limits. IsPatience limits.message) }
     ensures reply { IfOk result (λ limits. IsPatience limits.reply) }
+    ensures rate { IfOk result (λ limits. limits.rate ≤ 1073741824) }
 {
     Ok(Limits {
         idle: nanos_for(found.get_str(IDLE), IDLE)?,
         message: nanos_for(found.get_str(MESSAGE), MESSAGE)?,
         reply: nanos_for(found.get_str(REPLY), REPLY)?,
+        rate: transfer_rate(found.get_str(TRANSFER_RATE))?,
     })
 }
 

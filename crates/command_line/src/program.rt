@@ -2,7 +2,7 @@
 use crate::command::{BEFORE_FAULT, DIR, KEEP, ORIGIN, TCP, WINDOW, ZONE};
 use crate::options::{ALLOW, CONNECTIONS, COUNT, IDLE, LISTEN, MESSAGE, REPLY, WORKERS};
 use crate::secondaries::NOTIFY;
-use crate::store_options::{JOURNAL, STORE, TAKE, UDP_BUFFER};
+use crate::store_options::{JOURNAL, STORE, TAKE, TRANSFER_RATE, UDP_BUFFER};
 use clap::{Arg, ArgAction, Command as Parser};
 use std::alloc::{AllocError, Global};
 
@@ -216,6 +216,11 @@ const SERVE_WORDS: &[WordRow] = &[
         name: REPLY,
         form: Form::Default("TIME", "10"),
         help: "how long the taking of a reply, or of a part of it, may take, the same",
+    },
+    WordRow {
+        name: TRANSFER_RATE,
+        form: Form::Value("SIZE"),
+        help: "how many octets of what is written to it a connection's peer takes in ten seconds at least, as 16K or 1M, up to 1G, or 0 for no bound; 16K where it isn't given",
     },
     WordRow {
         name: UDP_BUFFER,

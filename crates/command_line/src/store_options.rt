@@ -44,6 +44,18 @@ const UDP_SIZES: Sizes = Sizes {
     takes: "from 4K to 1G, as 500K or 4M",
 };
 
+/// The option for how many octets of what is written to it a connection's peer takes in ten seconds at least.
+pub const TRANSFER_RATE: &str = "transfer-rate";
+
+/// The sizes of that; 0 is no bound (own).
+const RATES: Sizes = Sizes {
+    option: TRANSFER_RATE,
+    own: 16_384,
+    least: 0,
+    most: 1_073_741_824,
+    takes: "from 0 to 1G, as 16K or 1M",
+};
+
 /// The sizes that an option takes.
 #[derive(Clone, Copy)]
 struct Sizes {
@@ -109,6 +121,14 @@ pub fn udp_buffer<'a>(word: Option<&'a str>) -> Result<u32, CommandFault<'a>>
 {
     let size = size_of(word, UDP_SIZES)?;
     Ok(size as u32)
+}
+
+/// How many octets of what is written to it a connection's peer takes in ten seconds at least; 0 is no bound.
+pub fn transfer_rate<'a>(word: Option<&'a str>) -> Result<u64, CommandFault<'a>>
+    ensures own { IsNone word.entry → IsOkAnd result (λ size. size ≡ 16384) }
+    ensures most { IfOk result (λ size. size ≤ 1073741824) }
+{
+    size_of(word, RATES)
 }
 
 /// How many octets a word tells: a number, and after it K, M or G, or k, m or g, for 1,024 times as many once, twice or three times; the option's own where there is

@@ -4,6 +4,7 @@ use crate::echo::{Both, Echo};
 use crate::pieces::{After, Pieces, address, room_of, written};
 use crate::running::SECOND;
 use links::{Ends, Limits, Link, Room, make_room, serve_ready, sweep};
+use peer_groups::PeerGroup;
 use serve_core::{Peer, Transport};
 use slab::Slab;
 use std::alloc::{AllocError, Global};
@@ -39,10 +40,21 @@ impl Served {
 
     /// Puts a connection under the next key, whose peer may update or not, at a time.
     pub(crate) fn put(&mut self, stream: Pieces, may: bool, now: u64) -> Result<(), AllocError> {
+        self.put_from(1, stream, may, now)
+    }
+
+    /// The same of a peer at an address of 192.0.2.0/24.
+    fn put_from(
+        &mut self,
+        last: u8,
+        stream: Pieces,
+        may: bool,
+        now: u64,
+    ) -> Result<(), AllocError> {
         let peer = Peer::over(Transport::Tcp, may);
         let _key = self
             .links
-            .insert(Link::new(stream, self.alloc, peer, address(1), now))?;
+            .insert(Link::new(stream, self.alloc, peer, address(last), now))?;
         Ok(())
     }
 
@@ -76,6 +88,7 @@ const LIMITS: Limits = Limits {
     idle: 10 * SECOND,
     message: 7 * SECOND,
     reply: 4 * SECOND,
+    rate: 0,
 };
 
 /// What is done with connections, and how many of them have then ended.
@@ -235,30 +248,69 @@ fn each_connection_has_its_time(rt: HostRuntime) -> Result<(), Fail> {
     Ok(())
 }
 
+/// Connections by the last octet of their peers' addresses, what comes on them, and when they begin: one that is idle, one with a part of a request,
+/// another that is idle, another with a part, and one whose request waits for its reply.
+const HOARDED: [(u8, &[u8], u64); 5] = [
+    (2, &[], 1),
+    (1, &[0, 9, b'a'], 2),
+    (1, &[], 3),
+    (1, &[0, 9, b'a'], 4),
+    (1, &[0, 1, b'u'], 0),
+];
+
 #[test]
-fn the_longest_idle_gives_its_place(rt: HostRuntime) -> Result<(), Fail> {
+fn the_longest_without_a_request_gives_its_place(rt: HostRuntime) -> Result<(), Fail> {
     let mut served = Served::new(rt.alloc())?;
-    let rest: &[u8] = &[0, 9, b'a'];
-    for (octets, begun) in [(rest, 1u64), (&[], 3), (&[], 2), (&[], 4)] {
-        served.put(Pieces::new(rt.alloc(), octets, 1)?, false, begun)?;
+    for (last, octets, begun) in HOARDED {
+        served.put_from(last, Pieces::new(rt.alloc(), octets, 1)?, false, begun)?;
     }
     for _share in 0..8u32 {
-        served.serve(&rt, &[0, 1, 2, 3], 5)?;
+        served.serve(&rt, &[0, 1, 2, 3, 4], 5)?;
     }
+    // How many places there are, who wants one, and which is given.
     let rooms = [
-        (5usize, Room::Free),
-        (4, Room::Made(2)),
-        (3, Room::Made(1)),
-        (2, Room::Made(3)),
-        (1, Room::Full),
+        (6usize, 3u8, Room::Free),
+        (5, 3, Room::Made(1)),
+        (4, 2, Room::Made(0)),
+        (3, 3, Room::Made(2)),
+        (2, 1, Room::Made(3)),
+        (1, 3, Room::Full),
     ];
-    for (places, room) in rooms {
+    for (places, last, room) in rooms {
+        let newcomer = PeerGroup::of(address(last).ip());
         assert!(rt;
-            make_room(&mut served.links, places) == room,
+            make_room(&mut served.links, places, newcomer) == room,
             "of {places} places"
         );
     }
-    assert_eq!(rt; keys_of(&served.links), 1);
+    assert_eq!(rt; keys_of(&served.links), 5);
+    Ok(())
+}
+
+#[test]
+fn who_takes_too_slowly_is_ended(rt: HostRuntime) -> Result<(), Fail> {
+    let mut served = Served::new(rt.alloc())?;
+    served.put(Pieces::new(rt.alloc(), &[], 1)?, false, 0)?;
+    served.put(Pieces::new(rt.alloc(), &[0, 1, b'L'], 9)?, false, 0)?;
+    let limits = Limits {
+        idle: u64::MAX,
+        message: u64::MAX,
+        reply: u64::MAX,
+        rate: 0,
+    };
+    served.serve(&rt, &[0, 1], 0)?;
+    // Ten seconds without an octet taken of those that wait, while none waits on the other; nine are too few, and at no rate none is ended.
+    for (rate, now, open) in [
+        (1_000_000, 9 * SECOND, 12u64),
+        (0, 20 * SECOND, 12),
+        (1, 29 * SECOND, 12),
+        (1, 31 * SECOND, 1),
+    ] {
+        let limits = Limits { rate, ..limits };
+        sweep(&mut served.links, limits, now, &mut served.ends);
+        assert_eq!(rt; keys_of(&served.links), open, "at {now} ns");
+    }
+    assert_eq!(rt; (served.ends.slow, served.ends.late()), (1, 1));
     Ok(())
 }
 

@@ -26,6 +26,7 @@ fn plan(addresses: &[IpAddr]) -> Plan<'_> {
             idle: 10 * SECOND,
             message: 10 * SECOND,
             reply: 10 * SECOND,
+            rate: 0,
         },
         allowed: Allowed::new(addresses),
     }

@@ -63,7 +63,7 @@ const PLAIN: Stage = Stage {
     replied: 0,
 };
 
-const STAGES: [Stage; 16] = [
+const STAGES: [Stage; 18] = [
     // Each is answered by its own rights: every other one may update.
     Stage {
         places: 64,
@@ -105,6 +105,26 @@ const STAGES: [Stage; 16] = [
         step: 1,
         comers: 4,
         octets: &[0, 9, b'a'],
+        counts: [4, 0, 0, 0, 0, 0, 0, 4],
+        ..PLAIN
+    },
+    // others take these.
+    Stage {
+        places: 0,
+        waits: 20,
+        step: 1,
+        comers: 3,
+        octets: &[],
+        counts: [7, 0, 0, 0, 3, 0, 0, 4],
+        ..PLAIN
+    },
+    // Four whose requests are answered later have the places:
+    Stage {
+        places: 4,
+        waits: 20,
+        step: 1,
+        comers: 4,
+        octets: &[0, 1, b'u'],
         counts: [4, 0, 0, 0, 0, 0, 0, 4],
         ..PLAIN
     },

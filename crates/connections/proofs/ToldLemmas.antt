@@ -38,16 +38,16 @@ stays_unread k None b gives = tt
 stays_unread k (Some o) b gives = ap (λ p. told_by k p) gives.2 ∙ ap (λ l. Some (k.held ++ l, o.1 ++ due k)) (sym gives.1)
 
 -- octets that are written are ready no more
-pub stays_written : (k m : Kept) (n count : ℕ) (a b : Option (List ℕ × List ℕ)) → Takes a b (take n k.ready) → m ≡ record k { ready = drop n k.ready; passed = count } → Stays (told_by k a) (told_by m b)
-stays_written k m n count None b takes same = tt
-stays_written k m n count (Some o) b takes same =
+pub stays_written : (k m : Kept) (n count more : ℕ) (a b : Option (List ℕ × List ℕ)) → Takes a b (take n k.ready) → m ≡ record k { ready = drop n k.ready; passed = count; taken = more } → Stays (told_by k a) (told_by m b)
+stays_written k m n count more None b takes same = tt
+stays_written k m n count more (Some o) b takes same =
     let t = take n k.ready in
     let d = drop n k.ready in
     let f = frames_of k.later in
     let moved : (o.1 ++ t) ++ (d ++ f) ≡ o.1 ++ (k.ready ++ f) =
     append_assoc o.1 t (d ++ f) ∙ ap (λ l. o.1 ++ l) (sym (append_assoc t d f) ∙ ap (λ l. l ++ f) (take-append-drop n k.ready)) in
     ap (λ (p : Kept). told_by p b) same
-    ∙ ap (λ p. told_by (record k { ready = d; passed = count }) p) takes
+    ∙ ap (λ p. told_by (record k { ready = d; passed = count; taken = more }) p) takes
     ∙ ap (λ l. Some (k.held ++ o.0, l)) moved
 
 -- a write that fails moves nothing

@@ -1,5 +1,5 @@
 -- What a connection keeps, beside what its device has (own).
-use Rattle.std.specs.Prelude.{◌≡◌, ℕ, ◌+◌, ◌%◌, ◌^◌, Bool, true, false, List, [], ◌∷◌, ◌++◌, take, Option, None, Some, option_map}
+use Rattle.std.specs.Prelude.{◌≡◌, ℕ, ◌+◌, ◌-◌, ◌%◌, ◌^◌, min, Bool, true, false, List, [], ◌∷◌, ◌++◌, take, Option, None, Some, option_map}
 use Rattle.dns_message.specs.Frame.{frame_in}
 use Rattle.conversation.specs.Octets.{frames_of}
 use Rattle.connections.specs.declared.awaited.Awaited.{Awaited}
@@ -8,18 +8,19 @@ use Rattle.connections.specs.declared.answering.Reply.{Reply}
 use Rattle.connections.specs.declared.answering.Reply.TheVariants.{Silent, One, Many}
 
 -- octets that were read and aren't answered, octets that are to be written, and messages whose frames are to be written behind these; whether
--- messages are being made; and how many times the peer has brought something to its end: a request that came whole and is answered, or all
--- that was ready, taken by it (modulo 2^64)
+-- messages are being made; how many times the peer has brought something to its end: a request that came whole and is answered, or all
+-- that was ready, taken by it (modulo 2^64); and how many octets it has taken, up to 2^64 - 1
 pub record Kept : Type 0 where
   pub held : List ℕ
   pub ready : List ℕ
   pub later : List (List ℕ)
   pub making : Bool
   pub passed : ℕ
+  pub taken : ℕ
 
 -- nothing is kept
 abbrev pub nothing_kept : Kept
-nothing_kept = record { held = []; ready = []; later = []; making = false; passed = 0 }
+nothing_kept = record { held = []; ready = []; later = []; making = false; passed = 0; taken = 0 }
 
 -- one more has passed
 abbrev pub one_passed : ℕ → ℕ
@@ -29,6 +30,10 @@ one_passed passed = (passed + 1) % 2 ^ 64
 abbrev pub passed_behind : List ℕ → ℕ → ℕ
 passed_behind [] passed = one_passed passed
 passed_behind (octet ∷ octets) passed = passed
+
+-- how many octets are taken behind a write of so many, up to 2^64 - 1
+abbrev pub taken_behind : ℕ → ℕ → ℕ
+taken_behind count taken = min (taken + count) (2 ^ 64 - 1)
 
 -- what a connection waits for that holds something, by the frame in front, if that is whole
 abbrev pub awaited_in : Option (List ℕ × List ℕ) → Awaited

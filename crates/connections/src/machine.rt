@@ -5,7 +5,7 @@ ghost use Rattle.dns_message.specs.Message.{message_limit};
 ghost use Rattle.conversation.specs.Octets.{frames_of};
 ghost use Rattle.conversation.specs.Turns.{Turn};
 ghost use Rattle.connections.specs.Asked.{EachGrows, Waits};
-ghost use Rattle.connections.specs.Kept.{nothing_kept, due, IsWaiting, awaited, messages_of, one_passed, passed_behind};
+ghost use Rattle.connections.specs.Kept.{nothing_kept, due, IsWaiting, awaited, messages_of, one_passed, passed_behind, taken_behind};
 
 use crate::answering::{Answering, Messages, Reply, Unmade};
 use crate::awaited::Awaited;
@@ -37,6 +37,7 @@ pub struct Conversation<M: Messages> {
     ready: Queue,
     rest: Option<M>,
     passed: u64,
+    taken: u64,
 }
 
 impl<M: Messages> Model for Conversation<M> {
@@ -46,7 +47,7 @@ impl<M: Messages> Model for Conversation<M> {
 
     ghost Value = { Kept };
 
-    ghost view = { λ a. record { held = a.held; ready = a.ready; later = option_map_or M.left a.rest []; making = is_some a.rest; passed = a.passed } };
+    ghost view = { λ a. record { held = a.held; ready = a.ready; later = option_map_or M.left a.rest []; making = is_some a.rest; passed = a.passed; taken = a.taken } };
 }
 
 impl<M: Messages> Conversation<M> {
@@ -59,6 +60,7 @@ impl<M: Messages> Conversation<M> {
             ready: Queue::new(alloc),
             rest: None,
             passed: 0,
+            taken: 0,
         }
     }
 
@@ -78,14 +80,16 @@ impl<M: Messages> Conversation<M> {
         self.ready.as_slice()
     }
 
-    /// The first of the octets that are to be written have been. Where nothing is ready behind them, one more has passed.
+    /// The first of the octets that are to be written have been, and are counted. Where nothing is ready behind them, one more has passed.
     #[tactic(auto, using(crate::proofs::PassLemmas::passed_as))]
     pub fn advance(&mut self, count: usize)
         requires { count ≤ length self.old.ready }
-        ensures rest { self.new ≡ record self.old { ready = drop count self.old.ready; passed = self.new.passed } }
+        ensures rest { self.new ≡ record self.old { ready = drop count self.old.ready; passed = self.new.passed; taken = self.new.taken } }
         ensures passed { self.new.passed ≡ passed_behind (drop count self.old.ready) self.old.passed }
+        ensures taken { self.new.taken ≡ taken_behind count self.old.taken }
     {
         self.ready.advance(count);
+        self.taken = self.taken.saturating_add(count as u64);
         self.passed = passed_by(self.ready.is_empty(), self.passed);
     }
 
@@ -95,6 +99,13 @@ impl<M: Messages> Conversation<M> {
         ensures { result ≡ self.now.passed }
     {
         self.passed
+    }
+
+    /// How many octets its peer has taken, or its system for it; at most 2^64 - 1 are counted.
+    pub fn taken(&self) -> u64
+        ensures { result ≡ self.now.taken }
+    {
+        self.taken
     }
 
     /// Whether it waits for octets. Only then is more read: not while a request is held in whole, or anything is to be written.
@@ -146,6 +157,7 @@ impl<M: Messages> Conversation<M> {
         ensures held { OnOk result (self.new.held ≡ self.old.held) }
         ensures queued { OnOk result (due self.new ≡ due self.old ++ frames_of (messages_of M.left reply out.now)) }
         ensures passed { OnOk result (self.new.passed ≡ self.old.passed) }
+        ensures taken { OnOk result (self.new.taken ≡ self.old.taken) }
         ensures same { OnErr result (self.new ≡ self.old) }
     {
         match reply {
@@ -178,6 +190,7 @@ impl<M: Messages> Conversation<M> {
         ensures grows { EachGrows (A.seen answering.new) (A.seen answering.old) }
         ensures turn { IfOk result (λ is_made. is_made ≡ true → Turn (A.is_reply (A.peer answering.old)) (A.seen answering.old (A.asker answering.old)) (self.old.held, due self.old) (A.seen answering.new (A.asker answering.old)) (self.new.held, due self.new)) }
         ensures passed { IfOk result (λ is_made. is_made ≡ true → self.new.passed ≡ one_passed self.old.passed) }
+        ensures taken { IfOk result (λ is_made. self.new.taken ≡ self.old.taken) }
         ensures none { IfOk result (λ is_made. is_made ≡ false → self.new ≡ self.old) }
         ensures broken { OnErr result (self.new ≡ self.old) }
         ensures later { IfErr result (λ broken. broken ≡ Broken.Later → Waits (A.is_later (A.peer answering.old)) self.old.held) }
@@ -211,6 +224,7 @@ impl<M: Messages> Conversation<M> {
         ensures held { self.new.held ≡ self.old.held }
         ensures ready { self.new.ready ≡ self.old.ready }
         ensures passed { self.new.passed ≡ self.old.passed }
+        ensures taken { self.new.taken ≡ self.old.taken }
         ensures none { result ≡ None → (self.old.later ≡ []) × (self.new.later ≡ []) }
         ensures first { IfSome result (λ len. self.old.later ≡ take len out.new ∷ self.new.later) }
         ensures bound { IfSome result (λ len. (len ≤ length out.new) × (len ≤ message_limit)) }
@@ -234,6 +248,7 @@ impl<M: Messages> Conversation<M> {
         ensures due { OnOk result (due self.new ≡ due self.old) }
         ensures whole { OnOk result (self.new.ready ≡ [] → self.new.later ≡ []) }
         ensures passed { OnOk result (self.new.passed ≡ self.old.passed) }
+        ensures taken { OnOk result (self.new.taken ≡ self.old.taken) }
     {
         if !self.ready.is_empty() {
             return Ok(());

@@ -6,7 +6,7 @@ use Rattle.slab.proofs.SlabLemmas.{ContainsKey-within}
 use Rattle.conversation.specs.declared.stream_end.StreamEnd.{StreamEnd}
 use Rattle.connections.specs.declared.awaited.Awaited.{Awaited}
 use Rattle.connections.specs.declared.awaited.Awaited.TheVariants.{Answer}
-use Rattle.links.specs.Ends.{one_more, one_late, Counts, none, one, late, AreCounted}
+use Rattle.links.specs.Ends.{one_more, one_late, one_slow, Counts, none, one, late, slow, AreCounted}
 use Rattle.links.specs.declared.ends.Ends.{Ends}
 
 -- what holds where there is a value
@@ -26,6 +26,7 @@ pub counts_more : (a b c : Ends) (front back both : ℕ) → Counts a front b �
 counts_more a b c front back both first none same = subst (λ (n : ℕ). Counts a n b) (omega (arith, same)) first
 counts_more a b c front back both first (one {number = number} {ends = ends} end before up is) same = one end (counts_more a b ends front number (front + number) first before refl) (omega (arith, same, up)) is
 counts_more a b c front back both first (late {number = number} {ends = ends} awaited waits before up is) same = late awaited waits (counts_more a b ends front number (front + number) first before refl) (omega (arith, same, up)) is
+counts_more a b c front back both first (slow {number = number} {ends = ends} before up is) same = slow (counts_more a b ends front number (front + number) first before refl) (omega (arith, same, up)) is
 
 -- connections that have ended, and more that have
 pub counted_then : (old mid new : Ends) (before between left : ℕ) → AreCounted old mid before between → AreCounted mid new between left → AreCounted old new before left
@@ -43,3 +44,7 @@ counted_one ends new before left end is same = (1, one end none refl is, same)
 -- one is over
 pub counted_late : (ends new : Ends) (before left : ℕ) (awaited : Awaited) → awaited ≢ Answer → new ≡ one_late awaited ends → left + 1 ≡ before → AreCounted ends new before left
 counted_late ends new before left awaited waits is same = (1, late awaited waits none refl is, same)
+
+-- one is over, since its peer took too slowly
+pub counted_slow : (ends new : Ends) (before left : ℕ) → new ≡ one_slow ends → left + 1 ≡ before → AreCounted ends new before left
+counted_slow ends new before left is same = (1, slow none refl is, same)

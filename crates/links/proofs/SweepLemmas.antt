@@ -97,3 +97,7 @@ least_all numbers end (Some least) below beyond = (
 -- the key of the least of those up to an end, beyond which no key has a number
 pub least_at : (numbers : ℕ → Option ℕ) (end : ℕ) (least : Option (ℕ × ℕ)) (key : ℕ) → IsLeastBelow numbers end least → ((k : ℕ) → end ≤ k → numbers k ≡ None) → option_map (λ (l : ℕ × ℕ). l.0) least ≡ Some key → IsLeast numbers (Some key)
 least_at numbers end least key below beyond is = subst (λ (o : Option ℕ). IsLeast numbers o) is (least_all numbers end least below beyond)
+
+-- none of those up to an end has a number, and no key beyond it has
+pub none_at : (numbers : ℕ → Option ℕ) (end : ℕ) (least : Option (ℕ × ℕ)) → IsLeastBelow numbers end least → ((k : ℕ) → end ≤ k → numbers k ≡ None) → option_map (λ (l : ℕ × ℕ). l.0) least ≡ None → IsLeast numbers None
+none_at numbers end least below beyond is = subst (λ (o : Option ℕ). IsLeast numbers o) is (least_all numbers end least below beyond)

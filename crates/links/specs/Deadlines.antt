@@ -3,6 +3,7 @@ use Rattle.std.specs.Prelude.{◌≡◌, ℕ, ◌-◌, ◌<◌, ◌≤◌, ◌�
 use Rattle.connections.specs.Kept.{Kept, awaited}
 use Rattle.connections.specs.declared.awaited.Awaited.{Awaited}
 use Rattle.connections.specs.declared.awaited.Awaited.TheVariants.{Request, Rest, Answer, Taking}
+use Rattle.links.specs.Rate.{is_slow, window_at}
 use Rattle.links.specs.declared.limits.Limits.{Limits}
 use Rattle.links.specs.declared.link.Link.{Link}
 
@@ -33,23 +34,18 @@ begun_behind passed more begun now = if more == passed then begun else now
 abbrev pub IsBegun : ℕ → ℕ → ℕ → ℕ → ℕ → Type 0
 IsBegun now passed begun more later = (later ≡ now) ⊎ ((more ≡ passed) × (later ≡ begun))
 
--- since when a connection that waits for a request does so
-abbrev pub idle_by : Awaited → ℕ → Option ℕ
-idle_by Request begun = Some begun
-idle_by Rest begun = None
-idle_by Answer begun = None
-idle_by Taking begun = None
-
 module _ {S M : Type 0} where
+  -- a connection goes on at a time: its window begins anew where nothing waits to be taken, or its ten seconds are over
+  abbrev pub gone_on : ℕ → Link S M → Link S M
+  gone_on now link = record link { window = window_at now link.window link.conversation }
+
   -- what a sweep leaves under a key
   abbrev pub kept_at : Limits → ℕ → Option (Link S M) → Option (Link S M)
   kept_at limits now None = None
-  kept_at limits now (Some link) = if is_over limits now link.begun link.conversation then None else Some link
-
-  -- since when the connection under a key, if there is one, is idle
-  abbrev pub idle_since : Option (Link S M) → Option ℕ
-  idle_since None = None
-  idle_since (Some link) = idle_by (awaited link.conversation) link.begun
+  kept_at limits now (Some link) =
+      if is_over limits now link.begun link.conversation then None
+      else if is_slow limits.rate now link.window link.conversation then None
+      else Some (gone_on now link)
 
 -- of numbers that some keys have, that of a key is least; or none has one
 abbrev pub IsLeast : (ℕ → Option ℕ) → Option ℕ → Type 0

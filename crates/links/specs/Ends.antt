@@ -25,19 +25,24 @@ one_late Rest ends = record ends { message = one_up ends.message }
 one_late Answer ends = ends
 one_late Taking ends = record ends { reply = one_up ends.reply }
 
+-- one more is over, since its peer took too slowly what was to be written
+abbrev pub one_slow : Ends → Ends
+one_slow ends = record ends { slow = one_up ends.slow }
+
 -- how many are over in all, up to 2^64 - 1
 abbrev pub late_of : Ends → ℕ
-late_of ends = min (ends.idle + ends.message + ends.reply) (2 ^ 64 - 1)
+late_of ends = min (ends.idle + ends.message + ends.reply + ends.slow) (2 ^ 64 - 1)
 
 -- how many have ended in all, up to 2^64 - 1
 abbrev pub all_of : Ends → ℕ
-all_of ends = min (ends.clean + ends.torn + ends.device + ends.spent + ends.no_memory + ends.idle + ends.message + ends.reply) (2 ^ 64 - 1)
+all_of ends = min (ends.clean + ends.torn + ends.device + ends.spent + ends.no_memory + ends.idle + ends.message + ends.reply + ends.slow) (2 ^ 64 - 1)
 
--- so many more have ended, and each is counted, by how it did, or by what it waited for too long
+-- so many more have ended, and each is counted, by how it did, by what it waited for too long, or as one that took too slowly
 pub data Counts (old : Ends) : ℕ → Ends → Type 0 where
   none : Counts old 0 old
   one : {number more : ℕ} {ends new : Ends} (end : StreamEnd) → Counts old number ends → more ≡ number + 1 → new ≡ one_more end ends → Counts old more new
   late : {number more : ℕ} {ends new : Ends} (awaited : Awaited) → awaited ≢ Answer → Counts old number ends → more ≡ number + 1 → new ≡ one_late awaited ends → Counts old more new
+  slow : {number more : ℕ} {ends new : Ends} → Counts old number ends → more ≡ number + 1 → new ≡ one_slow ends → Counts old more new
 
 -- as many are counted as there were connections more before
 abbrev pub AreCounted : Ends → Ends → ℕ → ℕ → Type 0

@@ -1,3 +1,5 @@
 pub mod Deadlines
 pub mod Ends
 pub mod Links
+pub mod Places
+pub mod Rate

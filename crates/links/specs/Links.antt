@@ -7,7 +7,8 @@ use Rattle.connections.specs.Kept.{Kept, told_by, awaited}
 use Rattle.connections.specs.Told.{Writes}
 use Rattle.connections.specs.Going.{Goes, Stops, IsHeldUp}
 use Rattle.links.specs.Deadlines.{IsBegun, is_over}
-use Rattle.links.specs.Ends.{one_late}
+use Rattle.links.specs.Ends.{one_late, one_slow}
+use Rattle.links.specs.Rate.{is_slow}
 use Rattle.links.specs.declared.ends.Ends.{Ends}
 use Rattle.links.specs.declared.limits.Limits.{Limits}
 use Rattle.links.specs.declared.link.Link.{Link}
@@ -58,7 +59,8 @@ HasStopped would_block is_later link = IfSome link (λ l. would_block l.stream �
 abbrev pub seen_of : {S M : Type 0} → (S → Option (List ℕ × List ℕ)) → Link S M → Seen
 seen_of octets link = record { peer = link.peer; octets = octets link.stream; kept = link.conversation; begun = link.begun }
 
--- the count of ends where the connection under a key, if there is one, ends if it is over at a time
+-- the count of ends where the connection under a key, if there is one, ends if it is over at a time, by what it waits for or since its peer takes
+-- too slowly
 abbrev pub ends_at : {S M : Type 0} → Limits → ℕ → Option (Link S M) → Ends → Ends
 ends_at limits now None ends = ends
-ends_at limits now (Some link) ends = if is_over limits now link.begun link.conversation then one_late (awaited link.conversation) ends else ends
+ends_at limits now (Some link) ends = if is_over limits now link.begun link.conversation then one_late (awaited link.conversation) ends else if is_slow limits.rate now link.window link.conversation then one_slow ends else ends

@@ -1,7 +1,7 @@
 //! How connections have ended, counted.
 ghost use Rattle.std.specs.Prelude.{◌≡◌, ◌≢◌};
 ghost use Rattle.connections.specs.declared.awaited.Awaited.{Awaited as Awaiting};
-ghost use Rattle.links.specs.Ends.{one_more, one_late, late_of, all_of};
+ghost use Rattle.links.specs.Ends.{one_more, one_late, one_slow, late_of, all_of};
 
 use connections::Awaited;
 use conversation::StreamEnd;
@@ -25,6 +25,8 @@ pub struct Ends {
     pub message: u64,
     /// Since what was to be written wasn't taken for too long.
     pub reply: u64,
+    /// Since what was to be written was taken too slowly.
+    pub slow: u64,
 }
 
 impl Ends {
@@ -54,13 +56,21 @@ impl Ends {
         }
     }
 
-    /// How many are over in all, since their peers took too long; at most 2^64 - 1 are told.
+    /// Counts one more, which is over since its peer took too slowly what was to be written.
+    pub(crate) fn count_slow(&mut self)
+        ensures { self.new ≡ one_slow self.old }
+    {
+        self.slow = self.slow.saturating_add(1);
+    }
+
+    /// How many are over in all, since their peers took too long, or took too slowly; at most 2^64 - 1 are told.
     pub fn late(&self) -> u64
         ensures { result ≡ late_of self.now }
     {
         self.idle
             .saturating_add(self.message)
             .saturating_add(self.reply)
+            .saturating_add(self.slow)
     }
 
     /// How many have ended in all; at most 2^64 - 1 are told.

@@ -1,6 +1,6 @@
 //! How long a connection may wait for its peer.
 
-/// How long a connection may wait for its peer, each in nanoseconds (RFC 7766, 6.2.3; own).
+/// How long a connection may wait for its peer, each in nanoseconds (RFC 7766, 6.2.3; own), and how fast its peer takes what is written to it at least.
 #[derive(Clone, Copy)]
 pub struct Limits {
     /// For the next request, of which nothing has come.
@@ -9,4 +9,6 @@ pub struct Limits {
     pub message: u64,
     /// For the taking of what is to be written.
     pub reply: u64,
+    /// So many octets in ten seconds, while any wait to be taken; 0 is no bound.
+    pub rate: u64,
 }

@@ -1,29 +1,36 @@
 //! A connection with who asks on it.
 ghost use Rattle.std.specs.Prelude.{◌≡◌, ◌<◌, ◌≤◌, length, IfErr, OnOk};
+ghost use Rattle.std.specs.Net.Socket.{socket_ip};
 ghost use Rattle.dns_message.specs.Message.{message_limit};
 ghost use Rattle.connections.specs.Asked.{EachGrows};
 ghost use Rattle.connections.specs.Kept.{told_by, nothing_kept};
 ghost use Rattle.connections.specs.Told.{Writes};
 ghost use Rattle.connections.specs.Going.{Goes, Stops, IsHeldUp};
+ghost use Rattle.peer_groups.specs.Group.{IsGroupOf};
 ghost use Rattle.links.specs.Deadlines.{patience, is_late, is_over, begun_behind};
+ghost use Rattle.links.specs.Rate.{is_slow, window_at};
 
 use crate::limits::Limits;
+use crate::window::Window;
 use connections::{Answering, Awaited, Blocking, Conversation, Flow, Messages, serve_some};
 use conversation::{OpenGate, StreamEnd};
+use peer_groups::PeerGroup;
 use serve_core::Peer;
 use std::alloc::Global;
 use std::net::SocketAddr;
 use std::sync::Wait;
 
-/// A connection: its stream, what is held of it and is to be written to it, who asks, and since when its peer is waited for, in nanoseconds of
-/// a worker's clock.
+/// A connection: its stream, what is held of it and is to be written to it, who asks, from where, of which group, since when its peer is waited
+/// for, in nanoseconds of a worker's clock, and the window in which the octets that the peer takes are counted.
 #[derive(Drop)]
 pub struct Link<S: Drop, M: Messages> {
     pub(crate) stream: S,
     pub(crate) conversation: Conversation<M>,
     pub(crate) peer: Peer,
     pub(crate) from: SocketAddr,
+    pub(crate) group: PeerGroup,
     pub(crate) begun: u64,
+    pub(crate) window: Window,
 }
 
 impl<S: Drop, M: Messages> Link<S, M> {
@@ -33,14 +40,21 @@ impl<S: Drop, M: Messages> Link<S, M> {
         ensures fresh { result.conversation ≡ nothing_kept }
         ensures peer { result.peer ≡ peer }
         ensures from { result.from ≡ from }
+        ensures group { IsGroupOf (socket_ip from) result.group }
         ensures begun { result.begun ≡ now }
+        ensures window { result.window ≡ record { since = now; taken = 0 } }
     {
         Link {
             stream,
             conversation: Conversation::new(alloc),
             peer,
             from,
+            group: PeerGroup::of(from.ip()),
             begun: now,
+            window: Window {
+                since: now,
+                taken: 0,
+            },
         }
     }
 
@@ -59,6 +73,27 @@ impl<S: Drop, M: Messages> Link<S, M> {
             patience(limits, self.conversation.awaits()),
             now.saturating_sub(self.begun),
         )
+    }
+
+    /// Whether it is over at a time since its peer takes what is written to it at less than a rate, in octets in ten seconds.
+    pub(crate) fn is_slow(&self, rate: u64, now: u64) -> bool
+        ensures { result ≡ is_slow rate now self.now.window self.now.conversation }
+    {
+        self.window.is_slow(
+            rate,
+            now,
+            self.conversation.awaits(),
+            self.conversation.taken(),
+        )
+    }
+
+    /// Goes on at a time: its window begins anew where nothing waits to be taken, or its ten seconds are over.
+    pub(crate) fn go_on(&mut self, now: u64)
+        ensures { self.new ≡ record self.old { window = window_at now self.old.window self.old.conversation } }
+    {
+        self.window = self
+            .window
+            .at(now, self.conversation.awaits(), self.conversation.taken());
     }
 }
 

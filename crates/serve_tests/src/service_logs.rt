@@ -133,12 +133,13 @@ fn updates_and_losses(rt: HostRuntime) -> Result<(), Fail> {
                     idle: 3,
                     unfinished: 4,
                     untaken: 5,
-                    evicted: 6,
-                    turned_away: 7,
-                    no_room: 8,
+                    slow: 6,
+                    evicted: 7,
+                    turned_away: 8,
+                    no_room: 9,
                 },
             },
-            "worker 4 (TCP): 1 failed, 2 starved, 3 idle too long, 4 too long over a request, 5 too long over a reply, 6 idle and ended for others, 7 turned away, 8 without room",
+            "worker 4 (TCP): 1 failed, 2 starved, 3 idle too long, 4 too long over a request, 5 too long over a reply, 6 too slow over a reply, 7 ended for others, 8 turned away, 9 without room",
         ),
     ];
     assert_eq!(rt; first_wrong(rt.alloc(), &lines)?, None);

@@ -11,7 +11,12 @@ use Rattle.conversation.specs.Served.{Learned}
 use Rattle.connections.specs.Asked.{EachGrows}
 use Rattle.connections.specs.Kept.{nothing_kept}
 use Rattle.slab.specs.Slab.{Slab, get, Updates}
-use Rattle.links.specs.Deadlines.{kept_at, is_over, idle_since, IsLeast}
+use Rattle.std.specs.Net.Socket.{socket_ip}
+use Rattle.peer_groups.specs.Group.{IsGroupOf}
+use Rattle.peer_groups.specs.declared.group.PeerGroup.{PeerGroup}
+use Rattle.links.specs.Deadlines.{gone_on, kept_at, is_over}
+use Rattle.links.specs.Rate.{is_slow}
+use Rattle.links.specs.Places.{IsGiver}
 use Rattle.links.specs.Links.{HasStopped, seen_of}
 use Rattle.links.specs.declared.limits.Limits.{Limits}
 use Rattle.links.specs.declared.link.Link.{Link}
@@ -39,28 +44,30 @@ module _ {S M : Type 0} (origin : S → SocketAddr) (octets : S → Option (List
   pub moves_wider : (old new : Slab (Link S M)) (capacity : ℕ) → new ≡ record old { capacity = capacity } → Moves origin octets allowed now old new
   moves_wider old new capacity same = moves_once old new (rests (λ key. ap (λ (s : Slab (Link S M)). get s key) same))
 
-  -- the longest idle one goes
-  pub moves_made : (old new : Slab (Link S M)) (key : ℕ) → IsLeast (λ k. idle_since (get old k)) (Some key) → get new key ≡ None → ((other : ℕ) → other ≢ key → get new other ≡ get old other) → Moves origin octets allowed now old new
-  moves_made old new key least none others = moves_once old new (gives key least none others)
+  -- the one that gives its place goes
+  pub moves_made : (newcomer : PeerGroup) (old new : Slab (Link S M)) (key : ℕ) → IsGiver newcomer old (Some key) → get new key ≡ None → ((other : ℕ) → other ≢ key → get new other ≡ get old other) → Moves origin octets allowed now old new
+  moves_made newcomer old new key gave none others = moves_once old new (gives newcomer key gave none others)
 
   -- one begins
   pub moves_begun : (from : SocketAddr) (peer : Peer) (stream : S) (old new : Slab (Link S M)) (key : ℕ) (link : Link S M) → get old key ≡ None → get new key ≡ Some link → ((other : ℕ) → other ≢ key → get new other ≡ get old other)
-      → link.stream ≡ stream → link.from ≡ from → from ≡ origin stream → link.peer ≡ peer → IsPeer allowed Tcp from peer → link.conversation ≡ nothing_kept → link.begun ≡ now → Moves origin octets allowed now old new
-  moves_begun from peer stream old new key link vacant put others is come told same is_peer kept begun =
+      → link.stream ≡ stream → link.from ≡ from → from ≡ origin stream → link.peer ≡ peer → IsPeer allowed Tcp from peer → link.conversation ≡ nothing_kept → link.begun ≡ now → IsGroupOf (socket_ip from) link.group → link.window ≡ record { since = now; taken = 0 } → Moves origin octets allowed now old new
+  moves_begun from peer stream old new key link vacant put others is come told same is_peer kept begun group window =
       let here : from ≡ origin link.stream = told ∙ ap origin (sym is) in
       let began : HasBegun origin octets allowed now link = record {
         from = come ∙ here;
         peer = subst (λ (p : Peer). IsPeer allowed Tcp (origin link.stream) p) (sym same) (subst (λ (a : SocketAddr). IsPeer allowed Tcp a peer) here is_peer);
         kept = kept;
         begun = begun;
+        group = subst (λ (a : SocketAddr). IsGroupOf (socket_ip a) link.group) here group;
+        window = window;
       } in
       moves_once old new (begins key link vacant put began others)
 
   -- one is put under the next key, or there is no memory for it
   pub moves_put : {E : Type 0} (result : Result ℕ E) (from : SocketAddr) (peer : Peer) (stream : S) (old new : Slab (Link S M)) (link : Link S M) → IfOk result (λ key. get old key ≡ None) → IfOk result (λ key. Updates old new key (Some link)) → OnErr result (new ≡ record old { capacity = new.capacity })
-      → link.stream ≡ stream → link.from ≡ from → from ≡ origin stream → link.peer ≡ peer → IsPeer allowed Tcp from peer → link.conversation ≡ nothing_kept → link.begun ≡ now → Moves origin octets allowed now old new
-  moves_put (Ok key) from peer stream old new link vacant updates failed is come told same is_peer kept begun = moves_begun from peer stream old new key link vacant updates.changed updates.others is come told same is_peer kept begun
-  moves_put (Err fault) from peer stream old new link vacant updates failed is come told same is_peer kept begun = moves_wider old new new.capacity failed
+      → link.stream ≡ stream → link.from ≡ from → from ≡ origin stream → link.peer ≡ peer → IsPeer allowed Tcp from peer → link.conversation ≡ nothing_kept → link.begun ≡ now → IsGroupOf (socket_ip from) link.group → link.window ≡ record { since = now; taken = 0 } → Moves origin octets allowed now old new
+  moves_put (Ok key) from peer stream old new link vacant updates failed is come told same is_peer kept begun group window = moves_begun from peer stream old new key link vacant updates.changed updates.others is come told same is_peer kept begun group window
+  moves_put (Err fault) from peer stream old new link vacant updates failed is come told same is_peer kept begun group window = moves_wider old new new.capacity failed
 
   -- those that are over go, by limits that are the given ones or those where places are scarce
   pub sweeps_over : (limits used : Limits) (old new : Slab (Link S M)) → (used ≡ limits) ⊎ (used ≡ scarce limits) → ((key : ℕ) → get new key ≡ kept_at used now (get old key)) → Sweeps origin octets limits now old new
@@ -68,14 +75,15 @@ module _ {S M : Type 0} (origin : S → SocketAddr) (octets : S → Option (List
   sweeps_over limits used old new (inr same) swept = inr (inr (subst (λ (l : Limits). (key : ℕ) → get new key ≡ kept_at l now (get old key)) same swept))
 
   module _ (would_block : S → Type 0) (is_later : Peer → List ℕ → Type 0) where
-    kept_if : (link : Link S M) (b : Bool) → HasStopped would_block is_later (Some link) → HasStopped would_block is_later (if b then None else Some link)
-    kept_if link true stopped = tt
-    kept_if link false stopped = stopped
+    kept_if : (link : Link S M) (over slow : Bool) → HasStopped would_block is_later (Some link) → HasStopped would_block is_later (if over then None else if slow then None else Some (gone_on now link))
+    kept_if link true slow stopped = tt
+    kept_if link false true stopped = tt
+    kept_if link false false stopped = stopped
 
     -- what has stopped still has once those that are over are gone
     stopped_kept : (limits : Limits) (link : Option (Link S M)) → HasStopped would_block is_later link → HasStopped would_block is_later (kept_at limits now link)
     stopped_kept limits None stopped = tt
-    stopped_kept limits (Some link) stopped = kept_if link (is_over limits now link.begun link.conversation) stopped
+    stopped_kept limits (Some link) stopped = kept_if link (is_over limits now link.begun link.conversation) (is_slow limits.rate now link.window link.conversation) stopped
 
     stopped_by : (limits : Limits) (old new : Slab (Link S M)) → ((key : ℕ) → get new key ≡ kept_at limits now (get old key)) → (key : ℕ) → HasStopped would_block is_later (get old key) → HasStopped would_block is_later (get new key)
     stopped_by limits old new swept key stopped = subst (HasStopped would_block is_later) (sym (swept key)) (stopped_kept limits (get old key) stopped)

@@ -8,8 +8,12 @@ use Rattle.serve_core.specs.declared.transport.Transport.TheVariants.{Tcp}
 use Rattle.conversation.specs.Allowed.{IsPeer}
 use Rattle.conversation.specs.Served.{Learned}
 use Rattle.connections.specs.Kept.{nothing_kept}
+use Rattle.std.specs.Net.Socket.{socket_ip}
+use Rattle.peer_groups.specs.Group.{IsGroupOf}
+use Rattle.peer_groups.specs.declared.group.PeerGroup.{PeerGroup}
 use Rattle.slab.specs.Slab.{Slab, get}
-use Rattle.links.specs.Deadlines.{IsLeast, kept_at, idle_since}
+use Rattle.links.specs.Deadlines.{kept_at}
+use Rattle.links.specs.Places.{IsGiver}
 use Rattle.links.specs.Links.{OwnServed, HasStopped, seen_of}
 use Rattle.links.specs.declared.limits.Limits.{Limits}
 use Rattle.links.specs.declared.link.Link.{Link}
@@ -23,7 +27,7 @@ scarce limits = record limits { idle = limits.idle / 4 }
 abbrev pub nothing_counted : Tally
 nothing_counted = record {
   begun = 0;
-  ends = record { clean = 0; torn = 0; device = 0; spent = 0; no_memory = 0; idle = 0; message = 0; reply = 0 };
+  ends = record { clean = 0; torn = 0; device = 0; spent = 0; no_memory = 0; idle = 0; message = 0; reply = 0; slow = 0 };
   evicted = 0;
   turned_away = 0;
   no_room = 0;
@@ -43,12 +47,14 @@ module _ {S M : Type 0} (origin : S → SocketAddr) (octets : S → Option (List
     pub peer : IsPeer allowed Tcp (origin link.stream) link.peer
     pub kept : link.conversation ≡ nothing_kept
     pub begun : link.begun ≡ now
+    pub group : IsGroupOf (socket_ip (origin link.stream)) link.group
+    pub window : link.window ≡ record { since = now; taken = 0 }
 
-  -- a place is taken, or given to another: a connection begins under a key that had none; the one that is idle longest gives its place; or all
-  -- rests
+  -- a place is taken, or given to another: a connection begins under a key that had none; the one gives its place that is to for a newcomer of
+  -- some group; or all rests
   pub data Move (allowed : List IpAddr) (now : ℕ) (old new : Slab (Link S M)) : Type 0 where
     begins : (key : ℕ) (link : Link S M) → get old key ≡ None → get new key ≡ Some link → HasBegun allowed now link → ((other : ℕ) → other ≢ key → get new other ≡ get old other) → Move allowed now old new
-    gives : (key : ℕ) → IsLeast (λ k. idle_since (get old k)) (Some key) → get new key ≡ None → ((other : ℕ) → other ≢ key → get new other ≡ get old other) → Move allowed now old new
+    gives : (newcomer : PeerGroup) (key : ℕ) → IsGiver newcomer old (Some key) → get new key ≡ None → ((other : ℕ) → other ≢ key → get new other ≡ get old other) → Move allowed now old new
     rests : ((key : ℕ) → get new key ≡ get old key) → Move allowed now old new
 
   -- so many such moves, one behind the other

@@ -9,9 +9,9 @@ pub struct Tally {
     pub begun: u64,
     /// Those that ended, by how they did, or by what was waited for too long.
     pub ends: Ends,
-    /// Those that were idle and gave their places to others.
+    /// Those that waited for a request, or for the rest of one, and gave their places to others.
     pub evicted: u64,
-    /// Those that got no place, since none was free, and no other was idle.
+    /// Those that got no place, since none was free, and no other that may give its own waited for a request.
     pub turned_away: u64,
     /// Those that got none for want of a descriptor or of memory.
     pub no_room: u64,

@@ -13,6 +13,7 @@ use crate::waiting::Waiting;
 use connections::{Answering, Blocking, Messages};
 use conversation::Allowed;
 use links::{Limits, Link, Room, make_room, serve_ready, sweep};
+use peer_groups::PeerGroup;
 use serve_core::Transport;
 use slab::Slab;
 use std::alloc::{AllocError, Global};
@@ -21,7 +22,7 @@ use std::sync::Wait;
 /// A second, in nanoseconds: the longest wait, the time between two sweeps, and that for which nothing is taken for want of room (own).
 const SECOND: u64 = 1_000_000_000;
 
-/// How many connections a place where they come in gives at a turn, at most (own).
+/// How many connections a place where they come in gives at a turn, at most, and no more than there are places (own).
 const ARRIVALS: usize = 128;
 
 /// How a worker has its connections.
@@ -121,11 +122,12 @@ impl<S: Blocking + Remote + Drop, M: Messages> Turns<S, M> {
         self.told.clear();
     }
 
-    /// Whether there is a place for one more connection, be it that of the one that is idle longest, which is then ended.
-    fn make_place(&mut self) -> bool
+    /// Whether there is a place for one more connection, of a peer of a group, be it that of the one that has gone longest without a whole request,
+    /// which is then ended.
+    fn make_place(&mut self, newcomer: PeerGroup) -> bool
         ensures { (allowed : List IpAddr) (now : ℕ) → Moves S.origin S.octets allowed now self.old.links self.new.links }
     {
-        match make_room(&mut self.links, self.places) {
+        match make_room(&mut self.links, self.places, newcomer) {
             Room::Free => true,
             Room::Made(_key) => {
                 self.tally.evicted = self.tally.evicted.saturating_add(1);
@@ -173,7 +175,7 @@ impl<S: Blocking + Remote + Drop, M: Messages> Turns<S, M> {
         ensures moves { Moves S.origin S.octets plan.entry.allowed.addresses.now now self.old.links self.new.links }
         ensures time { P.time poll.new ≡ P.time poll.old }
     {
-        if !self.make_place() {
+        if !self.make_place(PeerGroup::of(stream.address().ip())) {
             return;
         }
         let mut stream = stream;
@@ -211,7 +213,7 @@ impl<S: Blocking + Remote + Drop, M: Messages> Turns<S, M> {
         }
     }
 
-    /// Takes connections where they come in, so many at most, and tells whether one may still wait there; an error where it is broken.
+    /// Takes connections where they come in, so many at most that none gives its place to another before it is served once, and tells whether one may still wait there; an error where it is broken.
     fn take_some<P: Readiness<S>, L: Arrivals<Stream = S>>(
         &mut self,
         poll: &mut P,
@@ -222,7 +224,7 @@ impl<S: Blocking + Remote + Drop, M: Messages> Turns<S, M> {
         ensures moves { Moves S.origin S.octets plan.entry.allowed.addresses.now now self.old.links self.new.links }
         ensures time { P.time poll.new ≡ P.time poll.old }
     {
-        for _taken in 0..ARRIVALS {
+        for _taken in 0..ARRIVALS.min(self.places) {
             match self.take_one(poll, plan, arrivals, now)? {
                 Some(may_come) => return Ok(may_come),
                 None => {}
@@ -335,7 +337,7 @@ impl<S: Blocking + Remote + Drop, M: Messages> Turns<S, M> {
 
     /// A turn: waits until something may be ready, takes the connections that come, serves those that may go on by a share each, and ends those
     /// that are over. Who asks on each is the peer of its address; none gets another's replies, and none is dropped but by its end, for its
-    /// peer's delay, or, where all places are taken, the one that is idle longest. Of the connections that are served, each that is there still,
+    /// peer's delay, or, where all places are taken, the one that has gone longest without a whole request. Of the connections that are served, each that is there still,
     /// whose stream wouldn't block, and whose first request doesn't wait for its reply, is among those that could go on.
     #[tactic(auto, using(connections::proofs::AskedLemmas::each_itself))]
     pub fn turn<R: Wait, P: Readiness<S>, L: Arrivals<Stream = S>, A: Answering<M>>(

@@ -3,7 +3,7 @@ use Rattle.std.specs.Prelude.{◌+◌, ◌-◌, ◌^◌, min}
 use Rattle.turns.specs.declared.tally.Tally.{Tally}
 use Rattle.zone_service.specs.declared.service_log.Losses.{Losses}
 
--- those of all that are counted: they failed, or wanted memory or a version, or their peers took too long, or they got no place or gave theirs
+-- those of all that are counted: they failed, or wanted memory or a version, or their peers took too long or too slowly, or they got no place or gave theirs
 abbrev pub lost_of : Tally → Losses
 lost_of tally = record {
   failed = tally.ends.device;
@@ -11,6 +11,7 @@ lost_of tally = record {
   idle = tally.ends.idle;
   unfinished = tally.ends.message;
   untaken = tally.ends.reply;
+  slow = tally.ends.slow;
   evicted = tally.evicted;
   turned_away = tally.turned_away;
   no_room = tally.no_room;
@@ -24,6 +25,7 @@ lost_since before now = record {
   idle = now.idle - before.idle;
   unfinished = now.unfinished - before.unfinished;
   untaken = now.untaken - before.untaken;
+  slow = now.slow - before.slow;
   evicted = now.evicted - before.evicted;
   turned_away = now.turned_away - before.turned_away;
   no_room = now.no_room - before.no_room;

@@ -145,6 +145,7 @@ pub(crate) fn served<R: Net + Threads + Wait + Clock + Sync>(
                 idle: SECOND,
                 message: SECOND,
                 reply: SECOND,
+                rate: 0,
             },
             allowed: Allowed::new(&host),
         },

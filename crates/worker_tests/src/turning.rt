@@ -357,6 +357,7 @@ fn job_of<'a>(
             idle: LIMIT,
             message: LIMIT,
             reply: LIMIT,
+            rate: 0,
         },
         allowed: Allowed::new(&[]),
     };

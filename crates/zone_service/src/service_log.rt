@@ -99,9 +99,11 @@ pub struct Losses {
     pub unfinished: u64,
     /// Those whose peers took too long to take a reply.
     pub untaken: u64,
-    /// Those that were idle and gave their places to others.
+    /// Those whose peers took a reply too slowly.
+    pub slow: u64,
+    /// Those that waited for a request and gave their places to others.
     pub evicted: u64,
-    /// Those that got no place, since none was free, and no other was idle.
+    /// Those that got no place, since none was free, and no other that may give its own waited for a request.
     pub turned_away: u64,
     /// Those that got none for want of a descriptor or of memory.
     pub no_room: u64,
@@ -217,7 +219,8 @@ fn write_losses<W: fmt::Write>(f: &mut Formatter<W>, losses: Losses) -> fmt::Res
     let mark = write_kind(f, mark, losses.idle, "idle too long")?;
     let mark = write_kind(f, mark, losses.unfinished, "too long over a request")?;
     let mark = write_kind(f, mark, losses.untaken, "too long over a reply")?;
-    let mark = write_kind(f, mark, losses.evicted, "idle and ended for others")?;
+    let mark = write_kind(f, mark, losses.slow, "too slow over a reply")?;
+    let mark = write_kind(f, mark, losses.evicted, "ended for others")?;
     let mark = write_kind(f, mark, losses.turned_away, "turned away")?;
     write_kind(f, mark, losses.no_room, "without room")?;
     Ok(())

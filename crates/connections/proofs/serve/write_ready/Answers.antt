@@ -9,7 +9,7 @@ returns-in-Ok-clause-stays g c =
     let a = g.S.Blocking.octets c.args.stream.now in
     let b = g.S.Blocking.octets c.write.new.self in
     let takes = subst (λ l. Takes a b (take c.in-Ok.count l)) c.ready.ensures c.in-Ok.ensures.takes in
-    stays_written c.args.conversation.now c.advance.new.self c.in-Ok.count c.advance.new.self.passed a b takes c.advance.ensures.rest
+    stays_written c.args.conversation.now c.advance.new.self c.in-Ok.count c.advance.new.self.passed c.advance.new.self.taken a b takes c.advance.ensures.rest
 
 pub returns-in-Ok-clause-written : goal.returns-in-Ok-clause-written
 returns-in-Ok-clause-written g c = writes_taken _ _ _ c.in-Ok.ensures.takes
