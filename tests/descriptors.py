@@ -1,9 +1,11 @@
 #!/usr/bin/env python3
-"""Tries a running `dnsd serve` of one worker that may have 64 descriptors. More connections come than there is room for: the log says so in one line a
+"""Tries a running `dnsd serve` whose descriptors are few. Under a limit of 1,024, with the options as they are by themselves, it says at the start how many
+connections each worker has open at most, and no new connection waits: each gets its reply, or its end, within two seconds. Then the limit of one worker is lowered
+to 64 while it runs. More connections come than there is room for: the log says so in one line a
 second, UDP and the open connections are answered meanwhile, and those that wait are served once others have closed. Then connections are reset, closed
 or half-closed before a request, within its length, within its message, within a reply and within a transfer: a half-closed one gets what it has asked
 for. In the end the server has the descriptors that it had, and hardly more memory, and serves on when it was stopped and goes on.
-Usage: [DNSD=PROGRAM] tests/descriptors.py [PORT], by default crates/dnsd/out/dnsd and port 15256. It takes a minute; status 1 where one failed."""
+Usage: [DNSD=PROGRAM] tests/descriptors.py [PORT], by default crates/dnsd/out/dnsd and port 15256. It takes two minutes; status 1 where one failed."""
 import os
 import re
 import resource
@@ -20,6 +22,9 @@ top = os.path.dirname(os.path.dirname(os.path.abspath(__file__)))
 program = os.environ.get("DNSD", f"{top}/crates/dnsd/out/dnsd")
 port = int(sys.argv[1]) if len(sys.argv) > 1 else 15256
 LIMIT = 64
+# the limit that many systems begin a program with, and how many connections come to it
+USUAL = 1024
+COMING = 1200
 CLIENTS = 100
 RECORDS = 20_000
 ROUNDS = 20
@@ -114,19 +119,23 @@ def is_answered_by_datagram():
 class Server:
     """A server of a zone, whose log is read on beside it."""
 
-    def __init__(self, zone, *options):
+    def __init__(self, zone, *options, limit=2048):
         self.lines = []
         self.process = subprocess.Popen(
-            [program, "serve", "--listen", f"127.0.0.1:{port}", "--workers", "1", *options, zone],
+            [program, "serve", "--listen", f"127.0.0.1:{port}", *options, zone],
             stderr=subprocess.PIPE,
             text=True,
-            preexec_fn=lambda: resource.setrlimit(resource.RLIMIT_NOFILE, (LIMIT, LIMIT)),
+            preexec_fn=lambda: resource.setrlimit(resource.RLIMIT_NOFILE, (limit, limit)),
         )
         threading.Thread(target=self.read_log, daemon=True).start()
         while not is_answered_by_datagram():
             if self.process.poll() is not None:
                 sys.exit("it doesn't run: " + " ".join(line for _, line in self.lines))
             time.sleep(0.1)
+
+    def lower(self):
+        """Lowers its limit while it runs."""
+        resource.prlimit(self.process.pid, resource.RLIMIT_NOFILE, (LIMIT, LIMIT))
 
     def read_log(self):
         """Keeps each line of the log with the time at which it came."""
@@ -161,8 +170,45 @@ def close_all(clients):
         client.close()
 
 
+def within_the_limit(server):
+    """The faults where more connections come than there are descriptors by the usual limit."""
+    faults, began = [], time.time()
+    told = [line for _, line in server.lines if line.startswith(f"the limit of descriptors is {USUAL}, ")]
+    if len(told) != 1 or not re.search(r"each worker has at most \d+ open$", told[0]):
+        faults.append(f"lines at the start on the limit: {told}")
+    clients, answered, ended, waiting = [], 0, 0, 0
+    for _ in range(COMING):
+        client = connected()
+        clients.append(client)
+        client.settimeout(2)
+        try:
+            client.sendall(framed(ask))
+            if is_reply(read_message(client)):
+                answered += 1
+            else:
+                ended += 1
+        except ConnectionError:
+            ended += 1
+        except TimeoutError:
+            waiting += 1
+            if waiting > 5:
+                break
+    if waiting:
+        faults.append(f"{waiting} connections wait, behind {answered} that are answered and {ended} that are ended")
+    if not is_answered_by_datagram():
+        faults.append("UDP isn't answered")
+    time.sleep(1.5)
+    without = [line for _, line in server.lines if line.endswith(" without room")]
+    if without:
+        faults.append(f"{len(without)} lines on the want of room")
+    close_all(clients)
+    print(f"{answered} of {COMING} connections are answered at once, {ended} ended, {waiting} wait; {time.time() - began:.0f} s")
+    return faults
+
+
 def out_of_descriptors(server):
     """The faults where more connections come than there are descriptors."""
+    server.lower()
     faults, before, began = [], server.state()[0], time.time()
     clients = [connected() for _ in range(CLIENTS)]
     served, waiting = [], []
@@ -299,9 +345,16 @@ def in_all_states(server):
 
 name = zone_file()
 failed = 0
+_, most = resource.getrlimit(resource.RLIMIT_NOFILE)
+resource.setrlimit(resource.RLIMIT_NOFILE, (most, most))
+patient = ("--workers", "1", "--idle", "60", "--message", "60", "--reply", "60")
 try:
-    for says, tries in (("all are answered that have a descriptor, and others later", out_of_descriptors), ("nothing is left of connections", in_all_states)):
-        server = Server(name, "--idle", "60", "--message", "60", "--reply", "60")
+    for says, tries, options, limit in (
+        ("no connection waits for a descriptor", within_the_limit, (), USUAL),
+        ("all are answered that have a descriptor, and others later", out_of_descriptors, patient, 2048),
+        ("nothing is left of connections", in_all_states, patient, 2048),
+    ):
+        server = Server(name, *options, limit=limit)
         try:
             faults = tries(server)
         finally:

@@ -143,6 +143,12 @@ done
 for word in 4096 4K 4m 1G; do
     row 3 "the store 'no/such/store' can't be read or written" serve --listen 127.0.0.1:0 --store no/such/store --udp-buffer "$word" "$zone"
 done
+for word in 65535 63K 2G 1025M 1T K -1 ''; do
+    row 2 "--update-queue takes a size from 64K to 1G, as 500K or 16M, and '$word' is none" serve --listen 127.0.0.1:0 "--update-queue=$word" "$zone"
+done
+for word in 65536 64K 16m 1G; do
+    row 3 "the store 'no/such/store' can't be read or written" serve --listen 127.0.0.1:0 --store no/such/store --update-queue "$word" "$zone"
+done
 row 2 "--take is for a store, and no --store is given" serve --listen 127.0.0.1:0 --take zone "$zone"
 row 3 "the store 'no/such/store' can't be read or written" serve --listen 127.0.0.1:0 --store no/such/store "$zone"
 row 3 "the zone's file 'no/such/zone' can't be read" serve --listen 127.0.0.1:0 no/such/zone

@@ -8,7 +8,8 @@ use crate::command::{KEEP, MAX_KEEP, ORIGIN, number_for};
 use crate::fault::CommandFault;
 use crate::secondaries::{Secondary, secondaries_of};
 use crate::store_options::{
-    StorePlan, TRANSFER_RATE, UDP_BUFFER, split_unit, store_of, transfer_rate, udp_buffer,
+    StorePlan, TRANSFER_RATE, UDP_BUFFER, UPDATE_QUEUE, split_unit, store_of, transfer_rate,
+    udp_buffer, update_queue,
 };
 use clap::ArgMatches;
 use commands::Source;
@@ -42,6 +43,8 @@ pub struct Serve<'a> {
     pub limits: Limits,
     /// How many octets of datagrams may wait for a worker, at each address.
     pub udp_buffer: u32,
+    /// How many octets of memory the updates may be counted for that wait to be judged.
+    pub update_queue: usize,
     /// The secondaries that are told of each version; a thread tells them.
     pub secondaries: Vec<Secondary>,
     /// The folder in which updates last, if there is one.
@@ -123,6 +126,7 @@ pub fn serve_of<'a>(
     )?;
     let limits = limits_of(found)?;
     let udp_buffer = udp_buffer(found.get_str(UDP_BUFFER))?;
+    let update_queue = update_queue(found.get_str(UPDATE_QUEUE))?;
     let store = store_of(found)?;
     Ok(Serve {
         zone,
@@ -136,6 +140,7 @@ pub fn serve_of<'a>(
         places,
         limits,
         udp_buffer,
+        update_queue,
         secondaries,
         store,
     })

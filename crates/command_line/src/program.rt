@@ -2,7 +2,7 @@
 use crate::command::{BEFORE_FAULT, DIR, KEEP, ORIGIN, TCP, WINDOW, ZONE};
 use crate::options::{ALLOW, CONNECTIONS, COUNT, IDLE, LISTEN, MESSAGE, REPLY, WORKERS};
 use crate::secondaries::NOTIFY;
-use crate::store_options::{JOURNAL, STORE, TAKE, TRANSFER_RATE, UDP_BUFFER};
+use crate::store_options::{JOURNAL, STORE, TAKE, TRANSFER_RATE, UDP_BUFFER, UPDATE_QUEUE};
 use clap::{Arg, ArgAction, Command as Parser};
 use std::alloc::{AllocError, Global};
 
@@ -226,6 +226,11 @@ const SERVE_WORDS: &[WordRow] = &[
         name: UDP_BUFFER,
         form: Form::Value("SIZE"),
         help: "how many octets of datagrams may wait for a worker, at each address, as 500K or 4M, from 4K to 1G; 4M where it isn't given",
+    },
+    WordRow {
+        name: UPDATE_QUEUE,
+        form: Form::Value("SIZE"),
+        help: "how many octets of memory the updates may be counted for that wait to be judged, their own and 320 a record, as 500K or 16M, from 64K to 1G; further ones are SERVFAIL at once; 16M where it isn't given",
     },
 ];
 

@@ -56,6 +56,18 @@ const RATES: Sizes = Sizes {
     takes: "from 0 to 1G, as 16K or 1M",
 };
 
+/// The option for how many octets of memory the updates may be counted for that wait.
+pub const UPDATE_QUEUE: &str = "update-queue";
+
+/// The sizes of that (own).
+const UPDATE_SIZES: Sizes = Sizes {
+    option: UPDATE_QUEUE,
+    own: 16_777_216,
+    least: 65_536,
+    most: 1_073_741_824,
+    takes: "from 64K to 1G, as 500K or 16M",
+};
+
 /// The sizes that an option takes.
 #[derive(Clone, Copy)]
 struct Sizes {
@@ -129,6 +141,16 @@ pub fn transfer_rate<'a>(word: Option<&'a str>) -> Result<u64, CommandFault<'a>>
     ensures most { IfOk result (λ size. size ≤ 1073741824) }
 {
     size_of(word, RATES)
+}
+
+/// How many octets of memory the updates may be counted for that wait to be judged.
+pub fn update_queue<'a>(word: Option<&'a str>) -> Result<usize, CommandFault<'a>>
+    ensures own { IsNone word.entry → IsOkAnd result (λ size. size ≡ 16777216) }
+    ensures least { IfOk result (λ size. 65536 ≤ size) }
+    ensures most { IfOk result (λ size. size ≤ 1073741824) }
+{
+    let size = size_of(word, UPDATE_SIZES)?;
+    Ok(size as usize)
 }
 
 /// How many octets a word tells: a number, and after it K, M or G, or k, m or g, for 1,024 times as many once, twice or three times; the option's own where there is

@@ -18,6 +18,9 @@ use update_job::Storing;
 /// The folder of the test.
 const DIR: &str = "compaction_tests_tended";
 
+/// Where it is moved to.
+const MOVED: &str = "compaction_tests_moved";
+
 /// Its journal that isn't renamed yet.
 const NEW_JOURNAL: &str = "compaction_tests_tended/journal.new";
 
@@ -171,11 +174,26 @@ fn fail_to_lay<R: Wait>(rt: &R, files: &HostRuntime, store: &mut Store) -> Resul
     check(!is_there(files, DIR, "zone-1")?, "the text before stays")
 }
 
+/// The folder is moved: no batch is kept, and nothing comes in the folder's place; once it is back the next batch is kept, behind those before.
+fn move_away<R: Wait>(rt: &R, files: &HostRuntime, store: &mut Store) -> Result<(), Fail> {
+    fs::rename(files, DIR, MOVED)?;
+    let mut group = group_of(files.alloc(), store.writer().trail(), 13, 14)?;
+    let fault = store.append(rt, files.alloc(), &mut group);
+    let is_given_up = fault.is_some() && group.versions().is_empty();
+    check(is_given_up, "a batch is kept in a folder that was moved")?;
+    store.tend(rt, files.alloc());
+    check(!fs::exists(files, DIR)?, "a folder is made in its place")?;
+    fs::rename(files, MOVED, DIR)?;
+    let line = "text 3, batches 2, serials 12 to 20";
+    send(rt, files, store, (13, 14), line, false)
+}
+
 #[test]
 fn a_store_is_tended(rt: HostRuntime) -> Result<(), Fail> {
     let mut store = begin_store(&rt)?;
     begin_texts(&rt, &rt, &mut store)?;
     fail_to_lay(&rt, &rt, &mut store)?;
+    move_away(&rt, &rt, &mut store)?;
     fs::remove_dir_all(&rt, DIR)?;
     Ok(())
 }

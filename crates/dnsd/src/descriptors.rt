@@ -1,4 +1,6 @@
 //! The limit of descriptors (Linux, proc(5)).
+ghost use Rattle.std.specs.Prelude.{◌<◌, ◌≤◌};
+
 use std::fs;
 use std::rt::Files;
 
@@ -18,6 +20,18 @@ pub fn wanted(workers: usize, places: usize, addresses: usize) -> usize {
         .saturating_add(2)
         .saturating_mul(workers)
         .saturating_add(BESIDE)
+}
+
+/// How many connections each of so many workers may have open, of so many that are asked for, where the program may have so many descriptors: as many as there are descriptors
+/// for, and one at least. There is no call of the toolchain's that raises the limit.
+pub fn places_within(limit: usize, workers: usize, places: usize, addresses: usize) -> usize
+    requires some { 0 < workers }
+    ensures most { result ≤ places }
+    ensures one { 0 < places → 0 < result }
+{
+    let sockets = addresses.saturating_mul(3).saturating_add(2);
+    let each = limit.saturating_sub(BESIDE) / workers;
+    each.saturating_sub(sockets).max(1).min(places)
 }
 
 /// How many descriptors the program may have open; None where that isn't told, or there is no limit.

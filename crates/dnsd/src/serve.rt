@@ -16,7 +16,8 @@ use line_io::read_zone_text;
 use master_file::{FileFault, read_zone};
 use notify::large_in;
 use serve_workers::{
-    ConnectionPlan, Duty, Handing, Muster, Plan, Progress, Secondaries, ServeFault, serve_zone,
+    ConnectionPlan, Duty, Handing, Most, Muster, Plan, Progress, Secondaries, ServeFault,
+    serve_zone,
 };
 use server_log::{Entries, Level, Listening, Log, LogLine, start_entries};
 use std::alloc::Global;
@@ -35,7 +36,7 @@ use store_compactor::{Texts, ThreadTexts};
 use store_service::StoreFaults;
 use zone_tree::{Zone, ZoneRead};
 
-/// How many updates may wait for who judges them (own).
+/// How many updates may wait for who judges them, whatever their size (own).
 const WAITING: usize = 1024;
 
 /// Serves a zone, and gives the program's status: 0 where each worker has done what it may, 1 where the zone is refused, 3 at a
@@ -296,7 +297,7 @@ fn serve_bound<
 }
 
 /// Warns of what may not be as the operator expects.
-fn warn<R: Files + AllocGlobal + Wait>(rt: &R, serve: &Serve<'_>, log: &Log) {
+fn warn<R: Wait>(rt: &R, serve: &Serve<'_>, log: &Log) {
     for address in serve.listen.iter() {
         if address.ip().is_unspecified() {
             log.add(rt, LogLine::Wildcard(*address));
@@ -305,10 +306,24 @@ fn warn<R: Files + AllocGlobal + Wait>(rt: &R, serve: &Serve<'_>, log: &Log) {
     if is_routed(serve.secondaries.as_slice(), serve.listen.as_slice()) {
         log.add(rt, LogLine::Routed);
     }
-    let wanted = descriptors::wanted(serve.workers, serve.places, serve.listen.len());
+}
+
+/// How many connections each worker may have open: as many as are asked for, or as there are descriptors for, which the log tells.
+fn places_for<R: Files + AllocGlobal + Wait>(rt: &R, serve: &Serve<'_>, log: &Log) -> usize {
+    let (workers, places, addresses) = (serve.workers, serve.places, serve.listen.len());
+    let wanted = descriptors::wanted(workers, places, addresses);
     match descriptors::limit(rt) {
-        Some(limit) if limit < wanted => log.add(rt, LogLine::FewDescriptors { limit, wanted }),
-        _ => {}
+        Some(limit) if limit < wanted => {
+            let places = descriptors::places_within(limit, workers, places, addresses);
+            let line = LogLine::FewDescriptors {
+                limit,
+                wanted,
+                places,
+            };
+            log.add(rt, line);
+            places
+        }
+        _ => places,
     }
 }
 
@@ -392,14 +407,18 @@ fn serve_planned<
     let plan = Plan {
         muster: &muster,
         keep: serve.keep,
-        places: serve.places,
+        places: places_for(rt, serve, log),
         connections: ConnectionPlan {
             limits: serve.limits,
             allowed: Allowed::new(serve.allowed.as_slice()),
         },
     };
     let texts = ThreadTexts::new(*rt, dir);
-    serve_duties(rt, alloc, serve.keep, begun, texts, duties, plan, log)
+    let most = Most {
+        items: WAITING,
+        octets: serve.update_queue,
+    };
+    serve_duties(rt, alloc, most, begun, texts, duties, plan, log)
 }
 
 /// What so many workers have done, each of which ends after so much; None where there is no memory.
@@ -411,14 +430,14 @@ fn progresses_of(alloc: Global, workers: usize, most: u64) -> Option<Vec<Progres
     Some(progresses)
 }
 
-/// Serves a zone by threads with these duties, whose store has its zone texts written by these.
+/// Serves a zone by threads with these duties, of whose updates at most so much waits, and whose store has its zone texts written by these.
 fn serve_duties<
     R: Files<File = File> + AllocGlobal + Net + Threads + Wait + Clock + Copy + Sync + Drop,
     T: Texts,
 >(
     rt: &R,
     alloc: Global,
-    keep: usize,
+    most: Most,
     begun: Begun,
     texts: T,
     duties: Vec<Duty<'_>>,
@@ -430,7 +449,7 @@ fn serve_duties<
     requires kept { plan.keep ≤ KEPT }
 {
     let failing = AtomicBool::new(false);
-    let Ok(beginning) = begin(rt, alloc, keep, begun, texts, log, &failing) else {
+    let Ok(beginning) = begin(rt, alloc, plan.keep, begun, texts, log, &failing) else {
         return Err(ServeFault::NoMemory);
     };
     let Beginning {
@@ -440,7 +459,7 @@ fn serve_duties<
         lock,
     } = beginning;
     let handing = Handing {
-        most: WAITING,
+        most,
         store,
         faults: StoreFaults::new(log, &failing),
     };

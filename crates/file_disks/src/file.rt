@@ -5,9 +5,10 @@ ghost use Rattle.file_disks.specs.File.{written, synced};
 use crate::list::CallList;
 use journal_store::Disk;
 use std::alloc::Global;
-use std::fs::File;
-use std::io::{self, Read, Seek, SeekFrom, Write};
+use std::fs::{self, File, Files};
+use std::io::{self, ErrorKind, Read, Seek, SeekFrom, Write};
 use std::os::fd::AsRawFd;
+use std::os::unix::fs::MetadataExt;
 
 /// It was begun with these octets.
 const BEGUN: u64 = 0;
@@ -79,6 +80,16 @@ impl FileDisk {
             calls,
         };
         Ok((disk, octets))
+    }
+
+    /// Whether a path leads to this very file, by the numbers that the system has for both (stat(2)): false where it leads to another one, or nowhere.
+    pub fn is_at<R: Files>(&self, files: &R, path: &str) -> io::Result<bool> {
+        let own = self.file.metadata()?;
+        match fs::metadata(files, path) {
+            Ok(found) => Ok(found.dev() == own.dev() && found.ino() == own.ino()),
+            Err(error) if error.kind() == ErrorKind::NotFound => Ok(false),
+            Err(error) => Err(error),
+        }
     }
 
     /// Writes octets behind all that it has, in room that is made ahead; those that it is begun with have none behind them.

@@ -7,7 +7,13 @@ use std::sync::Wait;
 use std::test::Fail;
 use told_disks::{DiskFault, ToldDisk};
 use update_job::{Ended, Store, UpdateJob};
-use update_queue::Queue;
+use update_queue::{Most, Queue};
+
+/// How much waits at most.
+const MOST: Most = Most {
+    items: 8,
+    octets: 8,
+};
 
 /// A zone text.
 const ZONE: &[u8] = b"example. 3600 IN SOA ns.example. host.example. 7 1 1 1 1\n";
@@ -56,9 +62,9 @@ fn put_all<R: Wait>(
 ) -> Result<bool, AllocError> {
     let mut all = true;
     for octet in octets {
-        all = queue.put(rt, Added::of(alloc, *octet)?).is_ok() && all;
+        all = queue.put(rt, Added::of(alloc, *octet)?, 1).is_ok() && all;
     }
-    Ok(queue.put(rt, Added::none(alloc)).is_ok() && all)
+    Ok(queue.put(rt, Added::none(alloc), 1).is_ok() && all)
 }
 
 /// The first octets of the updates that a start finds in a journal.
@@ -80,7 +86,7 @@ fn found_in(alloc: Global, store: &Store<ToldDisk>) -> Result<Vec<u8>, Fail> {
 #[test]
 fn a_batch_lasts(rt: HostRuntime) -> Result<(), Fail> {
     let alloc: Global = rt.alloc();
-    let queue: Queue<Added> = Queue::new(alloc, 8)?;
+    let queue: Queue<Added> = Queue::new(alloc, MOST)?;
     assert!(rt; put_all(&rt, alloc, &queue, &[5, 0, 7, 255])?);
     let store = journal_on(alloc, &[])?;
     let mut job = job_on(alloc, Board::new(alloc, false)?, store, &queue)?;
@@ -103,7 +109,7 @@ fn a_batch_lasts(rt: HostRuntime) -> Result<(), Fail> {
 #[test]
 fn a_batch_is_as_long_as_there_is_room(rt: HostRuntime) -> Result<(), Fail> {
     let alloc: Global = rt.alloc();
-    let queue: Queue<Added> = Queue::new(alloc, 8)?;
+    let queue: Queue<Added> = Queue::new(alloc, MOST)?;
     let store = journal_on(alloc, &[])?;
     let mut board = Board::new(alloc, false)?;
     board.most = 2;
@@ -116,7 +122,7 @@ fn a_batch_is_as_long_as_there_is_room(rt: HostRuntime) -> Result<(), Fail> {
     assert_eq!(rt; board.told.as_slice(), told.as_slice());
     assert!(rt; board.published() == 3);
     board.most = 0;
-    let queue: Queue<Added> = Queue::new(alloc, 8)?;
+    let queue: Queue<Added> = Queue::new(alloc, MOST)?;
     assert!(rt; put_all(&rt, alloc, &queue, &[8])?);
     queue.end(&rt);
     let mut job = job_on(alloc, board, store, &queue)?;
@@ -133,7 +139,7 @@ fn a_batch_is_as_long_as_there_is_room(rt: HostRuntime) -> Result<(), Fail> {
 #[test]
 fn a_batch_fails(rt: HostRuntime) -> Result<(), Fail> {
     let alloc: Global = rt.alloc();
-    let queue: Queue<Added> = Queue::new(alloc, 8)?;
+    let queue: Queue<Added> = Queue::new(alloc, MOST)?;
     // The append works, and the sync fails; what it left is cut off.
     let store = journal_on(alloc, &[1, 0])?;
     let mut job = job_on(alloc, Board::new(alloc, false)?, store, &queue)?;
@@ -159,7 +165,7 @@ fn a_batch_fails(rt: HostRuntime) -> Result<(), Fail> {
 #[test]
 fn a_batch_is_overtaken(rt: HostRuntime) -> Result<(), Fail> {
     let alloc: Global = rt.alloc();
-    let queue: Queue<Added> = Queue::new(alloc, 8)?;
+    let queue: Queue<Added> = Queue::new(alloc, MOST)?;
     let store = journal_on(alloc, &[])?;
     let mut job = job_on(alloc, Board::new(alloc, true)?, store, &queue)?;
     assert!(rt; put_all(&rt, alloc, &queue, &[5])?);
@@ -190,7 +196,7 @@ fn a_batch_is_overtaken(rt: HostRuntime) -> Result<(), Fail> {
 #[test]
 fn a_queue_is_served_to_its_end(rt: HostRuntime) -> Result<(), Fail> {
     let alloc: Global = rt.alloc();
-    let queue: Queue<Added> = Queue::new(alloc, 8)?;
+    let queue: Queue<Added> = Queue::new(alloc, MOST)?;
     let store: Store<ToldDisk> = Store::Nowhere;
     let mut job = job_on(alloc, Board::new(alloc, false)?, store, &queue)?;
     assert!(rt; put_all(&rt, alloc, &queue, &[5, 7])?);

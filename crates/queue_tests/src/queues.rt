@@ -4,10 +4,13 @@ use std::sync::{Mutex, Wait};
 use std::test::Fail;
 use std::thread::{self, Threads};
 use std::time::{Clock, Duration};
-use update_queue::Queue;
+use update_queue::{Most, Queue};
 
-/// How many wait at most.
-const MOST: usize = 4;
+/// How much waits at most.
+const MOST: Most = Most {
+    items: 4,
+    octets: 100,
+};
 
 /// How many are put.
 const PUT: u64 = 100;
@@ -23,16 +26,33 @@ fn a_full_queue(rt: HostRuntime) -> Result<(), Fail> {
     let alloc: Global = rt.alloc();
     let queue: Queue<u64> = Queue::new(alloc, MOST)?;
     for item in 0u64..4 {
-        assert!(rt; queue.put(&rt, item).is_ok());
+        assert!(rt; queue.put(&rt, item, 1).is_ok());
     }
-    assert!(rt; queue.put(&rt, 4) == Err(4));
+    assert!(rt; queue.put(&rt, 4, 1) == Err(4));
     let mut taken: Vec<u64> = Vec::with_capacity(alloc, 3)?;
     assert!(rt; queue.take(&rt, &mut taken) && is_taken(&taken, 0, 3));
-    assert!(rt; queue.put(&rt, 4).is_ok() && queue.put(&rt, 5).is_ok());
+    assert!(rt; queue.put(&rt, 4, 1).is_ok() && queue.put(&rt, 5, 1).is_ok());
     assert!(rt; queue.try_take(&rt) == Some(3));
     taken.clear();
     assert!(rt; queue.take(&rt, &mut taken) && is_taken(&taken, 4, 2));
     assert!(rt; queue.try_take(&rt).is_none());
+    Ok(())
+}
+
+// What would make more octets wait than may comes back, however few wait; once some are taken there is room for as many octets as these had.
+#[test]
+fn a_queue_full_of_octets(rt: HostRuntime) -> Result<(), Fail> {
+    let alloc: Global = rt.alloc();
+    let queue: Queue<u64> = Queue::new(alloc, MOST)?;
+    assert!(rt; queue.put(&rt, 0, 101) == Err(0));
+    assert!(rt; queue.put(&rt, 0, 60).is_ok() && queue.put(&rt, 1, 30).is_ok());
+    assert!(rt; queue.put(&rt, 2, 11) == Err(2));
+    assert!(rt; queue.put(&rt, 2, 10).is_ok() && queue.put(&rt, 3, 1) == Err(3));
+    let mut taken: Vec<u64> = Vec::with_capacity(alloc, 1)?;
+    assert!(rt; queue.take(&rt, &mut taken) && is_taken(&taken, 0, 1));
+    assert!(rt; queue.put(&rt, 3, 61) == Err(3) && queue.put(&rt, 3, 60).is_ok());
+    assert!(rt; queue.try_take(&rt) == Some(1) && queue.try_take(&rt) == Some(2));
+    assert!(rt; queue.put(&rt, 4, 41) == Err(4) && queue.put(&rt, 4, 40).is_ok());
     Ok(())
 }
 
@@ -41,9 +61,9 @@ fn a_full_queue(rt: HostRuntime) -> Result<(), Fail> {
 fn an_ended_queue(rt: HostRuntime) -> Result<(), Fail> {
     let alloc: Global = rt.alloc();
     let queue: Queue<u64> = Queue::new(alloc, MOST)?;
-    assert!(rt; queue.put(&rt, 0).is_ok());
+    assert!(rt; queue.put(&rt, 0, 1).is_ok());
     queue.end(&rt);
-    assert!(rt; queue.put(&rt, 1) == Err(1));
+    assert!(rt; queue.put(&rt, 1, 1) == Err(1));
     let mut taken: Vec<u64> = Vec::with_capacity(alloc, 3)?;
     assert!(rt; queue.take(&rt, &mut taken) && is_taken(&taken, 0, 1));
     assert!(rt; !queue.take(&rt, &mut taken) && is_taken(&taken, 0, 1));
@@ -54,7 +74,7 @@ fn an_ended_queue(rt: HostRuntime) -> Result<(), Fail> {
 fn put_all<R: Wait + Clock>(rt: &R, queue: &Queue<u64>) {
     for item in 0..PUT {
         for _ in rt.forever() {
-            if queue.put(rt, item).is_ok() {
+            if queue.put(rt, item, 1).is_ok() {
                 break;
             }
         }

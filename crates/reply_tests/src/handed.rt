@@ -1,17 +1,24 @@
-//! Updates that are handed to who judges them: one that waits is handed once, and what another asker has under the same key is another one.
+//! Updates that are handed to who judges them: one that waits is handed once, what another asker has under the same key is another one, and what would be too many
+//! octets beside those that wait is told at once.
 use connections::{Answering, Reply, Unmade};
 use dns_engine::{FirstZone, Naming, VersionCell, VersionPublisher, VersionReader};
 use played_zones::{Kept, Play, Played, asker, is_played, octets_of, server_of, zone};
 use serve_core::{Peer, Transport};
 use std::alloc::Global;
 use std::sync::Wait;
-use update_queue::Queue;
+use update_queue::{Most, Queue};
 use zone_replies::Replies;
 use zone_service::{Hand, Server, Waiting, Way};
 
 /// An update that adds an address at `new` (RFC 2136, 2).
 const UPDATE: &str =
     "432128000001000000010000076578616d706c6504746573740000060001036e6577c00c0001000100000e100004c000020b";
+
+/// How much waits at most: of that update one alone, of 50 octets and one record.
+const MOST: Most = Most {
+    items: 8,
+    octets: 739,
+};
 
 /// A query for the zone's SOA.
 const QUERY: &str = "123401000001000000000000076578616d706c6504746573740000060001";
@@ -54,7 +61,8 @@ fn one_key<R: Wait>(rt: &R, queue: &Queue<Waiting>) -> Option<usize> {
     }
 }
 
-/// Whether an update is handed once while it waits, and anew for another asker, on another connection, and behind a query.
+/// Whether an update is handed once while it waits, and anew for another asker, on another connection, and behind a query; and where one waits that leaves no room, not until
+/// that is taken.
 fn is_handed_once<R: Wait, Z: FirstZone, N: Naming>(
     rt: &R,
     alloc: Global,
@@ -68,7 +76,11 @@ fn is_handed_once<R: Wait, Z: FirstZone, N: Naming>(
     let beside = is_later(rt, replies, 4711, 1, &update)? && one_key(rt, queue) == Some(1);
     let asked = !is_later(rt, replies, 4712, 0, &query)? && queue.try_take(rt).is_none();
     let behind = is_later(rt, replies, 4712, 0, &update)? && one_key(rt, queue) == Some(0);
-    Some(first && again && other && beside && asked && behind)
+    let full = is_later(rt, replies, 4711, 2, &update)?
+        && !is_later(rt, replies, 4711, 3, &update)?
+        && one_key(rt, queue) == Some(2);
+    let room = is_later(rt, replies, 4711, 3, &update)? && one_key(rt, queue) == Some(3);
+    Some(first && again && other && beside && asked && behind && full && room)
 }
 
 /// The same, by a reader that comes back.
@@ -78,7 +90,7 @@ fn is_handed<R: Wait, Z: FirstZone, N: Naming>(
     server: &Server<'_, Z, N>,
     readers: &mut Vec<VersionReader<N>>,
 ) -> Option<bool> {
-    let queue = Queue::new(alloc, 8).ok()?;
+    let queue = Queue::new(alloc, MOST).ok()?;
     let log = Kept::new(alloc);
     let replies = Replies::new(alloc, server, readers.pop()?, &log, updater(), asker(4711));
     let mut replies = replies.handing(Hand {

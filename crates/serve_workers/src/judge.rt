@@ -9,6 +9,7 @@ use std::alloc::Global;
 use std::io;
 use std::sync::Wait;
 use update_job::{Faults, Storing, UpdateJob};
+use update_queue::Most;
 use update_teller::Teller;
 use worker_jobs::{Meanwhile, Muster};
 use zone_service::ServiceLog;
@@ -16,8 +17,8 @@ use zone_service::ServiceLog;
 /// How updates are judged beside the threads that they come to.
 #[derive(Drop)]
 pub struct Handing<S: Storing<SharedVersion>, F> {
-    /// How many may wait.
-    pub most: usize,
+    /// How many may wait, and how many octets of memory they may be counted for.
+    pub most: Most,
     /// Where they are brought before they are told.
     pub store: S,
     /// Who notes why batches aren't there.

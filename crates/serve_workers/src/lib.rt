@@ -14,4 +14,5 @@ mod updates;
 pub use judge::Handing;
 pub use service::{Duty, Plan, ServeFault, Sockets, serve_zone};
 pub use turns::Plan as ConnectionPlan;
+pub use update_queue::Most;
 pub use worker_jobs::{Muster, NotifySocket, Progress, Secondaries};

@@ -30,6 +30,7 @@ use std::time::Clock;
 use thiserror::Error;
 use turns::{Plan as ConnectionPlan, Turns};
 use update_job::{Faults, Storing, UpdateJob};
+use update_queue::Most;
 use update_teller::Teller;
 use worker_jobs::{
     ConnectionsJob, DatagramsJob, Meanwhile, Muster, NotStarted, NotifyJob, Progress, Scratch,
@@ -109,11 +110,11 @@ impl<C: Clock> SocketJob<'_, C> {
     }
 }
 
-/// The updates that threads with these duties hand in, of which so many wait at most.
+/// The updates that threads with these duties hand in, of which so much waits at most.
 fn updates_for<R: Wait>(
     rt: &R,
     alloc: Global,
-    most: usize,
+    most: Most,
     duties: &[Duty<'_>],
     places: usize,
 ) -> Result<Updates, ServeFault> {

@@ -4,7 +4,7 @@ use crate::service::{Duty, Sockets};
 use std::alloc::{AllocError, Global};
 use std::sync::Wait;
 use std::sync::atomic::{AtomicUsize, Ordering};
-use update_queue::Queue;
+use update_queue::{Most, Queue};
 use worker_jobs::ToldKeys;
 use zone_service::Waiting;
 
@@ -36,12 +36,12 @@ fn takes_updates(duty: &Duty<'_>) -> bool {
 }
 
 impl Updates {
-    /// Those of threads that have these duties, each with at most so many connections, of which none waits, and at most `most` ever do. It takes the memory for
+    /// Those of threads that have these duties, each with at most so many connections, of which none waits, and at most so much ever does. It takes the memory for
     /// all.
     pub(crate) fn of<R: Wait>(
         rt: &R,
         alloc: Global,
-        most: usize,
+        most: Most,
         duties: &[Duty<'_>],
         places: usize,
     ) -> Result<Updates, AllocError> {

@@ -29,12 +29,14 @@ pub enum LogLine {
     },
     /// An address for all of the machine's is listened on.
     Wildcard(SocketAddr),
-    /// The limit of descriptors is lower than what may be needed.
+    /// The limit of descriptors is lower than what all connections would need.
     FewDescriptors {
         /// The limit.
         limit: usize,
-        /// What may be needed.
+        /// What they would need.
         wanted: usize,
+        /// How many connections each worker has open at most for that reason.
+        places: usize,
     },
     /// The system keeps fewer octets of datagrams for a socket than were asked for.
     SmallBuffer {
@@ -97,9 +99,13 @@ impl Display for LogLine {
                 f,
                 "{address}: a datagram is answered from the address that routing picks; on a host of several addresses, name each by a --listen of its own"
             ),
-            LogLine::FewDescriptors { limit, wanted } => write!(
+            LogLine::FewDescriptors {
+                limit,
+                wanted,
+                places,
+            } => write!(
                 f,
-                "the limit of descriptors is {limit}, and all connections may want {wanted}"
+                "the limit of descriptors is {limit}, and all connections may want {wanted}: each worker has at most {places} open"
             ),
             LogLine::SmallBuffer { kept, wanted } => write!(
                 f,

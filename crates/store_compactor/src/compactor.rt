@@ -9,11 +9,15 @@ use file_disks::FileDisk;
 use journal_store::LogFault;
 use std::alloc::Global;
 use std::fs::{File, Files};
-use std::io;
+use std::io::{self, ErrorKind};
 use std::marker::Model;
 use std::sync::Wait;
+use store_files::is_in_place;
 use update_group::Group;
 use update_job::Storing;
+
+/// Why nothing is appended to a journal that a start wouldn't find (own).
+const MISPLACED: &str = "the store's directory has no journal, or another one: it was moved or removed";
 
 /// A store of a folder, which is compacted between two batches. Contracts see its writer, the text that is wanted, and whether it takes nothing more.
 #[derive(Drop)]
@@ -81,6 +85,19 @@ impl<R: Files<File = File> + Alloc + Clone + Drop, T: Texts, N: Notes + Drop> St
         &self.writer
     }
 
+    /// Why nothing may be appended to the journal, which takes more: a start wouldn't find it where the store's folder was moved or removed, or another is in its place.
+    /// None where it would.
+    fn misplaced(&self, alloc: Global) -> Option<io::Error> {
+        if self.writer.log().is_stuck() {
+            return None;
+        }
+        match is_in_place(&self.files, alloc, &self.dir, self.writer.log().disk()) {
+            Ok(true) => None,
+            Ok(false) => Some(io::Error::new(ErrorKind::NotFound, MISPLACED)),
+            Err(fault) => Some(fault),
+        }
+    }
+
     /// Puts the journal of the text in place that was being written, once this is on the disk.
     fn finish<W: Wait>(&mut self, rt: &W, alloc: Global)
         ensures { IsTended self.old self.new }
@@ -138,7 +155,7 @@ impl<R: Files<File = File> + Alloc + Clone + Drop, T: Texts, N: Notes + Drop> St
     ghost closed = { IsClosed };
 
     fn tend<W: Wait>(&mut self, rt: &W, alloc: Global) {
-        if self.closed {
+        if self.closed || self.misplaced(alloc).is_some() {
             return;
         }
         self.finish(rt, alloc);
@@ -157,6 +174,10 @@ impl<R: Files<File = File> + Alloc + Clone + Drop, T: Texts, N: Notes + Drop> St
         if self.closed || self.writer.log().is_stuck() {
             group.give_up();
             return Some(LogFault::Stuck);
+        }
+        if let Some(fault) = self.misplaced(alloc) {
+            group.give_up();
+            return Some(LogFault::Disk(fault));
         }
         self.writer.append(rt, alloc, group)
     }

@@ -16,5 +16,5 @@ mod read;
 
 pub use kept::{drop_others, keep_pair, keep_torn};
 pub use open::{Opened, Pair, StoreLock, open_store};
-pub use pair::{NewText, PairFault, remove_text, replace_journal, write_pair};
+pub use pair::{NewText, PairFault, is_in_place, remove_text, replace_journal, write_pair};
 pub use read::read_store;

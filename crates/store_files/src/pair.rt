@@ -115,6 +115,17 @@ pub fn replace_journal<R: Files<File = File>>(
     }
 }
 
+/// Whether the journal in a folder is this very file: not so where the folder has none, or another one, since it was moved or removed, or another is in its place. It
+/// takes memory.
+pub fn is_in_place<R: Files>(
+    rt: &R,
+    alloc: Global,
+    dir: &str,
+    journal: &FileDisk,
+) -> io::Result<bool> {
+    journal.is_at(rt, path_of(alloc, dir, JOURNAL)?.as_str())
+}
+
 /// The paths of a journal.
 #[derive(Drop)]
 struct Paths {

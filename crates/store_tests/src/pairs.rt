@@ -2,7 +2,7 @@
 use crate::folders::{begun, found, make_folder, pair_of, put_pair};
 use std::fs;
 use std::test::Fail;
-use store_files::{PairFault, write_pair};
+use store_files::{PairFault, is_in_place, write_pair};
 
 /// Leaves in a folder what a crash in front of the rename leaves of the pair of a number.
 fn leave_half(rt: &HostRuntime, dir: &str, number: u64) -> Result<(), Fail> {
@@ -38,5 +38,26 @@ fn pairs_are_found(rt: HostRuntime) -> Result<(), Fail> {
     let told = write_pair(&rt, rt.alloc(), dir, 3, b"fourth", &journal);
     assert!(rt; matches!(told, Err(PairFault::Before(_))) && found(&rt, dir)? == before);
     fs::remove_dir_all(&rt, dir)?;
+    Ok(())
+}
+
+// A journal is in its place where its folder has that very file under its name: not where it is under another name, nor where a copy of it is there, nor where the
+// folder is gone; and it is again once it is back.
+#[test]
+fn journals_are_in_place(rt: HostRuntime) -> Result<(), Fail> {
+    let dir = "store_tests_place";
+    make_folder(&rt, dir)?;
+    let journal = put_pair(&rt, dir, 1, b"a text")?;
+    let mut told = Vec::new(rt.alloc());
+    told.push(is_in_place(&rt, rt.alloc(), dir, &journal)?)?;
+    fs::rename(&rt, "store_tests_place/journal", "store_tests_place/moved")?;
+    told.push(is_in_place(&rt, rt.alloc(), dir, &journal)?)?;
+    fs::copy(&rt, "store_tests_place/moved", "store_tests_place/journal")?;
+    told.push(is_in_place(&rt, rt.alloc(), dir, &journal)?)?;
+    fs::rename(&rt, "store_tests_place/moved", "store_tests_place/journal")?;
+    told.push(is_in_place(&rt, rt.alloc(), dir, &journal)?)?;
+    fs::remove_dir_all(&rt, dir)?;
+    told.push(is_in_place(&rt, rt.alloc(), dir, &journal)?)?;
+    assert_eq!(rt; told.as_slice(), [true, false, false, true, false].as_slice());
     Ok(())
 }

@@ -11,7 +11,7 @@ use std::test::Fail;
 use told_disks::ToldDisk;
 use update_desk::Fetched;
 use update_job::{Store, UpdateJob};
-use update_queue::Queue;
+use update_queue::{Most, Queue};
 use update_teller::Teller;
 use zone_service::{Server, Waiting, Way};
 
@@ -92,7 +92,11 @@ fn tell_three<R: Wait, Z: FirstZone, N: Naming>(
 ) -> (Option<bool>, Option<VersionReader<N>>) {
     let mut reader = reader;
     let log = Kept::new(alloc);
-    let Ok(queue) = Queue::<Waiting>::new(alloc, 8) else {
+    let most = Most {
+        items: 8,
+        octets: 8,
+    };
+    let Ok(queue) = Queue::<Waiting>::new(alloc, most) else {
         return (None, Some(reader));
     };
     let (_, Some(seat)) = server.open(rt, &mut reader) else {

@@ -32,7 +32,7 @@ pub(crate) fn is_spelt(alloc: Global, octets: &[u8], text: &str) -> Option<bool>
 fn put<R: Wait>(rt: &R, alloc: Global, queue: &Queue<Waiting>, text: &str, way: Way) -> Option<()> {
     let octets = hex::decode(alloc, text.as_bytes()).ok()?;
     let asked = Asked::read(alloc, octets, true)?;
-    queue.put(rt, Waiting { asked, way }).ok()
+    queue.put(rt, Waiting { asked, way }, 1).ok()
 }
 
 /// Three updates that wait: the first is told so, the second so, the third as the first.

@@ -2,7 +2,7 @@
 ghost use Rattle.std.specs.Prelude.{◌≡◌, IfErr, vec_capacity};
 ghost use Rattle.update_queue.specs.Waiting.{BeginsWith};
 
-use crate::waiting::Waiting;
+use crate::waiting::{Most, Waiting};
 use std::alloc::{AllocError, Global};
 use std::mem;
 use std::sync::{Condvar, Mutex, Wait};
@@ -23,8 +23,8 @@ pub struct Queue<T> {
 }
 
 impl<T: Drop> Queue<T> {
-    /// A queue in which at most `most` wait. It takes the memory for all of them.
-    pub fn new(alloc: Global, most: usize) -> Result<Queue<T>, AllocError> {
+    /// A queue in which at most so much waits. It takes the memory for as many as may wait.
+    pub fn new(alloc: Global, most: Most) -> Result<Queue<T>, AllocError> {
         let state = State {
             waiting: Waiting::new(alloc, most)?,
             ended: false,
@@ -35,15 +35,15 @@ impl<T: Drop> Queue<T> {
         })
     }
 
-    /// Puts one; it comes back at once where there is no room, or the queue is ended.
-    pub fn put<R: Wait>(&self, rt: &R, item: T) -> Result<(), T>
+    /// Puts one, of so many octets; it comes back at once where there is no room for it ([`Waiting::put`]), or the queue is ended.
+    pub fn put<R: Wait>(&self, rt: &R, item: T, octets: usize) -> Result<(), T>
         ensures { IfErr result (λ back. back ≡ item) }
     {
         let mut state = self.state.lock(rt);
         if state.ended {
             return Err(item);
         }
-        let put = state.waiting.put(item);
+        let put = state.waiting.put(item, octets);
         mem::drop(state);
         self.came.notify_one();
         put

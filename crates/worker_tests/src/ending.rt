@@ -5,7 +5,7 @@ use dns_engine::SharedVersion;
 use links::Limits;
 use played_zones::zone;
 use serve_workers::{
-    ConnectionPlan, Duty, Handing, Muster, Plan, Progress, ServeFault, Sockets, serve_zone,
+    ConnectionPlan, Duty, Handing, Most, Muster, Plan, Progress, ServeFault, Sockets, serve_zone,
 };
 use sockets::{Turn, bind_datagrams, bind_listener};
 use std::alloc::Global;
@@ -157,7 +157,10 @@ pub(crate) fn served<R: Net + Threads + Wait + Clock + Sync>(
     };
     let later = Vec::new(alloc);
     let handing = Handing {
-        most: 8,
+        most: Most {
+            items: 8,
+            octets: 1 << 20,
+        },
         store: Store::<ToldDisk>::Nowhere,
         faults: NoFaults,
     };

@@ -1,10 +1,11 @@
 -- What becomes of a reader where an update waits for its reply (own).
-use Rattle.std.specs.Prelude.{◌≡◌, ◌≤◌, ◌⊎◌, ℕ, true, List, [], ◌∷◌, take, Option, None, Some}
+use Rattle.std.specs.Prelude.{◌≡◌, ◌≤◌, ◌⊎◌, ◌+◌, ◌*◌, ℕ, true, List, [], ◌∷◌, length, take, Option, None, Some}
 use Rattle.dns_rdata.specs.Record.{Record}
 use Rattle.dns_message.specs.Request.{is_update, reads}
 use Rattle.zone_tree.specs.Version.{Version}
 use Rattle.snapshot_cell.specs.Tokens.{ReaderState}
 use Rattle.dns_engine.specs.Held.{EngineState}
+use Rattle.lasting_engine.specs.declared.asked.Asked.{Asked}
 use Rattle.serve_core.specs.declared.peer.Peer.{Peer}
 use Rattle.serve_core.specs.Served.{limit_for}
 use Rattle.update_desk.specs.declared.desk.Begun.{Begun}
@@ -15,6 +16,10 @@ use Rattle.zone_service.specs.Replied.{IsReplied}
 use Rattle.zone_service.specs.declared.handing.Handed.{Handed}
 use Rattle.zone_service.specs.declared.handing.Handed.TheVariants.{Told as AtOnce, Waits as IsPut}
 use Rattle.zone_service.specs.declared.answer.Told.{Told as ToldOf}
+
+-- how many octets of memory an update is counted for that waits: those that came, and 320 for each record that was read of them (own)
+abbrev pub memory_of : Asked → ℕ
+memory_of asked = length asked.octets.items + (length asked.update.prerequisites + length asked.update.updates) * 320
 
 -- a reader meets all that is published, of which the last version has this number, for no grant (own)
 abbrev pub MeetsAt : List Record → ReaderState Version → ReaderState Version → ℕ → Type 0

@@ -1,12 +1,12 @@
 //! Updates that are handed to who judges them on a thread of its own, and lets them last (RFC 2136, 3 and 3.5).
-ghost use Rattle.std.specs.Prelude.{◌≡◌, ◌≤◌, true, length, take, None, IfSome};
+ghost use Rattle.std.specs.Prelude.{◌≡◌, ◌-◌, ◌^◌, ◌≤◌, true, length, take, min, None, IfSome};
 ghost use Rattle.dns_rdata.specs.declared.numbers.Rcode.TheVariants.{ServFail};
 ghost use Rattle.dns_message.specs.Octets.{fit};
 ghost use Rattle.serve_core.specs.Heading.{heading_of_update, coded};
 ghost use Rattle.dns_message.specs.Request.{reads};
 ghost use Rattle.dns_message.specs.declared.query.Parsed.TheVariants.{Update as SaysUpdate};
 ghost use Rattle.serve_core.specs.Transport.{room_of, limit_of};
-ghost use Rattle.zone_service.specs.Waiting.{IsHanded, IsHandedOver};
+ghost use Rattle.zone_service.specs.Waiting.{memory_of, IsHanded, IsHandedOver};
 ghost use Rattle.zone_service.specs.Replied.{IsUpdate};
 
 use crate::answer::{Told, read_update};
@@ -86,6 +86,24 @@ fn asked_of(alloc: Global, update: Update, request: &[u8]) -> Option<Asked>
     Asked::of(update, octets, true)
 }
 
+/// How many octets of memory a record of an update is counted for: what it takes once it is read, whose owner has room for the longest name (own).
+const RECORD: usize = 320;
+
+/// How many octets of memory an update is counted for that waits.
+fn memory_of(asked: &Asked) -> usize
+    ensures { result ≡ min (memory_of asked.now) (2 ^ 64 - 1) }
+{
+    let update = asked.update();
+    let records = update
+        .prerequisites
+        .as_slice()
+        .len()
+        .saturating_add(update.updates.as_slice().len());
+    records
+        .saturating_mul(RECORD)
+        .saturating_add(asked.octets().len())
+}
+
 /// Puts an update behind those that wait: whether there was room, and memory.
 fn is_put<R: Wait>(
     rt: &R,
@@ -100,7 +118,8 @@ fn is_put<R: Wait>(
     let Some(asked) = asked_of(alloc, update, request) else {
         return false;
     };
-    hand.queue.put(rt, Waiting { asked, way }).is_ok()
+    let octets = memory_of(&asked);
+    hand.queue.put(rt, Waiting { asked, way }, octets).is_ok()
 }
 
 /// Writes SERVFAIL, of an update that nobody judges (own).
@@ -115,7 +134,7 @@ fn refuse(heading: &Heading, peer: Peer, out: &mut [u8]) -> (usize, Told)
 }
 
 /// Hands in an update of a peer that may update, who asks on the connection under a key. It gets a reply at once where it can't be read, and SERVFAIL
-/// where too many wait, there is no memory, or nobody takes it (no `hand`): then nobody judges it (own).
+/// where too many wait or too many octets, there is no memory, or nobody takes it (no `hand`): then nobody judges it (own).
 pub fn hand_in<R: Wait, Z: FirstZone, N: Naming>(
     rt: &R,
     alloc: Global,
