@@ -5,6 +5,8 @@ use denote.Param.Send.{IsSend, IsSync, recorded_send, shr_send, struct_send, sen
 use denote.Struct.Declared.{shape}
 use Rattle.arrayvec.proofs.array_vec.ArrayVec.TheSendSync as array_vec
 use Rattle.std.proofs.Crossing as crossing
+use Rattle.std.proofs.option.Option.TheSendSync as option
+use Rattle.dns_engine.proofs.SendLemmas as engine
 use Rattle.snapshot_cell.proofs.SendLemmas as cell
 use Rattle.snapshot_cell.specs.declared.named.Naming as naming
 use Rattle.dns_engine.specs.declared.versions.FirstZone.{Ghosts}
@@ -22,7 +24,7 @@ module _ (a b : NamedLft) (T N L P : RattleType) (g : Ghosts T.Denot) (n : namin
   inside_send hears brings =
       recorded_send (inside.the_field a b T N L P n g r).row _ _ (inside.the_type a b T N L P n g r).to_one
       (struct_send (shape (inside.the_type a b T N L P n g r))
-      (shr_send _ _ _ (server_sync b T N g n), (search (cell.crosses, crossing.crosses, sendable) depth 60 fits 20000, (search (crossing.crosses, sendable) depth 60 fits 20000, (brings, (search (crossing.crosses, sendable) depth 60 fits 20000, (search (names_send, sendable) depth 60 fits 20000, (search (crossing.crosses, sendable) depth 60 fits 20000, (search (crossing.crosses, sendable) depth 60 fits 20000, (search (crossing.crosses, sendable) depth 60 fits 20000, tt))))))))))
+      (shr_send _ _ _ (server_sync b T N g n), (search (cell.crosses, crossing.crosses, sendable) depth 60 fits 20000, (search (crossing.crosses, sendable) depth 60 fits 20000, (brings, (search (crossing.crosses, sendable) depth 60 fits 20000, (search (names_send, sendable) depth 60 fits 20000, (search (crossing.crosses, sendable) depth 60 fits 20000, (search (crossing.crosses, sendable) depth 60 fits 20000, (search (crossing.crosses, sendable) depth 60 fits 20000, (search (engine.shared_send, option.the_send, crossing.crosses, sendable) depth 60 fits 20000, tt)))))))))))
 
   pub teller_send : IsSync L → IsSend P → IsSend (teller.the_row a b T N L P n g r)
   teller_send hears brings = let inside = inside_send hears brings in search sendable depth 60 fits 20000

@@ -1,5 +1,5 @@
 //! Telling those whose updates waited (RFC 2136, 3.8).
-ghost use Rattle.std.specs.Prelude.{◌≡◌, ◌++◌, [], ◌∷◌, length, IfOk, IfErr};
+ghost use Rattle.std.specs.Prelude.{◌≡◌, ◌≤◌, ◌++◌, [], ◌∷◌, length, IfOk, IfErr};
 ghost use Rattle.zone_tree.specs.Version.{Version as VersionOf};
 ghost use Rattle.update_group.specs.Engine.{IsLast, AreMade};
 ghost use Rattle.update_group.specs.Group.{codes_of, versions_of};
@@ -17,7 +17,6 @@ use serve_core::{Peer, Transport, UDP_LIMIT};
 use snapshot_cell::Naming;
 use std::alloc::Global;
 use std::marker::Model;
-use std::mem;
 use std::sync::Wait;
 use update_desk::Done;
 use update_group::{Group, Judgement, Judging};
@@ -29,19 +28,29 @@ use zone_service::{
 use zone_tree::Version;
 
 /// The first owner that one of these versions gives more than stock secondaries take, each of them made from the one before it, and the first from this one; None where
-/// there is none, or that one isn't known.
-fn passed_in(first: Option<SharedVersion>, versions: &[SharedVersion]) -> Option<Large> {
-    let first = first?;
-    let mut before = first.get();
-    for version in versions {
-        let version = version.get();
-        let large = passed_of(before, version);
-        if large.is_some() {
-            return large;
+/// there is none.
+fn passed_in(first: &SharedVersion, versions: &[SharedVersion]) -> Option<Large> {
+    for at in 0..versions.len() {
+        let before = before_at(first, versions, at);
+        if let Some(large) = passed_of(before.get(), versions[at].get()) {
+            return Some(large);
         }
-        before = version;
     }
     None
+}
+
+/// The version before the one at a place, which is the first one where none of these is before it.
+fn before_at<'a>(
+    first: &'a SharedVersion,
+    versions: &'a [SharedVersion],
+    at: usize,
+) -> &'a SharedVersion
+    requires { at ≤ length versions.now }
+{
+    if at == 0 {
+        return first;
+    }
+    &versions[at - 1]
 }
 
 /// The first owner that a version gives more than stock secondaries take, made from the one before it.
@@ -210,7 +219,11 @@ impl<'a, 's, Z: FirstZone, N: Naming, L: ServiceLog, P: Replying + Drop> Publish
         ensures brought { self.new.brought ≡ self.old.brought }
         ensures turned_back { IfErr result (λ _. IsTurnedBack Z.zone self.old.seen self.new.seen (versions_of group)) }
     {
-        let large = passed_in(mem::take(&mut self.first), group.versions());
+        let large = match &self.first {
+            Some(first) => passed_in(first, group.versions()),
+            None => None,
+        };
+        self.first = None;
         let (number, published) = self.server.publish(rt, &mut self.reader, self.last, group);
         self.last = number;
         let (codes, after) = published?;
