@@ -3,7 +3,7 @@
 request and comes again at once as it is ended; and then 10,000 such that come and go, 150 at once for 100 places. Each of 50 queries in a row from each of two other addresses has
 to be answered within a second. And a transfer that its reader takes at a KiB a second has to be ended, while one that is taken at full speed, and one
 that is taken slowly where `--transfer-rate 0` says so, go on.
-Usage: [DNSD=PROGRAM] tests/hoarders.py [PORT], by default crates/dnsd/out/dnsd and port 15256. It takes two minutes; status 1 where one failed.
+Usage: [DNSD=PROGRAM] tests/hoarders.py [PORT], by default crates/dnsd/out/dnsd and port 15256. It takes three minutes; status 1 where one failed.
 127.0.0.1 to 127.0.0.3 have to be addresses of the host, as they are on Linux."""
 import multiprocessing
 import os
@@ -213,7 +213,7 @@ try:
         ("a transfer that is read at a KiB a second is ended", lambda ended: ended is not None, ()),
         ("with --transfer-rate 0 it goes on", lambda ended: ended is None, ("--transfer-rate", "0")),
     ):
-        ended, is_whole = reads_slowly(zone, 40, "--reply", "1h", *options)
+        ended, is_whole = reads_slowly(zone, 60, "--reply", "1h", *options)
         good = is_right(ended) and is_whole
         failed += not good
         print(f"{'ok    ' if good else 'FAILED'} {what}: ended after {ended} s; one at full speed came {'whole' if is_whole else 'in part'}", flush=True)
