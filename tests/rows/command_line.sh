@@ -148,6 +148,7 @@ for word in 65535 63K 2G 1025M 1T K -1 ''; do
 done
 for word in 65536 64K 16m 1G; do
     row 3 "the store 'no/such/store' can't be read or written" serve --listen 127.0.0.1:0 --store no/such/store --update-queue "$word" "$zone"
+done
 for word in 2G 1025M 1T K '' -1 1.5M; do
     row 2 "--transfer-rate takes a size from 0 to 1G, as 16K or 1M, and '$word' is none" serve --listen 127.0.0.1:0 "--transfer-rate=$word" "$zone"
 done
