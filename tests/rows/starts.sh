@@ -127,13 +127,20 @@ web.example.test. 3600 IN A 192.0.2.10
 www.example.test. 3600 IN CNAME web.example.test.
 '
 
-# a folder without a journal is begun from the zone text, whatever a crash has left of a pair, each time with other random octets; the journal says which text is written, and
-# which one was given. Once begun it is served, and stays as it is
+# a folder without zone texts and a journal is begun from the zone text, and so is one in which a crash has left a part of a first pair: a part of the journal that isn't
+# renamed, or the whole, which names zone-0, and a part of that; each time with other random octets; the journal says which text is written, and which one was given. Once
+# begun it is served, and stays as it is
 salts=()
-for left in '' left; do
+for left in '' head text; do
     rm -rf "$store"
     mkdir "$store"
-    [ -z "$left" ] || { printf 'half of a text' >"$store/zone-0" && repeat 500 x >"$store/journal.new"; }
+    case $left in
+        head) repeat 500 x >"$store/journal.new" ;;
+        text)
+            octets "$(head_of 0 7369787465656e206f63746574732e2e "$seven" 7 "$seven")" >"$store/journal.new"
+            printf 'half of a text' >"$store/zone-0"
+            ;;
+    esac
     starts "$given" "the store '$store' is begun from the zone's text"
     has_files journal lock zone-0
     holds zone-0 "$written"
@@ -144,7 +151,7 @@ for left in '' left; do
     starts "$given" ''
     has_journal "$begun"
 done
-[ "${salts[0]}" != "${salts[1]}" ] || fails 'two stores have the same random octets'
+if [ "${salts[0]}" = "${salts[1]}" ] || [ "${salts[1]}" = "${salts[2]}" ]; then fails 'two stores have the same random octets'; fi
 
 # while another process holds the store, by flock(2), nothing is begun nor served; who only reads it isn't refused
 exec 8>"$store/lock"
@@ -155,7 +162,80 @@ rm "$store/journal"
 stops 1 "$given" "error: the store '$store' is held by another server"
 [ ! -e "$store/journal" ] || fails 'a journal was made in a folder that is held'
 exec 8>&-
-starts "$given" "the store '$store' is begun from the zone's text"
+
+# sum_of_files: the sums of the folder's files
+sum_of_files() {
+    (cd "$store" && find . -type f -exec sha256sum {} + | sort)
+}
+
+# stays STATUS TEXT LINE [WORD..]: as `stops`, and the folder's files stay as they were
+stays() {
+    local before
+    before=$(sum_of_files)
+    stops "$@"
+    [ "$(sum_of_files)" = "$before" ] || fails "the folder was changed though nothing is served: $3"
+}
+
+# zone texts without a journal are no store that can be begun, whatever is taken, since a journal was there: all numbers but 0; 0 beside others, and alone; beside a journal
+# that isn't renamed and names another one, as a later pair leaves it, or none. Nothing goes
+while read -r laid last texts; do
+    rm -rf "$store"
+    mkdir "$store"
+    touch "$store/lock"
+    for number in $texts; do printf %s "$seven" >"$store/zone-$number"; done
+    case $laid in
+        none) ;;
+        other) repeat 500 x >"$store/journal.new" ;;
+        *) octets "$(head_of "$laid" 7369787465656e206f63746574732e2e "$seven" 7 "$seven")" >"$store/journal.new" ;;
+    esac
+    for taken in '' '--take store' '--take zone'; do
+        # shellcheck disable=SC2086
+        stays 1 "$nine" "error: the store '$store' has the zone text '$store/zone-$last', and no journal, which had the updates since: put the journal back, or move the zone texts out of the directory to begin from the zone's text" $taken
+    done
+done <<'end'
+none 10 9 10
+none 10 10 9
+none 18446744073709551615 3 18446744073709551615
+none 1 1
+none 1 0 1
+none 0 0
+other 0 0
+1 0 0
+1 1 0 1
+0 1 0 1
+0 1 1
+end
+# moved away, they leave a folder that is begun
+rm "$store"/zone-*
+starts "$nine" "the store '$store' is begun from the zone's text"
+has_files journal lock zone-0
+
+# an origin is misspelt where a store is begun: put right, or where another zone is given, both apexes are told, whatever is taken and whichever serial the text has; case
+# is none (RFC 4343, 3)
+relative=$'@ 60 SOA ns host 11 1 1 1 1\n@ 60 NS ns\n'
+rm -rf "$store"
+mkdir "$store"
+starts "$relative" "the store '$store' is begun from the zone's text" --origin exmaple.test.
+for taken in '' '--take store' '--take zone'; do
+    while read -r origin apex serial; do
+        # shellcheck disable=SC2086
+        stays 1 "${relative/ 11 / $serial }" "error: the zone's text has the apex $apex, and the store '$store' the apex exmaple.test.: give --origin exmaple.test., if that zone is meant, or else --store a new directory" $taken --origin "$origin"
+    done <<'end'
+example.test. example.test. 11
+Example.Test example.test. 11
+example.test. example.test. 10
+example.test. example.test. 12
+sub.exmaple.test. sub.exmaple.test. 12
+test. test. 12
+. . 12
+end
+    for origin in exmaple.test. EXMAPLE.test.; do
+        # shellcheck disable=SC2086
+        starts "$relative" '' $taken --origin "$origin"
+    done
+done
+starts "${relative/ 11 / 12 }" "the zone's text is served, with which the store '$store' is begun anew; the one before is kept as '$store/old-1'" --take zone --origin Exmaple.Test.
+stays 1 "$relative" "error: the zone's text has the apex example.test., and the store '$store' the apex exmaple.test.: give --origin exmaple.test., if that zone is meant, or else --store a new directory" --origin example.test.
 
 # a store of serial 7 with the update, in which the text of serial 6 isn't the one that it was begun from
 head=$(head_of 3 7369787465656e206f63746574732e2e "$seven" 7 "$seven")
@@ -181,6 +261,38 @@ holds torn-1 torn
 has_journal "$whole"
 prints_zone "$with_a"
 has_files journal lock torn-1 torn-2 zone-3
+# an end that is kept already isn't kept once more, whichever of the files has it; a file without octets keeps nothing, and one that a crash has left without its name goes
+octets "${whole}746f726e" >"$store/journal"
+starts "$seven" "$ended/torn-1'"
+has_files journal lock torn-1 torn-2 zone-3
+: >"$store/torn-1"
+printf to >"$store/torn.new"
+octets "${whole}746f726e" >"$store/journal"
+starts "$seven" "$ended/torn-1'"
+has_files journal lock torn-1 torn-2 zone-3
+holds torn-1 torn
+printf torm >"$store/torn-1"
+octets "${whole}746f726e" >"$store/journal"
+starts "$seven" "$ended/torn-3'"
+holds torn-3 torn
+octets "${whole}000000000061" >"$store/journal"
+starts "$seven" "$ended/torn-2'"
+has_files journal lock torn-1 torn-2 torn-3 zone-3
+# one that can't be written leaves no file, however often that is tried, and the journal has it still: a file may have 1024 octets (setrlimit(2))
+lays_store 3 "$seven" "$whole"
+touch "$store/lock"
+repeat 5000 x >>"$store/journal"
+unlimited=$program
+printf '#!/usr/bin/env bash\ntrap "" XFSZ\nulimit -f 1\nexec "%s" "$@"\n' "$program" >"$room/limited"
+chmod +x "$room/limited"
+program=$room/limited
+for _ in {1..20}; do
+    stays 3 "$seven" "error: the store '$store' can't be read or written: File too large (os error 27)"
+done
+program=$unlimited
+has_files journal lock zone-3
+starts "$seven" "$ended/torn-1'"
+holds torn-1 "$(repeat 5000 x)"
 # each length of the last batch: its first three octets are zeros; the others are kept
 for ((at = 156; at < ${#whole} / 2; at++)); do
     lays_store 3 "$seven" "${whole:0:2*at}"
@@ -214,7 +326,7 @@ rm -rf "$store"
 stops 3 "$seven" "error: the store '$store' can't be read or written: No such file or directory (os error 2)"
 [ ! -e "$store" ] || fails 'a folder was made'
 
-# the text that the store was begun from isn't looked into, whatever is taken, and whatever it says
+# of the text that the store was begun from no more is looked at than its zone's apex, whatever is taken, and whatever it says
 for origin in "${six/ 6 / 11 }" "$none" ''; do
     head=$(head_of 3 7369787465656e206f63746574732e2e "$seven" 7 "$origin")
     lays_store 3 "$seven" "$head"
@@ -332,9 +444,6 @@ has_files journal lock zone-0
 
 # a start that can't listen at an address, which is none of a machine's (RFC 5737, 3), or notify a secondary from one, leaves the directory as it was: an empty one, and a
 # store that is torn
-sum_of_files() {
-    (cd "$store" && find . -type f -exec sha256sum {} + | sort)
-}
 for begun in '' yes; do
     rm -rf "$store"
     mkdir "$store"

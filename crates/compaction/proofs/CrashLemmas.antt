@@ -3,7 +3,6 @@ use Rattle.std.proofs.Common.{◌≡◌, ℕ, ◌≤◌, List, ◌++◌, length,
 use Rattle.dns_name.specs.Name.{Name}
 use Rattle.dns_rdata.specs.Record.{Record}
 use Rattle.dns_message.specs.declared.update.Update.{Update}
-use Rattle.zone_tree.specs.Version.{zone_serial}
 use Rattle.update_core.specs.Act.{replay}
 use Rattle.dns_engine.specs.Replayed.{EachChanges}
 use Rattle.journal.specs.declared.heads.Head.{Head}
@@ -53,8 +52,8 @@ pub same_choice : (text written : List ℕ) (head next : Head) (batches rest : L
     (random : List ℕ) (start later : Start) (origin : Name) (given : List ℕ) (taken : Option Take) (choice : Choice)
     → IsStore text head batches zone updates → k ≤ length updates → IsBegun (replay zone (take k updates)) number random head.origin written next → AreBehind k batches rest
     → IsStarted text (journal_of head batches) start → IsStarted written (journal_of next rest) later
-    → IsChoice start.head.origin (zone_serial start.newest.last.zone) origin given taken choice
-    → IsChoice later.head.origin (zone_serial later.newest.last.zone) origin given taken choice
+    → IsChoice start.head.origin start.newest.last.zone origin given taken choice
+    → IsChoice later.head.origin later.newest.last.zone origin given taken choice
 same_choice text written head next batches rest zone updates k number random start later origin given taken choice store few begun behind is is_later chosen =
     let left : IsStore written next rest (replay zone (take k updates)) (drop k updates) =
     compacted_store text written head next batches rest zone updates k store begun.store behind in
@@ -63,5 +62,5 @@ same_choice text written head next batches rest zone updates k number random sta
     let origins : start.head.origin ≡ later.head.origin =
     ap (λ (h : Head). h.origin) one.0 ∙ (sym begun.given ∙ ap (λ (h : Head). h.origin) (sym two.0)) in
     let zones = compacted_started text written head next batches rest zone updates k start later store begun.store behind few is is_later in
-    subst (λ (o : TextSum). IsChoice o (zone_serial later.newest.last.zone) origin given taken choice) origins
-    (subst (λ (z : List Record). IsChoice start.head.origin (zone_serial z) origin given taken choice) zones.0 chosen)
+    subst (λ (o : TextSum). IsChoice o later.newest.last.zone origin given taken choice) origins
+    (subst (λ (z : List Record). IsChoice start.head.origin z origin given taken choice) zones.0 chosen)

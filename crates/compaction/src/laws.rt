@@ -3,7 +3,7 @@ ghost use Rattle.std.specs.Prelude.{◌≡◌, ◌+◌, ◌≤◌, ◌<◌, ◌^
 ghost use Rattle.dns_name.specs.Name.{Name};
 ghost use Rattle.dns_rdata.specs.Record.{Record};
 ghost use Rattle.dns_message.specs.declared.update.Update.{Update};
-ghost use Rattle.zone_tree.specs.Version.{Version, zone_serial};
+ghost use Rattle.zone_tree.specs.Version.{Version};
 ghost use Rattle.update_core.specs.Act.{replay};
 ghost use Rattle.transfer_core.specs.Chain.{zones_of};
 ghost use Rattle.dns_engine.specs.Held.{KEPT, newest};
@@ -71,15 +71,15 @@ pub fn starts_have_their_trails()
         → newest (length trail.steps + 1) (zones_of (start.newest.older.items ++ start.newest.last ∷ [])) ≡ zones_of (trail.oldest ∷ versions_in trail.steps) }
 {}
 
-/// Which is served at a start, a store or the zone text that the operator names, is the same behind a compaction: the text that all began from is kept, and the serial of
+/// Which is served at a start, a store or the zone text that the operator names, is the same behind a compaction: the text that all began from is kept, and the zone of
 /// the last version.
 pub fn compactions_keep_the_choice()
     ensures { (text written : List ℕ) (head next : Head) (batches rest : List (List (List ℕ))) (zone : List Record) (updates : List Update) (k number : ℕ)
         (random : List ℕ) (start later : Start) (origin : Name) (given : List ℕ) (taken : Option Take) (choice : Choice)
         → IsStore text head batches zone updates → k ≤ length updates → IsBegun (replay zone (take k updates)) number random head.origin written next → AreBehind k batches rest
         → IsStarted text (journal_of head batches) start → IsStarted written (journal_of next rest) later
-        → IsChoice start.head.origin (zone_serial start.newest.last.zone) origin given taken choice
-        → IsChoice later.head.origin (zone_serial later.newest.last.zone) origin given taken choice }
+        → IsChoice start.head.origin start.newest.last.zone origin given taken choice
+        → IsChoice later.head.origin later.newest.last.zone origin given taken choice }
 {}
 
 /// Whatever octets a crash leaves behind the batches of a folder that means a store, at each step of a compaction, a start has all of the store's updates first.

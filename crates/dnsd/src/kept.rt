@@ -86,6 +86,12 @@ fn tell_refusal<R: Env + AllocGlobal + Eprint>(
             eprintln!(rt; "{mark}error: the store '{dir}' is held by another server")?;
             Ok(REFUSED)
         }
+        Refusal::NoJournal(number) => {
+            eprintln!(rt;
+                "{mark}error: the store '{dir}' has the zone text '{dir}/zone-{number}', and no journal, which had the updates since: put the journal back, or move the zone texts out of the directory to begin from the zone's text"
+            )?;
+            Ok(REFUSED)
+        }
         Refusal::NoText(number) => {
             eprintln!(rt;
                 "{mark}error: the journal of '{dir}' belongs to '{dir}/zone-{number}', which isn't there"
@@ -108,6 +114,12 @@ fn tell_refusal<R: Env + AllocGlobal + Eprint>(
             let (has, given) = (has.0, given.0);
             eprintln!(rt;
                 "{mark}error: --take zone needs a serial greater than the store's: the zone's text has {given}, the store '{dir}' has {has}: raise the text's serial, or serve the store by --take store"
+            )?;
+            Ok(REFUSED)
+        }
+        Refusal::OtherApex { has, given } => {
+            eprintln!(rt;
+                "{mark}error: the zone's text has the apex {given}, and the store '{dir}' the apex {has}: give --origin {has}, if that zone is meant, or else --store a new directory"
             )?;
             Ok(REFUSED)
         }

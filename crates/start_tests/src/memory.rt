@@ -1,8 +1,7 @@
 //! Starts for which memory is refused.
 use dns_name::Name;
-use dns_rdata::Serial;
 use journal::TextSum;
-use master_file::{Cause, FileFault};
+use master_file::{Cause, FileFault, read_zone};
 use std::alloc::Global;
 use std::test::Fail;
 use stores::{Choice, Take, begin_store, choose};
@@ -13,16 +12,22 @@ const GIVEN: &[u8] = b"example. 60 IN SOA ns.example. host.example. 11 1 1 1 1
 example. 60 IN NS ns.example.
 ";
 
+/// The zone text of a store, of serial 10.
+const LAST: &[u8] = b"example. 60 IN SOA ns.example. host.example. 10 1 1 1 1
+example. 60 IN NS ns.example.
+";
+
 /// Want of memory, which is told on no line.
 const NO_MEMORY: FileFault = FileFault {
     line: 0,
     cause: Cause::NoMemory,
 };
 
-/// What is chosen of a store that was begun from a text, of serial 10, and the zone text of the tests.
+/// What is chosen of a store that was begun from a text, and the zone text of the tests.
 fn choice_of(alloc: Global, begun: &[u8], taken: Option<Take>) -> Result<Choice, FileFault> {
     let begun = TextSum::of(begun);
-    choose(alloc, &begun, Serial(10), GIVEN, &Name::root(), taken)
+    let last = read_zone(alloc, LAST, &Name::root())?;
+    choose(alloc, &begun, &last, GIVEN, &Name::root(), taken)
 }
 
 /// Whether a store of a zone is begun as it is with ample memory; None where memory is refused.
@@ -43,15 +48,18 @@ fn is_zone(alloc: Global, choice: Result<Choice, FileFault>) -> Option<bool> {
     }
 }
 
-/// Whether a start's choices are told, and a store begun, as they are with ample memory; None where memory is refused. The store that the text began, and one that is
-/// taken, want none.
+/// Whether a start's choices are told, and a store begun, as they are with ample memory; None where memory is refused.
 fn begun_and_chosen(alloc: Global) -> Option<bool> {
-    let same = matches!(choice_of(alloc, GIVEN, None), Ok(Choice::Same));
-    let store = matches!(choice_of(alloc, b"", Some(Take::Store)), Ok(Choice::Store));
-    if !same || !store {
-        return Some(false);
+    let same = choice_of(alloc, GIVEN, None);
+    let store = choice_of(alloc, b"", Some(Take::Store));
+    match (same, store) {
+        (Ok(Choice::Same), Ok(Choice::Store)) => is_zone(
+            alloc,
+            choice_of(alloc, b"", Some(Take::Zone)),
+        ),
+        (Err(NO_MEMORY), _) | (_, Err(NO_MEMORY)) => None,
+        _ => Some(false),
     }
-    is_zone(alloc, choice_of(alloc, b"", Some(Take::Zone)))
 }
 
 // Where a request for memory is refused, that is what is told, and nothing else.

@@ -17,7 +17,8 @@ use update_group::Group;
 use update_job::Storing;
 
 /// Why nothing is appended to a journal that a start wouldn't find (own).
-const MISPLACED: &str = "the store's directory has no journal, or another one: it was moved or removed";
+const MISPLACED: &str =
+    "the store's directory has no journal, or another one: it was moved or removed";
 
 /// A store of a folder, which is compacted between two batches. Contracts see its writer, the text that is wanted, and whether it takes nothing more.
 #[derive(Drop)]

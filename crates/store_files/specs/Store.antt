@@ -2,11 +2,12 @@
 use Rattle.std.specs.Prelude.{◌≡◌}
 use Rattle.file_disks.specs.File.{written, synced}
 use Rattle.store_files.specs.declared.open.Opened.{Opened}
-use Rattle.store_files.specs.declared.open.Opened.TheVariants.{Locked, Empty, NoText, Found}
+use Rattle.store_files.specs.declared.open.Opened.TheVariants.{Locked, Empty, NoJournal, NoText, Found}
 
 -- the octets that are given of a journal are those that its disk has, as it notes them
 abbrev pub IsAsNoted : Opened → Type 0
 IsAsNoted Locked = Unit {0}
 IsAsNoted (Empty lock) = Unit {0}
+IsAsNoted (NoJournal number) = Unit {0}
 IsAsNoted (NoText number) = Unit {0}
 IsAsNoted (Found lock pair) = (written pair.disk ≡ pair.journal.items) × (synced pair.disk ≡ pair.journal.items)

@@ -1,39 +1,97 @@
 //! What else stands in a store's folder (own).
-ghost use Rattle.std.specs.Prelude.{◌↔◌, IsTrue, ℕ, MatchOption};
-ghost use Rattle.store_files.specs.Names.{IsTextName, IsLeftOver};
+ghost use Rattle.std.specs.Prelude.{◌≢◌, ◌↔◌, IsTrue, ℕ, [], MatchOption};
+ghost use Rattle.store_files.specs.Names.{IsTextName, IsLaid, IsLeftOver};
 
-use crate::files::{sync_folder, write_synced};
-use crate::names::{JOURNAL, NEW_JOURNAL, path_of, text_path};
+use crate::files::{read_there, sync_folder, write_synced};
+use crate::names::{JOURNAL, NEW_JOURNAL, NEW_TORN, path_of, text_path};
 use std::alloc::Global;
 use std::fs::{self, File, Files};
 use std::io::{self, ErrorKind};
 
-/// How many torn ends are kept at most, and how many pairs.
+/// How many pairs are kept at most.
 const MOST: u64 = 10_000;
 
-/// Keeps the octets that stand behind the last whole batch of a journal, before they are cut off, in a file of their own: its path. It takes memory.
+/// Keeps the octets that stand behind the last whole batch of a journal, before they are cut off, in a file of their own: its path, `torn-N`, of the first number that
+/// none has. A file of such a name that has these octets keeps them already, and one without octets keeps none, and is replaced. They are on the disk before the file has
+/// its name, and where they can't be none is left. It takes memory.
 pub fn keep_torn<R: Files<File = File>>(
     rt: &R,
     alloc: Global,
     dir: &str,
     octets: &[u8],
-) -> io::Result<String> {
-    for number in 1..=MOST {
+) -> io::Result<String>
+    requires some { octets.now ≢ [] }
+{
+    for number in 1..=u64::MAX {
         let path = format!(in alloc; "{dir}/torn-{number}")?;
-        match File::create_new(rt, path.as_str()) {
-            Ok(file) => {
-                write_synced(file, octets)?;
-                sync_folder(rt, dir)?;
+        match kept_at(rt, alloc, &path, octets)? {
+            KeptThere::Others => {}
+            KeptThere::These => return Ok(path),
+            KeptThere::Nothing => {
+                keep_as(rt, alloc, dir, &path, octets)?;
                 return Ok(path);
             }
-            Err(error) if error.kind() == ErrorKind::AlreadyExists => {}
-            Err(error) => return Err(error),
         }
     }
-    Err(io::Error::new(
-        ErrorKind::AlreadyExists,
-        "the folder has too many torn ends",
-    ))
+    Err(io::Error::from(ErrorKind::StorageFull))
+}
+
+/// What a file keeps of octets that are to be kept.
+#[derive(Clone, Copy)]
+enum KeptThere {
+    /// Nothing: it isn't there, or has no octets.
+    Nothing,
+    /// These octets.
+    These,
+    /// Others.
+    Others,
+}
+
+/// What a file of this path keeps. It takes memory where it is as long as the octets.
+fn kept_at<R: Files>(rt: &R, alloc: Global, path: &str, octets: &[u8]) -> io::Result<KeptThere> {
+    let about = match fs::metadata(rt, path) {
+        Ok(about) => about,
+        Err(error) if error.kind() == ErrorKind::NotFound => return Ok(KeptThere::Nothing),
+        Err(error) => return Err(error),
+    };
+    if about.is_file() && about.len() == 0 {
+        return Ok(KeptThere::Nothing);
+    }
+    if !about.is_file() || about.len() != octets.len() as u64 {
+        return Ok(KeptThere::Others);
+    }
+    match read_there(rt, alloc, path)? {
+        Some(found) if found.as_slice() == octets => Ok(KeptThere::These),
+        _ => Ok(KeptThere::Others),
+    }
+}
+
+/// Keeps octets in a file of this path; where they can't be written none is left of them. It takes memory.
+fn keep_as<R: Files<File = File>>(
+    rt: &R,
+    alloc: Global,
+    dir: &str,
+    path: &str,
+    octets: &[u8],
+) -> io::Result<()> {
+    let laid = path_of(alloc, dir, NEW_TORN)?;
+    let kept = write_renamed(rt, &laid, path, octets);
+    if kept.is_err() {
+        let _ = fs::remove_file(rt, laid.as_str());
+        return kept;
+    }
+    sync_folder(rt, dir)
+}
+
+/// Writes the octets of a file, brings them to the disk, and gives it its path.
+fn write_renamed<R: Files<File = File>>(
+    rt: &R,
+    laid: &str,
+    path: &str,
+    octets: &[u8],
+) -> io::Result<()> {
+    write_synced(File::create(rt, laid)?, octets)?;
+    fs::rename(rt, laid, path)
 }
 
 /// Keeps a zone text of a number and the journal that names it, before another pair is the store's, in a folder of their own, which is a store itself: its path. It takes
@@ -99,7 +157,7 @@ pub fn drop_others<R: Files + Alloc + Clone + Drop>(
 fn is_left_over(name: &str, number: u64) -> bool
     ensures { IsTrue result ↔ IsLeftOver name.now number }
 {
-    if name == NEW_JOURNAL {
+    if is_laid(name) {
         return true;
     }
     match number_of(name) {
@@ -108,8 +166,15 @@ fn is_left_over(name: &str, number: u64) -> bool
     }
 }
 
+/// Whether a file of this name waits to be renamed.
+fn is_laid(name: &str) -> bool
+    ensures { IsTrue result ↔ IsLaid name.now }
+{
+    name == NEW_JOURNAL || name == NEW_TORN
+}
+
 /// The number of a zone text by its name; None where it is none.
-fn number_of(name: &str) -> Option<u64>
+pub(crate) fn number_of(name: &str) -> Option<u64>
     ensures { MatchOption result ((n : ℕ) → IsTextName name.now n → ⊥) (λ n. IsTextName name.now n) }
 {
     let digits = name.strip_prefix("zone-")?;

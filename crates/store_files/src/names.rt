@@ -10,6 +10,12 @@ pub(crate) const JOURNAL: &str = "journal";
 /// One that isn't renamed yet.
 pub(crate) const NEW_JOURNAL: &str = "journal.new";
 
+/// A torn end of a journal that isn't renamed yet.
+pub(crate) const NEW_TORN: &str = "torn.new";
+
+/// The number of the zone text that a folder's first store begins with.
+pub const FIRST_TEXT: u64 = 0;
+
 /// What is locked.
 pub(crate) const LOCK: &str = "lock";
 

@@ -4,6 +4,7 @@ ghost use Rattle.store_files.specs.Store.{IsAsNoted};
 
 use crate::names::{JOURNAL, LOCK, path_of};
 use crate::read::{Text, read_text};
+use crate::unbegun::lost_journal;
 use file_disks::FileDisk;
 use std::alloc::Global;
 use std::fs::{File, Files, OpenOptions, TryLockError};
@@ -31,8 +32,10 @@ pub struct Pair {
 pub enum Opened {
     /// Another process holds it.
     Locked,
-    /// It has no journal yet.
+    /// No store was begun in it, or a crash has left a part of a first one, over which it can be begun (`begin_pair`).
     Empty(StoreLock),
+    /// It has zone texts, of which this is the greatest number, and no journal: that is lost, with the updates since.
+    NoJournal(u64),
     /// It has a journal, which names the zone text of this number, and that isn't there.
     NoText(u64),
     /// It has a journal, and the zone text that it names.
@@ -40,14 +43,21 @@ pub enum Opened {
 }
 
 /// Holds the store of a folder that is there, and reads it: its journal as the disk has it (`file_disks`). It takes memory.
-pub fn open_store<R: Files<File = File>>(rt: &R, alloc: Global, dir: &str) -> io::Result<Opened>
+pub fn open_store<R: Files<File = File> + Alloc + Clone + Drop>(
+    rt: &R,
+    alloc: Global,
+    dir: &str,
+) -> io::Result<Opened>
     ensures { IfOk result (λ opened. IsAsNoted opened) }
 {
     let Some(lock) = take_lock(rt, alloc, dir)? else {
         return Ok(Opened::Locked);
     };
     let Some(file) = open_journal(rt, alloc, dir)? else {
-        return Ok(Opened::Empty(lock));
+        return match lost_journal(rt, alloc, dir)? {
+            Some(number) => Ok(Opened::NoJournal(number)),
+            None => Ok(Opened::Empty(lock)),
+        };
     };
     let (disk, journal) = FileDisk::read(alloc, file)?;
     match read_text(rt, alloc, dir, &journal)? {

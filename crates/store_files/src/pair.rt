@@ -3,12 +3,12 @@ ghost use Rattle.std.specs.Prelude.{◌≡◌, IfOk};
 ghost use Rattle.file_disks.specs.File.{written, synced};
 
 use crate::files::sync_folder;
-use crate::names::{JOURNAL, NEW_JOURNAL, path_of, text_path};
+use crate::names::{FIRST_TEXT, JOURNAL, NEW_JOURNAL, path_of, text_path};
 use file_disks::FileDisk;
 use journal_store::Disk;
 use std::alloc::Global;
 use std::fs::{self, File, Files, OpenOptions};
-use std::io::{self, Write};
+use std::io::{self, ErrorKind, Write};
 
 /// Why a journal isn't the store's.
 #[derive(Debug, Drop)]
@@ -35,6 +35,59 @@ pub fn write_pair<R: Files<File = File>>(
         return Err(PairFault::Before(fault));
     }
     replace_journal(rt, alloc, dir, journal)
+}
+
+/// Begins the first store of a folder in which [`open_store`](crate::open_store) finds none: a zone text of number 0, and a journal that names it, which is then the
+/// store's. The journal is on the disk as `journal.new` before the text is begun, and gets its name last: so a crash leaves no text without either, and the next start
+/// can tell that from a store whose journal is lost. At an error no store was begun, or nobody knows whether a crash leaves it. It takes memory.
+pub fn begin_pair<R: Files<File = File>>(
+    rt: &R,
+    alloc: Global,
+    dir: &str,
+    text: &[u8],
+    journal: &[u8],
+) -> Result<FileDisk, PairFault>
+    ensures { IfOk result (λ disk. (written disk ≡ journal.now) × (synced disk ≡ journal.now)) }
+{
+    let paths = match Paths::of(alloc, dir) {
+        Ok(paths) => paths,
+        Err(fault) => return Err(PairFault::Before(fault)),
+    };
+    let disk = match lay_first(rt, alloc, dir, &paths, text, journal) {
+        Ok(disk) => disk,
+        Err(fault) => return Err(PairFault::Before(fault)),
+    };
+    match put_in_place(rt, dir, &paths) {
+        Ok(()) => Ok(disk),
+        Err(fault) => Err(PairFault::Unknown(fault)),
+    }
+}
+
+/// Brings a journal to the disk, and its name, and then the first zone text, which it names. It takes memory.
+fn lay_first<R: Files<File = File>>(
+    rt: &R,
+    alloc: Global,
+    dir: &str,
+    paths: &Paths,
+    text: &[u8],
+    journal: &[u8],
+) -> io::Result<FileDisk>
+    ensures { IfOk result (λ disk. (written disk ≡ journal.now) × (synced disk ≡ journal.now)) }
+{
+    remove_first(rt, alloc, dir)?;
+    let disk = lay_journal(rt, paths, journal)?;
+    sync_folder(rt, dir)?;
+    write_text(rt, alloc, dir, FIRST_TEXT, text)?;
+    Ok(disk)
+}
+
+/// Removes the first zone text, if a crash has left it, before the journal that names it is written over: the folder has no text then, whatever crashes. It takes memory.
+fn remove_first<R: Files>(rt: &R, alloc: Global, dir: &str) -> io::Result<()> {
+    match remove_text(rt, alloc, dir, FIRST_TEXT) {
+        Err(error) if error.kind() != ErrorKind::NotFound => Err(error),
+        // Also where there was none: one may have been removed before, and its name still be on the disk.
+        _ => sync_folder(rt, dir),
+    }
 }
 
 /// Writes a zone text of a number that the store's journal doesn't name: it is on the disk, and its name. It takes memory.

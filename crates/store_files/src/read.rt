@@ -25,7 +25,7 @@ pub(crate) enum Text {
 }
 
 /// The number of the zone text that a journal names; None where it begins with no head.
-fn number_in(journal: &[u8]) -> Option<u64>
+pub(crate) fn number_in(journal: &[u8]) -> Option<u64>
     ensures { MatchOption result ((fault : HeadFault) × IsHeadFault journal.now fault) (λ number. Names journal.now number) }
 {
     match read_head(journal) {

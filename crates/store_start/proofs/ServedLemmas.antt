@@ -3,14 +3,13 @@ use Rattle.std.proofs.Common.{◌≡◌, ℕ, List, Option, Result, Ok, Err, IfO
 use Rattle.dns_name.specs.Name.{Name}
 use Rattle.dns_rdata.specs.Record.{Record}
 use Rattle.dns_rdata.specs.declared.numbers.Serial.{Serial}
-use Rattle.zone_tree.specs.Version.{zone_serial}
 use Rattle.recovery.specs.declared.start.Start.{Start}
 use Rattle.stores.specs.declared.choices.Take.{Take}
 use Rattle.stores.specs.declared.choices.Choice.{Choice}
 use Rattle.stores.specs.declared.choices.Choice.TheVariants.{Same as IsSame, Store as IsStore, Zone as IsZone, StoreThoughOther as IsOlder}
 use Rattle.stores.specs.Choice.{IsChoice}
 use Rattle.store_start.specs.declared.refusal.Refusal.{Refusal}
-use Rattle.store_start.specs.declared.refusal.Refusal.TheVariants.{Held, NoText, NoStart, Newer, NotNewer, Text, NoMemory, Device}
+use Rattle.store_start.specs.declared.refusal.Refusal.TheVariants.{Held, NoJournal, NoText, NoStart, Newer, NotNewer, OtherApex, Text, NoMemory, Device}
 use Rattle.store_start.specs.declared.resume.Resumed.{Resumed}
 use Rattle.store_start.specs.declared.start.Served.{Served}
 use Rattle.store_start.specs.declared.start.Served.TheVariants.{Begun, Same, Store, StoreThoughOther, Zone}
@@ -21,19 +20,21 @@ use Rattle.store_start.specs.Started.{GoesOn, IsBegunStore, IsChosen, IsServedBy
 pub own_refused : (given : List ℕ) (origin : Name) (taken : Option Take) (result : Result Started Refusal) → IfErr result IsOwnFault → IfErr result (λ refusal. IsRefused given origin taken refusal)
 own_refused given origin taken (Ok started) own = tt
 own_refused given origin taken (Err Held) own = absurd own
+own_refused given origin taken (Err (NoJournal number)) own = absurd own
 own_refused given origin taken (Err (NoText number)) own = absurd own
 own_refused given origin taken (Err (NoStart fault)) own = absurd own
 own_refused given origin taken (Err (Newer has serial)) own = absurd own
 own_refused given origin taken (Err (NotNewer has serial)) own = absurd own
+own_refused given origin taken (Err (OtherApex has other)) own = absurd own
 own_refused given origin taken (Err (Text fault)) own = absurd own
 own_refused given origin taken (Err NoMemory) own = tt
 own_refused given origin taken (Err (Device fault)) own = tt
 
 module _ (given : List ℕ) (origin : Name) (taken : Option Take) (random text octets : List ℕ) where
   -- a choice, as it was made
-  pub chosen_as : (start : Start) (found choice : Choice) → found ≡ choice → IsChoice start.head.origin (zone_serial start.newest.last.zone) origin given taken found
-      → IsChoice start.head.origin (zone_serial start.newest.last.zone) origin given taken choice
-  chosen_as start found choice same chosen = subst (λ (c : Choice). IsChoice start.head.origin (zone_serial start.newest.last.zone) origin given taken c) same chosen
+  pub chosen_as : (start : Start) (found choice : Choice) → found ≡ choice → IsChoice start.head.origin start.newest.last.zone origin given taken found
+      → IsChoice start.head.origin start.newest.last.zone origin given taken choice
+  chosen_as start found choice same chosen = subst (λ (c : Choice). IsChoice start.head.origin start.newest.last.zone origin given taken c) same chosen
 
   -- the store goes on
   goes_on : (started : Started) (served : Served) → started.served ≡ served → IsServedBy given origin taken random started.store served → IsServed given origin taken random started

@@ -2,6 +2,7 @@
 use Rattle.std.specs.Prelude.{◌≡◌, ◌-◌, ◌∷◌, ⊤, ℕ, List, [], Option, Ok, Err, length, map, drop}
 use Rattle.dns_name.specs.Name.{Name}
 use Rattle.dns_rdata.specs.Record.{Record}
+use Rattle.zone_tree.specs.Zone.{apex_of}
 use Rattle.zone_tree.specs.Version.{zone_serial}
 use Rattle.dns_engine.specs.Versions.{IsFirst, AreNext}
 use Rattle.master_file.specs.ZoneText.{zone_of_text}
@@ -18,11 +19,11 @@ use Rattle.recovery.specs.Rebased.{versions_in, rebased}
 use Rattle.recovery.specs.Start.{IsStarted, IsSound, IsStartFault}
 use Rattle.stores.specs.declared.choices.Take.{Take}
 use Rattle.stores.specs.declared.choices.Choice.{Choice}
-use Rattle.stores.specs.declared.choices.Choice.TheVariants.{Same as IsSame, Store as IsStore, Zone as IsZone, StoreThoughOther as IsOlder, RefuseNewer, RefuseNotNewer}
+use Rattle.stores.specs.declared.choices.Choice.TheVariants.{Same as IsSame, Store as IsStore, Zone as IsZone, StoreThoughOther as IsOlder, RefuseNewer, RefuseNotNewer, RefuseOtherApex}
 use Rattle.stores.specs.Begun.{IsBegun}
 use Rattle.stores.specs.Choice.{IsChoice}
 use Rattle.store_start.specs.declared.refusal.Refusal.{Refusal}
-use Rattle.store_start.specs.declared.refusal.Refusal.TheVariants.{Held, NoText, NoStart, Newer, NotNewer, Text, NoMemory, Device}
+use Rattle.store_start.specs.declared.refusal.Refusal.TheVariants.{Held, NoJournal, NoText, NoStart, Newer, NotNewer, OtherApex, Text, NoMemory, Device}
 use Rattle.store_start.specs.declared.resume.Resumed.{Resumed}
 use Rattle.store_start.specs.declared.start.Served.{Served}
 use Rattle.store_start.specs.declared.start.Served.TheVariants.{Begun, Same, Store, StoreThoughOther, Zone}
@@ -67,11 +68,11 @@ pub record IsBegunWith (given : List ℕ) (origin : Name) (random : List ℕ) (s
   pub is_zone : zone_of_text origin given ≡ Ok zone
   pub begun : IsBegunStore zone number random given store
 
--- a folder's store is chosen, or what is taken in its place, by the serial of its last version
+-- a folder's store is chosen, or what is taken in its place, by the zone of its last version
 pub record IsChosen (given : List ℕ) (origin : Name) (taken : Option Take) (text octets : List ℕ) (choice : Choice) : Type 0 where
   pub start : Start
   pub is : IsStarted text octets start
-  pub chosen : IsChoice start.head.origin (zone_serial start.newest.last.zone) origin given taken choice
+  pub chosen : IsChoice start.head.origin start.newest.last.zone origin given taken choice
 
 -- what is served, and the store that goes on with it
 abbrev pub IsServedBy : List ℕ → Name → Option Take → List ℕ → Resumed → Served → Type 0
@@ -109,12 +110,15 @@ IsNoText given origin refusal = IsOwnFault refusal
 -- why nothing is served
 abbrev pub IsRefused : List ℕ → Name → Option Take → Refusal → Type 0
 IsRefused given origin taken Held = ⊤
+IsRefused given origin taken (NoJournal number) = ⊤
 IsRefused given origin taken (NoText number) = ⊤
 IsRefused given origin taken (NoStart fault) = (text : List ℕ) × (octets : List ℕ) × IsStartFault text octets fault
 IsRefused given origin taken (Newer has serial) =
     (text : List ℕ) × (octets : List ℕ) × (is : IsChosen given origin taken text octets (RefuseNewer serial)) × (has.0 ≡ zone_serial is.start.newest.last.zone)
 IsRefused given origin taken (NotNewer has serial) =
     (text : List ℕ) × (octets : List ℕ) × (is : IsChosen given origin taken text octets (RefuseNotNewer serial)) × (has.0 ≡ zone_serial is.start.newest.last.zone)
+IsRefused given origin taken (OtherApex has other) =
+    (text : List ℕ) × (octets : List ℕ) × (is : IsChosen given origin taken text octets (RefuseOtherApex other)) × (has ≡ apex_of is.start.newest.last.zone)
 IsRefused given origin taken (Text fault) = zone_of_text origin given ≡ Err fault
 IsRefused given origin taken NoMemory = ⊤
 IsRefused given origin taken (Device fault) = ⊤

@@ -1,5 +1,6 @@
 //! A store that is begun (own).
-ghost use Rattle.std.specs.Prelude.{IfOk, IfErr};
+ghost use Rattle.std.specs.Prelude.{◌≡◌, IfOk, IfErr};
+ghost use Rattle.file_disks.specs.File.{written, synced};
 ghost use Rattle.store_start.specs.Started.{IsNewStore, IsOwnFault};
 
 use crate::refusal::Refusal;
@@ -8,12 +9,13 @@ use journal::{Head, TextSum, write_head};
 use journal_store::Log;
 use std::alloc::Global;
 use std::fs::{File, Files};
-use store_files::write_pair;
+use store_files::{FIRST_TEXT, PairFault, begin_pair, write_pair};
 use stores::begin_store;
 use zone_tree::Zone;
 
-/// Begins a folder's store with a zone: its zone text, of this number, which no journal names yet, and a journal without batches are in place. `random` are octets that
-/// nobody outside knows, and `given` is the text that the zone was read from. It takes memory.
+/// Begins a folder's store with a zone: its zone text, of this number, which no journal names yet, and a journal without batches are in place. The number is `FIRST_TEXT`
+/// where no store was begun in the folder, and only there. `random` are octets that nobody outside knows, and `given` is the text that the zone was read from. It takes
+/// memory.
 pub fn begin_with<R: Files<File = File>>(
     rt: &R,
     alloc: Global,
@@ -28,7 +30,24 @@ pub fn begin_with<R: Files<File = File>>(
 {
     let (text, head) = begin_store(alloc, zone, number, random, TextSum::of(given))?;
     let (octets, salt) = write_head(alloc, &head)?;
-    let disk = write_pair(rt, alloc, dir, number, text.as_bytes(), &octets)?;
+    let disk = put_pair(rt, alloc, dir, number, text.as_bytes(), &octets)?;
     let log = Log::resume(disk, &salt, 0, octets.len() as u64)?;
     Ok((head, log))
+}
+
+/// Puts a zone text of this number and a journal that names it in place: the first ones of the folder, or ones that replace those before. It takes memory.
+fn put_pair<R: Files<File = File>>(
+    rt: &R,
+    alloc: Global,
+    dir: &str,
+    number: u64,
+    text: &[u8],
+    journal: &[u8],
+) -> Result<FileDisk, PairFault>
+    ensures { IfOk result (λ disk. (written disk ≡ journal.now) × (synced disk ≡ journal.now)) }
+{
+    if number == FIRST_TEXT {
+        return begin_pair(rt, alloc, dir, text, journal);
+    }
+    write_pair(rt, alloc, dir, number, text, journal)
 }

@@ -1,4 +1,5 @@
 //! Why nothing is served of a store (own).
+use dns_name::Name;
 use dns_rdata::Serial;
 use master_file::{Cause, FileFault};
 use recovery::StartFault;
@@ -11,6 +12,8 @@ use store_files::PairFault;
 pub enum Refusal {
     /// Another process holds the folder.
     Held,
+    /// The folder has zone texts, of which this is the greatest number, and no journal: that is lost, with the updates since.
+    NoJournal(u64),
     /// The journal names the zone text of this number, and that isn't there.
     NoText(u64),
     /// The zone text and the journal give no start.
@@ -28,6 +31,13 @@ pub enum Refusal {
         has: Serial,
         /// The serial of the zone text.
         given: Serial,
+    },
+    /// The zone text that the operator names is a zone of another apex than the store's, whatever he takes.
+    OtherApex {
+        /// The apex of the store's zone.
+        has: Name,
+        /// The apex of the zone text.
+        given: Name,
     },
     /// The zone text that the operator names is no zone.
     Text(FileFault),

@@ -1,6 +1,5 @@
 //! A start over a folder (own).
 ghost use Rattle.std.specs.Prelude.{◌≡◌, ℕ, length, map, IfOk, IfErr};
-ghost use Rattle.zone_tree.specs.Version.{zone_serial};
 ghost use Rattle.file_disks.specs.File.{written};
 ghost use Rattle.recovery.specs.Start.{IsStarted};
 ghost use Rattle.stores.specs.Choice.{IsChoice};
@@ -17,7 +16,9 @@ use master_file::read_zone;
 use recovery::{Ending, Start};
 use std::alloc::Global;
 use std::fs::{File, Files};
-use store_files::{Opened, Pair, StoreLock, drop_others, keep_pair, keep_torn, open_store};
+use store_files::{
+    FIRST_TEXT, Opened, Pair, StoreLock, drop_others, keep_pair, keep_torn, open_store,
+};
 use stores::{Choice, Take, choose};
 use zone_tree::{Version, Zone, ZoneRead};
 
@@ -35,7 +36,7 @@ pub struct Given<'a> {
 /// Which is served.
 #[derive(Debug, Drop)]
 pub enum Served {
-    /// The zone text: the folder had no journal.
+    /// The zone text: no store was begun in the folder.
     Begun,
     /// The store, which was begun from the zone text.
     Same,
@@ -74,10 +75,11 @@ pub fn start_store<R: Files<File = File> + Alloc + Clone + Drop>(
 {
     match open_store(rt, alloc, dir)? {
         Opened::Locked => Err(Refusal::Held),
+        Opened::NoJournal(number) => Err(Refusal::NoJournal(number)),
         Opened::NoText(number) => Err(Refusal::NoText(number)),
         Opened::Empty(lock) => {
             let zone = read_zone(alloc, given.text, given.origin)?;
-            let store = begin_anew(rt, alloc, dir, zone, 0, random, given.text)?;
+            let store = begin_anew(rt, alloc, dir, zone, FIRST_TEXT, random, given.text)?;
             Ok(Started {
                 lock,
                 store,
@@ -127,6 +129,10 @@ fn start_found<R: Files<File = File> + Alloc + Clone + Drop>(
             let has = start.newest.last.serial();
             Err(Refusal::NotNewer { has, given })
         }
+        Choice::RefuseOtherApex(given) => {
+            let has = start.newest.last.zone().apex().copy();
+            Err(Refusal::OtherApex { has, given })
+        }
         Choice::Zone(zone) => take_text(
             rt, alloc, dir, given, random, lock, pair, start.head, zone,
         ),
@@ -135,14 +141,13 @@ fn start_found<R: Files<File = File> + Alloc + Clone + Drop>(
 
 /// Which is served, of a store of which a start has this, and what the operator names beside it.
 fn choice_of(alloc: Global, start: &Start, given: Given<'_>) -> Result<Choice, Refusal>
-    ensures chosen { IfOk result (λ choice. IsChoice start.now.head.origin (zone_serial start.now.newest.last.zone) given.entry.origin.now given.entry.text.now given.entry.taken choice) }
+    ensures chosen { IfOk result (λ choice. IsChoice start.now.head.origin start.now.newest.last.zone given.entry.origin.now given.entry.text.now given.entry.taken choice) }
     ensures refused { IfErr result (λ refusal. IsNoText given.entry.text.now given.entry.origin.now refusal) }
 {
-    let last = start.newest.last.serial();
     Ok(choose(
         alloc,
         &start.head.origin,
-        last,
+        start.newest.last.zone(),
         given.text,
         given.origin,
         given.taken,
@@ -217,8 +222,8 @@ fn keep_end<R: Files<File = File>>(
 {
     match ending {
         Ending::Torn(end) => match journal.get(end..) {
-            Some(octets) => Ok(Some(keep_torn(rt, alloc, dir, octets)?)),
-            None => Ok(None),
+            Some(octets) if !octets.is_empty() => Ok(Some(keep_torn(rt, alloc, dir, octets)?)),
+            _ => Ok(None),
         },
         Ending::Clean | Ending::Blank => Ok(None),
     }

@@ -55,6 +55,8 @@ fn octets_of(alloc: Global, opened: &Opened) -> Result<Vec<u8>, AllocError> {
         Opened::Found(_, pair) => joined(alloc, &pair.text, &pair.journal),
         Opened::Empty(_) => b"empty".to_vec(alloc),
         Opened::Locked => b"locked".to_vec(alloc),
+        Opened::NoJournal(0) => b"no journal 0".to_vec(alloc),
+        Opened::NoJournal(_) => b"no other journal".to_vec(alloc),
         Opened::NoText(3) => b"no text 3".to_vec(alloc),
         Opened::NoText(_) => b"no other text".to_vec(alloc),
     }

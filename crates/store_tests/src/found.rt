@@ -12,16 +12,27 @@ struct Case {
     told: &'static [u8],
 }
 
-/// Folders without a journal, also with what a crash has left of a pair; and one whose journal begins with no head, which is found with no text, whatever texts are there.
-const CASES: [Case; 3] = [
+/// Folders without a journal, also with what a crash has left of one, and with texts whose journal is lost; and one whose journal begins with no head, which is found with
+/// no text, whatever texts are there.
+const CASES: [Case; 5] = [
     Case {
         files: &[],
         opened: b"empty",
         told: b"not there",
     },
     Case {
-        files: &[("zone-0", b"half of a text"), ("journal.new", b"half")],
+        files: &[("journal.new", b"half")],
         opened: b"empty",
+        told: b"not there",
+    },
+    Case {
+        files: &[("zone-0", b"half of a text"), ("journal.new", b"half")],
+        opened: b"no journal 0",
+        told: b"not there",
+    },
+    Case {
+        files: &[("zone-9", b"a text"), ("zone-10", b"a text")],
+        opened: b"no other journal",
         told: b"not there",
     },
     Case {

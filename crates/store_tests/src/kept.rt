@@ -4,17 +4,20 @@ use std::fs;
 use std::test::Fail;
 use store_files::{keep_pair, keep_torn};
 
-// Torn ends are kept beside one another, and so are pairs, each in a folder in which it is found again.
+// Torn ends are kept beside one another, each once, and so are pairs, each in a folder in which it is found again.
 #[test]
 fn what_is_kept(rt: HostRuntime) -> Result<(), Fail> {
     let dir = "store_tests_kept";
     make_folder(&rt, dir)?;
     let mut told = Vec::new(rt.alloc());
-    for octets in [b"first, ".as_slice(), b"second; "] {
-        let path = keep_torn(&rt, rt.alloc(), dir, octets)?;
-        told.extend_from_slice(path.as_bytes())?;
-        told.extend_from_slice(&fs::read(&rt, path.as_str())?)?;
+    for octets in [b"first, ".as_slice(), b"second, ", b"first, "] {
+        if !octets.is_empty() {
+            let path = keep_torn(&rt, rt.alloc(), dir, octets)?;
+            told.extend_from_slice(path.as_bytes())?;
+            told.extend_from_slice(&fs::read(&rt, path.as_str())?)?;
+        }
     }
+    assert!(rt; !fs::exists(&rt, "store_tests_kept/torn-3")?);
     for text in [b"text, ".as_slice(), b"other, "] {
         let path = keep_pair(&rt, rt.alloc(), dir, 3, text, b"no head; ")?;
         told.extend_from_slice(path.as_bytes())?;
@@ -23,7 +26,7 @@ fn what_is_kept(rt: HostRuntime) -> Result<(), Fail> {
     }
     assert_eq!(rt;
         String::from_utf8_lossy(rt.alloc(), &told)?.as_str(),
-        "store_tests_kept/torn-1first, store_tests_kept/torn-2second; store_tests_kept/old-1text, no head; store_tests_kept/old-2other, no head; "
+        "store_tests_kept/torn-1first, store_tests_kept/torn-2second, store_tests_kept/torn-1first, store_tests_kept/old-1text, no head; store_tests_kept/old-2other, no head; "
     );
     fs::remove_dir_all(&rt, dir)?;
     Ok(())

@@ -2,7 +2,7 @@
 use crate::folders::{begun, found, make_folder, pair_of, put_pair};
 use std::fs;
 use std::test::Fail;
-use store_files::{PairFault, is_in_place, write_pair};
+use store_files::{PairFault, begin_pair, is_in_place, write_pair};
 
 /// Leaves in a folder what a crash in front of the rename leaves of the pair of a number.
 fn leave_half(rt: &HostRuntime, dir: &str, number: u64) -> Result<(), Fail> {
@@ -13,15 +13,45 @@ fn leave_half(rt: &HostRuntime, dir: &str, number: u64) -> Result<(), Fail> {
     Ok(())
 }
 
+/// Begins the first store of a folder with a text: its zone text in front of its journal, as they are found.
+fn begin_first(rt: &HostRuntime, dir: &str, text: &[u8]) -> Result<Vec<u8>, Fail> {
+    let (journal, _) = begun(rt.alloc(), 0, text)?;
+    match begin_pair(rt, rt.alloc(), dir, text, &journal) {
+        Ok(_) => Ok(found(rt, dir)?),
+        Err(_) => Err(Fail::from("no pair is begun")),
+    }
+}
+
+// A first pair is begun over what a crash has left of one: the journal that names its text lies there before the text does. Then the folder has the pair.
+#[test]
+fn a_first_pair_is_begun(rt: HostRuntime) -> Result<(), Fail> {
+    let dir = "store_tests_first";
+    for text in [None, Some(b"".as_slice()), Some(b"half")] {
+        make_folder(&rt, dir)?;
+        if let Some(text) = text {
+            let (laid, _) = begun(rt.alloc(), 0, b"other")?;
+            fs::write(&rt, "store_tests_first/journal.new", laid.as_slice())?;
+            fs::write(&rt, "store_tests_first/zone-0", text)?;
+        }
+        assert_eq!(rt; found(&rt, dir)?.as_slice(), b"empty".as_slice());
+        assert_eq!(rt;
+            begin_first(&rt, dir, b"first")?,
+            pair_of(rt.alloc(), 0, b"first")?
+        );
+        assert!(rt; !fs::exists(&rt, "store_tests_first/journal.new")?);
+    }
+    fs::remove_dir_all(&rt, dir)?;
+    Ok(())
+}
+
 // What is written is found, and the next pair replaces it, with its text beside the one before. A crash in front of the rename leaves the pair before, whatever is left
 // of the other one, and the next pair is written over that. One that can't be written leaves the one before too, and says so.
 #[test]
 fn pairs_are_found(rt: HostRuntime) -> Result<(), Fail> {
     let dir = "store_tests_pairs";
     make_folder(&rt, dir)?;
-    let mut before = b"empty".to_vec(rt.alloc())?;
-    for (number, text) in [b"first".as_slice(), b"second", b""].iter().enumerate() {
-        let number = number as u64;
+    let mut before = begin_first(&rt, dir, b"first")?;
+    for (number, text) in [(1, b"second".as_slice()), (2, b"")] {
         leave_half(&rt, dir, number)?;
         let is_before = found(&rt, dir)? == before;
         put_pair(&rt, dir, number, text)?;
@@ -58,6 +88,9 @@ fn journals_are_in_place(rt: HostRuntime) -> Result<(), Fail> {
     told.push(is_in_place(&rt, rt.alloc(), dir, &journal)?)?;
     fs::remove_dir_all(&rt, dir)?;
     told.push(is_in_place(&rt, rt.alloc(), dir, &journal)?)?;
-    assert_eq!(rt; told.as_slice(), [true, false, false, true, false].as_slice());
+    assert_eq!(rt;
+        told.as_slice(),
+        [true, false, false, true, false].as_slice()
+    );
     Ok(())
 }

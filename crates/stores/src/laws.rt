@@ -18,27 +18,33 @@ ghost use Rattle.recovery.specs.declared.start.Start.{Start};
 ghost use Rattle.recovery.specs.Start.{IsStarted, IsStartFault};
 ghost use Rattle.recovery.specs.Store.{IsStore};
 ghost use Rattle.stores.specs.declared.choices.Choice.{Choice};
-ghost use Rattle.stores.specs.declared.choices.Choice.TheVariants.{Same};
+ghost use Rattle.stores.specs.declared.choices.Choice.TheVariants.{Same, RefuseOtherApex};
 ghost use Rattle.stores.specs.declared.choices.Take.{Take};
 ghost use Rattle.stores.specs.Behind.{AreBehind, batches_behind};
-ghost use Rattle.stores.specs.Choice.{IsChoice, IsChoiceFault};
+ghost use Rattle.stores.specs.Choice.{HasNoOtherApex, HasOtherApex, IsChoice, IsChoiceFault};
 ghost use Rattle.stores.specs.Folder.{Folder, Means, HasPair, with_text, without_text, with_journal};
 
 /// A start has one choice at most; and where it has one, want of memory is the only fault.
 pub fn one_choice()
-    ensures once { (begun : TextSum) (last : ℕ) (origin : Name) (text : List ℕ) (taken : Option Take) (choice other : Choice)
+    ensures once { (begun : TextSum) (last : List Record) (origin : Name) (text : List ℕ) (taken : Option Take) (choice other : Choice)
         → IsChoice begun last origin text taken choice → IsChoice begun last origin text taken other → choice ≡ other }
-    ensures apart { (begun : TextSum) (last : ℕ) (origin : Name) (text : List ℕ) (taken : Option Take) (choice : Choice) (fault : FileFault)
+    ensures apart { (begun : TextSum) (last : List Record) (origin : Name) (text : List ℕ) (taken : Option Take) (choice : Choice) (fault : FileFault)
         → IsChoice begun last origin text taken choice → IsChoiceFault begun origin text taken fault → fault ≡ no_memory }
 {}
 
-/// Where the zone text is the one that the store was begun from, the store is served, and there is no fault, whatever is taken: so at the start behind one at which
-/// the zone text was taken.
+/// Where the zone text is the one that the store was begun from, the store is served, whatever is taken: so at the start behind one at which the zone text was taken. But
+/// where names of the text are relative to another origin, so that its zone has another apex, that is refused; and want of memory is the only fault.
 pub fn begun_from_is_served()
-    ensures same { (begun : TextSum) (last : ℕ) (origin : Name) (text : List ℕ) (taken : Option Take) (choice : Choice)
-        → IsText begun text → IsChoice begun last origin text taken choice → choice ≡ Same }
-    ensures no_fault { (begun : TextSum) (origin : Name) (text : List ℕ) (taken : Option Take) (fault : FileFault)
-        → IsText begun text → IsChoiceFault begun origin text taken fault → ⊥ }
+    ensures same { (begun : TextSum) (last : List Record) (origin : Name) (text : List ℕ) (taken : Option Take) (choice : Choice)
+        → IsText begun text → HasNoOtherApex last origin text → IsChoice begun last origin text taken choice → choice ≡ Same }
+    ensures only_fault { (begun : TextSum) (origin : Name) (text : List ℕ) (taken : Option Take) (fault : FileFault)
+        → IsText begun text → IsChoiceFault begun origin text taken fault → fault ≡ no_memory }
+{}
+
+/// A zone text of another apex than the store's is refused, whichever text the store was begun from, and whatever is taken.
+pub fn other_apex_is_refused()
+    ensures { (begun : TextSum) (last : List Record) (origin : Name) (text : List ℕ) (taken : Option Take) (apex : Name) (choice : Choice)
+        → HasOtherApex last origin text apex → IsChoice begun last origin text taken choice → choice ≡ RefuseOtherApex apex }
 {}
 
 /// A store that is begun of the version behind the first updates of another, with the batches behind them, is a store of the versions from there on: each is the same

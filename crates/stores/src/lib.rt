@@ -14,5 +14,5 @@ pub use begin::begin_store;
 pub use choices::{Choice, Take, choose};
 pub use laws::{
     begun_from_is_served, compacted_is_the_same, each_step_keeps_the_meaning, one_choice,
-    what_a_folder_means_is_started,
+    other_apex_is_refused, what_a_folder_means_is_started,
 };

@@ -4,5 +4,5 @@ use Rattle.store_files.proofs.kept.is_left_over.Goals as goal
 pub returns-in-None : goal.returns-in-None
 returns-in-None c = (
   λ no. absurd (cc no),
-  λ left. elim left [ inl same ↦ rw same at c.if-eq.ensures | inr other ↦ absurd (c.in-None.ensures other.0 other.1) ],
+  λ left. elim left [ inl laid ↦ c.if-is_laid.ensures.1 laid | inr other ↦ absurd (c.in-None.ensures other.0 other.1) ],
 )

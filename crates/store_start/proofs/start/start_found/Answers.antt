@@ -1,6 +1,6 @@
 use Rattle.std.proofs.Common.{List, ℕ, subst}
 use Rattle.recovery.specs.Start.{IsStarted}
-use Rattle.stores.specs.declared.choices.Choice.TheVariants.{Same as IsSame, Store as IsStore, Zone as IsZone, StoreThoughOther as IsOlder, RefuseNewer, RefuseNotNewer}
+use Rattle.stores.specs.declared.choices.Choice.TheVariants.{Same as IsSame, Store as IsStore, Zone as IsZone, StoreThoughOther as IsOlder, RefuseNewer, RefuseNotNewer, RefuseOtherApex}
 use Rattle.store_start.specs.Started.{IsChosen}
 use Rattle.store_start.proofs.ServedLemmas.{chosen_as, same_served, store_served, older_served, zone_served, own_refused}
 use Rattle.store_start.proofs.start.start_found.Goals as goal
@@ -65,6 +65,18 @@ returns-in-RefuseNotNewer-clause-refused g c =
     let chosen : IsChosen given.text.now given.origin.now given.taken text octets (RefuseNotNewer c.in-RefuseNotNewer.given) =
     record { start = start; is = is; chosen = chosen_as given.text.now given.origin.now given.taken c.args.random text octets start _ (RefuseNotNewer c.in-RefuseNotNewer.given) c.in-RefuseNotNewer.is c.in_ok-choice_of.ensures.chosen } in
     (text, octets, chosen, c.serial-has-in-RefuseNotNewer.ensures)
+
+pub returns-in-RefuseOtherApex-clause-refused : goal.returns-in-RefuseOtherApex-clause-refused
+returns-in-RefuseOtherApex-clause-refused g c =
+    let given = c.args.given in
+    let text = c.args.pair.text.items in
+    let octets = c.args.pair.journal.items in
+    let start = c.in_ok-start.start in
+    let is : IsStarted text octets start =
+    subst (λ (t : List ℕ). IsStarted t octets start) c.deref.ensures.value (subst (λ (o : List ℕ). IsStarted c.deref.result.now o start) c.deref-2.ensures.value c.in_ok-start.ensures.started) in
+    let chosen : IsChosen given.text.now given.origin.now given.taken text octets (RefuseOtherApex c.in-RefuseOtherApex.given) =
+    record { start = start; is = is; chosen = chosen_as given.text.now given.origin.now given.taken c.args.random text octets start _ (RefuseOtherApex c.in-RefuseOtherApex.given) c.in-RefuseOtherApex.is c.in_ok-choice_of.ensures.chosen } in
+    (text, octets, chosen, ?)
 
 pub returns-in-Zone-clause-served : goal.returns-in-Zone-clause-served
 returns-in-Zone-clause-served g c =
