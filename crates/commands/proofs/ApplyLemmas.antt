@@ -14,7 +14,8 @@ use Rattle.commands.specs.declared.command.Command.{Command}
 use Rattle.commands.specs.declared.command.Command.TheVariants.{Answer, Check, Apply, Steps}
 use Rattle.commands.specs.declared.fault.Fault.{Fault}
 use Rattle.commands.specs.declared.fault.Fault.TheVariants.{Zone, Transfer}
-use Rattle.commands.specs.Run.{TellsIn, TellsRoot}
+use Rattle.commands.specs.Run.{TellsIn, TellsLarge, TellsRoot}
+use Rattle.notify.specs.declared.large.Large.{Large}
 use Rattle.master_file.specs.declared.fault.FileFault.{FileFault}
 use Rattle.commands.specs.Apply.{message_on, messages_on, taken, text_of, taken_text, IsOfTransfer}
 use Rattle.line_io.specs.Lines.{input_lines, Begins}
@@ -140,3 +141,10 @@ pub tells_root : (read outcome : Result (List Record) FileFault) (told : Result 
 tells_root (Ok zone) outcome (Ok done) at_root is refused root = subst (λ (o : Result (List Record) FileFault). TellsRoot o at_root) (sym is) root
 tells_root (Ok zone) outcome (Err fault) at_root is refused root = tt
 tells_root (Err fault) outcome told at_root is refused root = subst (λ (t : Result (Unit {0}) Fault). OnOk t (TellsRoot outcome at_root)) (sym refused) tt
+
+-- and so is what it has more of than stock secondaries take
+pub tells_large : (command : Command) (read outcome : Result (List Record) FileFault) (told : Result (Unit {0}) Fault) (large : Option Large) → IfOk read (λ zone. outcome ≡ Ok zone) → IfErr read (λ fault. told ≡ Err (Zone fault))
+    → TellsLarge command read large → OnOk told (TellsLarge command outcome large)
+tells_large command (Ok zone) outcome (Ok done) large is refused tells = subst (λ (o : Result (List Record) FileFault). TellsLarge command o large) (sym is) tells
+tells_large command (Ok zone) outcome (Err fault) large is refused tells = tt
+tells_large command (Err fault) outcome told large is refused tells = subst (λ (t : Result (Unit {0}) Fault). OnOk t (TellsLarge command outcome large)) (sym refused) tt
