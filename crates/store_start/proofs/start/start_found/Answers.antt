@@ -1,4 +1,5 @@
-use Rattle.std.proofs.Common.{List, ℕ, subst}
+use Rattle.std.proofs.Common.{List, ℕ, ap, ◌∙◌, subst}
+use Rattle.zone_tree.specs.Zone.{apex_of}
 use Rattle.recovery.specs.Start.{IsStarted}
 use Rattle.stores.specs.declared.choices.Choice.TheVariants.{Same as IsSame, Store as IsStore, Zone as IsZone, StoreThoughOther as IsOlder, RefuseNewer, RefuseNotNewer, RefuseOtherApex}
 use Rattle.store_start.specs.Started.{IsChosen}
@@ -76,7 +77,7 @@ returns-in-RefuseOtherApex-clause-refused g c =
     subst (λ (t : List ℕ). IsStarted t octets start) c.deref.ensures.value (subst (λ (o : List ℕ). IsStarted c.deref.result.now o start) c.deref-2.ensures.value c.in_ok-start.ensures.started) in
     let chosen : IsChosen given.text.now given.origin.now given.taken text octets (RefuseOtherApex c.in-RefuseOtherApex.given) =
     record { start = start; is = is; chosen = chosen_as given.text.now given.origin.now given.taken c.args.random text octets start _ (RefuseOtherApex c.in-RefuseOtherApex.given) c.in-RefuseOtherApex.is c.in_ok-choice_of.ensures.chosen } in
-    (text, octets, chosen, ?)
+    (text, octets, chosen, c.copy-has.ensures ∙ (c.apex.ensures ∙ ap apex_of c.zone.ensures))
 
 pub returns-in-Zone-clause-served : goal.returns-in-Zone-clause-served
 returns-in-Zone-clause-served g c =
