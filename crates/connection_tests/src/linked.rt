@@ -298,7 +298,9 @@ fn who_takes_too_slowly_is_ended(rt: HostRuntime) -> Result<(), Fail> {
         reply: u64::MAX,
         rate: 0,
     };
-    served.serve(&rt, &[0, 1], 0)?;
+    for _share in 0..8u32 {
+        served.serve(&rt, &[0, 1], 0)?;
+    }
     // Ten seconds without an octet taken of those that wait, while none waits on the other; nine are too few, and at no rate none is ended.
     for (rate, now, open) in [
         (1_000_000, 9 * SECOND, 12u64),
