@@ -83,13 +83,14 @@ for data in 'MX % web' 'SRV 0 0 % web' 'AAAA ::%'; do
     refuses 1 'line 270: M13 Limit' check --origin example.test -
 done
 
-# 256 records and one of them again are a set of 256
+# 256 records and one of them again are a set of 256, of which a warning tells on standard error
 input=$'. 5 SOA . . 1 2 3 4 5\n. 5 NS .\n'
 for number in {0..255}; do input+="many. 5 IN MX $number ."$'\n'; done
 printed=${input%$'\n'}
 printed=${printed/5 NS/5 IN NS}
 input+=$'many. 5 MX 255 .\nmany. 5 MX 0 .\n'
-prints "${printed//5 SOA/5 IN SOA}" check --origin . -
+tries check --origin . -
+[[ $got == 0 && $said == "${printed//5 SOA/5 IN SOA}"$'\n' && $told == 'warning: many. has a set of more than 100 records'* ]] || differs "${printed//5 SOA/5 IN SOA}" check --origin . -
 input+=$'many. 5 MX 256 .\n'
 refuses 1 'line 261: M13 Limit' check -
 
