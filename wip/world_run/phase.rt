@@ -1,0 +1,360 @@
+//! How far calls have come: the step that each takes next, and what follows on it.
+ghost use Rattle.std.specs.Prelude.{◌≡◌, IfOk, IfErr};
+ghost use Rattle.world_run.specs.Phases.{word_step, step_name, after, reserves as says_reserves, reserves_weakly as says_reserves_weakly, uses as says_uses, updates as says_updates, seeks as says_seeks, bars as says_bars};
+
+use crate::entries::Entry;
+use crate::fault::WorldFault;
+use crate::following::{
+    after_bury, after_enter, after_fade, after_free, after_gain, after_keep, after_load,
+    after_look, after_note, after_probe, after_raise, after_release, after_reset, after_seek,
+    after_settle, leaving_after, oldest_after, sent_after,
+};
+use crate::lent::Handle;
+use crate::owner_list::OwnerList;
+use crate::published::Published;
+use crate::sending::{Seeking, Sending};
+use crate::step::{Answer, StepName};
+use cell_core::{WordEvent, WordMachine, WordStep};
+use dns_rdata::Serial;
+use serve_core::Heading;
+use std::alloc::Global;
+
+/// What an update does behind its publication.
+#[derive(Drop)]
+pub struct Keeping {
+    /// What the reply repeats of the update.
+    pub heading: Heading,
+    /// The owner of the oldest version that is kept, where that is given up for the new one.
+    pub oldest: Option<usize>,
+    /// The serial of the new version, where that is entered in the window.
+    pub enters: Option<Serial>,
+    /// The weak owners of the entries that leave the window for it, the oldest first.
+    pub leaving: OwnerList,
+}
+
+impl Keeping {
+    /// The same again.
+    ///
+    /// `NoMemory` where a growth was refused.
+    pub(crate) fn copy(&self, alloc: Global) -> Result<Keeping, WorldFault>
+        ensures ok { IfOk result (λ keeping. keeping ≡ self.now) }
+        ensures refused { IfErr result (λ fault. fault ≡ WorldFault.NoMemory) }
+    {
+        Ok(Keeping {
+            heading: self.heading.copy(),
+            oldest: self.oldest,
+            enters: self.enters,
+            leaving: self.leaving.copy(alloc)?,
+        })
+    }
+}
+
+/// What an owner is released for.
+#[derive(Drop)]
+pub enum Purpose<'a> {
+    /// A name is dropped.
+    Drop,
+    /// An update has published a version, and has loaded it under this owner, with this entry where it has one: the version before it, whose
+    /// owner the publication gave, is given up.
+    Publish(Keeping, usize, Option<Entry>),
+    /// The oldest version that is kept is given up, for the one that an update has loaded under this owner, with this entry, whose reply
+    /// repeats this; then these weak owners are.
+    Oldest(Heading, usize, Option<Entry>, OwnerList),
+    /// An entry leaves the window for that version, and then these weak owners are given up.
+    Leaves(Heading, usize, Option<Entry>, OwnerList),
+    /// A transfer gives up an owner that it has got, and then these.
+    Sent(Sending<'a>, OwnerList),
+}
+
+/// How far a call has come, by the step that it takes next.
+#[derive(Drop)]
+pub enum Phase<'a> {
+    /// A load, under this name.
+    Load(Handle<'a>),
+    /// A look at the version of this weak owner, to own it strongly under this name.
+    Look(Handle<'a>, usize),
+    /// A raise of what this owner has, under this name.
+    Raise(Handle<'a>, usize),
+    /// A note of what this owner has, under this name.
+    Note(Handle<'a>, usize),
+    /// A probe of the next slot, for this version.
+    Probe(Published, Keeping),
+    /// A prepare of this version.
+    Prepare(Published, Keeping),
+    /// A swap.
+    Swap(Keeping),
+    /// A settle.
+    Settle(Keeping),
+    /// A load of the version that was published. The publication gave this owner.
+    Keep(usize, Keeping),
+    /// A note of that version, which is owned by the second owner, to enter it in the window. The publication gave the first one.
+    Enter(usize, usize, Keeping),
+    /// A look at the version of this weak owner, which an entry of the window has, to own it strongly for a transfer.
+    Seek(usize, Seeking<'a>),
+    /// A raise of what it has.
+    Gain(usize, Seeking<'a>),
+    /// A release of this owner.
+    Release(usize, Purpose<'a>),
+    /// A bury by this owner.
+    Bury(usize, Purpose<'a>),
+    /// A fade by this owner: it has buried the version of this number, or it is a weak owner.
+    Fade(usize, Option<u64>, Purpose<'a>),
+    /// A reset by this owner, behind its fade.
+    Reset(usize, Option<u64>, Purpose<'a>),
+    /// A free by this owner, behind its reset.
+    Free(usize, Option<u64>, Purpose<'a>),
+}
+
+/// What a call comes to.
+#[derive(Drop)]
+pub enum End<'a> {
+    /// The name is in use, for this owner, of the version of this number.
+    Owned(Handle<'a>, usize, u64),
+    /// The name is in use, for this weak owner, of the version of this number.
+    OwnedWeakly(Handle<'a>, usize, u64),
+    /// It gives this.
+    Told(Answer),
+    /// An update has found no slot, whose reply repeats this.
+    NoSlot(Heading),
+    /// An update has made a version, which is kept under this owner, with this entry where it has one; its reply repeats this.
+    Kept(Heading, usize, Option<Entry>),
+    /// A transfer has got what it has of what it asks for, and has given it up.
+    Sent(Sending<'a>),
+}
+
+/// What follows on a step.
+#[derive(Drop)]
+pub enum Progress<'a> {
+    /// Another step.
+    On(Phase<'a>),
+    /// The end of the call.
+    Done(End<'a>),
+}
+
+impl<'a> Phase<'a> {
+    /// The step on a word that the call takes next.
+    ///
+    /// `NoMemory` where so many hold the version that it takes that they can't be counted.
+    pub fn word_step(&self) -> Result<WordStep<Published>, WorldFault>
+        ensures ok { IfOk result (λ step. step ≡ word_step self.now) }
+        ensures refused { IfErr result (λ fault. fault ≡ WorldFault.NoMemory) }
+    {
+        Ok(match self {
+            Phase::Load(_) => WordStep::Load,
+            Phase::Look(_, owner) => WordStep::Look(*owner),
+            Phase::Raise(_, owner) => WordStep::Raise(*owner),
+            Phase::Note(_, owner) => WordStep::Note(*owner),
+            Phase::Probe(_, _) => WordStep::Probe,
+            Phase::Prepare(version, _) => WordStep::Prepare(version.share()?),
+            Phase::Swap(_) => WordStep::Swap,
+            Phase::Settle(_) => WordStep::Settle,
+            Phase::Keep(_, _) => WordStep::Load,
+            Phase::Enter(_, kept, _) => WordStep::Note(*kept),
+            Phase::Seek(owner, _) => WordStep::Look(*owner),
+            Phase::Gain(owner, _) => WordStep::Raise(*owner),
+            Phase::Release(owner, _) => WordStep::Release(*owner),
+            Phase::Bury(owner, _) => WordStep::Bury(*owner),
+            Phase::Fade(owner, _, _) => WordStep::Fade(*owner),
+            Phase::Reset(owner, _, _) => WordStep::Reset(*owner),
+            Phase::Free(owner, _, _) => WordStep::Free(*owner),
+        })
+    }
+
+    /// That step's name.
+    pub fn step_name(&self) -> StepName
+        ensures { result ≡ step_name self.now }
+    {
+        match self {
+            Phase::Load(_) => StepName::Load,
+            Phase::Look(_, _) => StepName::Look,
+            Phase::Raise(_, _) => StepName::Raise,
+            Phase::Note(_, _) => StepName::Note,
+            Phase::Probe(_, _) => StepName::Probe,
+            Phase::Prepare(_, _) => StepName::Prepare,
+            Phase::Swap(_) => StepName::Swap,
+            Phase::Settle(_) => StepName::Settle,
+            Phase::Keep(_, _) => StepName::Load,
+            Phase::Enter(_, _, _) => StepName::Note,
+            Phase::Seek(_, _) => StepName::Look,
+            Phase::Gain(_, _) => StepName::Raise,
+            Phase::Release(_, _) => StepName::Release,
+            Phase::Bury(_, _) => StepName::Bury,
+            Phase::Fade(_, _, _) => StepName::Fade,
+            Phase::Reset(_, _, _) => StepName::Reset,
+            Phase::Free(_, _, _) => StepName::Free,
+        }
+    }
+
+    /// What follows on the step, by the words behind it and what it told.
+    ///
+    /// `NoMemory` where a growth was refused, or so many hold a version that it goes on with that they can't be counted.
+    pub fn after(
+        &self,
+        alloc: Global,
+        machine: &WordMachine<Published>,
+        event: WordEvent,
+    ) -> Result<Progress<'a>, WorldFault>
+        ensures ok { IfOk result (λ progress. progress ≡ after machine.now self.now event) }
+        ensures refused { IfErr result (λ fault. fault ≡ WorldFault.NoMemory) }
+    {
+        match self {
+            Phase::Load(name) => Ok(after_load(name, event)),
+            Phase::Look(name, owner) => Ok(after_look(name, *owner, event)),
+            Phase::Raise(name, owner) => Ok(after_raise(name, *owner, event)),
+            Phase::Note(name, owner) => Ok(after_note(name, *owner, event)),
+            Phase::Probe(version, keeping) => after_probe(version, keeping.copy(alloc)?, event),
+            Phase::Prepare(_, keeping) => Ok(Progress::On(Phase::Swap(keeping.copy(alloc)?))),
+            Phase::Swap(keeping) => Ok(Progress::On(Phase::Settle(keeping.copy(alloc)?))),
+            Phase::Settle(keeping) => after_settle(alloc, keeping, event),
+            Phase::Keep(given, keeping) => after_keep(alloc, *given, keeping, event),
+            Phase::Enter(given, kept, keeping) => after_enter(alloc, *given, *kept, keeping, event),
+            Phase::Seek(owner, seeking) => after_seek(alloc, *owner, seeking, event),
+            Phase::Gain(owner, seeking) => after_gain(alloc, machine, *owner, seeking, event),
+            Phase::Release(owner, purpose) => after_release(alloc, *owner, purpose, event),
+            Phase::Bury(owner, purpose) => after_bury(alloc, *owner, purpose, event),
+            Phase::Fade(owner, number, purpose) => {
+                after_fade(alloc, *owner, *number, purpose, event)
+            }
+            Phase::Reset(owner, number, purpose) => after_reset(alloc, *owner, *number, purpose),
+            Phase::Free(_, number, purpose) => after_free(alloc, *number, purpose),
+        }
+    }
+
+    /// Whether the call is to put this name into use for a strong owner.
+    pub fn reserves(&self, name: &Handle<'_>) -> bool
+        ensures { result ≡ says_reserves name.now self.now }
+    {
+        match self {
+            Phase::Load(other) | Phase::Look(other, _) | Phase::Raise(other, _) => {
+                other.as_slice() == name.as_slice()
+            }
+            _ => false,
+        }
+    }
+
+    /// Whether the call is to put this name into use for a weak owner.
+    pub fn reserves_weakly(&self, name: &Handle<'_>) -> bool
+        ensures { result ≡ says_reserves_weakly name.now self.now }
+    {
+        match self {
+            Phase::Note(other, _) => other.as_slice() == name.as_slice(),
+            _ => false,
+        }
+    }
+
+    /// Whether the call uses this owner, so that its name can't be given up.
+    pub fn uses(&self, owner: usize) -> bool
+        ensures { result ≡ says_uses owner self.now }
+    {
+        match self {
+            Phase::Look(_, other) | Phase::Raise(_, other) | Phase::Note(_, other) => {
+                *other == owner
+            }
+            Phase::Seek(_, seeking) | Phase::Gain(_, seeking) => seeking.sending.served == owner,
+            Phase::Release(_, purpose)
+            | Phase::Bury(_, purpose)
+            | Phase::Fade(_, _, purpose)
+            | Phase::Reset(_, _, purpose)
+            | Phase::Free(_, _, purpose) => purpose.uses(owner),
+            _ => false,
+        }
+    }
+
+    /// Whether the call is an update.
+    fn updates(&self) -> bool
+        ensures { result ≡ says_updates self.now }
+    {
+        match self {
+            Phase::Load(_) | Phase::Look(_, _) | Phase::Raise(_, _) | Phase::Note(_, _) => false,
+            Phase::Seek(_, _) | Phase::Gain(_, _) => false,
+            Phase::Release(_, purpose)
+            | Phase::Bury(_, purpose)
+            | Phase::Fade(_, _, purpose)
+            | Phase::Reset(_, _, purpose)
+            | Phase::Free(_, _, purpose) => purpose.is_for_update(),
+            _ => true,
+        }
+    }
+
+    /// Whether the call upgrades entries of the window.
+    fn seeks(&self) -> bool
+        ensures { result ≡ says_seeks self.now }
+    {
+        matches!(self, Phase::Seek(_, _) | Phase::Gain(_, _))
+    }
+
+    /// Whether the window stays for the call as it is, which is an update or upgrades entries.
+    pub fn bars(&self) -> bool
+        ensures { result ≡ says_bars self.now }
+    {
+        self.updates() || self.seeks()
+    }
+}
+
+ghost use Rattle.world_run.specs.Phases.{past as says_past, uses_for, is_for_update};
+
+impl<'a> Purpose<'a> {
+    /// The same again.
+    ///
+    /// `NoMemory` where a growth was refused, or so many hold a version that they can't be counted.
+    pub(crate) fn copy(&self, alloc: Global) -> Result<Purpose<'a>, WorldFault>
+        ensures ok { IfOk result (λ purpose. purpose ≡ self.now) }
+        ensures refused { IfErr result (λ fault. fault ≡ WorldFault.NoMemory) }
+    {
+        Ok(match self {
+            Purpose::Drop => Purpose::Drop,
+            Purpose::Publish(keeping, kept, entry) => {
+                Purpose::Publish(keeping.copy(alloc)?, *kept, *entry)
+            }
+            Purpose::Oldest(heading, kept, entry, leaving) => {
+                Purpose::Oldest(heading.copy(), *kept, *entry, leaving.copy(alloc)?)
+            }
+            Purpose::Leaves(heading, kept, entry, leaving) => {
+                Purpose::Leaves(heading.copy(), *kept, *entry, leaving.copy(alloc)?)
+            }
+            Purpose::Sent(sending, owners) => {
+                Purpose::Sent(sending.copy(alloc)?, owners.copy(alloc)?)
+            }
+        })
+    }
+
+    /// What follows where the owner is gone; a drop gives this.
+    pub(crate) fn past(self, answer: Answer) -> Progress<'a>
+        ensures { result ≡ says_past self.entry answer }
+    {
+        match self {
+            Purpose::Drop => Progress::Done(End::Told(answer)),
+            Purpose::Publish(keeping, kept, entry) => oldest_after(
+                keeping.heading,
+                kept,
+                entry,
+                keeping.leaving,
+                keeping.oldest,
+            ),
+            Purpose::Oldest(heading, kept, entry, leaving) => {
+                leaving_after(heading, kept, entry, leaving)
+            }
+            Purpose::Leaves(heading, kept, entry, leaving) => {
+                leaving_after(heading, kept, entry, leaving)
+            }
+            Purpose::Sent(sending, owners) => sent_after(sending, owners),
+        }
+    }
+
+    /// Whether an owner is in use of the version that is served, so that its name can't be given up.
+    fn uses(&self, owner: usize) -> bool
+        ensures { result ≡ uses_for owner self.now }
+    {
+        match self {
+            Purpose::Sent(sending, _) => sending.served == owner,
+            _ => false,
+        }
+    }
+
+    /// Whether an owner is released for an update.
+    fn is_for_update(&self) -> bool
+        ensures { result ≡ is_for_update self.now }
+    {
+        !matches!(self, Purpose::Drop | Purpose::Sent(_, _))
+    }
+}
