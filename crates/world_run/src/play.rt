@@ -2,7 +2,9 @@
 //! line at a time.
 ghost use Rattle.std.specs.Prelude.{◌≡◌, ◌++◌, ◌∷◌, [], nat_lt, if◌then◌else◌, IsTrue, IsFalse, Some, None, IfOk, IfErr, OnOk};
 ghost use Rattle.world_run.specs.declared.entries.Entry.{Entry as EntryRow};
-ghost use Rattle.world_run.specs.World.{World, started, most_steps, call_of, start as says_start, names_at, weak_names_at, kept_at, entries_at, answer_at, steps_up_to, is_full as says_full, all_made as says_all_made, whole as says_whole, begin as says_begin, begin_under, next as says_next, turn as says_turn};
+ghost use Rattle.world_run.specs.World.{World, started, most_steps, call_of, start as says_start, names_at, weak_names_at, kept_at, entries_at, answer_at, code_reply, steps_up_to, is_full as says_full, all_made as says_all_made, whole as says_whole, begin as says_begin, begin_under, next as says_next, turn as says_turn};
+ghost use Rattle.dns_rdata.specs.declared.numbers.Rcode.TheVariants.{NoError};
+ghost use Rattle.world_run.specs.declared.phase.End.TheVariants.{Kept};
 ghost use Rattle.world_run.specs.declared.start.Start.TheVariants.{Takes};
 ghost use Rattle.world_run.specs.declared.step.Answer.TheVariants.{Owner};
 ghost use Rattle.world_run.specs.declared.step.WorldReply.TheVariants.{Answered};
@@ -22,6 +24,7 @@ use crate::step::{Answer, Call, Octets, WorldReply, WorldStep};
 use crate::words::{FIRST_OWNER, started_words, step_once, take_steps};
 use cell_core::WordMachine;
 use dns_rdata::{Rcode, Serial};
+use serve_core::Heading;
 use std::alloc::Global;
 use std::marker::Model;
 use std::mem;
@@ -265,15 +268,28 @@ impl<'a> Play<'a> {
                 put_owner(alloc, &mut self.weak_names, name, owner, number)
             }
             End::NoSlot(heading) => reply_with(alloc, &heading, Rcode::ServFail),
-            End::Kept(heading, owner, entry) => {
-                put_kept(&mut self.kept, self.keep, owner)?;
-                if let Some(entry) = entry {
-                    put_entry(alloc, self.window, &mut self.entries, entry)?;
-                }
-                reply_with(alloc, &heading, Rcode::NoError)
-            }
+            End::Kept(heading, owner, entry) => self.keep_version(alloc, &heading, owner, entry),
             End::Sent(sending) => sending.answer(alloc),
         }
+    }
+
+    /// Keeps a version under its owner, and enters it in the window, where it has an entry; gives the reply to its update, which repeats this.
+    fn keep_version(
+        &mut self,
+        alloc: Global,
+        heading: &Heading,
+        owner: usize,
+        entry: Option<Entry>,
+    ) -> Result<Answer, WorldFault>
+        ensures ok { IfOk result (λ answer. (answer ≡ code_reply heading.now NoError)
+            × (self.new ≡ record self.old { kept = kept_at self.old.keep (Kept heading.now owner entry) self.old.kept; entries = entries_at self.old.window (Kept heading.now owner entry) self.old.entries })) }
+        ensures refused { IfErr result (λ fault. fault ≡ WorldFault.NoMemory) }
+    {
+        put_kept(&mut self.kept, self.keep, owner)?;
+        if let Some(entry) = entry {
+            put_entry(alloc, self.window, &mut self.entries, entry)?;
+        }
+        reply_with(alloc, heading, Rcode::NoError)
     }
 }
 

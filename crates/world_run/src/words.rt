@@ -46,9 +46,13 @@ fn go_further<'a>(
         ((says_step_once machine.old phase.entry ≡ None) × (machine.new ≡ machine.old) × (told.0 ≡ On phase.entry))) }
     ensures refused { IfErr result (λ fault. fault ≡ WorldFault.NoMemory) }
 {
-    match step_once(alloc, machine, &phase)? {
-        None => Ok((Progress::On(phase), false)),
-        Some(progress) => {
+    match step_once(alloc, machine, &phase) {
+        Err(fault) => {
+            mem::drop(phase);
+            Err(fault)
+        }
+        Ok(None) => Ok((Progress::On(phase), false)),
+        Ok(Some(progress)) => {
             mem::drop(phase);
             Ok((progress, true))
         }

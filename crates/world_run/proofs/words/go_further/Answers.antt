@@ -2,8 +2,8 @@
 use Rattle.std.proofs.Common.{refl}
 use Rattle.world_run.proofs.words.go_further.Goals as goal
 
-pub returns-in-None-clause-ok : goal.returns-in-None-clause-ok
-returns-in-None-clause-ok c = let stays = rw c.in-None.is at c.in_ok-step_once.ensures.ok in (stays.0, stays.1, refl)
+pub returns-in-Ok-None-clause-ok : goal.returns-in-Ok-None-clause-ok
+returns-in-Ok-None-clause-ok c = let stays = rw c.in-Ok-None.field-0-is at c.in-Ok-None.ensures.ok in (stays.0, stays.1, refl)
 
-pub returns-in-Some-clause-ok : goal.returns-in-Some-clause-ok
-returns-in-Some-clause-ok c = rw c.in-Some.is at c.in_ok-step_once.ensures.ok
+pub returns-in-Ok-Some-clause-ok : goal.returns-in-Ok-Some-clause-ok
+returns-in-Ok-Some-clause-ok c = rw c.in-Ok-Some.field-0-is at c.in-Ok-Some.ensures.ok
