@@ -461,8 +461,10 @@ fn place_of<C: Clock>(
     number: usize,
 ) -> io::Result<TcpPlace> {
     let mut place = TcpPlace::new(mio::net::TcpListener::from_std(listener));
-    watch.watch_place(&mut place, number)?;
-    Ok(place)
+    match watch.watch_place(&mut place, number) {
+        Ok(()) => Ok(place),
+        Err(fault) => Err(fault),
+    }
 }
 
 /// Where connections come in at listeners, each of them watched.
@@ -534,17 +536,25 @@ fn job_of<'a, R: Clock + Net + Wait>(
     match sockets {
         Sockets::Datagrams(socket) => {
             let allowed = plan.connections.allowed;
-            let socket = WorkerSocket::new(alloc, socket, standing)?;
-            let job = DatagramsJob::new(worker, socket, allowed, standing, scratch);
-            Ok(SocketJob::Datagrams(job))
+            match WorkerSocket::new(alloc, socket, standing) {
+                Ok(socket) => {
+                    let job = DatagramsJob::new(worker, socket, allowed, standing, scratch);
+                    Ok(SocketJob::Datagrams(job))
+                }
+                Err(fault) => Err(fault),
+            }
         }
         Sockets::Connections(listeners) => {
-            let job = tcp_job(rt, alloc, worker, listeners, plan, standing, told, scratch)?;
-            Ok(SocketJob::Connections(job))
+            match tcp_job(rt, alloc, worker, listeners, plan, standing, told, scratch) {
+                Ok(job) => Ok(SocketJob::Connections(job)),
+                Err(fault) => Err(fault),
+            }
         }
         Sockets::Secondaries(secondaries) => {
-            let job = NotifyJob::new(alloc, worker, secondaries, rt, plan.muster)?;
-            Ok(SocketJob::Secondaries(job))
+            match NotifyJob::new(alloc, worker, secondaries, rt, plan.muster) {
+                Ok(job) => Ok(SocketJob::Secondaries(job)),
+                Err(fault) => Err(io::Error::from(fault)),
+            }
         }
     }
 }

@@ -35,6 +35,27 @@ fn takes_updates(duty: &Duty<'_>) -> bool {
     }
 }
 
+/// How many threads with these duties hand updates in.
+fn duties_with_updates(duties: &[Duty<'_>]) -> usize {
+    let mut threads = 0usize;
+    for duty in duties {
+        if takes_updates(duty) {
+            threads = threads.saturating_add(1);
+        }
+    }
+    threads
+}
+
+/// What tells each of threads with these duties its keys, each with at most so many connections. It takes the memory for all.
+fn told_by(alloc: Global, duties: &[Duty<'_>], places: usize) -> Result<Vec<ToldKeys>, AllocError> {
+    let mut told = Vec::new(alloc);
+    for duty in duties {
+        let keys = ToldKeys::new(alloc, most_of(duty, places))?;
+        told.push(keys)?;
+    }
+    Ok(told)
+}
+
 impl Updates {
     /// Those of threads that have these duties, each with at most so many connections, of which none waits, and at most so much ever does. It takes the memory for
     /// all.
@@ -45,20 +66,18 @@ impl Updates {
         duties: &[Duty<'_>],
         places: usize,
     ) -> Result<Updates, AllocError> {
-        let queue = Queue::new(alloc, most)?;
-        let mut told = Vec::new(alloc);
-        let mut threads = 0usize;
-        for duty in duties {
-            told.push(ToldKeys::new(alloc, most_of(duty, places))?)?;
-            if takes_updates(duty) {
-                threads = threads.saturating_add(1);
+        let told = told_by(alloc, duties, places)?;
+        let threads = duties_with_updates(duties);
+        match Queue::new(alloc, most) {
+            Ok(queue) => {
+                if threads == 0 {
+                    queue.end(rt);
+                }
+                let left = AtomicUsize::new(threads);
+                Ok(Updates { queue, left, told })
             }
+            Err(fault) => Err(fault),
         }
-        if threads == 0 {
-            queue.end(rt);
-        }
-        let left = AtomicUsize::new(threads);
-        Ok(Updates { queue, left, told })
     }
 
     /// Those that wait.
