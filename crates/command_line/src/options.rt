@@ -84,11 +84,13 @@ pub const CONNECTIONS: &str = "connections";
 /// The most connections that a worker may have open.
 const MAX_CONNECTIONS: usize = 100_000;
 
-/// The options for how long a connection may be idle, and a request and the taking of a reply may take.
+/// The option for how long a connection may be idle.
 pub const IDLE: &str = "idle";
 
+/// The option for how long the rest of a request may take.
 pub const MESSAGE: &str = "message";
 
+/// The option for how long the taking of a reply may take.
 pub const REPLY: &str = "reply";
 
 /// The most seconds of each.

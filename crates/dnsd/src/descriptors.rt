@@ -1,5 +1,5 @@
 //! The limit of descriptors (Linux, proc(5)).
-ghost use Rattle.std.specs.Prelude.{◌<◌, ◌≤◌};
+ghost use Rattle.std.specs.Prelude.{◌≡◌, ◌+◌, ◌-◌, ◌*◌, ◌/◌, ◌<◌, ◌≤◌, min, max};
 
 use std::fs;
 use std::rt::Files;
@@ -26,6 +26,8 @@ pub fn wanted(workers: usize, places: usize, addresses: usize) -> usize {
 /// for, and one at least. There is no call of the toolchain's that raises the limit.
 pub fn places_within(limit: usize, workers: usize, places: usize, addresses: usize) -> usize
     requires some { 0 < workers }
+    // A share of the descriptors less those of its sockets: one at least, and no more than are asked for.
+    ensures places { result ≡ min places (max 1 ((limit - BESIDE) / workers - (addresses * 3 + 2))) }
     ensures most { result ≤ places }
     ensures one { 0 < places → 0 < result }
 {
