@@ -1,13 +1,14 @@
 #!/usr/bin/env bash
 # Measures `dnsd serve` by dnsperf, beside knotd and nsd where these are installed, each with as many workers, in the same run: queries
-# a second over UDP, by a client for each worker and by 20, and over TCP on 20 and on 50 connections, and processor time a query (of the server alone,
-# from /proc), in whole and the part that isn't the kernel's; of another program of dnsd too, where --beside names one; with more rounds than one
+# a second over UDP, by a client for each worker, by 20, and by 60 with 500 queries outstanding, and over TCP on 20 and on 50 connections, mean latency, and
+# processor time a query (of the server alone, from /proc), in whole and the part that isn't the kernel's; of another program of dnsd too, where --beside names one; with more rounds than one
 # the servers take turns, and the middle of each figure is told at the end; then of dnsd the same
 # with 3,000 places a worker, without and beside idle connections that are opened anew as they end, updates a second, and the 99th percentile of queries' times without updates, while updates go to another dnsd on the same machine, and while as
 # many go to the one that is asked.
-# Usage: [DNSD=PROGRAM] bench/serve.sh [--seconds N] [--workers "N .."] [--port N] [--updates N] [--idle N] [--beside PROGRAM] [--queries-only] [--udp-only] [--rounds N] [RECORDS ..]
+# Usage: [DNSD=PROGRAM] bench/serve.sh [--seconds N] [--workers "N .."] [--port N] [--updates N] [--idle N] [--beside PROGRAM] [--queries-only] [--udp-only] [--grid] [--rounds N] [RECORDS ..]
 #   by default 5 seconds a figure, one round, 1, 2 and 4 workers, ports 15453 and 15454, at most 10000 updates a second beside queries, 2000 idle
-#   connections, and zones of 1000 and 1000000 records; --queries-only leaves out idle connections and updates, and --udp-only queries over TCP too
+#   connections, and zones of 1000 and 1000000 records; --queries-only leaves out idle connections and updates, and --udp-only queries over TCP too; --grid asks over TCP alone, on 1, 2, 4, 8, 16 and 50 connections with 1, 2 and 8
+#   queries outstanding on each, the servers by turns
 # It needs Debian's dnsperf, and knot and nsd for the figures beside. `make dnsd` builds the program.
 set -euo pipefail
 cd "$(dirname "$0")/.."
@@ -21,6 +22,7 @@ idle=2000
 other_program=
 whole=yes
 over_tcp=yes
+grid=
 rounds=1
 sizes=()
 while [ $# -gt 0 ]; do
@@ -33,6 +35,7 @@ while [ $# -gt 0 ]; do
         --beside) other_program=$2; shift 2 ;;
         --queries-only) whole=; shift ;;
         --udp-only) whole= over_tcp=; shift ;;
+        --grid) whole= grid=yes; shift ;;
         --rounds) rounds=$2; shift 2 ;;
         *) sizes+=("$1"); shift ;;
     esac
@@ -71,16 +74,17 @@ percentile() {
 }
 
 hertz=$(getconf CLK_TCK)
-# One server by so many clients, each with a socket or a connection: NAME WORKERS RECORDS OVER CLIENTS
+# One server by so many clients, each with a socket or a connection, with so many queries outstanding in all, by default 50 a worker:
+# NAME WORKERS RECORDS OVER CLIENTS [OUTSTANDING]
 measure_over() {
-    local before after user_before user_after done rate lost
+    local before after user_before user_after done rate lost latency most=${6:-$((50 * $2))}
     read -r before user_before < <(spent)
-    read -r done rate lost < <(dnsperf -m "$4" -s 127.0.0.1 -p "$port" -d "$work/questions" -l "$seconds" -c "$5" -T 1 -q $((50 * $2)) 2>/dev/null | figures)
+    read -r done rate lost latency < <(dnsperf -m "$4" -s 127.0.0.1 -p "$port" -d "$work/questions" -l "$seconds" -c "$5" -T 1 -q "$most" 2>/dev/null | figures)
     read -r after user_after < <(spent)
-    awk -v name="$1" -v w="$2" -v n="$3" -v over="$4" -v c="$5" -v done="$done" -v rate="$rate" -v lost="$lost" -v t=$((after - before)) -v u=$((user_after - user_before)) -v hz="$hertz" 'BEGIN {
+    awk -v name="$1" -v w="$2" -v n="$3" -v over="$4" -v c="$5" -v q="$most" -v done="$done" -v rate="$rate" -v lost="$lost" -v latency="$latency" -v t=$((after - before)) -v u=$((user_after - user_before)) -v hz="$hertz" 'BEGIN {
         each = 1000000 / hz / (done ? done : 1)
-        printf "%s, %d workers, %d records, %s, %d clients: %d queries a second, %.2f microseconds of processor time a query, %.2f of them the user'"'"'s, %s lost\n",
-            name, w, n, toupper(over), c, rate, t * each, u * each, lost
+        printf "%s, %d workers, %d records, %s, %d clients, %d outstanding: %d queries a second, %.2f microseconds of processor time a query, %.2f of them the user'"'"'s, %s lost, mean latency %d microseconds\n",
+            name, w, n, toupper(over), c, q, rate, t * each, u * each, lost, latency
     }' | tee -a "$work/figures"
 }
 
@@ -88,7 +92,7 @@ measure_over() {
 middles() {
     awk -F ': ' '{ if (!($1 in count)) order[++kinds] = $1
             split($2, word, / /); at = ++count[$1]
-            time[$1, at] = word[5]; user[$1, at] = word[12] }
+            rate[$1, at] = word[1]; time[$1, at] = word[5]; user[$1, at] = word[12]; latency[$1, at] = word[20] }
         function middle(figure, kind, n,    i, j, own, list) {
             for (i = 1; i <= n; i++) {
                 own = figure[kind, i] + 0
@@ -100,7 +104,8 @@ middles() {
         END {
             for (k = 1; k <= kinds; k++) {
                 kind = order[k]; n = count[kind]
-                printf "middle of %d: %s: %.2f microseconds of processor time a query, %.2f of them the user'"'"'s\n", n, kind, middle(time, kind, n), middle(user, kind, n)
+                printf "middle of %d: %s: %d queries a second, %.2f microseconds of processor time a query, %.2f of them the user'"'"'s, mean latency %d microseconds\n",
+                    n, kind, middle(rate, kind, n), middle(time, kind, n), middle(user, kind, n), middle(latency, kind, n)
             }
         }' "$work/figures"
 }
@@ -111,9 +116,21 @@ measure() {
     "start_$1" "$2"
     wait_for
     for clients in "$2" 20; do measure_over "$1" "$2" "$3" udp "$clients"; done
+    measure_over "$1" "$2" "$3" udp 60 500
     if [ -n "$over_tcp" ]; then
         for clients in 20 50; do measure_over "$1" "$2" "$3" tcp "$clients"; done
     fi
+    stop
+}
+
+# One server over TCP, on so many connections, with so many queries outstanding on each: NAME WORKERS RECORDS
+measure_grid() {
+    local clients each
+    "start_$1" "$2"
+    wait_for
+    for clients in 1 2 4 8 16 50; do
+        for each in 1 2 8; do measure_over "$1" "$2" "$3" tcp "$clients" $((clients * each)); done
+    done
     stop
 }
 
@@ -171,10 +188,10 @@ for records in "${sizes[@]}"; do
     questions "$records" >"$work/questions"
     for w in $workers; do
         for _ in $(seq "$rounds"); do
-            measure dnsd "$w" "$records"
-            [ -z "$other_program" ] || measure before "$w" "$records"
+            "measure${grid:+_grid}" dnsd "$w" "$records"
+            [ -z "$other_program" ] || "measure${grid:+_grid}" before "$w" "$records"
             for other in knotd nsd; do
-                if command -v $other >/dev/null; then measure $other "$w" "$records"; fi
+                if command -v $other >/dev/null; then "measure${grid:+_grid}" $other "$w" "$records"; fi
             done
         done
     done

@@ -115,8 +115,8 @@ ticks() {
 }
 spent() { ticks "$server" | awk '{ t += $1; u += $2 } END { print t, u }'; }
 
-# dnsperf's figures: queries completed, queries a second, and the share that was lost.
+# dnsperf's figures: queries completed, queries a second, the share that was lost, and the mean latency in microseconds.
 figures() {
-    awk '/Queries completed:/ { done = $3 } /Queries lost:/ { lost = $4 } /per second:/ { rate = $4 }
-        END { gsub(/[()]/, "", lost); print done, rate, lost }'
+    awk '/Queries completed:/ { done = $3 } /Queries lost:/ { lost = $4 } /per second:/ { rate = $4 } /Average Latency/ { latency = $4 }
+        END { gsub(/[()]/, "", lost); print done, rate, lost, 1000000 * latency }'
 }

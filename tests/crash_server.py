@@ -77,6 +77,24 @@ class Served:
         return status
 
 
+def fill(program, room, batches):
+    """Begins a store, the folder `store` of a room, of the zone text that it writes there, the file `zone`, and has a server fill it, one update a batch."""
+    with open(f"{room}/zone", "w", encoding="ascii") as file:
+        file.write(crash_zone.TEXT)
+    os.mkdir(f"{room}/store")
+    server = Served(program, f"{room}/store", f"{room}/zone", [])
+    try:
+        with socket.socket(socket.AF_INET, socket.SOCK_DGRAM) as client:
+            client.connect(("127.0.0.1", server.port))
+            client.settimeout(5)
+            for number in range(1, batches + 1):
+                client.send(crash_zone.update(number))
+                if client.recv(2000)[3] & 15:
+                    raise RuntimeError("an update isn't taken")
+    finally:
+        server.kill()
+
+
 def connected(port, count):
     """So many connections, or fewer where the server has ended."""
     made = []

@@ -1,8 +1,9 @@
 #!/usr/bin/env python3
-"""Tries what `dnsd serve` logs of peers that it refuses, and of signatures that it doesn't check: an update or a transfer that --allow doesn't permit, with the address
+"""Tries what `dnsd serve` logs of updates, of peers that it refuses, and of signatures that it doesn't check: each update of many that come at once with its own code and
+its own serials; an update or a transfer that --allow doesn't permit, with the address
 that it came from; and an update or a transfer with a TSIG (RFC 8945), with the key's name. Of each address and kind of request at most one line a second, the first one at once, and each
 tells how many more came since, so that none is left out of the count. A query, an update without a TSIG, and one whose TSIG is no last record of class ANY leave no such line.
-Usage: [DNSD=PROGRAM] tests/peer_lines.py, by default crates/dnsd/out/dnsd. It takes ten seconds; status 1 where one failed. It listens on 127.0.0.1 and ::1 alone."""
+Usage: [DNSD=PROGRAM] tests/peer_lines.py, by default crates/dnsd/out/dnsd. It takes fifteen seconds; status 1 where one failed. It listens on 127.0.0.1 and ::1 alone."""
 import os
 import re
 import socket
@@ -38,6 +39,12 @@ def update(number, more=b"", count=0):
     """An update that adds the address 192.0.2.number at new.example.test. (RFC 2136, 2.5.1), with so many additional records."""
     head = struct.pack(">6H", 0x1234, 0x2800, 1, 0, 1, count)
     return head + APEX + bytes.fromhex("00060001036e6577c00c0001000100000e100004c00002") + bytes([number]) + more
+
+
+def prerequisite(number):
+    """An update that adds the same address if absent.example.test. is in use, which it isn't (RFC 2136, 2.4.4): NXDOMAIN."""
+    head = struct.pack(">6H", 0x1234, 0x2800, 1, 1, 1, 0)
+    return head + APEX + bytes.fromhex("0006000106616273656e74c00c00ff00ff000000000000") + update(number)[len(APEX) + 16 :]
 
 
 def query(qtype, more=b"", count=0):
@@ -77,6 +84,25 @@ class Server:
         with socket.create_connection(("127.0.0.1", self.port), 10, (source, 0)) as client:
             client.sendall(struct.pack(">H", len(message)) + message)
             return client.recv(4096)[5] & 15
+
+    def ask_all(self, messages):
+        """The codes of the replies to datagrams that are sent at once, in their order."""
+        with socket.socket(socket.AF_INET, socket.SOCK_DGRAM) as client:
+            client.settimeout(10)
+            client.connect(("127.0.0.1", self.port))
+            for message in messages:
+                client.send(message)
+            return [client.recv(4096)[3] & 15 for _ in messages]
+
+    def ask_each(self, messages):
+        """The codes of the replies to messages that are sent at once, each on a connection of its own, in their order."""
+        clients = [socket.create_connection(("127.0.0.1", self.port), 10) for _ in messages]
+        for client, message in zip(clients, messages):
+            client.sendall(struct.pack(">H", len(message)) + message)
+        codes = [client.recv(4096)[5] & 15 for client in clients]
+        for client in clients:
+            client.close()
+        return codes
 
     def end(self):
         """Two seconds later, all that it has logged."""
@@ -151,7 +177,49 @@ def try_signed():
     told(not SIGNED.search(server.end()), "none of an update without a TSIG, of one that is no last record of class ANY, of a query, of a transfer without one")
 
 
+def mixed():
+    """Sixty updates, of which each third is refused, and each sixth changes nothing; and what each gets by itself, behind those before it: its code, and how many serials on."""
+    updates, right = [], []
+    for number in range(1, 61):
+        if number % 3 == 0:
+            updates.append(prerequisite(number))
+            right.append((3, None))
+        elif number % 6 == 5:
+            updates.append(update(number - 1))
+            right.append((0, 0))
+        else:
+            updates.append(update(number))
+            right.append((0, 1))
+    return updates, right
+
+
+def try_batch():
+    """Updates that come at once by datagrams, so that they are judged in their order."""
+    server = Server("--allow", "127.0.0.1")
+    updates, right = mixed()
+    codes = server.ask_all(updates)
+    told(codes == [code for code, _ in right], "60 updates at once: each gets its code")
+    lines, serial = [], 1
+    for code, step in right:
+        lines.append("NXDOMAIN" if code else f"NOERROR, serial {serial} to {serial + 1}" if step else f"NOERROR, serial {serial} stays")
+        serial += step or 0
+    found = re.findall(r"^update from 127\.0\.0\.1:\d+: (.*)$", server.end(), re.M)
+    told(found == lines, "each has a line with its own code and its own serials" + ("" if found == lines else f": {found}"))
+
+
+def try_connections():
+    """Updates that come at once, each on a connection of its own: they are judged in any order, and each makes one version or none."""
+    server = Server("--allow", "127.0.0.1")
+    updates, right = [update(number) if number % 3 else prerequisite(number) for number in range(1, 61)], [0 if number % 3 else 3 for number in range(1, 61)]
+    told(server.ask_each(updates) == right, "60 updates on as many connections: each gets its code")
+    found = re.findall(r"^update from 127\.0\.0\.1:\d+: (.*)$", server.end(), re.M)
+    lines = ["NXDOMAIN"] * 20 + [f"NOERROR, serial {serial} to {serial + 1}" for serial in range(1, 41)]
+    told(sorted(found) == sorted(lines), "each has a line with its own code, and its own serials" + ("" if sorted(found) == sorted(lines) else f": {found}"))
+
+
 def main():
+    try_batch()
+    try_connections()
     try_refused()
     try_many()
     try_groups()

@@ -8,17 +8,16 @@ import argparse
 import os
 import re
 import shutil
-import socket
 import struct
 import subprocess
 import sys
 import tempfile
 
 import crash_zone
-from crash_server import NotServed, Served
+from crash_server import NotServed, Served, fill
 
-# the octets of a journal's head, and those of a frame beside its body
-HEAD, FRAME = 156, 44
+# the octets of a journal's head, those of a frame beside its body, and those of its mark
+HEAD, FRAME, MARK = 156, 52, 8
 
 
 class Store:
@@ -26,19 +25,7 @@ class Store:
 
     def __init__(self, program, room, batches):
         self.program, self.room, self.zone = program, room, f"{room}/zone"
-        with open(self.zone, "w") as file:
-            file.write(crash_zone.TEXT)
-        os.mkdir(f"{room}/store")
-        server = Served(program, f"{room}/store", self.zone, [])
-        client = socket.socket(socket.AF_INET, socket.SOCK_DGRAM)
-        client.connect(("127.0.0.1", server.port))
-        client.settimeout(5)
-        for number in range(1, batches + 1):
-            client.send(crash_zone.update(number))
-            if client.recv(2000)[3] & 15:
-                sys.exit("turned: an update isn't taken")
-        server.kill()
-        client.close()
+        fill(program, room, batches)
         self.files = {name: self.read(f"{room}/store", name) for name in ("journal", "zone-0")}
         # where each batch begins, by the lengths in front of them, and where the last one ends
         self.begins = self.batches_of(self.files["journal"], batches)
@@ -50,7 +37,7 @@ class Store:
     def batches_of(journal, batches):
         begins = [HEAD]
         while any(journal[begins[-1] :]):
-            (length,) = struct.unpack_from(">I", journal, begins[-1])
+            (length,) = struct.unpack_from(">I", journal, begins[-1] + MARK)
             begins.append(begins[-1] + FRAME + length)
         if len(begins) != batches + 1 or begins[-1] >= len(journal):
             sys.exit(f"turned: {len(journal)} octets aren't {batches} batches with room behind them")

@@ -26,15 +26,15 @@ octets() {
 # head_of NUMBER RANDOM TEXT SERIAL ORIGIN: the head of the journal of the zone text of a number, with these random octets; ORIGIN is the text that all began from
 head_of() {
     local head
-    head=646e7364206a6f75726e616c2c20310a$(printf %016x "$1")$2$(sum_of "$3")$(printf %08x "$4")$(sum_of "$5")
+    head=646e7364206a6f75726e616c2c20320a$(printf %016x "$1")$2$(sum_of "$3")$(printf %08x "$4")$(sum_of "$5")
     printf %s%s "$head" "$(octets "$head" | sha256sum | cut -c1-64)"
 }
 
-# frame_of HEAD NUMBER UPDATE: the frame of this number, with a batch of one update, behind a head
+# frame_of HEAD NUMBER UPDATE: the frame of this number, with a batch of one update, behind a head, whose last 32 octets are its salt
 frame_of() {
     local framed
     framed=$(printf '%08x%016x%04x%s' $((${#3} / 2 + 2)) "$2" $((${#3} / 2)) "$3")
-    printf %s%s "$framed" "$(octets "${1: -64}$framed" | sha256sum | cut -c1-64)"
+    printf %s%s%s "${1: -64:16}" "$framed" "$(octets "${1: -64}$framed" | sha256sum | cut -c1-64)"
 }
 
 # lays_store NUMBER TEXT JOURNAL: the folder has the zone text of this number, and a journal of these octets, and nothing else
@@ -293,10 +293,10 @@ program=$unlimited
 has_files journal lock zone-3
 starts "$seven" "$ended/torn-1'"
 holds torn-1 "$(repeat 5000 x)"
-# each length of the last batch: its first three octets are zeros; the others are kept
+# each length of the last batch: what is there of it is kept
 for ((at = 156; at < ${#whole} / 2; at++)); do
     lays_store 3 "$seven" "${whole:0:2*at}"
-    if ((at < 160)); then
+    if ((at == 156)); then
         starts "$seven" ''
         has_files journal lock zone-3
     else
@@ -317,7 +317,7 @@ stops 1 "$seven" "error: '$store/journal' has a damaged head" --take store
 stops 1 "$nine" "error: '$store/journal' has a damaged head" --take zone
 lays_store 3 "$seven" 'ff'
 stops 1 "$seven" "error: '$store/journal' is too short to be a journal"
-lays_store 3 "$seven" "$head${whole:312:2}f${whole:315}$(frame_of "$head" 1 "${add_a/%01/02}")"
+lays_store 3 "$seven" "$head${whole:312:18}f${whole:331}$(frame_of "$head" 1 "${add_a/%01/02}")"
 stops 1 "$seven" "error: '$store/journal': updates that were answered are damaged in front of octet $((${#whole} / 2)); dnsd zone --before-fault '$store' prints the zone in front of them"
 lays_store 4 "$seven" "$whole"
 stops 1 "$seven" "error: the journal of '$store' belongs to '$store/zone-3', which isn't there"

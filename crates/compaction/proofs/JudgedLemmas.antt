@@ -7,9 +7,10 @@ use Rattle.zone_tree.specs.Version.{Version}
 use Rattle.journal.specs.Batch.{IsShort}
 use Rattle.update_group.specs.declared.group.Group.{Group}
 use Rattle.update_group.specs.Engine.{IsLast}
+use Rattle.update_group.specs.declared.verdict.Verdict.{Verdict}
 use Rattle.update_group.specs.Group.{newest_of, versions_of, IsBatch, IsGivenUp, IsGroup, Judged, nothing, told, starved, changed}
 use Rattle.lasting_engine.specs.declared.asked.Asked.{Asked}
-use Rattle.lasting_engine.specs.Asked.{passes, tells, makes, octets_of}
+use Rattle.lasting_engine.specs.Asked.{passes, tells, makes, octets_of, serial_in}
 use Rattle.lasting_engine.specs.Journal.{AreMadeBy}
 use Rattle.lasting_engine.proofs.LastingLemmas.{judged_by}
 use Rattle.compaction.specs.declared.step.Step.{Step}
@@ -18,21 +19,21 @@ use Rattle.compaction.specs.Writer.{AreSteps}
 use Rattle.compaction.proofs.TrailLemmas.{followed_is}
 
 -- updates that are judged are short
-pub judged_short : {first : Version} {asked : List Asked} {codes : List ℕ} {made : List Version} {updates : List (List ℕ)} → Judged passes tells makes octets_of first asked codes made updates → All IsShort updates
+pub judged_short : {first : Version} {asked : List Asked} {verdicts : List Verdict} {made : List Version} {updates : List (List ℕ)} → Judged passes tells makes octets_of serial_in first asked verdicts made updates → All IsShort updates
 judged_short nothing = All-nil IsShort
 judged_short (told one code judged is) = judged_short judged
 judged_short (starved one judged is) = judged_short judged
-judged_short (changed {asked} {codes} {made} {updates} one next judged lets is) =
+judged_short (changed {asked} {verdicts} {made} {updates} one next judged lets is) =
     All-append IsShort updates (octets_of one ∷ []) (judged_short judged) (All-cons IsShort (octets_of one) [] one.short (All-nil IsShort))
 
 -- the trail of what is published, where a group's batch gets to the disk, and where it doesn't
-pub trail_behind : {E : Type 0} (fault : Option E) (first : Version) (asked : List Asked) (group after : Group Version) (room : ℕ) (old new : TrailState)
-    → IsGroup passes tells makes octets_of first asked group room → MatchOption fault (after ≡ group) (λ _. IsGivenUp group after)
+pub trail_behind : {E : Type 0} (fault : Option E) (first : Version) (asked : List Asked) (judged : List Verdict) (group after : Group Version) (room : ℕ) (old new : TrailState)
+    → IsGroup passes tells makes octets_of serial_in first asked judged group room → MatchOption fault (after ≡ group) (λ _. IsGivenUp group after)
     → MatchOption fault
     ((updates : List (List ℕ)) → IsBatch group updates → All IsShort updates → (steps : List Step) × AreSteps steps (versions_of group) updates × (new ≡ followed old steps))
     (λ _. new ≡ old)
     → IsTrail old → last_in old ≡ first → IsTrail new × (last_in new ≡ newest_of first (versions_of after))
-trail_behind None first asked group after room old new is same follows trail last =
+trail_behind None first asked judged group after room old new is same follows trail last =
     let found = follows is.updates is.batch (judged_short is.judged) in
     let steps : List Step = found.0 in
     let made : AreMadeBy first (versions_of group) is.updates = judged_by is.judged in
@@ -46,7 +47,7 @@ trail_behind None first asked group after room old new is same follows trail las
           ∙ (behind.1 ∙ (ap (λ (v : Version). newest_of v (versions_in steps)) last
           ∙ (ap (newest_of first) found.1.versions_are ∙ ap (λ (g : Group Version). newest_of first (versions_of g)) (sym same)))),
     )
-trail_behind (Some fault) first asked group after room old new is given same trail last = (
+trail_behind (Some fault) first asked judged group after room old new is given same trail last = (
   subst IsTrail (sym same) trail,
   ap last_in same ∙ (last ∙ sym (ap (newest_of first) given.none)),
 )

@@ -146,7 +146,7 @@ fn begin_store(files: &HostRuntime) -> Result<Store, Fail> {
     Ok(StoreCompactor::new(*files, dir, writer, texts, NoNotes, 400))
 }
 
-/// Two texts are begun, each where the journal has more than 400 octets, and twice as many as behind the last one: it begins with 156, and a batch has 44, and 52 for each
+/// Two texts are begun, each where the journal has more than 400 octets, and twice as many as behind the last one: it begins with 156, and a batch has 52, and 52 for each
 /// of its updates.
 fn begin_texts<R: Wait>(rt: &R, files: &HostRuntime, store: &mut Store) -> Result<(), Fail> {
     let line = "text 0, batches 1, serials 7 to 10";

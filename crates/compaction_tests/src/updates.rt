@@ -1,5 +1,5 @@
 //! Stores that are begun in folders, and updates that are brought to them.
-ghost use Rattle.lasting_engine.specs.Asked.{passes, tells, makes, octets_of};
+ghost use Rattle.lasting_engine.specs.Asked.{passes, tells, makes, octets_of, serial_in};
 
 use compaction::{StoreWriter, Trail};
 use dns_engine::{KEPT, SharedVersion};
@@ -7,7 +7,7 @@ use dns_name::Name;
 use file_disks::FileDisk;
 use journal::{TextSum, write_head};
 use journal_store::Log;
-use lasting_engine::{Asked, judge_asked};
+use lasting_engine::{Asked, judge_asked, serial_in};
 use master_file::read_zone;
 use std::alloc::Global;
 use std::fs;
@@ -52,6 +52,8 @@ impl Judging for Rules {
 
     ghost makes = { makes };
 
+    ghost serial = { serial_in };
+
     fn judge(
         &self,
         alloc: Global,
@@ -63,6 +65,10 @@ impl Judging for Rules {
 
     fn octets_of<'a>(&self, asked: &'a Asked) -> &'a [u8] {
         asked.octets()
+    }
+
+    fn serial_of(&self, version: &SharedVersion) -> u32 {
+        serial_in(version)
     }
 }
 
@@ -124,7 +130,8 @@ pub(crate) fn group_of(
     to: u16,
 ) -> Result<Group<SharedVersion>, Fail> {
     let asked = updates_of(alloc, from, to)?;
-    let group = judge_group(&Rules, alloc, last_of(trail), &asked, 64)?;
+    let mut verdicts = Vec::with_capacity(alloc, asked.len())?;
+    let group = judge_group(&Rules, alloc, last_of(trail), &asked, 64, &mut verdicts);
     check(
         group.versions().len() == asked.len(),
         "an update makes no version",

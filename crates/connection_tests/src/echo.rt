@@ -107,6 +107,8 @@ impl Answering<Both> for Echo {
 
     ghost is_later = { λ _ _. Unit {0} };
 
+    ghost spent = { λ echo. echo.left ≡ 0 };
+
     fn turn_to(&mut self, other: Peer, _from: SocketAddr, key: usize) {
         self.peer = other;
         self.asker = key;

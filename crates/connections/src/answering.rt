@@ -61,6 +61,9 @@ pub trait Answering<M: Messages> {
     /// Which requests may be answered later, by who asks.
     ghost is_later: { PeerAsking → List ℕ → Type 0 };
 
+    /// It can load no version any more.
+    ghost spent: { Self → Type 0 };
+
     /// Turns to another peer, who asks from an address, on the connection under a key.
     fn turn_to(&mut self, other: Peer, from: SocketAddr, key: usize)
         ensures other { peer self.new ≡ other }
@@ -76,5 +79,6 @@ pub trait Answering<M: Messages> {
         ensures grows { EachGrows (seen self.new) (seen self.old) }
         ensures bound { IfOk result (λ reply. (len : ℕ) → reply ≡ Reply.One len → (len ≤ message_limit) × (len ≤ length out.new)) }
         ensures reply { IfOk result (λ reply. is_reply (peer self.old) (seen self.old (asker self.old)) (seen self.new (asker self.old)) request.now (messages_of M.left reply out.new)) }
-        ensures later { IfErr result (λ unmade. unmade ≡ Unmade.Later → is_later (peer self.old) request.now) };
+        ensures later { IfErr result (λ unmade. unmade ≡ Unmade.Later → is_later (peer self.old) request.now) }
+        ensures spent { IfErr result (λ unmade. unmade ≡ Unmade.Spent → spent self.new) };
 }

@@ -1,5 +1,5 @@
 //! A connection's requests and replies, with no device.
-ghost use Rattle.std.specs.Prelude.{◌≡◌, ◌≢◌, ℕ, ◌+◌, ◌≤◌, [], ◌∷◌, ◌++◌, length, take, drop, true, false, IsTrue, None, IfSome, IfOk, IfErr, OnOk, OnErr, if◌then◌else◌};
+ghost use Rattle.std.specs.Prelude.{◌≡◌, ◌≢◌, ℕ, ◌+◌, ◌<◌, ◌≤◌, [], ◌∷◌, ◌++◌, length, take, drop, true, false, IsTrue, None, IfSome, IfOk, IfErr, OnOk, OnErr, if◌then◌else◌};
 ghost use Rattle.dns_message.specs.Frame.{frame_of};
 ghost use Rattle.dns_message.specs.Message.{message_limit};
 ghost use Rattle.conversation.specs.Octets.{frames_of};
@@ -145,7 +145,8 @@ impl<M: Messages> Conversation<M> {
 
     /// Whether so much is to be written that no further request is answered before.
     fn is_full(&self) -> bool
-        ensures { result ≡ false → self.now.later ≡ [] }
+        ensures later { result ≡ false → self.now.later ≡ [] }
+        ensures few { result ≡ false → length self.now.ready < 16384 }
     {
         self.rest.is_some() || self.ready.as_slice().len() >= MOST_DUE
     }
@@ -194,6 +195,7 @@ impl<M: Messages> Conversation<M> {
         ensures none { IfOk result (λ is_made. is_made ≡ false → self.new ≡ self.old) }
         ensures broken { OnErr result (self.new ≡ self.old) }
         ensures later { IfErr result (λ broken. broken ≡ Broken.Later → Waits (A.is_later (A.peer answering.old)) self.old.held) }
+        ensures spent { IfErr result (λ broken. broken ≡ Broken.Spent → A.spent answering.new) }
     {
         if self.is_full() {
             return Ok(false);
@@ -263,7 +265,8 @@ impl<M: Messages> Conversation<M> {
 
 /// Why a request isn't answered, by why there is no reply to it.
 fn broken_by(unmade: Unmade) -> Broken
-    ensures { result ≡ Broken.Later → unmade ≡ Unmade.Later }
+    ensures later { result ≡ Broken.Later → unmade ≡ Unmade.Later }
+    ensures spent { result ≡ Broken.Spent → unmade ≡ Unmade.Spent }
 {
     match unmade {
         Unmade::Spent => Broken::Spent,

@@ -7,6 +7,7 @@ ghost use Rattle.connections.specs.Told.{Stays, Writes, EndsTold, IsCounted, End
 ghost use Rattle.connections.specs.Going.{Keeps, Goes, Stops, IsHeldUp};
 ghost use Rattle.connections.specs.declared.blocking.Fault.{Fault as FaultOf};
 ghost use Rattle.connections.specs.declared.machine.Broken.{Broken as WhyBroken};
+ghost use Rattle.conversation.specs.declared.stream_end.StreamEnd.{StreamEnd as EndOf};
 
 use crate::answering::{Answering, Messages};
 use crate::blocking::{Blocking, Fault};
@@ -72,6 +73,7 @@ fn answer_some<R: Wait, M: Messages, A: Answering<M>, G: Gate>(
     ensures grows { EachGrows (A.seen answering.new) (A.seen answering.old) }
     ensures keeps { Keeps (A.is_reply (A.peer answering.old)) (A.seen answering.old (A.asker answering.old)) conversation.old (A.seen answering.new (A.asker answering.old)) conversation.new }
     ensures later { IfErr result (λ broken. broken ≡ WhyBroken.Later → Waits (A.is_later (A.peer answering.old)) conversation.new.held) }
+    ensures spent { IfErr result (λ broken. broken ≡ WhyBroken.Spent → A.spent answering.new) }
 {
     for _answered in 0..REQUESTS {
         match conversation.answer(rt, answering, gate, out) {
@@ -124,6 +126,7 @@ fn write_some<M: Messages, S: Blocking>(
     ensures same { OnOk result (S.faults stream.new ≡ S.faults stream.old) }
     ensures counted { IfErr result (λ end. EndCounted end (S.faults stream.old) (S.faults stream.new)) }
     ensures blocked { result ≡ Ok Written.Blocked → S.would_block stream.new }
+    ensures unspent { IfErr result (λ end. end ≡ EndOf.Spent → ⊥) }
 {
     match conversation.refill(out) {
         Ok(()) => {}
@@ -155,6 +158,7 @@ fn flush<M: Messages, S: Blocking>(
     ensures same { OnOk result (S.faults stream.new ≡ S.faults stream.old) }
     ensures counted { IfErr result (λ end. EndCounted end (S.faults stream.old) (S.faults stream.new)) }
     ensures blocked { result ≡ Ok Written.Blocked → S.would_block stream.new }
+    ensures unspent { IfErr result (λ end. end ≡ EndOf.Spent → ⊥) }
 {
     for _written in 0..WRITES {
         match write_some(conversation, stream, out) {
@@ -182,6 +186,7 @@ fn read_some<M: Messages, S: Blocking>(
     ensures counted { IfErr result (λ end. EndCounted end (S.faults stream.old) (S.faults stream.new)) }
     ensures going { result ≡ Ok Flow.Waits → ⊥ }
     ensures blocked { result ≡ Ok Flow.Blocked → S.would_block stream.new }
+    ensures unspent { IfErr result (λ end. end ≡ EndOf.Spent → ⊥) }
 {
     let count = match stream.read(room) {
         Ok(count) => count,
@@ -216,6 +221,7 @@ fn write_and_read<M: Messages, S: Blocking>(
     ensures counted { IfErr result (λ end. EndCounted end (S.faults stream.old) (S.faults stream.new)) }
     ensures going { result ≡ Ok Flow.Waits → ⊥ }
     ensures blocked { result ≡ Ok Flow.Blocked → S.would_block stream.new }
+    ensures unspent { IfErr result (λ end. end ≡ EndOf.Spent → ⊥) }
 {
     match flush(conversation, stream, out) {
         Ok(Written::Done) => {}
@@ -248,6 +254,7 @@ fn write_and_wait<M: Messages, S: Blocking>(
     ensures ready { result ≡ Ok Flow.Waits → conversation.new.ready ≡ [] }
     ensures later { result ≡ Ok Flow.Waits → conversation.new.later ≡ [] }
     ensures blocked { result ≡ Ok Flow.Blocked → S.would_block stream.new }
+    ensures unspent { IfErr result (λ end. end ≡ EndOf.Spent → ⊥) }
 {
     match flush(conversation, stream, out) {
         Ok(Written::Done) => Ok(Flow::Waits),
@@ -280,6 +287,7 @@ fn turn<R: Wait, M: Messages, A: Answering<M>, S: Blocking, G: Gate>(
     ensures counted { IfErr result (λ end. EndCounted end (S.faults stream.old) (S.faults stream.new)) }
     ensures blocked { result ≡ Ok Flow.Blocked → S.would_block stream.new }
     ensures waits { result ≡ Ok Flow.Waits → IsHeldUp (A.is_later (A.peer answering.old)) conversation.new }
+    ensures spent { IfErr result (λ end. end ≡ EndOf.Spent → A.spent answering.new) }
 {
     match answer_some(rt, answering, conversation, gate, out) {
         Ok(()) => match write_and_read(conversation, stream, room, out) {
@@ -320,6 +328,7 @@ pub fn serve_some<R: Wait, M: Messages, A: Answering<M>, S: Blocking, G: Gate>(
     ensures counted { IfErr result (λ end. EndCounted end (S.faults stream.old) (S.faults stream.new)) }
     ensures blocked { result ≡ Ok Flow.Blocked → S.would_block stream.new }
     ensures waits { result ≡ Ok Flow.Waits → IsHeldUp (A.is_later (A.peer answering.old)) conversation.new }
+    ensures spent { IfErr result (λ end. end ≡ EndOf.Spent → A.spent answering.new) }
 {
     for _turned in 0..TURNS {
         match turn(rt, answering, conversation, stream, gate, room, out) {

@@ -31,6 +31,7 @@ pub fn serve_stream<R: Wait, M: Messages, A: Answering<M>, S: Stream, G: Gate>(
     ensures served { IfSome (S.octets stream.old.inner) (λ o. EndsAs (A.is_reply (A.peer answering.old)) result (A.seen answering.old (A.asker answering.old)) o (A.seen answering.new (A.asker answering.old)) (S.octets stream.new.inner)) }
     ensures grows { EachGrows (A.seen answering.new) (A.seen answering.old) }
     ensures device { result ≡ End.Device → stream.old.faults < stream.new.faults }
+    ensures spent { result ≡ End.Spent → A.spent answering.new }
 {
     let mut conversation: Conversation<M> = Conversation::new(alloc);
     for _ in rt.forever() {

@@ -1,50 +1,45 @@
 -- What is told of an update is so by the versions that are published.
-use Rattle.std.proofs.Common.{◌≡◌, ℕ, ◌≤◌, List, [], ◌∷◌, ◌++◌, inl, inr, sym, ◌∙◌, subst, append-nil}
-use Rattle.std.specs.Prelude.{◌⊎◌}
+use Rattle.std.proofs.Common.{◌≡◌, ◌≢◌, ℕ, ◌≤◌, List, Option, None, [], ◌∷◌, ◌++◌, inl, inr, sym, ◌∙◌, subst, append-nil}
 use Rattle.dns_rdata.specs.Numbers.{rcode_number}
 use Rattle.dns_rdata.specs.Record.{Record}
 use Rattle.dns_rdata.specs.declared.numbers.Rcode.{Rcode}
-use Rattle.dns_rdata.specs.declared.numbers.Serial.{Serial}
-use Rattle.dns_rdata.specs.declared.numbers.Rcode.TheVariants.{ServFail}
+use Rattle.dns_rdata.specs.declared.numbers.Rcode.TheVariants.{NoError, ServFail}
 use Rattle.zone_tree.specs.Version.{Version}
 use Rattle.dns_engine.specs.Held.{IsLatest}
 use Rattle.dns_engine.specs.Replayed.{IsReplay}
 use Rattle.lasting_engine.specs.declared.asked.Asked.{Asked}
 use Rattle.update_desk.specs.declared.done.Done.{Done}
-use Rattle.update_desk.specs.Done.{IsDone, IsDoneBy, AreDone}
+use Rattle.update_group.specs.declared.verdict.Verdict.{Verdict}
+use Rattle.update_desk.specs.declared.done.Serials.{Serials}
+use Rattle.update_desk.specs.Done.{AreOwn, IsDone, AreDone, serials_of}
+
+not_done : ServFail ≢ NoError
+not_done same = cc
 
 -- SERVFAIL may be told in the version that was published last
-pub servfail_done : (first : List Record) (published : List Version) (version : Version) → IsLatest first published version → IsReplay first version → (done : Done) → done.code ≡ ServFail → done.least ≤ version.number
+pub servfail_done : (first : List Record) (published : List Version) (version : Version) → IsLatest first published version → IsReplay first version → (done : Done) → done.code ≡ ServFail → done.serials ≡ None → done.least ≤ version.number
     → IsDone first published done
-servfail_done first published version latest replayed done code least = record {
+servfail_done first published version latest replayed done code none least = record {
   version = version;
   replayed = replayed;
   least = least;
   here = record { before = latest.before; newer = []; history = latest.history; place = latest.ends ∙ sym (append-nil (latest.before ++ version ∷ [])); number = latest.number };
   told = inr code;
+  own = subst (λ (o : Option Serials). AreOwn version done.asked.update done.code o) (sym none) (λ same. not_done (sym code ∙ same));
 }
 
--- where it is told of an update that another code is, SERVFAIL may be told
-failed_done : (first : List Record) (published : List Version) (one : Asked) (number : ℕ) (is told : Rcode) (before after : Serial) → IsDoneBy first published one number is → told ≡ ServFail
-    → IsDone first published (record { asked = one; least = number; code = told; before = before; after = after })
-failed_done first published one number is told before after done failed =
-    let d = done before after in
-    record { version = d.version; replayed = d.replayed; least = d.least; here = d.here; told = inr failed }
-
--- the first of updates that are told these codes is told the first of them, or SERVFAIL
-pub first_done : (first : List Record) (published : List Version) (number : ℕ) (one : Asked) (asked : List Asked) (code : ℕ) (codes : List ℕ) (told : Rcode) (before after : Serial)
-    → AreDone first published number (one ∷ asked) (code ∷ codes) → ((is : Rcode) → rcode_number is ≡ code → (told ≡ is) ⊎ (told ≡ ServFail))
-    → IsDone first published (record { asked = one; least = number; code = told; before = before; after = after })
-first_done first published number one asked code codes told before after are names = by (names are.0.0 are.0.1)
-  where
-    by : (told ≡ are.0.0) ⊎ (told ≡ ServFail) → IsDone first published (record { asked = one; least = number; code = told; before = before; after = after })
-    by (inl same) = subst (λ (r : Rcode). IsDone first published (record { asked = one; least = number; code = r; before = before; after = after })) (sym same) (are.0.2 before after)
-    by (inr failed) = failed_done first published one number are.0.0 told before after are.0.2 failed
+-- the first of updates that are told what they get is told the first of these verdicts
+pub first_done : (first : List Record) (published : List Version) (number : ℕ) (one : Asked) (asked : List Asked) (verdict : Verdict) (verdicts : List Verdict) (told : Rcode) (serials : Option Serials)
+    → AreDone first published number (one ∷ asked) (verdict ∷ verdicts) → ((is : Rcode) → rcode_number is ≡ verdict.code → told ≡ is) → serials ≡ serials_of verdict.serials
+    → IsDone first published (record { asked = one; least = number; code = told; serials = serials })
+first_done first published number one asked verdict verdicts told serials are names own =
+    subst (λ (o : Option Serials). IsDone first published (record { asked = one; least = number; code = told; serials = o })) (sym own)
+    (subst (λ (r : Rcode). IsDone first published (record { asked = one; least = number; code = r; serials = serials_of verdict.serials })) (sym (names are.0.0 are.0.1)) are.0.2)
 
 -- the first of those that are left, by where the lists are cut
-pub next_done : (first : List Record) (published : List Version) (number : ℕ) (batch rest : List Asked) (one : Asked) (left behind : List ℕ) (code : ℕ) (told : Rcode) (before after : Serial)
-    → batch ≡ one ∷ rest → left ≡ code ∷ behind → AreDone first published number batch left → ((is : Rcode) → rcode_number is ≡ code → (told ≡ is) ⊎ (told ≡ ServFail))
-    → IsDone first published (record { asked = one; least = number; code = told; before = before; after = after })
-next_done first published number batch rest one left behind code told before after cut codes are names =
-    first_done first published number one rest code behind told before after
-    (subst (λ (l : List ℕ). AreDone first published number (one ∷ rest) l) codes (subst (λ (l : List Asked). AreDone first published number l left) cut are)) names
+pub next_done : (first : List Record) (published : List Version) (number : ℕ) (batch rest : List Asked) (one : Asked) (left behind : List Verdict) (verdict : Verdict) (told : Rcode) (serials : Option Serials)
+    → batch ≡ one ∷ rest → left ≡ verdict ∷ behind → AreDone first published number batch left → ((is : Rcode) → rcode_number is ≡ verdict.code → told ≡ is) → serials ≡ serials_of verdict.serials
+    → IsDone first published (record { asked = one; least = number; code = told; serials = serials })
+next_done first published number batch rest one left behind verdict told serials cut verdicts are names own =
+    first_done first published number one rest verdict behind told serials
+    (subst (λ (l : List Verdict). AreDone first published number (one ∷ rest) l) verdicts (subst (λ (l : List Asked). AreDone first published number l left) cut are)) names own

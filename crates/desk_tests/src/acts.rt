@@ -41,7 +41,7 @@ fn goes_as_told<Z: FirstZone, N: Naming>(
         }
         Act::Waits(seat) => return Some(matches!(desk.fetch(seat), Fetched::Waits)),
         Act::Fetch(seat, octet) => {
-            let told = (octet, Rcode::ServFail, 0, 7, 7);
+            let told = (octet, Rcode::ServFail, 0, None);
             return Some(is_told(&desk.fetch(seat), &told));
         }
         Act::Nothing(seat) => return Some(matches!(desk.fetch(seat), Fetched::Nothing)),

@@ -2,12 +2,12 @@
 ghost use Rattle.std.specs.Prelude.{◌≡◌, ◌≤◌, ℕ, List, IfSome};
 ghost use Rattle.zone_tree.specs.Version.{Version};
 ghost use Rattle.dns_engine.specs.Held.{IsLatest};
-ghost use Rattle.update_group.specs.Group.{codes_of, versions_of, Judged};
-ghost use Rattle.lasting_engine.specs.Asked.{passes, tells, makes, octets_of};
+ghost use Rattle.update_group.specs.Group.{versions_of, Judged};
+ghost use Rattle.lasting_engine.specs.Asked.{passes, tells, makes, octets_of, serial_in};
 ghost use Rattle.update_desk.specs.Done.{IsJudgedIn, AreDone};
 
 use crate::desks::{Table, goes};
-use crate::updates::{Telling, code_of, is_told, outside, update};
+use crate::updates::{Telling, code_of, have_codes, is_told, outside, update};
 use dns_engine::{
     FirstZone, Naming, SharedVersion, VersionCell, VersionChain, VersionPublisher, VersionReader,
 };
@@ -18,8 +18,8 @@ use std::alloc::Global;
 use std::sync::Wait;
 use std::test::Fail;
 use transfer_core::{ChainView, VersionList};
-use update_desk::{Desk, Done, Fetched};
-use update_group::{Group, judge_group};
+use update_desk::{Desk, Done, Fetched, serials_of};
+use update_group::{Group, Verdict, judge_group};
 
 /// A batch of updates that were judged in the version that was published last: its number and serial, and how many more could be published behind it.
 #[derive(Drop)]
@@ -27,6 +27,7 @@ pub(crate) struct Batch {
     pub number: u64,
     pub before: Serial,
     pub room: usize,
+    pub verdicts: Vec<Verdict>,
     pub group: Group<SharedVersion>,
 }
 
@@ -43,35 +44,36 @@ pub(crate) fn judge<R: Wait, Z: FirstZone, N: Naming>(
     requires { most ≤ 64 }
     ensures judged_in { IfSome result (λ batch. IsJudgedIn Z.zone reader.new.seen batch.number (versions_of batch.group)) }
     ensures judged { IfSome result (λ batch. (last : Version) × (updates : List (List ℕ)) × IsLatest Z.zone reader.new.seen last × (last.number ≡ batch.number)
-        × Judged passes tells makes octets_of last asked.now (codes_of batch.group) (versions_of batch.group) updates) }
+        × Judged passes tells makes octets_of serial_in last asked.now batch.verdicts.items (versions_of batch.group) updates) }
 {
     let begun = desk.begin(rt, reader);
-    let Ok(group) = judge_group(&*desk, alloc, &begun.last, asked, most) else {
+    let Ok(mut verdicts) = Vec::with_capacity(alloc, asked.len()) else {
         return None;
     };
+    let group = judge_group(&*desk, alloc, &begun.last, asked, most, &mut verdicts);
     Some(Batch {
         number: begun.number,
         before: begun.last.get().serial(),
         room: begun.room,
+        verdicts,
         group,
     })
 }
 
-/// Tells updates their codes, each at its seat: the number of the version that they were judged in, and the serials before and after.
+/// Tells updates what they get, each at its seat, and the number of the version that they were judged in.
 fn tell_all<Z: FirstZone, N: Naming>(
     desk: &mut Desk<'_, Z, N>,
     number: u64,
-    serials: (Serial, Serial),
     seats: &[usize],
     asked: Vec<Asked>,
-    codes: &[u8],
+    verdicts: &[Verdict],
 )
-    requires { AreDone Z.zone desk.old.held.published number asked.items codes.now }
+    requires { AreDone Z.zone desk.old.held.published number asked.items verdicts.now }
 {
-    let mut left = codes;
+    let mut left = verdicts;
     let mut places = seats;
     for one in asked {
-        let Some((code, behind)) = left.split_first() else {
+        let Some((verdict, behind)) = left.split_first() else {
             return;
         };
         let Some((seat, others)) = places.split_first() else {
@@ -80,9 +82,8 @@ fn tell_all<Z: FirstZone, N: Naming>(
         let done = Done {
             asked: one,
             least: number,
-            code: code_of(*code),
-            before: serials.0,
-            after: serials.1,
+            code: code_of(verdict.code),
+            serials: serials_of(verdict.serials),
         };
         desk.tell(*seat, done);
         left = behind;
@@ -90,24 +91,23 @@ fn tell_all<Z: FirstZone, N: Naming>(
     }
 }
 
-/// Publishes a batch of updates, and tells them their codes, each at its seat: the codes. None where it comes back.
+/// Publishes a batch of updates, and tells them what they get, each at its seat: their verdicts. None where it comes back.
 pub(crate) fn publish<Z: FirstZone, N: Naming>(
     desk: &mut Desk<'_, Z, N>,
     reader: &mut VersionReader<N>,
     batch: Batch,
     asked: Vec<Asked>,
     seats: &[usize],
-) -> Option<Vec<u8>>
+) -> Option<Vec<Verdict>>
     requires judged_in { IsJudgedIn Z.zone reader.old.seen batch.number (versions_of batch.group) }
     requires judged { (last : Version) × (updates : List (List ℕ)) × IsLatest Z.zone reader.old.seen last × (last.number ≡ batch.number)
-        × Judged passes tells makes octets_of last asked.items (codes_of batch.group) (versions_of batch.group) updates }
+        × Judged passes tells makes octets_of serial_in last asked.items batch.verdicts.items (versions_of batch.group) updates }
 {
-    let Ok(codes) = desk.publish_batch(reader, batch.number, batch.group) else {
+    let Ok(()) = desk.publish_batch(reader, batch.number, batch.group) else {
         return None;
     };
-    let serials = (batch.before, desk.serial());
-    tell_all(desk, batch.number, serials, seats, asked, &codes);
-    Some(codes)
+    tell_all(desk, batch.number, seats, asked, &batch.verdicts);
+    Some(batch.verdicts)
 }
 
 /// Updates of which two make a version: the second changes nothing, the third is of a peer that may not update, and the fourth is of another zone.
@@ -121,13 +121,13 @@ fn mixed(alloc: Global) -> Option<Vec<Asked>> {
     Some(asked)
 }
 
-/// What each of them is told: NOERROR, REFUSED or NOTZONE (RFC 2136, 2.2 and 3), judged in the version 0, between the serials 7 and 9.
+/// What each of them is told: NOERROR, REFUSED or NOTZONE (RFC 2136, 2.2 and 3), judged in the version 0, with its own serials.
 const TOLD: [Telling; 5] = [
-    (1, Rcode::NoError, 0, 7, 9),
-    (1, Rcode::NoError, 0, 7, 9),
-    (2, Rcode::Refused, 0, 7, 9),
-    (1, Rcode::NotZone, 0, 7, 9),
-    (3, Rcode::NoError, 0, 7, 9),
+    (1, Rcode::NoError, 0, Some((7, 8))),
+    (1, Rcode::NoError, 0, Some((8, 8))),
+    (2, Rcode::Refused, 0, None),
+    (1, Rcode::NotZone, 0, None),
+    (3, Rcode::NoError, 0, Some((8, 9))),
 ];
 
 /// Whether a reader is told of the versions after that of serial 7, up to the number 2: those of serials 8 and 9, in their order.
@@ -206,8 +206,8 @@ impl InOrder {
         right = batch.number == 0 && batch.before.0 == 7 && batch.room == 63 && right;
         right = batch.group.versions().len() == 2 && desk.number() == 0 && right;
         right = all_wait(desk, 5) && right;
-        let codes = publish(desk, reader, batch, asked, &seats)?;
-        right = codes.as_slice() == [0, 0, 5, 10, 0].as_slice() && right;
+        let verdicts = publish(desk, reader, batch, asked, &seats)?;
+        right = have_codes(&verdicts, &[0, 0, 5, 10, 0]) && right;
         right = desk.number() == 2 && desk.serial().0 == 9 && desk.room() == 61 && right;
         right = desk.last_shared().get().serial().0 == 9 && has_both(rt, desk, reader) && right;
         Some(are_told(desk, &TOLD) && right)

@@ -74,7 +74,7 @@ impl Seats {
             }
         }
         right = (next == 99 || !self.anew) && right;
-        Some(is_told(&desk.fetch(0), &(1, Rcode::ServFail, 0, 7, 7)) && right)
+        Some(is_told(&desk.fetch(0), &(1, Rcode::ServFail, 0, None)) && right)
     }
 }
 

@@ -1,5 +1,5 @@
 //! Updates that are sent, and what is told of them (RFC 2136, 2 and 2.2).
-ghost use Rattle.std.specs.Prelude.{◌≡◌, ◌⊎◌};
+ghost use Rattle.std.specs.Prelude.{◌≡◌};
 ghost use Rattle.dns_rdata.specs.Numbers.{rcode_number};
 ghost use Rattle.dns_rdata.specs.declared.numbers.Rcode.{Rcode as Code};
 ghost use Rattle.update_desk.specs.Done.{IsDone};
@@ -9,7 +9,8 @@ use dns_rdata::Rcode;
 use lasting_engine::Asked;
 use snapshot_cell::Naming;
 use std::alloc::Global;
-use update_desk::{Desk, Done, Fetched};
+use update_desk::{Desk, Done, Fetched, Serials};
+use update_group::Verdict;
 
 /// An A record of 192.0.2.1 at a.example, added by an update that Python put together (RFC 2136, 2).
 const ADD: &str =
@@ -38,16 +39,33 @@ pub(crate) fn outside(alloc: Global) -> Option<Asked> {
     Asked::read(alloc, hex::decode(alloc, OUTSIDE.as_bytes()).ok()?, true)
 }
 
-/// The code of a number, of those that the tests' updates are told; SERVFAIL of any other (RFC 2136, 2.2).
+/// The code of a number (RFC 2136, 2.2; RFC 6891, 9).
 pub(crate) fn code_of(number: u8) -> Rcode
-    ensures { (is : Code) → rcode_number is ≡ number → (result ≡ is) ⊎ (result ≡ Code.ServFail) }
+    ensures { (is : Code) → rcode_number is ≡ number → result ≡ is }
 {
     match number {
         0 => Rcode::NoError,
+        1 => Rcode::FormErr,
+        3 => Rcode::NxDomain,
+        4 => Rcode::NotImp,
         5 => Rcode::Refused,
+        6 => Rcode::YXDomain,
+        7 => Rcode::YXRRSet,
+        8 => Rcode::NXRRSet,
+        9 => Rcode::NotAuth,
         10 => Rcode::NotZone,
+        16 => Rcode::BadVers,
         _ => Rcode::ServFail,
     }
+}
+
+/// Whether updates get these codes.
+pub(crate) fn have_codes(verdicts: &[Verdict], codes: &[u8]) -> bool {
+    let mut right = verdicts.len() == codes.len();
+    for (verdict, code) in verdicts.iter().zip(codes.iter()) {
+        right = verdict.code == *code && right;
+    }
+    right
 }
 
 /// SERVFAIL of an update in the version that was published last, as where memory is wanted for what it makes.
@@ -55,18 +73,27 @@ pub(crate) fn servfail<Z: FirstZone, N: Naming>(desk: &Desk<'_, Z, N>, asked: As
     ensures { IsDone Z.zone desk.now.held.published result }
 {
     let least = desk.number();
-    let serial = desk.serial();
     Done {
         asked,
         least,
         code: Rcode::ServFail,
-        before: serial,
-        after: serial,
+        serials: None,
     }
 }
 
-/// What is told of an update: the octet that tells it from others, its code, the number that it is told in or behind, and the serials before and after.
-pub(crate) type Telling = (u8, Rcode, u64, u32, u32);
+/// What is told of an update: the octet that tells it from others, its code, the number that it is told in or behind, and its serials, before it and after it.
+pub(crate) type Telling = (u8, Rcode, u64, Option<(u32, u32)>);
+
+/// Whether serials are these.
+fn are_serials(serials: Option<Serials>, told: Option<(u32, u32)>) -> bool {
+    match (serials, told) {
+        (Some(serials), Some((before, after))) => {
+            serials.before.0 == before && serials.after.0 == after
+        }
+        (None, None) => true,
+        _ => false,
+    }
+}
 
 /// Whether this is told at a seat.
 pub(crate) fn is_told(fetched: &Fetched, told: &Telling) -> bool {
@@ -77,6 +104,5 @@ pub(crate) fn is_told(fetched: &Fetched, told: &Telling) -> bool {
     last == Some(told.0)
         && done.code == told.1
         && done.least == told.2
-        && done.before.0 == told.3
-        && done.after.0 == told.4
+        && are_serials(done.serials, told.3)
 }

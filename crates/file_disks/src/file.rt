@@ -23,7 +23,10 @@ const SYNCED: u64 = 2;
 const CUT: u64 = 3;
 
 /// That was tried, and failed.
-const NOT_CUT: u64 = 4;
+pub const NOT_CUT: u64 = 4;
+
+/// All octets were to be brought to the disk, which failed.
+pub const NOT_SYNCED: u64 = 5;
 
 /// How many octets of room are made at once behind what is appended: zeros, with which a sync needn't bring the file's new length to the disk each time (own).
 const ROOM: u64 = 65_536;
@@ -117,13 +120,15 @@ impl FileDisk {
 }
 
 impl Disk for FileDisk {
-    ghost use Rattle.file_disks.specs.File.{written as file_written, synced as file_synced};
+    ghost use Rattle.file_disks.specs.File.{written as file_written, synced as file_synced, lost as file_lost};
 
     type Fault = io::Error;
 
     ghost written = { file_written };
 
     ghost synced = { file_synced };
+
+    ghost lost = { file_lost };
 
     fn append(&mut self, octets: &[u8]) -> io::Result<()> {
         self.write_behind(octets)?;
@@ -132,9 +137,12 @@ impl Disk for FileDisk {
     }
 
     fn sync(&mut self) -> io::Result<()> {
-        self.file.sync_data()?;
-        self.calls.note(&[SYNCED, 0], &[]);
-        Ok(())
+        let synced = self.file.sync_data();
+        match synced {
+            Ok(()) => self.calls.note(&[SYNCED, 0], &[]),
+            Err(_) => self.calls.note(&[NOT_SYNCED, 0], &[]),
+        }
+        synced
     }
 
     fn cut(&mut self, len: u64) -> io::Result<()> {

@@ -7,5 +7,5 @@
 mod file;
 mod list;
 
-pub use file::FileDisk;
+pub use file::{FileDisk, NOT_CUT, NOT_SYNCED};
 pub use list::CallList;

@@ -18,8 +18,8 @@ impl Model for CallList {
 }
 
 impl CallList {
-    // No calls.
-    pub(crate) fn new() -> CallList
+    /// No calls.
+    pub fn new() -> CallList
         ensures { result.calls ≡ [] }
     {
         CallList {
@@ -27,8 +27,8 @@ impl CallList {
         }
     }
 
-    // One call more: its numbers, which call it is and a length, and its octets.
-    pub(crate) fn note(&mut self, _numbers: &[u64], _octets: &[u8])
+    /// One call more: its numbers, which call it is and a length, and its octets.
+    pub fn note(&mut self, _numbers: &[u64], _octets: &[u8])
         ensures { self.new.calls ≡ call_of _numbers.now _octets.now ∷ self.old.calls }
     {}
 }

@@ -1,12 +1,12 @@
 //! A board on which versions are published, and which keeps what is told. A version is a number, and an update the octet that is added to it.
-ghost use Rattle.std.specs.Prelude.{◌++◌, ◌∷◌, [], ◌-◌, vec_len, vec_capacity, length, ◌<◌, ◌^◌};
+ghost use Rattle.std.specs.Prelude.{◌++◌, ◌∷◌, [], ◌-◌, ◌%◌, vec_len, vec_capacity, length, ◌<◌, ◌^◌};
 
 use journal_store::LogFault;
 use std::alloc::{AllocError, Global};
 use std::mem;
 use std::sync::Wait;
 use told_disks::DiskFault;
-use update_group::{Engine, Group, Judgement, Judging, publish_group};
+use update_group::{Engine, Group, Judgement, Judging, Verdict, publish_group};
 use update_job::{Faults, Publishing};
 
 /// How many versions the board has room for.
@@ -45,7 +45,8 @@ pub(crate) struct Board {
     before: Vec<Sum>,
     pub(crate) last: Sum,
     begun: usize,
-    pub(crate) told: Vec<(Option<u8>, u8)>,
+    room: usize,
+    pub(crate) told: Vec<(Option<u8>, u8, Option<(u32, u32)>)>,
     /// Whether another one publishes when a batch is judged.
     pub(crate) overtaken: bool,
     /// How many versions of a batch find room at most.
@@ -59,6 +60,7 @@ impl Board {
             before: Vec::with_capacity(alloc, ROOM)?,
             last: Sum(0),
             begun: 0,
+            room: 0,
             told: Vec::with_capacity(alloc, ROOM)?,
             overtaken,
             most: ROOM,
@@ -84,6 +86,9 @@ impl Judging for Board {
 
     ghost makes = { λ _ _ _. Unit {0} };
 
+    // The low 32 bits of the number.
+    ghost serial = { λ sum. sum.0 % 2 ^ 32 };
+
     fn judge(&self, _alloc: Global, version: &Sum, asked: &Added) -> Judgement<Sum> {
         match asked.octets.first() {
             None => Judgement::Told(1),
@@ -95,6 +100,10 @@ impl Judging for Board {
 
     fn octets_of<'a>(&self, asked: &'a Added) -> &'a [u8] {
         &asked.octets
+    }
+
+    fn serial_of(&self, version: &Sum) -> u32 {
+        (version.0 % (1 << 32)) as u32
     }
 }
 
@@ -118,9 +127,10 @@ impl Engine for Board {
 }
 
 impl Publishing for Board {
-    ghost use Rattle.std.specs.Prelude.{◌≡◌, ℕ, List, Option, ◌++◌, ◌∷◌, [], None, IfOk, IfErr};
+    ghost use Rattle.std.specs.Prelude.{◌≡◌, List, Option, ◌++◌, ◌∷◌, [], None, OnOk, IfErr};
     ghost use Rattle.update_group.specs.Engine.{IsLast, AreMade};
-    ghost use Rattle.update_group.specs.Group.{codes_of, versions_of};
+    ghost use Rattle.update_group.specs.declared.verdict.Verdict.{Verdict};
+    ghost use Rattle.update_group.specs.Group.{versions_of};
     ghost use Rattle.update_job.specs.Done.{BeginsWith};
     ghost use Rattle.job_tests.specs.declared.board.Added.{Added};
     ghost use Rattle.job_tests.specs.declared.board.Sum.{Sum};
@@ -129,36 +139,41 @@ impl Publishing for Board {
 
     ghost begun = { λ board. board.begun };
 
+    ghost room = { λ board. board.room };
+
     ghost told = { λ _. None };
 
     fn begin<R: Wait>(&mut self, _rt: &R) -> (Sum, usize) {
         let room = self.before.capacity() - self.before.len();
         self.begun = self.before.len() + 1;
-        (self.last, room.min(self.most))
+        self.room = room.min(self.most);
+        (self.last, self.room)
     }
 
-    fn publish<R: Wait>(&mut self, _rt: &R, group: Group<Sum>) -> Result<Vec<u8>, Group<Sum>>
+    fn publish<R: Wait>(&mut self, _rt: &R, group: Group<Sum>) -> Result<(), Group<Sum>>
         requires { (first : Sum) × IsLast (self.old.before.items ++ self.old.last ∷ []) first × AreMade {V = Sum} {A = Added} (λ _ _ _. Unit {0}) first (versions_of group) }
-        ensures published { IfOk result (λ codes. (codes.items ≡ codes_of group)
-            × (self.new.before.items ++ self.new.last ∷ [] ≡ (self.old.before.items ++ self.old.last ∷ []) ++ versions_of group)) }
+        ensures published { OnOk result (self.new.before.items ++ self.new.last ∷ [] ≡ (self.old.before.items ++ self.old.last ∷ []) ++ versions_of group) }
         ensures given_back { IfErr result (λ back. (back ≡ group) × BeginsWith (self.new.before.items ++ self.new.last ∷ []) (self.old.before.items ++ self.old.last ∷ [])) }
         ensures begun { self.new.begun ≡ self.old.begun }
-        ensures told { let told : Option (List (Added × ℕ)) = None in told ≡ told }
+        ensures room { self.new.room ≡ self.old.room }
+        ensures told { let told : Option (List (Added × Verdict)) = None in told ≡ told }
     {
         let room = self.before.capacity() - self.before.len();
         if self.overtaken || room < group.versions().len() {
             return Err(group);
         }
-        let begun = self.begun;
-        let codes = publish_group(self, group);
+        let (begun, told_room) = (self.begun, self.room);
+        publish_group(self, group);
         self.begun = begun;
-        Ok(codes)
+        self.room = told_room;
+        Ok(())
     }
 
-    fn tell<R: Wait>(&mut self, _rt: &R, asked: Added, code: u8) {
+    fn tell<R: Wait>(&mut self, _rt: &R, asked: Added, verdict: Verdict) {
         if self.told.len() < self.told.capacity() {
+            let octet = asked.octets.first().copied();
             self.told
-                .push_reserved((asked.octets.first().copied(), code));
+                .push_reserved((octet, verdict.code, verdict.serials));
         }
     }
 }

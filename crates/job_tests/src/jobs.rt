@@ -82,7 +82,7 @@ fn found_in(alloc: Global, store: &Store<ToldDisk>) -> Result<Vec<u8>, Fail> {
     Ok(found)
 }
 
-// Each update of a batch is told what it gets behind those before it, and those that make a version are on the disk in their order.
+// Each update of a batch is told what it gets behind those before it, with its own serials, and those that make a version are on the disk in their order.
 #[test]
 fn a_batch_lasts(rt: HostRuntime) -> Result<(), Fail> {
     let alloc: Global = rt.alloc();
@@ -93,11 +93,11 @@ fn a_batch_lasts(rt: HostRuntime) -> Result<(), Fail> {
     assert!(rt; matches!(job.turn(&rt), Ok(None)));
     let (board, store) = job.into_parts();
     let told = [
-        (Some(5), 0),
-        (Some(0), 0),
-        (Some(7), 0),
-        (Some(255), 2),
-        (None, 1),
+        (Some(5), 0, Some((0, 5))),
+        (Some(0), 0, Some((5, 5))),
+        (Some(7), 0, Some((5, 12))),
+        (Some(255), 2, None),
+        (None, 1, None),
     ];
     assert_eq!(rt; board.told.as_slice(), told.as_slice());
     assert!(rt; board.published() == 3 && board.last.0 == 12);
@@ -118,7 +118,7 @@ fn a_batch_is_as_long_as_there_is_room(rt: HostRuntime) -> Result<(), Fail> {
     queue.end(&rt);
     assert!(rt; matches!(job.turn(&rt), Ok(None)));
     let (mut board, store) = job.into_parts();
-    let told = [(Some(5), 0), (Some(6), 0)];
+    let told = [(Some(5), 0, Some((0, 5))), (Some(6), 0, Some((5, 11)))];
     assert_eq!(rt; board.told.as_slice(), told.as_slice());
     assert!(rt; board.published() == 3);
     board.most = 0;
@@ -129,7 +129,12 @@ fn a_batch_is_as_long_as_there_is_room(rt: HostRuntime) -> Result<(), Fail> {
     assert!(rt; matches!(job.turn(&rt), Ok(None)) && matches!(job.turn(&rt), Ok(None)));
     assert!(rt; matches!(job.turn(&rt), Err(Ended)));
     let (board, store) = job.into_parts();
-    let told = [(Some(5), 0), (Some(6), 0), (Some(8), 2), (None, 1)];
+    let told = [
+        (Some(5), 0, Some((0, 5))),
+        (Some(6), 0, Some((5, 11))),
+        (Some(8), 2, None),
+        (None, 1, None),
+    ];
     assert_eq!(rt; board.told.as_slice(), told.as_slice());
     assert_eq!(rt; found_in(alloc, &store)?.as_slice(), [5, 6].as_slice());
     Ok(())
@@ -149,11 +154,11 @@ fn a_batch_fails(rt: HostRuntime) -> Result<(), Fail> {
     assert!(rt; matches!(job.turn(&rt), Ok(Some(LogFault::Stuck))));
     let (board, store) = job.into_parts();
     let told = [
-        (Some(5), 2),
-        (Some(0), 2),
-        (None, 2),
-        (Some(6), 2),
-        (None, 2),
+        (Some(5), 2, None),
+        (Some(0), 2, None),
+        (None, 2, None),
+        (Some(6), 2, None),
+        (None, 2, None),
     ];
     assert_eq!(rt; board.told.as_slice(), told.as_slice());
     assert!(rt; board.published() == 1 && board.last.0 == 0);
@@ -180,12 +185,12 @@ fn a_batch_is_overtaken(rt: HostRuntime) -> Result<(), Fail> {
     assert!(rt; matches!(job.turn(&rt), Ok(None)));
     let (board, _) = job.into_parts();
     let told = [
-        (Some(5), 2),
-        (None, 2),
-        (Some(6), 2),
-        (None, 2),
-        (Some(0), 0),
-        (None, 1),
+        (Some(5), 2, None),
+        (None, 2, None),
+        (Some(6), 2, None),
+        (None, 2, None),
+        (Some(0), 0, Some((0, 0))),
+        (None, 1, None),
     ];
     assert_eq!(rt; board.told.as_slice(), told.as_slice());
     assert!(rt; board.published() == 1);

@@ -2,7 +2,9 @@ pub mod BatchLemmas
 pub mod FrameLemmas
 pub mod FramesLemmas
 pub mod HeadLemmas
+pub mod OutlineLemmas
 pub mod PartLemmas
 pub mod RecoveredLemmas
 pub mod StartLemmas
+pub mod SummedLemmas
 pub mod TailLemmas

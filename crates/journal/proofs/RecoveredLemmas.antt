@@ -1,7 +1,6 @@
 -- What a start takes of octets that begin with a journal.
 use Rattle.std.proofs.Common.{◌≡◌, ℕ, zero, suc, Bool, true, false, List, [], ◌∷◌, ◌++◌, length, drop, map, Some, if◌then◌else◌, refl, sym, ap, ◌∙◌, subst, append_assoc, append-nil, arith}
 use Rattle.std.specs.Prelude.{All, slice_get}
-use Rattle.std.proofs.lemmas.List.{drop_all}
 use Rattle.std.proofs.lemmas.List.Elements.{All-nil, All-head, All-tail}
 use Rattle.std.proofs.lemmas.List.Concat.{flat_map-append}
 use Rattle.journal.specs.declared.heads.Head.{Head}
@@ -9,14 +8,14 @@ use Rattle.journal.specs.declared.start.Refused.{Refused}
 use Rattle.journal.specs.declared.start.Refused.TheVariants.{BadHead, OtherText, Damaged, NoBatch, NoMemory}
 use Rattle.journal.specs.declared.tails.Tail.TheVariants.{Blank, Torn}
 use Rattle.journal.specs.Frame.{frames_of, Fit, IsRead}
-use Rattle.journal.specs.Tail.{BeginsLater, IsTail}
+use Rattle.journal.specs.Tail.{ShowsLater, IsTail}
 use Rattle.journal.specs.Batch.{batch_of, IsShort, IsBatch}
 use Rattle.journal.specs.Head.{head_of, salt_of, IsHead, IsText}
 use Rattle.journal.specs.Recovered.{journal_of, updates_in, IsOpened, IsRecovered, IsRefused}
 use Rattle.journal.proofs.BatchLemmas.{batch_once}
-use Rattle.journal.proofs.FrameLemmas.{frame_shows}
 use Rattle.journal.proofs.FramesLemmas.{written_read, read_once, synced_first}
 use Rattle.journal.proofs.HeadLemmas.{one_head, no_fault}
+use Rattle.journal.proofs.TailLemmas.{shown_within}
 
 -- the head of a journal with octets behind it
 journal_head : (head : Head) (batches : List (List (List ℕ))) (left : List ℕ)
@@ -110,11 +109,8 @@ whole_read head other batches bodies rest is fit opened =
     (found.0, once.0, once.1)
 
 -- nothing begins with a frame of a later number
-none_later : (salt : List ℕ) (next place : ℕ) → BeginsLater salt next (drop place []) → ⊥
-none_later salt next place later =
-    let shows = frame_shows salt later.number (drop place []) later.body later.left later.frame in
-    let none : drop {A = ℕ} place [] ≡ [] = drop_all {X = ℕ} place [] (omega arith) in
-    omega (arith, shows.long, ap (λ (o : List ℕ). length o) none)
+none_later : (salt : List ℕ) (next place : ℕ) → ShowsLater salt next (drop place []) → ⊥
+none_later salt next place later = omega (arith, shown_within salt next place [] later)
 
 not_torn : (salt : List ℕ) (next : ℕ) (torn : Bool) → IsTail salt next [] (if torn then Torn else Blank) → torn ≡ false
 not_torn salt next true tail = absurd (tail.0 (All-nil (λ (octet : ℕ). octet ≡ 0)))
@@ -145,7 +141,7 @@ written_accepted text head batches OtherText is same fit short refused =
 written_accepted text head batches (Damaged at) is same fit short refused =
     let whole = whole_read head refused.head batches refused.bodies refused.rest is fit refused.opened in
     absurd (none_later (salt_of refused.head) (length refused.bodies) refused.place
-    (subst (λ (o : List ℕ). BeginsLater (salt_of refused.head) (length refused.bodies) (drop refused.place o)) whole.2 refused.later.0))
+    (subst (λ (o : List ℕ). ShowsLater (salt_of refused.head) (length refused.bodies) (drop refused.place o)) whole.2 refused.later.0))
 written_accepted text head batches (NoBatch number) is same fit short refused =
     let whole = whole_read head refused.head batches refused.bodies refused.rest is fit refused.opened in
     let batch = is_one batches number refused.no_batch.body short (ap (λ (bs : List (List ℕ)). slice_get bs number) (sym whole.1) ∙ refused.no_batch.stands) in

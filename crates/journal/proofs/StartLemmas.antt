@@ -1,9 +1,8 @@
 -- What a start takes, a body at a time, and the whole.
-use Rattle.std.proofs.Common.{◌≡◌, ℕ, ◌+◌, ◌-◌, ◌<◌, ◌≤◌, Bool, List, [], ◌∷◌, ◌++◌, length, take, drop, get_or, map, if◌then◌else◌, refl, sym, ap, ◌∙◌, subst, append-nil, length-append, arith, ◌⊎◌, inl, inr, Bor}
+use Rattle.std.proofs.Common.{◌≡◌, ℕ, ◌+◌, ◌-◌, ◌<◌, ◌≤◌, Bool, List, [], ◌∷◌, ◌++◌, length, take, get_or, map, if◌then◌else◌, refl, sym, ap, ◌∙◌, subst, append-nil, length-append, arith, Bor}
 use Rattle.std.specs.Prelude.{All, Option, Some, None, MatchOption}
-use Rattle.std.proofs.lemmas.Bool.{cases_lt}
 use Rattle.std.proofs.lemmas.Option.{slice_get-get_or}
-use Rattle.std.proofs.lemmas.List.{take_more, take_all, drop_all, map_push, map-append, length-map, get_or-map}
+use Rattle.std.proofs.lemmas.List.{take_more, take_all, map_push, map-append, length-map, get_or-map}
 use Rattle.std.proofs.lemmas.List.Elements.{All-nil, All-push}
 use Rattle.std.proofs.lemmas.List.Concat.{flat_map-append}
 use Rattle.journal.specs.declared.heads.Head.{Head}
@@ -12,11 +11,10 @@ use Rattle.journal.specs.declared.start.Refused.TheVariants.{BadHead, OtherText,
 use Rattle.journal.specs.declared.tails.Tail.{Tail}
 use Rattle.journal.specs.declared.tails.Tail.TheVariants.{Blank, Torn, Later}
 use Rattle.journal.specs.Frame.{frames_of, IsRead}
-use Rattle.journal.specs.Tail.{BeginsLater, IsTail}
+use Rattle.journal.specs.Tail.{IsTail}
 use Rattle.journal.specs.Batch.{batch_of, IsShort, IsBatch}
 use Rattle.journal.specs.Head.{head_of, salt_of, IsHead, IsText}
 use Rattle.journal.specs.Recovered.{updates_in, IsOpened, AreBatches, IsRecovered, IsNoBatch, IsRefusedBatch, IsDamaged, IsRefused}
-use Rattle.journal.proofs.FrameLemmas.{frame_shows}
 
 -- the first of bodies are batches, and these are their updates
 pub record TakenSoFar (bodies : List (List ℕ)) (number : ℕ) (updates : List (List ℕ)) : Type 0 where
@@ -143,16 +141,6 @@ no_batch_at bodies number d updates so_far within none = record {
   stands = slice_get-get_or (now_of bodies) number d.now (omega (arith, within, lent_long bodies));
   none = λ updates is. none updates (subst (λ (o : List ℕ). IsBatch o updates) (lent_at bodies number d within) is);
 }
-
--- a later frame begins within the octets
-pub later_within : (salt : List ℕ) (next place : ℕ) (rest : List ℕ) → BeginsLater salt next (drop place rest) → place < length rest
-later_within salt next place rest later = by_place (cases_lt place (length rest))
-  where
-    by_place : (place < length rest) ⊎ (length rest ≤ place) → place < length rest
-    by_place (inl less) = less
-    by_place (inr more) =
-        let shows = frame_shows salt later.number (drop place rest) later.body later.left later.frame in
-        omega (arith, shows.long, ap length (drop_all place rest more))
 
 -- what is told of an option that is something, or nothing
 pub told_some : {X : Type 0} (found : Option X) (x : X) (P : Type 0) (Q : X → Type 0) → found ≡ Some x → MatchOption found P Q → Q x

@@ -1,5 +1,5 @@
--- Frames: what a journal has behind its head, each a body behind its length and its number, and in front of its sum (own).
-use Rattle.std.specs.Prelude.{◌≡◌, ℕ, ◌+◌, ◌^◌, ◌<◌, List, [], ◌∷◌, ◌++◌, length}
+-- Frames: what a journal has behind its head, each a body behind a mark, its length and its number, and in front of its sum (own).
+use Rattle.std.specs.Prelude.{◌≡◌, ℕ, ◌+◌, ◌^◌, ◌<◌, List, [], ◌∷◌, ◌++◌, length, take}
 use Rattle.std.specs.Int.{w32, w64, to_be_bytes}
 use Rattle.sha2.specs.Sha256.{sha256}
 
@@ -7,9 +7,17 @@ use Rattle.sha2.specs.Sha256.{sha256}
 unfoldable pub text_of : ℕ → List ℕ → List ℕ
 text_of number body = to_be_bytes w32 (length body) ++ (to_be_bytes w64 number ++ body)
 
--- a frame: its text, and the SHA-256 of the journal's salt and that text
+-- the mark that each frame of a journal begins with: the first eight octets of the journal's salt
+unfoldable pub mark_of : List ℕ → List ℕ
+mark_of salt = take 8 salt
+
+-- a frame behind its mark: its text, and the SHA-256 of the journal's salt and that text
+unfoldable pub summed : List ℕ → ℕ → List ℕ → List ℕ
+summed salt number body = text_of number body ++ sha256 (salt ++ text_of number body)
+
+-- a frame: the journal's mark, and what stands behind it
 unfoldable pub framed : List ℕ → ℕ → List ℕ → List ℕ
-framed salt number body = text_of number body ++ sha256 (salt ++ text_of number body)
+framed salt number body = mark_of salt ++ summed salt number body
 
 -- the frames of these bodies, numbered on from a number
 abbrev pub frames_of : List ℕ → ℕ → List (List ℕ) → List ℕ

@@ -9,7 +9,7 @@ use Rattle.journal.specs.declared.heads.TextSum.{TextSum}
 
 -- the octets that each journal begins with
 abbrev pub name : List ℕ
-name = codes "dnsd journal, 1" ++ 10 ∷ []
+name = codes "dnsd journal, 2" ++ 10 ∷ []
 
 -- a text: how many octets it has, in eight octets, and their SHA-256
 abbrev pub sum_octets : TextSum → List ℕ

@@ -1,17 +1,46 @@
-//! Frames of a journal: a body, its length, its number and its sum (own).
-ghost use Rattle.std.specs.Prelude.{◌≡◌, ◌+◌, ◌^◌, ◌<◌, ◌≤◌, ◌++◌, ◌↔◌, ℕ, List, IsTrue, length, take, IfOk, MatchOption};
+//! Frames of a journal: a mark, and behind it a body, its length, its number and its sum (own).
+ghost use Rattle.std.specs.Prelude.{◌≡◌, ◌+◌, ◌^◌, ◌<◌, ◌≤◌, ◌⊎◌, ◌++◌, ◌↔◌, ℕ, List, IsTrue, length, take, IfOk, IfSome, MatchOption};
+ghost use Rattle.std.specs.Int.{w64, to_be_bytes};
 ghost use Rattle.sha2.specs.Sha256.{sha256};
-ghost use Rattle.journal.specs.Frame.{framed, IsFrame, NoFrame};
+ghost use Rattle.journal.specs.Frame.{mark_of, framed, IsFrame, NoFrame};
+ghost use Rattle.journal.specs.Private.{IsSummed};
 
 use crate::parts::{first_part, first_u32, first_u64};
 use sha2::{Digest, Sha256};
 use std::alloc::{AllocError, Global};
 
-/// How many octets of a frame stand in front of its body: its length, in four, and its number, in eight.
+/// How many octets a frame's mark has.
+const MARK: usize = 8;
+
+/// How many octets of a frame stand between its mark and its body: its length, in four, and its number, in eight.
 const LEAD: usize = 12;
 
 /// How many octets a sum has, an SHA-256 (FIPS 180-4, 1).
 pub const SUM: usize = 32;
+
+/// How many octets a frame has besides its body.
+pub(crate) const ROUND: usize = MARK + LEAD + SUM;
+
+/// The mark of a journal's frames, the first eight octets of its salt, as a number whose high octet is the first of them.
+pub(crate) fn mark_of(salt: &[u8; SUM]) -> u64
+    ensures { mark_of salt.now ≡ to_be_bytes w64 result }
+{
+    match first_u64(salt.as_slice()) {
+        Some((mark, _)) => mark,
+        None => 0,
+    }
+}
+
+/// What stands behind this mark, if octets begin with it.
+pub(crate) fn behind_mark(mark: u64, octets: &[u8]) -> Option<&[u8]>
+    ensures { MatchOption result ((rest : List ℕ) → octets.now ≡ to_be_bytes w64 mark ++ rest → ⊥) (λ rest. octets.now ≡ to_be_bytes w64 mark ++ rest.now) }
+{
+    let (first, rest) = first_u64(octets)?;
+    if first != mark {
+        return None;
+    }
+    Some(rest)
+}
 
 /// The SHA-256 of a journal's salt and some octets (FIPS 180-4, 6.2).
 fn salted_sum(salt: &[u8; SUM], octets: &[u8]) -> [u8; SUM]
@@ -23,10 +52,13 @@ fn salted_sum(salt: &[u8; SUM], octets: &[u8]) -> [u8; SUM]
     hasher.finalize()
 }
 
-/// Whether this is the sum of the octets.
-fn is_sum_of(sum: &[u8; SUM], salt: &[u8; SUM], octets: &[u8]) -> bool
-    ensures { IsTrue result ↔ (sum.now ≡ sha256 (salt.now ++ octets.now)) }
+/// Whether this is the sum of the octets. They are digested, and as many are added to those that were.
+fn is_sum_of(sum: &[u8; SUM], salt: &[u8; SUM], digested: &mut u64, octets: &[u8]) -> bool
+    ensures same { IsTrue result ↔ (sum.now ≡ sha256 (salt.now ++ octets.now)) }
+    ensures count { digested.new ≤ digested.old + length octets.now }
+    ensures counted { digested.old + length octets.now < 2 ^ 64 → digested.new ≡ digested.old + length octets.now }
 {
+    *digested = digested.saturating_add(octets.len() as u64);
     *sum == salted_sum(salt, octets)
 }
 
@@ -39,29 +71,34 @@ pub fn write_frame(
     body: &[u8],
 ) -> Result<Vec<u8>, AllocError>
     requires { length body.now < 2 ^ 32 }
-    ensures { IfOk result (λ frame. frame.items ≡ framed salt.now number body.now) }
+    ensures frame { IfOk result (λ frame. frame.items ≡ framed salt.now number body.now) }
+    ensures long { IfOk result (λ frame. length frame.items ≡ length body.now + 52) }
 {
     let len = body.len() as u32;
     let mut frame = Vec::new(alloc);
+    frame.extend_from_slice(&mark_of(salt).to_be_bytes())?;
     frame.extend_from_slice(&len.to_be_bytes())?;
     frame.extend_from_slice(&number.to_be_bytes())?;
     frame.extend_from_slice(body)?;
-    let sum = salted_sum(salt, &frame);
+    let sum = salted_sum(salt, &frame[MARK..]);
     frame.extend_from_slice(&sum)?;
     Ok(frame)
 }
 
-/// The frame that octets begin with, if its number is `low` at least and `high` at most: its number, its body, and what stands behind it.
-/// It takes no memory.
-pub(crate) fn frame_among<'a>(
+/// What stands behind the mark of a frame, if octets begin with it, and its number is `low` at least and `high` at most: the frame's number, its body, and what
+/// stands behind it. At most one sum is looked at, of octets that are counted. It takes no memory.
+fn summed_among<'a>(
     salt: &[u8; SUM],
+    digested: &mut u64,
     low: u64,
     high: u64,
     octets: &'a [u8],
 ) -> Option<(u64, &'a [u8], &'a [u8])>
-    ensures { MatchOption result
-        ((number : ℕ) → low ≤ number → number ≤ high → NoFrame salt.now number octets.now)
-        (λ r. (low ≤ r.0) × (r.0 ≤ high) × IsFrame salt.now r.0 octets.now r.1.now r.2.now) }
+    ensures found { MatchOption result
+        ((number : ℕ) → low ≤ number → number ≤ high → (body rest : List ℕ) → IsSummed salt.now number octets.now body rest → ⊥)
+        (λ r. (low ≤ r.0) × (r.0 ≤ high) × IsSummed salt.now r.0 octets.now r.1.now r.2.now) }
+    ensures once { (digested.new ≡ digested.old) ⊎ (digested.new + 32 ≤ digested.old + length octets.now) }
+    ensures count { IfSome result (λ r. digested.new + length r.2.now ≤ digested.old + length octets.now) }
 {
     let (size, behind_size) = first_u32(octets)?;
     let (number, behind_number) = first_u64(behind_size)?;
@@ -70,22 +107,46 @@ pub(crate) fn frame_among<'a>(
     }
     let (body, behind_body) = behind_number.split_at_checked(size as usize)?;
     let (sum, rest) = first_part::<SUM>(behind_body)?;
-    if !is_sum_of(sum, salt, &octets[..LEAD + size as usize]) {
+    if !is_sum_of(sum, salt, digested, &octets[..LEAD + size as usize]) {
         return None;
     }
     Some((number, body, rest))
 }
 
+/// The frame that octets begin with, if its number is `low` at least and `high` at most: its number, its body, and what stands behind it.
+/// At most one sum is looked at, and how many octets it is of is added to those that were digested. It takes no memory.
+pub(crate) fn frame_among<'a>(
+    salt: &[u8; SUM],
+    digested: &mut u64,
+    low: u64,
+    high: u64,
+    octets: &'a [u8],
+) -> Option<(u64, &'a [u8], &'a [u8])>
+    ensures found { MatchOption result
+        ((number : ℕ) → low ≤ number → number ≤ high → NoFrame salt.now number octets.now)
+        (λ r. (low ≤ r.0) × (r.0 ≤ high) × IsFrame salt.now r.0 octets.now r.1.now r.2.now) }
+    ensures once { (digested.new ≡ digested.old) ⊎ (digested.new + 40 ≤ digested.old + length octets.now) }
+    ensures count { IfSome result (λ r. digested.new + length r.2.now ≤ digested.old + length octets.now) }
+{
+    let behind = behind_mark(mark_of(salt), octets)?;
+    let (number, body, rest) = summed_among(salt, digested, low, high, behind)?;
+    Some((number, body, rest))
+}
+
 /// The body of the frame of this number that octets begin with, and what stands behind that frame; None where they begin with no
-/// such frame: it isn't whole, has another number, or another sum. It takes no memory.
+/// such frame: it isn't whole, has another mark, another number, or another sum. How many octets are digested is added to `digested`. It
+/// takes no memory.
 pub fn read_frame<'a>(
     salt: &[u8; SUM],
+    digested: &mut u64,
     number: u64,
     octets: &'a [u8],
 ) -> Option<(&'a [u8], &'a [u8])>
-    ensures { MatchOption result (NoFrame salt.now number octets.now)
+    ensures found { MatchOption result (NoFrame salt.now number octets.now)
         (λ r. IsFrame salt.now number octets.now r.0.now r.1.now) }
+    ensures once { digested.new ≤ digested.old + length octets.now }
+    ensures count { IfSome result (λ r. digested.new + length r.1.now ≤ digested.old + length octets.now) }
 {
-    let (_, body, rest) = frame_among(salt, number, number, octets)?;
+    let (_, body, rest) = frame_among(salt, digested, number, number, octets)?;
     Some((body, rest))
 }

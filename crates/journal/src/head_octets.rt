@@ -10,7 +10,7 @@ use sha2::{Digest, Sha256};
 use std::alloc::{AllocError, Global};
 
 /// The octets that each journal begins with.
-const NAME: [u8; 16] = *b"dnsd journal, 1\n";
+const NAME: [u8; 16] = *b"dnsd journal, 2\n";
 
 /// How many octets a head has in front of its sum.
 const TEXT: usize = 124;

@@ -1,13 +1,15 @@
 //! Laws of journals: each is the contract of a function that does nothing.
-ghost use Rattle.std.specs.Prelude.{◌≡◌, ◌++◌, ℕ, Bool, false, List, [], take, map, All};
+ghost use Rattle.std.specs.Prelude.{◌≡◌, ◌^◌, ◌<◌, ◌++◌, ℕ, Bool, false, List, [], length, take, drop, map, All};
 ghost use Rattle.journal.specs.declared.heads.Head.{Head};
 ghost use Rattle.journal.specs.declared.heads.HeadFault.{HeadFault};
 ghost use Rattle.journal.specs.declared.start.Refused.{Refused};
 ghost use Rattle.journal.specs.declared.start.Refused.TheVariants.{NoMemory};
 ghost use Rattle.journal.specs.Batch.{batch_of, IsShort};
-ghost use Rattle.journal.specs.Frame.{frames_of, Fit, IsFrame, IsRead};
+ghost use Rattle.journal.specs.declared.tails.Tail.TheVariants.{Torn};
+ghost use Rattle.journal.specs.Frame.{framed, frames_of, Fit, IsFrame, IsRead};
 ghost use Rattle.journal.specs.Head.{head_of, IsHead, IsHeadFault, IsText};
 ghost use Rattle.journal.specs.Recovered.{journal_of, updates_in, IsRecovered, IsRefused};
+ghost use Rattle.journal.specs.Tail.{BeginsLater, IsTail};
 
 /// Octets begin with one frame at most, whatever its number.
 pub fn one_frame()
@@ -38,6 +40,13 @@ pub fn what_was_synced_is_read_first()
     ensures { (salt : List ℕ) (number : ℕ) (bodies found : List (List ℕ)) (left rest : List ℕ)
         → Fit number bodies → IsRead salt number (frames_of salt number bodies ++ left) found rest
         → (more : List (List ℕ)) × (found ≡ bodies ++ more) }
+{}
+
+/// No whole frame with a later number stands anywhere in a torn end: where one was written, whatever stands in front of it and behind it, what is told is no torn end.
+pub fn no_later_frame_is_torn()
+    ensures none { (salt : List ℕ) (next at : ℕ) (rest : List ℕ) → IsTail salt next rest Torn → BeginsLater salt next (drop at rest) → ⊥ }
+    ensures written { (salt : List ℕ) (next number : ℕ) (front body behind : List ℕ) → next < number → number < 2 ^ 64 → length body < 2 ^ 32
+        → IsTail salt next (front ++ (framed salt number body ++ behind)) Torn → ⊥ }
 {}
 
 /// Octets begin with one head at most, and what begins with one is no fault.

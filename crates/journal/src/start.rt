@@ -1,5 +1,5 @@
 //! What a start takes of a zone text and a journal (own).
-ghost use Rattle.std.specs.Prelude.{◌≡◌, ℕ, List, map, IfOk, IfErr};
+ghost use Rattle.std.specs.Prelude.{◌≡◌, ◌+◌, ◌*◌, ◌≤◌, ℕ, List, length, map, IfOk, IfErr};
 ghost use Rattle.journal.specs.declared.start.Refused.TheVariants.{BadHead, NoMemory};
 ghost use Rattle.journal.specs.Head.{salt_of};
 ghost use Rattle.journal.specs.Recovered.{AreBatches, updates_in, IsRefusedBatch, IsRecovered, IsRefused};
@@ -36,7 +36,8 @@ pub enum Refused {
     BadHead(HeadFault),
     /// The zone text isn't that which the head names.
     OtherText,
-    /// At this octet of the journal a later frame begins, behind octets that are no frame: batches that were brought to the disk are damaged.
+    /// At this octet of the journal a later frame begins, or what overlaps a further one, behind octets that are no frame: batches that were
+    /// brought to the disk are damaged.
     Damaged(usize),
     /// The frame of this number is whole, and its body is no batch.
     NoBatch(u64),
@@ -66,14 +67,31 @@ pub fn recover<'a>(alloc: Global, text: &[u8], journal: &'a [u8]) -> Result<Reco
         × IsRecovered text.now journal.now r.head (map (λ update. update.now) r.updates.items) r.number r.end r.torn) }
     ensures refused { IfErr result (λ why. IsRefused text.now journal.now why) }
 {
+    let mut digested = 0;
+    recover_counted(alloc, &mut digested, text, journal)
+}
+
+/// The same. How many octets are digested for the sums of frames is added to `digested`: each octet of the journal twice at most, whatever
+/// they are and whatever is found.
+pub fn recover_counted<'a>(
+    alloc: Global,
+    digested: &mut u64,
+    text: &[u8],
+    journal: &'a [u8],
+) -> Result<Recovered<'a>, Refused>
+    ensures recovered { IfOk result (λ r. (r.salt ≡ salt_of r.head)
+        × IsRecovered text.now journal.now r.head (map (λ update. update.now) r.updates.items) r.number r.end r.torn) }
+    ensures refused { IfErr result (λ why. IsRefused text.now journal.now why) }
+    ensures count { digested.new ≤ digested.old + 2 * length journal.now }
+{
     let (head, salt, behind) = read_head(journal)?;
     if !head.text.is_of(text) {
         return Err(Refused::OtherText);
     }
-    let (bodies, rest) = read_all(alloc, &salt, behind)?;
+    let (bodies, rest) = read_all(alloc, &salt, digested, behind)?;
     let number = bodies.len() as u64;
     let end = journal.len() - rest.len();
-    let torn = match tail_of(&salt, number, rest) {
+    let torn = match tail_of(&salt, digested, number, rest) {
         Tail::Blank => false,
         Tail::Torn => true,
         Tail::Later(place) => return Err(Refused::Damaged(end + place)),

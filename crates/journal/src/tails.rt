@@ -1,8 +1,12 @@
 //! What stands behind the last whole frame of a journal (own).
-ghost use Rattle.std.specs.Prelude.{◌≡◌, ◌↔◌, IsTrue, All};
-ghost use Rattle.journal.specs.Tail.{BeginsLater, IsBlank, IsTail};
+ghost use Rattle.std.specs.Prelude.{◌≡◌, ◌↔◌, ◌+◌, ◌≤◌, ℕ, List, IsTrue, length, All, MatchOption};
+ghost use Rattle.std.specs.Int.{w64, to_be_bytes};
+ghost use Rattle.journal.specs.Frame.{mark_of};
+ghost use Rattle.journal.specs.Private.{IsDigested};
+ghost use Rattle.journal.specs.Tail.{BeginsMarked, IsBlank, IsOutline, IsTail, ShowsLater, StandsAgain};
 
-use crate::frame::{SUM, frame_among};
+use crate::frame::{ROUND, SUM, behind_mark, frame_among, mark_of};
+use crate::parts::{first_u32, first_u64};
 
 /// What stands behind the last whole frame of a journal.
 #[derive(Clone, Copy, Debug, PartialEq, Eq)]
@@ -12,20 +16,23 @@ pub enum Tail {
     /// Octets in which no later frame begins: what a crash leaves of the last one, or damage in it. No rule over the octets tells these apart.
     Torn,
     /// At this octet of it a frame begins whose number is later than that of the next one. Since frames are brought to the disk one after
-    /// another, all in front of it was on the disk: it is damaged.
+    /// another, all in front of it was on the disk: it is damaged. Or what begins there as such a frame overlaps a further mark, which no crash
+    /// leaves: whether it is a frame isn't looked at.
     Later(usize),
 }
 
-/// What stands behind the last whole frame, of which the frame of number `next` isn't the first. Each octet of it is tried as the begin of a
-/// later frame. It takes no memory.
-pub fn tail_of(salt: &[u8; SUM], next: u64, rest: &[u8]) -> Tail
-    ensures { IsTail salt.now next rest.now result }
+/// What stands behind the last whole frame, of which the frame of number `next` isn't the first. Each place of it is looked at for the mark of a
+/// later frame. How many octets are digested is added to `digested`: each one once at most, whatever they are. It takes no memory.
+pub fn tail_of(salt: &[u8; SUM], digested: &mut u64, next: u64, rest: &[u8]) -> Tail
+    ensures tail { IsTail salt.now next rest.now result }
+    ensures count { digested.new ≤ digested.old + length rest.now }
 {
     if is_blank(rest) {
         return Tail::Blank;
     }
+    let mark = mark_of(salt);
     for at in 0..rest.len() {
-        if begins_later(salt, next, &rest[at..]) {
+        if shows_later(salt, mark, digested, next, &rest[at..]) {
             return Tail::Later(at);
         }
     }
@@ -39,12 +46,56 @@ fn is_blank(octets: &[u8]) -> bool
     octets.iter().all(|octet| *octet == 0)
 }
 
-/// Whether octets begin with a frame whose number is later than `next`.
-fn begins_later(salt: &[u8; SUM], next: u64, octets: &[u8]) -> bool
-    ensures { IsTrue result ↔ BeginsLater salt.now next octets.now }
+/// Whether octets begin with a frame whose number is later than `next`, or as such a one, and the mark stands again within it: then no sum is
+/// looked at, so that no octet is digested for two marks.
+fn shows_later(salt: &[u8; SUM], mark: u64, digested: &mut u64, next: u64, octets: &[u8]) -> bool
+    requires { mark_of salt.now ≡ to_be_bytes w64 mark }
+    ensures shows { IsTrue result ↔ ShowsLater salt.now next octets.now }
+    ensures count { IsDigested (mark_of salt.now) octets.now digested.old digested.new }
 {
-    match next.checked_add(1) {
-        Some(low) => frame_among(salt, low, u64::MAX, octets).is_some(),
-        None => false,
+    let Some(whole) = outline_of(mark, next, octets) else {
+        return false;
+    };
+    if stands_again(mark, whole) {
+        return true;
     }
+    let Some(_) = frame_among(salt, digested, next.saturating_add(1), u64::MAX, whole) else {
+        return false;
+    };
+    true
+}
+
+/// As many octets as a later frame would have, if octets begin as one does, with this mark, a length and a number that is later than `next`.
+fn outline_of(mark: u64, next: u64, octets: &[u8]) -> Option<&[u8]>
+    ensures { MatchOption result
+        ((whole rest : List ℕ) → IsOutline (to_be_bytes w64 mark) next octets.now whole rest → ⊥)
+        (λ whole. (rest : List ℕ) × IsOutline (to_be_bytes w64 mark) next octets.now whole.now rest) }
+{
+    let behind = behind_mark(mark, octets)?;
+    let (size, behind_size) = first_u32(behind)?;
+    let (number, _) = first_u64(behind_size)?;
+    if number <= next {
+        return None;
+    }
+    let (whole, _) = octets.split_at_checked(ROUND + size as usize)?;
+    Some(whole)
+}
+
+/// Whether octets begin with this mark.
+fn begins_marked(mark: u64, octets: &[u8]) -> bool
+    ensures { IsTrue result ↔ BeginsMarked (to_be_bytes w64 mark) octets.now }
+{
+    behind_mark(mark, octets).is_some()
+}
+
+/// Whether this mark stands in octets behind their first one.
+fn stands_again(mark: u64, octets: &[u8]) -> bool
+    ensures { IsTrue result ↔ StandsAgain (to_be_bytes w64 mark) octets.now }
+{
+    for place in 1..octets.len() {
+        if begins_marked(mark, &octets[place..]) {
+            return true;
+        }
+    }
+    false
 }

@@ -20,7 +20,7 @@ module _ {D F : Type 0} where
 
   -- no more batches are counted, or with so many octets more no more octets
   abbrev pub IsFull : Log D F → ℕ → Type 0
-  IsFull log len = (2 ^ 64 ≤ log.number + 1) ⊎ (2 ^ 64 ≤ log.end + len + 44)
+  IsFull log len = (2 ^ 64 ≤ log.number + 1) ⊎ (2 ^ 64 ≤ log.end + len + 52)
 
   -- the journal of this head and these bodies is written, is on the disk, and can be appended to
   pub record Holds (written synced : D → List ℕ) (head : Head) (log : Log D F) (bodies : List (List ℕ)) : Type 0 where

@@ -92,6 +92,8 @@ impl<D: Disk> Log<D> {
             → Holds D.written D.synced head self.new (bodies ++ body.now ∷ [])) }
         ensures kept { OnErr result ((head : Head) (bodies : List (List ℕ)) → Holds D.written D.synced head self.old bodies
             → Holds D.written D.synced head self.new bodies ⊎ IsStuck D.synced head self.new bodies) }
+        // An append that fails and is cut off again leaves the journal as it goes on: a disk that was full is written again once it has room.
+        ensures goes_on { OnErr result (D.lost (disk_of self.new) ≡ D.lost (disk_of self.old) → is_stuck self.new ≡ is_stuck self.old) }
         ensures stuck { IsErrOf result LogFault.Stuck ↔ (is_stuck self.old ≡ true) }
         ensures stays { is_stuck self.old ≡ true → self.new ≡ self.old }
         ensures full { IsErrOf result LogFault.Full → IsFull self.old (length body.now) }

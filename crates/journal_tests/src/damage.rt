@@ -46,12 +46,12 @@ fn each_octet_turned(rt: HostRuntime) -> Result<(), AllocError> {
 }
 
 /// What is told of so many octets: within the head it is too short; else the batches that are whole are recovered, and what is after
-/// them is torn, but for the first three octets of a frame alone, which are zeros: its body has fewer than 256.
+/// them is torn.
 fn of_cut(len: usize) -> Result<Found, Refused> {
     let mut wanted = bad_head(HeadFault::Short);
     for (number, end) in [(0, HEAD), (1, FIRST), (2, LAST), (3, END)] {
         if end <= len {
-            wanted = recovers(number, end, len - end > 3);
+            wanted = recovers(number, end, len > end);
         }
     }
     wanted
@@ -74,6 +74,26 @@ fn each_length(rt: HostRuntime) -> Result<(), AllocError> {
     assert_eq!(rt; octets.len(), END);
     Ok(())
 }
+
+/// The mark of the journal's frames, and its first seven octets.
+const MARK: [u8; 8] = [0xce, 0x87, 0x82, 0x44, 0xbc, 0x21, 0xdd, 0x78];
+
+const FRONT: [u8; 7] = [0xce, 0x87, 0x82, 0x44, 0xbc, 0x21, 0xdd];
+
+/// Lengths of a body, of 16 octets and of 17.
+const SIZE: [u8; 4] = [0, 0, 0, 16];
+
+const LONG: [u8; 4] = [0, 0, 0, 17];
+
+/// The number of the next frame, and a later one.
+const NEXT: [u8; 8] = [0, 0, 0, 0, 0, 0, 0, 3];
+
+const LATER: [u8; 8] = [0, 0, 0, 0, 0, 0, 0, 4];
+
+/// As many octets as a body of 16 and its sum have beside a mark, and one more.
+const NEAR: [u8; 40] = [0; 40];
+
+const FAR: [u8; 41] = [0; 41];
 
 /// What is told of parts of a journal, one after another.
 fn told_of(alloc: Global, parts: &[&[u8]]) -> Result<Found, Refused> {
@@ -106,6 +126,55 @@ fn first_wrong_part(alloc: Global, octets: &[u8]) -> Option<usize> {
         }
     }
     None
+}
+
+/// The index of the first case that is told otherwise. Behind the last batch a frame begins, with the mark, a length and a number, and in its other octets the mark may
+/// stand again: then it is damage, if the number is later. It is none where the mark stands alone, or isn't whole, as the sum is another; nor where the number is
+/// the next one, the first mark isn't whole, or the frame.
+fn first_wrong_mark(alloc: Global, octets: &[u8]) -> Option<usize> {
+    let cases: [(&[&[u8]], Result<Found, Refused>); 7] = [
+        (
+            &[octets, &MARK, &SIZE, &LATER, &NEAR, &MARK],
+            Err(Refused::Damaged(END)),
+        ),
+        (
+            &[octets, b"y", &MARK, &SIZE, &LATER, &MARK, &NEAR],
+            Err(Refused::Damaged(END + 1)),
+        ),
+        (
+            &[octets, &MARK, &SIZE, &LATER, &NEAR, &FRONT, b"y"],
+            recovers(3, END, true),
+        ),
+        (
+            &[octets, &MARK, &SIZE, &LATER, &FAR, &MARK],
+            recovers(3, END, true),
+        ),
+        (
+            &[octets, &MARK, &SIZE, &NEXT, &NEAR, &MARK],
+            recovers(3, END, true),
+        ),
+        (
+            &[octets, &FRONT, b"y", &SIZE, &LATER, &NEAR, &MARK],
+            recovers(3, END, true),
+        ),
+        (
+            &[octets, &MARK, &LONG, &LATER, &NEAR, &MARK],
+            recovers(3, END, true),
+        ),
+    ];
+    for (at, (parts, wanted)) in cases.iter().enumerate() {
+        if told_of(alloc, parts) != *wanted {
+            return Some(at);
+        }
+    }
+    None
+}
+
+#[test]
+fn marks_after_the_last_batch(rt: HostRuntime) -> Result<(), AllocError> {
+    let octets = journal_of(rt.alloc(), &BATCHES)?;
+    assert_eq!(rt; first_wrong_mark(rt.alloc(), &octets), None);
+    Ok(())
 }
 
 #[test]

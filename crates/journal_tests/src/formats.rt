@@ -7,9 +7,10 @@ use std::alloc::{AllocError, Global};
 use std::test::Fail;
 
 /// The journal of the tests, in hexadecimal. Its head: the name; number 3; the random octets; how many octets the zone text has, and its sum;
-/// serial 7; the same of the text that all began from; the head's sum. Three frames: the length of the body, the number, the body, the sum.
+/// serial 7; the same of the text that all began from; the head's sum. Three frames: the mark, the length of the body, the number, the body, the
+/// sum.
 const JOURNAL: &str = "\
-    646e7364206a6f75726e616c2c20310a\
+    646e7364206a6f75726e616c2c20320a\
     0000000000000003\
     7369787465656e206f63746574732e2e\
     0000000000000039\
@@ -17,19 +18,22 @@ const JOURNAL: &str = "\
     00000007\
     000000000000000f\
     278032eeecbdc02092f0ecada9e54ea83a4035196c8e09db8bae8234e8ff7413\
-    de5bf7f987a13702f4e7a49f422dd6448e17b4ea5772a7c5fad46bb0dd49cdae\
+    ce878244bc21dd78da89f89d5abef1e4747d9b23586d6a29c0698d0d2ed5bcc5\
+    ce878244bc21dd78\
     00000007\
     0000000000000000\
     00056669727374\
-    99b6388d5f6145b70972e9ff82695cff053c8e236ee5c5e64a73bd6ecb1510ae\
+    3d56921a09ef2b876bbf1549b1c9d604e81c4baac3b2f735c68f67b124c0587e\
+    ce878244bc21dd78\
     00000010\
     0000000000000001\
     0000000c746869726420757064617465\
-    bb5d90fc4c1c686d4345420b5f8683d12ac0b8db7560597f337034e9a230ac42\
+    35abb5cd2b954b7e161595224db972effd605b3f6aaf73b12b271a2c7c716ebb\
+    ce878244bc21dd78\
     00000008\
     0000000000000002\
     0006666f75727468\
-    fdf5908cf3ad41f837c688dcd1f524d12923e4fba782f62a6c2047cfe5214ab3";
+    bf6d4992d8d358fe5759e162378f5b6f9023fc661938bc90b5608e924964d924";
 
 /// The number, the serial, and how many octets the texts have of a head; None where it is none.
 fn numbers_in(octets: &[u8]) -> Option<[u64; 4]> {
@@ -59,13 +63,13 @@ fn reads(alloc: Global) -> Result<[bool; 5], AllocError> {
     let salt = [7; 32];
     let mut octets = write_frame(alloc, &salt, 5, b"a body")?;
     octets.extend_from_slice(b"after")?;
-    let (bodies, left) = read_all(alloc, &salt, &octets)?;
+    let (bodies, left) = read_all(alloc, &salt, &mut 0, &octets)?;
     let own = (b"a body".as_slice(), b"after".as_slice());
     Ok([
-        read_frame(&salt, 5, &octets) == Some(own),
-        read_frame(&salt, 4, &octets).is_none(),
-        read_frame(&salt, 6, &octets).is_none(),
-        read_frame(&[8; 32], 5, &octets).is_none(),
+        read_frame(&salt, &mut 0, 5, &octets) == Some(own),
+        read_frame(&salt, &mut 0, 4, &octets).is_none(),
+        read_frame(&salt, &mut 0, 6, &octets).is_none(),
+        read_frame(&[8; 32], &mut 0, 5, &octets).is_none(),
         bodies.is_empty() && left.len() == octets.len(),
     ])
 }
@@ -98,7 +102,7 @@ fn refused_by_name(rt: HostRuntime) -> Result<(), AllocError> {
     let refused = [
         told(rt.alloc(), &octets),
         told(rt.alloc(), &[0; 200]),
-        told(rt.alloc(), b"dnsd journal, 1\n"),
+        told(rt.alloc(), b"dnsd journal, 2\n"),
     ];
     let wanted = [
         Err(Refused::NoBatch(3)),

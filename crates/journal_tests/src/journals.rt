@@ -30,14 +30,17 @@ pub(crate) const BATCHES: [&[&[u8]]; 3] = [&[b"first"], &[b"", b"third update"],
 /// How many octets a head has.
 pub(crate) const HEAD: usize = 156;
 
+/// How many octets a frame has besides its body.
+pub(crate) const FRAME: usize = 52;
+
 /// Where the first batch ends: a head, and the frame of a body of 7 octets.
-pub(crate) const FIRST: usize = HEAD + (44 + 7);
+pub(crate) const FIRST: usize = HEAD + (FRAME + 7);
 
 /// Where the last batch begins: the body before it has 16 octets.
-pub(crate) const LAST: usize = FIRST + (44 + 16);
+pub(crate) const LAST: usize = FIRST + (FRAME + 16);
 
 /// Where it ends: its body has 8.
-pub(crate) const END: usize = LAST + (44 + 8);
+pub(crate) const END: usize = LAST + (FRAME + 8);
 
 /// A batch of these updates.
 pub(crate) fn batch_of(alloc: Global, updates: &[&[u8]]) -> Result<Vec<u8>, AllocError> {

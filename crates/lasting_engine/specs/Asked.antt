@@ -2,7 +2,7 @@
 use Rattle.std.specs.Prelude.{◌≡◌, ℕ, List, None}
 use Rattle.dns_rdata.specs.Numbers.{rcode_number}
 use Rattle.dns_rdata.specs.declared.numbers.Rcode.{Rcode}
-use Rattle.zone_tree.specs.Version.{Version}
+use Rattle.zone_tree.specs.Version.{Version, zone_serial}
 use Rattle.update_core.specs.Verdict.{verdict}
 use Rattle.dns_engine.specs.Versions.{Makes}
 use Rattle.dns_engine.specs.Told.{Tells}
@@ -19,6 +19,10 @@ tells version asked number = (code : Rcode) × (rcode_number code ≡ number) ×
 -- it makes this version
 abbrev pub makes : Version → Asked → Version → Type 0
 makes version asked next = Makes asked.update version next
+
+-- the serial of a version's zone (RFC 1035, 3.3.13)
+abbrev pub serial_in : Version → ℕ
+serial_in version = zone_serial version.zone
 
 -- its octets, as they were received
 abbrev pub octets_of : Asked → List ℕ

@@ -3,18 +3,18 @@ ghost use Rattle.std.specs.Prelude.{◌≡◌, ℕ, List, IfOk, OnErr, MatchOpti
 ghost use Rattle.journal.specs.declared.heads.Head.{Head};
 ghost use Rattle.journal_store.specs.Log.{Holds};
 ghost use Rattle.dns_engine.specs.Held.{IsLatest};
-ghost use Rattle.lasting_engine.specs.Asked.{passes, tells, makes, octets_of};
+ghost use Rattle.lasting_engine.specs.Asked.{passes, tells, makes, octets_of, serial_in};
 ghost use Rattle.lasting_engine.specs.Journal.{IsJournal};
 ghost use Rattle.lasting_engine.specs.Lasting.{IsKept, IsRefused};
 
 use crate::asked::Asked;
-use crate::judge::judge_asked;
+use crate::judge::{judge_asked, serial_in};
 use dns_engine::{Engine, FirstZone, SharedVersion, VersionCell};
 use journal_store::{Disk, Log, LogFault};
 use snapshot_cell::Naming;
 use std::alloc::{AllocError, Global};
 use std::marker::Model;
-use update_group::{Engine as Group, Judgement, Judging, update_all};
+use update_group::{Engine as Group, Judgement, Judging, Verdict, update_all};
 
 /// The engine of a zone, with its cell. Contracts see the engine.
 #[derive(Drop)]
@@ -51,6 +51,8 @@ impl<'a, Z: FirstZone, N: Naming> Judging for LastingEngine<'a, Z, N> {
 
     ghost makes = { makes };
 
+    ghost serial = { serial_in };
+
     fn judge(
         &self,
         alloc: Global,
@@ -62,6 +64,10 @@ impl<'a, Z: FirstZone, N: Naming> Judging for LastingEngine<'a, Z, N> {
 
     fn octets_of<'b>(&self, asked: &'b Asked) -> &'b [u8] {
         asked.octets()
+    }
+
+    fn serial_of(&self, version: &SharedVersion) -> u32 {
+        serial_in(version)
     }
 }
 
@@ -109,14 +115,14 @@ impl<'a, Z: FirstZone, N: Naming> LastingEngine<'a, Z, N> {
     }
 
     /// Judges the updates that wait, one upon the other, brings those that change the zone to the disk as one batch, publishes what they make, in its
-    /// order, and tells their codes (RFC 2136, 3, 3.5 and 2.2). Where the batch doesn't get to the disk each is told SERVFAIL, nothing is published, and
+    /// order, and gives their verdicts (RFC 2136, 3, 3.5 and 2.2). Where the batch doesn't get to the disk each gets SERVFAIL, nothing is published, and
     /// it is told why. It takes memory, before anything is written; at an error nothing has changed.
     pub fn update_all<D: Disk>(
         &mut self,
         alloc: Global,
         log: &mut Log<D>,
         asked: &[Asked],
-    ) -> Result<(Vec<u8>, Option<LogFault<D::Fault>>), AllocError>
+    ) -> Result<(Vec<Verdict>, Option<LogFault<D::Fault>>), AllocError>
         ensures told { IfOk result (λ r. MatchOption r.1
             (IsKept D.written D.synced self.old self.new asked.now r.0.items log.old log.new)
             (λ _. IsRefused D.written D.synced self.old self.new asked.now r.0.items log.old log.new)) }

@@ -1,5 +1,6 @@
 //! Judging updates in versions that are given, with no engine (RFC 2136, 3).
-ghost use Rattle.lasting_engine.specs.Asked.{passes, tells, makes};
+ghost use Rattle.std.specs.Prelude.{◌≡◌};
+ghost use Rattle.lasting_engine.specs.Asked.{passes, tells, makes, serial_in};
 ghost use Rattle.update_group.specs.Engine.{IsJudged};
 
 use crate::asked::Asked;
@@ -20,4 +21,11 @@ pub fn judge_asked(
         Judged::Made(next) => Judgement::Made(next),
         Judged::Starved => Judgement::Starved,
     }
+}
+
+/// The serial of a version's zone (RFC 1035, 3.3.13).
+pub fn serial_in(version: &SharedVersion) -> u32
+    ensures { result ≡ serial_in version.now }
+{
+    version.get().serial().0
 }

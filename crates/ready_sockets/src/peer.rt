@@ -1,5 +1,6 @@
 //! A TCP connection that tells whether it would block.
-ghost use Rattle.std.specs.Prelude.{◌≡◌, ◌<◌, ◌≤◌, ◌-◌, ◌^◌, List, [], length, take, None, ⊤, IfOk, IfErr, OnOk, OnErr};
+ghost use Rattle.std.specs.Prelude.{◌≡◌, ◌↔◌, ◌<◌, ◌≤◌, ◌-◌, ◌^◌, List, [], length, take, None, ⊤, IfOk, IfErr, OnOk, OnErr};
+ghost use Rattle.std.specs.IoError.{error_kind};
 ghost use Rattle.connections.specs.declared.blocking.Fault.{Fault as FaultOf};
 
 use crate::news::News;
@@ -31,7 +32,10 @@ enum Cause {
 }
 
 /// For what a call has failed.
-fn cause_of(fault: &io::Error) -> Cause {
+fn cause_of(fault: &io::Error) -> Cause
+    ensures blocked { (result ≡ Cause.Blocked) ↔ (error_kind fault.now ≡ ErrorKind.WouldBlock) }
+    ensures interrupted { (result ≡ Cause.Interrupted) ↔ (error_kind fault.now ≡ ErrorKind.Interrupted) }
+{
     match fault.kind() {
         ErrorKind::WouldBlock => Cause::Blocked,
         ErrorKind::Interrupted => Cause::Interrupted,

@@ -14,7 +14,7 @@ use Rattle.journal.specs.Recovered.{journal_of, updates_in, IsOpened, IsDamaged}
 use Rattle.journal.proofs.FramesLemmas.{read_once, written_read, frames-append, synced_first}
 use Rattle.journal.proofs.HeadLemmas.{one_head}
 use Rattle.journal.proofs.RecoveredLemmas.{opened_read, same_batches}
-use Rattle.journal.proofs.StartLemmas.{later_within}
+use Rattle.journal.proofs.TailLemmas.{shown_within}
 use Rattle.update_core.specs.Act.{replay}
 use Rattle.dns_engine.specs.Held.{Held}
 use Rattle.dns_engine.specs.Replayed.{EachChanges}
@@ -112,7 +112,7 @@ never_damaged text octets at (inl unread) = never_unread at octets unread
 never_damaged text octets at (inr fault) =
     let damage : IsDamaged text (take fault.end octets) at = fault.why.0 in
     let once = opened_once (take fault.end octets) damage.head fault.whole.head damage.bodies fault.whole.bodies damage.rest [] damage.opened (whole_opened octets fault.end fault.whole) in
-    let within : damage.place < length damage.rest = later_within (salt_of damage.head) (length damage.bodies) damage.place damage.rest damage.later.0 in
+    let within : damage.place < length damage.rest = shown_within (salt_of damage.head) (length damage.bodies) damage.place damage.rest damage.later.0 in
     omega (arith, within, ap length once.2)
 
 -- all updates of a store are in front, whatever octets stand behind its journal

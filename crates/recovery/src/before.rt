@@ -14,7 +14,8 @@ fn whole_end(alloc: Global, journal: &[u8]) -> Result<usize, Refused>
     ensures refused { IfErr result (λ why. IsUnread journal.now (of_journal why)) }
 {
     let (_, salt, behind) = read_head(journal)?;
-    let (_, rest) = read_all(alloc, &salt, behind)?;
+    let mut digested = 0;
+    let (_, rest) = read_all(alloc, &salt, &mut digested, behind)?;
     Ok(journal.len() - rest.len())
 }
 

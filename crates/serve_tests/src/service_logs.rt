@@ -4,7 +4,8 @@ use serve_core::Transport;
 use std::alloc::Global;
 use std::net::SocketAddr;
 use std::test::Fail;
-use zone_service::{Event, JobEnd, Losses, Serials};
+use update_desk::Serials;
+use zone_service::{Event, JobEnd, Losses};
 
 /// The end of the third worker's thread.
 fn end_of(transport: Transport, end: JobEnd) -> Event {

@@ -3,16 +3,13 @@
 use crate::bringing::Bringing;
 use crate::service::Duty;
 use crate::updates::Updates;
-use dns_engine::{FirstZone, SharedVersion, VersionReader};
-use snapshot_cell::Naming;
+use dns_engine::SharedVersion;
 use std::alloc::Global;
 use std::io;
 use std::sync::Wait;
-use update_job::{Faults, Storing, UpdateJob};
+use update_job::{Faults, Publishing, Storing, UpdateJob};
 use update_queue::Most;
-use update_teller::Teller;
 use worker_jobs::{Meanwhile, Muster};
-use zone_service::ServiceLog;
 
 /// How updates are judged beside the threads that they come to.
 #[derive(Drop)]
@@ -56,55 +53,38 @@ impl<'a, S: Storing<SharedVersion>, F: Drop> Judging<'a, S, F> {
     }
 }
 
-/// Who judges updates until no thread hands in any more.
+/// Who judges updates until no thread hands in any more, and publishes what they make.
 #[derive(Drop)]
-pub(crate) struct Judge<
-    'a,
-    's,
-    'b,
-    Z: FirstZone,
-    N: Naming,
-    L: ServiceLog,
-    S: Storing<SharedVersion>,
-    F,
-> {
-    pub(crate) job: UpdateJob<'b, Teller<'a, 's, Z, N, L, Bringing<'b>>, S>,
+pub(crate) struct Judge<'a, 'b, P: Publishing, S: Storing<P::Version>, F>
+where
+    P::Asked: Drop,
+{
+    pub(crate) job: UpdateJob<'b, P, S>,
     pub(crate) faults: F,
     pub(crate) muster: &'a Muster,
 }
 
-impl<'a, 's, 'b, Z: FirstZone, N: Naming, L: ServiceLog, S: Storing<SharedVersion>, F: Drop> Judge<
-    'a,
-    's,
-    'b,
-    Z,
-    N,
-    L,
-    S,
-    F,
-> {
-    /// Its reader, with which it judges no more.
-    pub(crate) fn into_reader(self) -> VersionReader<N> {
+impl<'a, 'b, P: Publishing, S: Storing<P::Version>, F: Drop> Judge<'a, 'b, P, S, F>
+where
+    P::Asked: Drop,
+{
+    /// What publishes, with which it judges no more.
+    pub(crate) fn into_publishing(self) -> P {
         let Judge {
             job,
             faults: _,
             muster: _,
         } = self;
-        let (teller, _store) = job.into_parts();
-        teller.into_parts().0
+        let (publishing, _store) = job.into_parts();
+        publishing
     }
 }
 
-impl<
-    'a,
-    's,
-    'b,
-    Z: FirstZone,
-    N: Naming,
-    L: ServiceLog,
-    S: Storing<SharedVersion>,
-    F: Faults<S::Fault> + Drop,
-> Meanwhile for Judge<'a, 's, 'b, Z, N, L, S, F> {
+impl<'a, 'b, P: Publishing, S: Storing<P::Version>, F: Faults<S::Fault> + Drop> Meanwhile
+    for Judge<'a, 'b, P, S, F>
+where
+    P::Asked: Drop,
+{
     // Secondaries are told of versions until this is over too.
     fn meanwhile<R: Wait>(&mut self, rt: &R) {
         self.job.serve(rt, &mut self.faults);

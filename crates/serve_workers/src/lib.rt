@@ -6,6 +6,7 @@
 
 mod bringing;
 mod ending;
+mod jobs;
 mod judge;
 mod service;
 mod threads;

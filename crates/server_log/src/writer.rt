@@ -13,7 +13,8 @@ use std::sync::{Arc, Mutex, Wait};
 use std::thread::{self, Threads};
 use std::time::{Clock, Duration};
 use std::{env, mem};
-use zone_service::{Event, Serials};
+use update_desk::Serials;
+use zone_service::Event;
 
 /// How many lines wait at most to be written (own).
 const MOST_WAITING: usize = 1024;
@@ -160,10 +161,10 @@ impl<E: Eprint + AllocGlobal + Wait + Clock> ErrorLines<E> {
         None
     }
 
-    /// Notes the serial that an update has left.
+    /// Notes the serial that an update has left, if it is newer: lines of a batch come in any order.
     fn note_serial(&mut self, after: Serial) {
         if let Some((_, serial)) = &mut self.zone {
-            if *serial != after {
+            if serial.less(after) {
                 *serial = after;
                 self.is_stale = true;
             }

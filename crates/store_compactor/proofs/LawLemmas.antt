@@ -7,9 +7,10 @@ use Rattle.update_core.specs.Act.{replay}
 use Rattle.dns_engine.specs.Replayed.{EachChanges}
 use Rattle.update_group.specs.Engine.{IsLast}
 use Rattle.update_group.proofs.GroupLemmas.{last_once}
+use Rattle.update_group.specs.declared.verdict.Verdict.{Verdict}
 use Rattle.update_job.specs.Turned.{IsTold}
 use Rattle.lasting_engine.specs.declared.asked.Asked.{Asked}
-use Rattle.lasting_engine.specs.Asked.{passes, tells, makes, octets_of}
+use Rattle.lasting_engine.specs.Asked.{passes, tells, makes, octets_of, serial_in}
 use Rattle.lasting_engine.specs.Journal.{AreMadeBy}
 use Rattle.lasting_engine.proofs.LastingLemmas.{judged_by}
 use Rattle.journal.specs.declared.heads.Head.{Head}
@@ -61,12 +62,12 @@ module _ {F : Type 0} where
       compaction_started text from.text (head_of before.writer) (head_of after.writer) batches from.batches zone updates from.n start later at.end.store from.within
       from.stands.end.store is is_later
 
-  pub published_last : (published later : List Version) (batch : List Asked) (codes : List ℕ) (fault : Option (LogFault F)) (before after : CompactorState F)
-      → IsTold passes tells makes octets_of IsStored IsKept IsClosed published later batch codes fault before after
+  pub published_last : (published later : List Version) (batch : List Asked) (verdicts : List Verdict) (fault : Option (LogFault F)) (before after : CompactorState F)
+      → IsTold passes tells makes octets_of serial_in IsStored IsKept IsClosed published later batch verdicts fault before after
       → IsTrail (trail_of before.writer) → IsLast published (last_in (trail_of before.writer))
       → (after.closed ≡ true) ⊎ (IsTrail (trail_of after.writer) × IsLast later (last_in (trail_of after.writer)))
-  published_last published later batch codes fault before after (inr overtaken) trail last = inl overtaken.closed.closed
-  published_last published later batch codes None before after (inl (inl lasts)) trail last =
+  published_last published later batch verdicts fault before after (inr overtaken) trail last = inl overtaken.closed.closed
+  published_last published later batch verdicts None before after (inl lasts) trail last =
       let old : TrailState = trail_of before.writer in
       let same : last_in old ≡ lasts.first = last_once published (last_in old) lasts.first last lasts.last in
       let made : AreMadeBy (last_in old) lasts.versions lasts.updates =
@@ -77,12 +78,7 @@ module _ {F : Type 0} where
         subst (λ (vs : List Version). IsLast vs (last_in (trail_of after.writer))) (sym lasts.seen)
             (subst (λ (v : Version). IsLast (published ++ lasts.versions) v) (sym found.1) (last_more published (last_in old) lasts.versions last)),
       )
-  published_last published later batch codes None before after (inl (inr starved)) trail last = inr (
-    subst (λ (s : CompactorState F). IsTrail (trail_of s.writer)) (sym starved.stored) trail,
-    subst (λ (vs : List Version). IsLast vs (last_in (trail_of after.writer))) (sym starved.seen)
-        (subst (λ (s : CompactorState F). IsLast published (last_in (trail_of s.writer))) (sym starved.stored) last),
-  )
-  published_last published later batch codes (Some why) before after (inl fails) trail last = inr (
+  published_last published later batch verdicts (Some why) before after (inl fails) trail last = inr (
     subst IsTrail (sym fails.stored.trail) trail,
     subst (λ (vs : List Version). IsLast vs (last_in (trail_of after.writer))) (sym fails.seen)
         (subst (λ (t : TrailState). IsLast published (last_in t)) (sym fails.stored.trail) last),

@@ -7,9 +7,10 @@ ghost use Rattle.zone_tree.specs.Version.{Version};
 ghost use Rattle.update_core.specs.Act.{replay};
 ghost use Rattle.dns_engine.specs.Replayed.{EachChanges};
 ghost use Rattle.update_group.specs.Engine.{IsLast};
+ghost use Rattle.update_group.specs.declared.verdict.Verdict.{Verdict};
 ghost use Rattle.update_job.specs.Turned.{IsTold};
 ghost use Rattle.lasting_engine.specs.declared.asked.Asked.{Asked};
-ghost use Rattle.lasting_engine.specs.Asked.{passes, tells, makes, octets_of};
+ghost use Rattle.lasting_engine.specs.Asked.{passes, tells, makes, octets_of, serial_in};
 ghost use Rattle.journal.specs.Recovered.{journal_of};
 ghost use Rattle.journal_store.specs.declared.log.LogFault.{LogFault};
 ghost use Rattle.journal_store.specs.Log.{disk_of};
@@ -37,8 +38,8 @@ pub fn tended_stores_have_the_same_start()
 /// Where the trail ends at the version that is published last, it does so behind each batch, whether this lasts or fails; or nothing more is taken, since another one
 /// has published meanwhile.
 pub fn batches_end_at_what_is_published()
-    ensures { (published later : List Version) (batch : List Asked) (codes : List ℕ) (fault : Option (LogFault IoError)) (before after : CompactorState IoError)
-        → IsTold passes tells makes octets_of IsStored IsKept IsClosed published later batch codes fault before after
+    ensures { (published later : List Version) (batch : List Asked) (verdicts : List Verdict) (fault : Option (LogFault IoError)) (before after : CompactorState IoError)
+        → IsTold passes tells makes octets_of serial_in IsStored IsKept IsClosed published later batch verdicts fault before after
         → IsTrail (trail_of before.writer) → IsLast published (last_in (trail_of before.writer))
         → (after.closed ≡ true) ⊎ (IsTrail (trail_of after.writer) × IsLast later (last_in (trail_of after.writer))) }
 {}

@@ -15,7 +15,7 @@ fn batches_and_zeros(
     salt: &[u8; SUM],
     journal: &[u8],
 ) -> Result<(usize, usize), Fail> {
-    let (batches, behind) = read_all(alloc, salt, journal.get(156..).unwrap_or(&[]))?;
+    let (batches, behind) = read_all(alloc, salt, &mut 0, journal.get(156..).unwrap_or(&[]))?;
     for octet in behind {
         if *octet != 0 {
             return Err(Fail::from("no zeros are behind the batches"));
@@ -43,8 +43,8 @@ fn batches_stand_in_room(rt: HostRuntime) -> Result<(), Fail> {
         return Err(Fail::from("no pair is found"));
     };
     told.push(batches_and_zeros(alloc, &salt, &pair.journal)?)?;
-    // The head and four frames, of 46 octets more than each of their updates.
-    let mut next = Log::resume(pair.disk, &salt, 4, 156 + 4 * 46 + 65_620)?;
+    // The head and four frames, of 54 octets more than each of their updates.
+    let mut next = Log::resume(pair.disk, &salt, 4, 156 + 4 * 54 + 65_620)?;
     for _ in 0..2 {
         let journal = fs::read(&rt, "store_tests_room/journal")?;
         told.push(batches_and_zeros(alloc, &salt, &journal)?)?;
@@ -52,8 +52,8 @@ fn batches_stand_in_room(rt: HostRuntime) -> Result<(), Fail> {
     }
     let right = [
         (1, 65_536),
-        (2, 65_479),
-        (3, 433),
+        (2, 65_471),
+        (3, 417),
         (4, 65_536),
         (4, 65_536),
         (4, 0),
@@ -73,7 +73,7 @@ struct Beside<'a> {
 }
 
 impl Beside<'_> {
-    /// Writes the next batch, of 55 octets.
+    /// Writes the next batch, of 63 octets.
     fn write_next(&self) -> io::Result<()> {
         let number = self.number.fetch_add(1, Ordering::SeqCst);
         let batch = batch_of(self.rt.alloc(), b"an update")?;
@@ -84,7 +84,7 @@ impl Beside<'_> {
         let mut journal = OpenOptions::new()
             .write(true)
             .open(self.rt, "store_tests_beside/journal")?;
-        journal.seek(SeekFrom::Start(number.saturating_mul(55).saturating_add(156)))?;
+        journal.seek(SeekFrom::Start(number.saturating_mul(63).saturating_add(156)))?;
         journal.write_all(&frame)
     }
 }
@@ -159,7 +159,7 @@ fn a_store_is_read_beside_an_append(rt: HostRuntime) -> Result<(), Fail> {
     }
     assert_eq!(rt;
         told.as_slice(),
-        [(1, 65_536), (2, 65_481), (3, 65_426)].as_slice()
+        [(1, 65_536), (2, 65_473), (3, 65_410)].as_slice()
     );
     fs::remove_dir_all(&rt, dir)?;
     Ok(())

@@ -42,7 +42,7 @@ fn tell_journal<W: fmt::Write>(
             write!(f, "'{dir}/journal' is too short to be a journal")
         }
         Refused::BadHead(HeadFault::Foreign) => {
-            write!(f, "'{dir}/journal' is no journal of this format")
+            write!(f, "'{dir}/journal' is no journal of format 2")
         }
         Refused::BadHead(HeadFault::WrongSum) => write!(f, "'{dir}/journal' has a damaged head"),
         Refused::OtherText => write!(

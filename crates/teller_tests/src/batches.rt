@@ -3,13 +3,13 @@ use crate::bag::Bag;
 use crate::servers::{goes, not_played};
 use crate::updates::{REFUSED, TAKEN, is_second, is_spelt, put_all};
 use dns_engine::{FirstZone, KEPT, Naming, VersionCell, VersionPublisher, VersionReader};
-use dns_rdata::Rcode;
+use dns_rdata::{Rcode, Serial};
 use played_zones::{Kept, Play, Played, asker};
 use std::alloc::Global;
 use std::sync::Wait;
 use std::test::Fail;
 use told_disks::ToldDisk;
-use update_desk::Fetched;
+use update_desk::{Fetched, Serials};
 use update_job::{Store, UpdateJob};
 use update_queue::{Most, Queue};
 use update_teller::Teller;
@@ -62,15 +62,19 @@ fn are_brought(alloc: Global, bag: &Bag) -> Option<bool> {
     Some(to_whom && spelt && bag.keys.len() == 1 && bag.keys.first().copied() == Some((1, 70)))
 }
 
-/// Whether the second is told at its seat: NOERROR, in the version that the batch was begun with, or a later one, and the serials about the batch.
+/// Whether the second is told at its seat: NOERROR, in the version that the batch was begun with, or a later one, and its own serials.
 fn is_told(alloc: Global, fetched: &Fetched) -> Option<bool> {
     let Fetched::Told(done) = fetched else {
         return Some(false);
     };
-    let about = done.code == Rcode::NoError
-        && done.least == 0
-        && done.before.0 == 7
-        && done.after.0 == 9;
+    let is_own = matches!(
+        done.serials,
+        Some(Serials {
+            before: Serial(8),
+            after: Serial(9)
+        })
+    );
+    let about = done.code == Rcode::NoError && done.least == 0 && is_own;
     Some(about && is_second(alloc, done.asked.octets())?)
 }
 
@@ -78,7 +82,7 @@ fn is_told(alloc: Global, fetched: &Fetched) -> Option<bool> {
 fn is_right<R: Wait>(rt: &R, alloc: Global, outcome: &Outcome, log: &Kept) -> Option<bool> {
     // A connection's worker tells the log of its update.
     let lines =
-        "update from 192.0.2.7:4711: NOERROR, serial 7 to 9;update from 192.0.2.7:4712: NOTZONE, serial 7 to 9;";
+        "update from 192.0.2.7:4711: NOERROR, serial 7 to 8;update from 192.0.2.7:4712: NOTZONE;";
     let brought = are_brought(alloc, &outcome.bag)? && is_told(alloc, &outcome.fetched)?;
     Some(brought && outcome.number == 2 && log.has(rt, lines))
 }

@@ -2,6 +2,7 @@
 ghost use Rattle.std.specs.Prelude.{◌≡◌, ◌++◌, [], length, take, IfOk};
 ghost use Rattle.journal_store.specs.Disk.{BeginsWith};
 
+use file_disks::{CallList, NOT_CUT, NOT_SYNCED};
 use journal_store::Disk;
 use std::alloc::{AllocError, Global};
 
@@ -21,6 +22,8 @@ pub struct ToldDisk {
     written: Vec<u8>,
     synced: Vec<u8>,
     plan: Vec<u8>,
+    /// Its syncs and cuts that have failed.
+    failures: CallList,
 }
 
 impl ToldDisk {
@@ -39,6 +42,7 @@ impl ToldDisk {
             written: Vec::new(alloc),
             synced: Vec::new(alloc),
             plan,
+            failures: CallList::new(),
         }
     }
 
@@ -52,6 +56,7 @@ impl ToldDisk {
             written: octets.to_vec(alloc)?,
             synced: octets.to_vec(alloc)?,
             plan: Vec::new(alloc),
+            failures: CallList::new(),
         })
     }
 
@@ -79,6 +84,7 @@ impl ToldDisk {
     fn next_call(&mut self) -> Option<usize>
         ensures written { written self.new ≡ written self.old }
         ensures synced { synced self.new ≡ synced self.old }
+        ensures failures { self.new.failures ≡ self.old.failures }
     {
         match self.plan.pop() {
             None | Some(0) => None,
@@ -97,13 +103,15 @@ fn left_of(octet: u8, fate: u8) -> u8 {
 }
 
 impl Disk for ToldDisk {
-    ghost use Rattle.told_disks.specs.Told.{written as told_written, synced as told_synced};
+    ghost use Rattle.told_disks.specs.Told.{written as told_written, synced as told_synced, lost as told_lost};
 
     type Fault = DiskFault;
 
     ghost written = { told_written };
 
     ghost synced = { told_synced };
+
+    ghost lost = { told_lost };
 
     fn append(&mut self, octets: &[u8]) -> Result<(), DiskFault> {
         match self.next_call() {
@@ -126,12 +134,16 @@ impl Disk for ToldDisk {
                     self.synced = copy;
                     Ok(())
                 }
-                Err(_) => Err(DiskFault::NoMemory),
+                Err(_) => {
+                    self.failures.note(&[NOT_SYNCED, 0], &[]);
+                    Err(DiskFault::NoMemory)
+                }
             },
             Some(_) => {
                 // What wasn't synced is dropped, and the next sync says nothing of it.
                 let start = self.synced.len().min(self.written.len());
                 self.written[start..].fill(0);
+                self.failures.note(&[NOT_SYNCED, 0], &[]);
                 Err(DiskFault::Planned)
             }
         }
@@ -145,7 +157,10 @@ impl Disk for ToldDisk {
                 self.written.truncate(most);
                 Ok(())
             }
-            Some(_) => Err(DiskFault::Planned),
+            Some(_) => {
+                self.failures.note(&[NOT_CUT, len], &[]);
+                Err(DiskFault::Planned)
+            }
         }
     }
 }

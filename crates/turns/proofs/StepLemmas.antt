@@ -45,8 +45,8 @@ module _ {S M : Type 0} (origin : S → SocketAddr) (octets : S → Option (List
   moves_wider old new capacity same = moves_once old new (rests (λ key. ap (λ (s : Slab (Link S M)). get s key) same))
 
   -- the one that gives its place goes
-  pub moves_made : (newcomer : PeerGroup) (old new : Slab (Link S M)) (key : ℕ) → IsGiver newcomer old (Some key) → get new key ≡ None → ((other : ℕ) → other ≢ key → get new other ≡ get old other) → Moves origin octets allowed now old new
-  moves_made newcomer old new key gave none others = moves_once old new (gives newcomer key gave none others)
+  pub moves_made : (stream : S) (newcomer : PeerGroup) (old new : Slab (Link S M)) (key : ℕ) → IsGroupOf (socket_ip (origin stream)) newcomer → IsGiver newcomer old (Some key) → get new key ≡ None → ((other : ℕ) → other ≢ key → get new other ≡ get old other) → Moves origin octets allowed now old new
+  moves_made stream newcomer old new key of gave none others = moves_once old new (gives stream newcomer key of gave none others)
 
   -- one begins
   pub moves_begun : (from : SocketAddr) (peer : Peer) (stream : S) (old new : Slab (Link S M)) (key : ℕ) (link : Link S M) → get old key ≡ None → get new key ≡ Some link → ((other : ℕ) → other ≢ key → get new other ≡ get old other)

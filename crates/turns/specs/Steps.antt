@@ -50,11 +50,11 @@ module _ {S M : Type 0} (origin : S → SocketAddr) (octets : S → Option (List
     pub group : IsGroupOf (socket_ip (origin link.stream)) link.group
     pub window : link.window ≡ record { since = now; taken = 0 }
 
-  -- a place is taken, or given to another: a connection begins under a key that had none; the one gives its place that is to for a newcomer of
-  -- some group; or all rests
+  -- a place is taken, or given to another: a connection begins under a key that had none; the one gives its place that is to for a newcomer whose
+  -- stream comes from an address of the newcomer's group; or all rests
   pub data Move (allowed : List IpAddr) (now : ℕ) (old new : Slab (Link S M)) : Type 0 where
     begins : (key : ℕ) (link : Link S M) → get old key ≡ None → get new key ≡ Some link → HasBegun allowed now link → ((other : ℕ) → other ≢ key → get new other ≡ get old other) → Move allowed now old new
-    gives : (newcomer : PeerGroup) (key : ℕ) → IsGiver newcomer old (Some key) → get new key ≡ None → ((other : ℕ) → other ≢ key → get new other ≡ get old other) → Move allowed now old new
+    gives : (stream : S) (newcomer : PeerGroup) (key : ℕ) → IsGroupOf (socket_ip (origin stream)) newcomer → IsGiver newcomer old (Some key) → get new key ≡ None → ((other : ℕ) → other ≢ key → get new other ≡ get old other) → Move allowed now old new
     rests : ((key : ℕ) → get new key ≡ get old key) → Move allowed now old new
 
   -- so many such moves, one behind the other

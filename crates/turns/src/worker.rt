@@ -1,8 +1,10 @@
 //! A worker's connections, and its turns.
-ghost use Rattle.std.specs.Prelude.{◌≡◌, ◌<◌, ◌≤◌, ◌⊎◌, ℕ, List, length, replicate, true, None, IfOk, OnOk};
+ghost use Rattle.std.specs.Prelude.{◌≡◌, ◌<◌, ◌≤◌, ◌⊎◌, ◌-◌, ◌/◌, ℕ, List, length, replicate, true, None, IfOk, OnOk};
 ghost use Rattle.std.specs.declared.net.ip_addr.IpAddr.{IpAddr};
 ghost use Rattle.dns_message.specs.Message.{message_limit};
 ghost use Rattle.connections.specs.Asked.{EachGrows};
+ghost use Rattle.std.specs.Net.Socket.{socket_ip};
+ghost use Rattle.peer_groups.specs.Group.{IsGroupOf};
 ghost use Rattle.slab.specs.Slab.{get};
 ghost use Rattle.turns.specs.Steps.{scarce, nothing_counted, Moves, Sweeps, Serves, GoOn, HasTurned, Turned};
 
@@ -125,7 +127,7 @@ impl<S: Blocking + Remote + Drop, M: Messages> Turns<S, M> {
     /// Whether there is a place for one more connection, of a peer of a group, be it that of the one that has gone longest without a whole request,
     /// which is then ended.
     fn make_place(&mut self, newcomer: PeerGroup) -> bool
-        ensures { (allowed : List IpAddr) (now : ℕ) → Moves S.origin S.octets allowed now self.old.links self.new.links }
+        ensures { (allowed : List IpAddr) (now : ℕ) (stream : S) → IsGroupOf (socket_ip (S.origin stream)) newcomer → Moves S.origin S.octets allowed now self.old.links self.new.links }
     {
         match make_room(&mut self.links, self.places, newcomer) {
             Room::Free => true,
@@ -411,7 +413,9 @@ fn mark_told(told: &[usize], may_come: &mut Vec<bool>, waiting: &mut Waiting) {
 /// How long connections may wait where so many are open: idle ones a quarter of it where less than a quarter of the places is free
 /// (RFC 7766, 6.2.3; own).
 fn limits_at(limits: Limits, open: usize, places: usize) -> Limits
-    ensures { (result ≡ limits) ⊎ (result ≡ scarce limits) }
+    ensures either { (result ≡ limits) ⊎ (result ≡ scarce limits) }
+    ensures few { «open» < places - places / 4 → result ≡ limits }
+    ensures many { places - places / 4 ≤ «open» → result ≡ scarce limits }
 {
     if open < places - places / 4 {
         return limits;

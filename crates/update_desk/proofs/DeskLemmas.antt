@@ -53,6 +53,7 @@ module _ (first : List Record) (published more : List Version) (history : IsHist
     least = is.least;
     here = still_published is.version is.here;
     told = still_told is.version is.here.newer done.asked.update done.asked.may done.code is.told;
+    own = is.own;
   }
 
   seat_grows : (seat : Seat) → IsSeatDone first published seat → IsSeatDone first (published ++ more) seat

@@ -1,6 +1,6 @@
 -- What is told of each update of a batch is about versions that are published once the batch is.
-use Rattle.std.proofs.Common.{◌≡◌, refl, ℕ, ◌≤◌, List, [], ◌∷◌, ◌++◌, length, Option, None, Some, inl, inr, sym, ap, ◌∙◌, subst, append-nil, append_assoc, arith}
-use Rattle.std.specs.Prelude.{replicate, unwrap_or, if◌then◌else◌, Bool}
+use Rattle.std.proofs.Common.{◌≡◌, ◌≢◌, refl, ℕ, ◌≤◌, List, [], ◌∷◌, ◌++◌, length, Option, None, Some, inl, inr, sym, ap, ◌∙◌, subst, append-nil, append_assoc, arith}
+use Rattle.std.specs.Prelude.{unwrap_or, if◌then◌else◌, Bool}
 use Rattle.std.specs.Option.{option_or, is_some}
 use Rattle.dns_rdata.specs.Numbers.{rcode_number}
 use Rattle.dns_rdata.specs.Record.{Record}
@@ -19,29 +19,32 @@ use Rattle.dns_engine.specs.Replayed.{IsReplay}
 use Rattle.dns_engine.specs.Told.{Tells}
 use Rattle.dns_engine.proofs.OwnedLemmas.{goes_on}
 use Rattle.dns_engine.proofs.ReplayLemmas.{number_of, replay_next, latest_replay}
-use Rattle.update_group.specs.Group.{newest_of, noerror, servfail, Judged, nothing, told, starved, changed}
+use Rattle.update_group.specs.declared.verdict.Verdict.{Verdict}
+use Rattle.update_group.specs.Verdict.{told_verdict, made_verdict, failed}
+use Rattle.update_group.specs.Group.{newest_of, Judged, nothing, told, starved, changed}
 use Rattle.update_group.proofs.GroupLemmas.{newest_push}
 use Rattle.lasting_engine.specs.declared.asked.Asked.{Asked}
-use Rattle.lasting_engine.specs.Asked.{passes, tells, makes, octets_of}
-use Rattle.update_desk.specs.Done.{IsDoneBy, AreDone}
+use Rattle.lasting_engine.specs.Asked.{passes, tells, makes, octets_of, serial_in}
+use Rattle.update_desk.specs.Done.{AreOwn, IsDoneBy, IsGiven, AreDone, serials_of}
 use Rattle.update_desk.proofs.DeskLemmas.{done_grows}
+use Rattle.update_desk.proofs.CodeLemmas.{code_other, own_other}
 
--- one more that is told its code
-done_push : (first : List Record) (published : List Version) (number : ℕ) (asked : List Asked) (codes : List ℕ) (one : Asked) (code : ℕ) → AreDone first published number asked codes
-    → (is : Rcode) × (rcode_number is ≡ code) × IsDoneBy first published one number is → AreDone first published number (asked ++ one ∷ []) (codes ++ code ∷ [])
-done_push first published number [] [] one code are is = (is, tt)
-done_push first published number [] (other ∷ codes) one code are is = absurd are
-done_push first published number (before ∷ asked) [] one code are is = absurd are
-done_push first published number (before ∷ asked) (other ∷ codes) one code are is = (are.0, done_push first published number asked codes one code are.1 is)
+-- one more that is told what it gets
+done_push : (first : List Record) (published : List Version) (number : ℕ) (asked : List Asked) (verdicts : List Verdict) (one : Asked) (verdict : Verdict) → AreDone first published number asked verdicts
+    → IsGiven first published number one verdict → AreDone first published number (asked ++ one ∷ []) (verdicts ++ verdict ∷ [])
+done_push first published number [] [] one verdict are is = (is, tt)
+done_push first published number [] (other ∷ verdicts) one verdict are is = absurd are
+done_push first published number (before ∷ asked) [] one verdict are is = absurd are
+done_push first published number (before ∷ asked) (other ∷ verdicts) one verdict are is = (are.0, done_push first published number asked verdicts one verdict are.1 is)
 
 -- what is told stays so as more is published
-all_grow : (first : List Record) (published more : List Version) → IsHistory (IsFirst first) IsNext (published ++ more) → (number : ℕ) (asked : List Asked) (codes : List ℕ) → AreDone first published number asked codes
-    → AreDone first (published ++ more) number asked codes
+all_grow : (first : List Record) (published more : List Version) → IsHistory (IsFirst first) IsNext (published ++ more) → (number : ℕ) (asked : List Asked) (verdicts : List Verdict)
+    → AreDone first published number asked verdicts → AreDone first (published ++ more) number asked verdicts
 all_grow first published more history number [] [] are = tt
-all_grow first published more history number [] (code ∷ codes) are = absurd are
+all_grow first published more history number [] (verdict ∷ verdicts) are = absurd are
 all_grow first published more history number (one ∷ asked) [] are = absurd are
-all_grow first published more history number (one ∷ asked) (code ∷ codes) are =
-    ((are.0.0, are.0.1, λ before after. done_grows first published more history _ (are.0.2 before after)), all_grow first published more history number asked codes are.1)
+all_grow first published more history number (one ∷ asked) (verdict ∷ verdicts) are =
+    ((are.0.0, are.0.1, done_grows first published more history _ are.0.2), all_grow first published more history number asked verdicts are.1)
 
 -- an update that no rule gives a code, and whose effect is a zone, gets none
 no_code : (zone after : List Record) (update : Update) (may : Bool) → verdict zone update may ≡ None → act zone update ≡ Some after → code_of zone update may ≡ None
@@ -65,9 +68,12 @@ module _ (first : List Record) (published : List Version) (version : Version) (l
   no_other : (o : Option (List Record)) (zone : List Record) → o ≡ Some version.zone → o ≡ Some zone → zone ≡ version.zone
   no_other o zone is other = cc
 
+  not_done : ServFail ≢ NoError
+  not_done same = cc
+
   -- an update that makes nothing of the version published last
-  pub tells_done : (code : Rcode) → Tells version one.update one.may code → IsDoneBy first published one number code
-  tells_done code (inl coded) before after = record {
+  pub tells_done : (code : Rcode) → Tells version one.update one.may code → IsDoneBy first published one number code (serials_of (told_verdict (serial_in version) (rcode_number code)).serials)
+  tells_done code (inl coded) = record {
     version = version;
     replayed = replayed;
     least = least;
@@ -76,8 +82,9 @@ module _ (first : List Record) (published : List Version) (version : Version) (l
       sym (ap (λ (o : Option Rcode). unwrap_or o NoError) coded),
       λ zone taken acts changed. no_two (code_of version.zone one.update one.may) code coded (no_code version.zone zone one.update one.may taken acts),
     );
+    own = own_other version one.update (serial_in version) code (code_other version.zone one.update one.may code coded);
   }
-  tells_done code (inr (inl stays)) before after = record {
+  tells_done code (inr (inl stays)) = record {
     version = version;
     replayed = replayed;
     least = least;
@@ -86,29 +93,33 @@ module _ (first : List Record) (published : List Version) (version : Version) (l
       stays.2 ∙ sym (ap (λ (o : Option Rcode). unwrap_or o NoError) (no_code version.zone version.zone one.update one.may stays.0 stays.1)),
       λ zone taken acts changed. absurd (changed (no_other (act version.zone one.update) zone stays.1 acts)),
     );
+    own = subst (λ (r : Rcode). AreOwn version one.update r (serials_of (told_verdict (serial_in version) (rcode_number r)).serials)) (sym stays.2) (refl, refl, version.zone, stays.1, refl);
   }
-  tells_done code (inr (inr full)) before after = record {
+  tells_done code (inr (inr full)) = record {
     version = version;
     replayed = replayed;
     least = least;
     here = latest_here first published version latest;
     told = inr full.1;
+    own = subst (λ (r : Rcode). AreOwn version one.update r (serials_of (told_verdict (serial_in version) (rcode_number r)).serials)) (sym full.1)
+        (own_other version one.update (serial_in version) ServFail not_done);
   }
 
   -- an update that is told SERVFAIL
-  pub starved_done : IsDoneBy first published one number ServFail
-  starved_done before after = record {
+  pub starved_done : IsDoneBy first published one number ServFail None
+  starved_done = record {
     version = version;
     replayed = replayed;
     least = least;
     here = latest_here first published version latest;
     told = inr refl;
+    own = not_done;
   }
 
   -- and one that makes the next version
   pub made_done : (next : Version) → IsHistory (IsFirst first) IsNext (published ++ next ∷ []) → verdict version.zone one.update one.may ≡ None → Makes one.update version next
-      → IsDoneBy first (published ++ next ∷ []) one number NoError
-  made_done next history lets is before after = record {
+      → IsDoneBy first (published ++ next ∷ []) one number NoError (serials_of (made_verdict (serial_in version) (serial_in next)).serials)
+  made_done next history lets is = record {
     version = version;
     replayed = replayed;
     least = least;
@@ -117,50 +128,49 @@ module _ (first : List Record) (published : List Version) (version : Version) (l
       sym (ap (λ (o : Option Rcode). unwrap_or o NoError) (no_code version.zone next.zone one.update one.may lets is.zone)),
       λ zone taken acts changed. (next, [], refl, same_zone (act version.zone one.update) zone is.zone acts),
     );
+    own = (refl, refl, next.zone, is.zone, refl);
   }
     where
       same_zone : (o : Option (List Record)) (zone : List Record) → o ≡ Some next.zone → o ≡ Some zone → next.zone ≡ zone
       same_zone o zone is other = cc
 
--- each is told SERVFAIL
-pub all_servfail : (first : List Record) (published : List Version) (version : Version) → IsLatest first published version → (number : ℕ) → number ≤ version.number → (asked : List Asked)
-    → AreDone first published number asked (replicate (length asked) servfail)
-all_servfail first published version latest number least [] = tt
-all_servfail first published version latest number least (one ∷ asked) =
-    ((ServFail, refl, starved_done first published version latest (latest_replay first published version latest) number least one), all_servfail first published version latest number least asked)
-
 module _ (first : List Record) (base : List Version) (last : Version) (latest : IsLatest first base last) where
   -- a batch that is judged so far, with the versions that it makes behind those that are published
-  record SoFar (asked : List Asked) (codes : List ℕ) (made : List Version) : Type 0 where
+  record SoFar (asked : List Asked) (verdicts : List Verdict) (made : List Version) : Type 0 where
     pub newest : IsLatest first (base ++ made) (newest_of last made)
     pub replay : IsReplay first (newest_of last made)
     pub least : last.number ≤ (newest_of last made).number
-    pub done : AreDone first (base ++ made) last.number asked codes
+    pub done : AreDone first (base ++ made) last.number asked verdicts
 
-  so_far : {asked : List Asked} {codes : List ℕ} {made : List Version} {updates : List (List ℕ)} → Judged passes tells makes octets_of last asked codes made updates → SoFar asked codes made
+  so_far : {asked : List Asked} {verdicts : List Verdict} {made : List Version} {updates : List (List ℕ)} → Judged passes tells makes octets_of serial_in last asked verdicts made updates → SoFar asked verdicts made
   so_far nothing = record {
     newest = subst (λ (l : List Version). IsLatest first l last) (sym (append-nil base)) latest;
     replay = latest_replay first base last latest;
     least = omega arith;
     done = tt;
   }
-  so_far (told {asked} {codes} {made} {updates} one code judged is) =
+  so_far (told {asked} {verdicts} {made} {updates} one code judged is) =
       let s = so_far judged in
       record {
         newest = s.newest;
         replay = s.replay;
         least = s.least;
-        done = done_push first (base ++ made) last.number asked codes one code s.done (is.0, is.1, tells_done first (base ++ made) (newest_of last made) s.newest s.replay last.number s.least one is.0 is.2);
+        done = done_push first (base ++ made) last.number asked verdicts one (told_verdict (serial_in (newest_of last made)) code) s.done (
+          is.0,
+          is.1,
+          subst (λ (n : ℕ). IsDoneBy first (base ++ made) one last.number is.0 (serials_of (told_verdict (serial_in (newest_of last made)) n).serials)) is.1
+              (tells_done first (base ++ made) (newest_of last made) s.newest s.replay last.number s.least one is.0 is.2),
+        );
       }
-  so_far (starved {asked} {codes} {made} {updates} one judged is) =
+  so_far (starved {asked} {verdicts} {made} {updates} one judged is) =
       let s = so_far judged in
       record {
         newest = s.newest;
         replay = s.replay;
         least = s.least;
-        done = done_push first (base ++ made) last.number asked codes one servfail s.done (ServFail, refl, starved_done first (base ++ made) (newest_of last made) s.newest s.replay last.number s.least one);
+        done = done_push first (base ++ made) last.number asked verdicts one failed s.done (ServFail, refl, starved_done first (base ++ made) (newest_of last made) s.newest s.replay last.number s.least one);
       }
-  so_far (changed {asked} {codes} {made} {updates} one next judged lets is) =
+  so_far (changed {asked} {verdicts} {made} {updates} one next judged lets is) =
       let s = so_far judged in
       let newest = newest_of last made in
       let follows : IsNext newest next = record { update = one.update; makes = is } in
@@ -173,11 +183,11 @@ module _ (first : List Record) (base : List Version) (last : Version) (latest : 
         newest = subst (λ (v : Version). IsLatest first (base ++ (made ++ next ∷ [])) v) (sym last_is) (subst (λ (l : List Version). IsLatest first l next) (sym same) ends);
         replay = subst (λ (v : Version). IsReplay first v) (sym last_is) (replay_next first newest next s.replay follows);
         least = subst (λ (v : Version). last.number ≤ v.number) (sym last_is) (omega (arith, s.least, is.number));
-        done = subst (λ (l : List Version). AreDone first l last.number (asked ++ one ∷ []) (codes ++ noerror ∷ [])) (sym same)
-            (done_push first ((base ++ made) ++ next ∷ []) last.number asked codes one noerror (all_grow first (base ++ made) (next ∷ []) longer last.number asked codes s.done)
+        done = subst (λ (l : List Version). AreDone first l last.number (asked ++ one ∷ []) (verdicts ++ made_verdict (serial_in newest) (serial_in next) ∷ [])) (sym same)
+            (done_push first ((base ++ made) ++ next ∷ []) last.number asked verdicts one (made_verdict (serial_in newest) (serial_in next)) (all_grow first (base ++ made) (next ∷ []) longer last.number asked verdicts s.done)
             (NoError, refl, made_done first (base ++ made) newest s.newest s.replay last.number s.least one next longer lets is));
       }
 
   -- each of a batch that was judged in the version published last is told its code, once the versions that it makes are published
-  pub judged_done : (asked : List Asked) (codes : List ℕ) (made : List Version) (updates : List (List ℕ)) → Judged passes tells makes octets_of last asked codes made updates → AreDone first (base ++ made) last.number asked codes
-  judged_done asked codes made updates judged = (so_far judged).done
+  pub judged_done : (asked : List Asked) (verdicts : List Verdict) (made : List Version) (updates : List (List ℕ)) → Judged passes tells makes octets_of serial_in last asked verdicts made updates → AreDone first (base ++ made) last.number asked verdicts
+  judged_done asked verdicts made updates judged = (so_far judged).done

@@ -1,3 +1,4 @@
+pub mod CodeLemmas
 pub mod DeskLemmas
 pub mod JudgedLemmas
 pub mod MetLemmas

@@ -1,5 +1,5 @@
 //! What the lock of a server keeps: the engine of its cell, and what is told of updates, until it is fetched (own).
-ghost use Rattle.std.specs.Prelude.{◌≡◌, ◌++◌, ℕ, List, IfOk, IfErr};
+ghost use Rattle.std.specs.Prelude.{◌≡◌, ◌++◌, ℕ, List, OnOk, IfErr};
 ghost use Rattle.zone_tree.specs.Version.{Version, zone_serial};
 ghost use Rattle.counted_handles.specs.Ruled.{Begins};
 ghost use Rattle.weak_history.specs.Owned.{IsChain};
@@ -7,9 +7,10 @@ ghost use Rattle.dns_engine.specs.Held.{IsLatest, state_for};
 ghost use Rattle.dns_engine.specs.Replayed.{IsReplay};
 ghost use Rattle.dns_engine.specs.Told.{IsTold};
 ghost use Rattle.dns_engine.specs.Entries.{entries_of};
-ghost use Rattle.update_group.specs.Group.{codes_of, versions_of, Judged};
+ghost use Rattle.update_group.specs.declared.verdict.Verdict.{Verdict};
+ghost use Rattle.update_group.specs.Group.{versions_of, Judged};
 ghost use Rattle.lasting_engine.specs.declared.asked.Asked.{Asked as Request};
-ghost use Rattle.lasting_engine.specs.Asked.{passes, tells, makes, octets_of};
+ghost use Rattle.lasting_engine.specs.Asked.{passes, tells, makes, octets_of, serial_in};
 ghost use Rattle.update_desk.specs.Done.{IsDone, IsFetched, IsJudgedIn, IsTurnedAway, AreDone};
 
 use crate::done::{Done, Fetched};
@@ -17,7 +18,7 @@ use crate::seats::Seats;
 use dns_engine::{Engine, FirstZone, SharedVersion, ToldChain, VersionCell, VersionReader};
 use dns_message::Update;
 use dns_rdata::{Rcode, Serial};
-use lasting_engine::{Asked, judge_asked};
+use lasting_engine::{Asked, judge_asked, serial_in};
 use snapshot_cell::Naming;
 use std::alloc::Global;
 use std::marker::Model;
@@ -200,6 +201,7 @@ impl<'a, Z: FirstZone, N: Naming> Desk<'a, Z, N> {
         ensures replayed { IsReplay Z.zone self.old.held.last }
         ensures last { result.last ≡ self.old.held.last }
         ensures number { result.number ≡ self.old.held.last.number }
+        ensures room { result.room ≡ self.new.free }
         ensures held { self.new.held ≡ self.old.held }
     {
         self.meet(reader);
@@ -213,21 +215,21 @@ impl<'a, Z: FirstZone, N: Naming> Desk<'a, Z, N> {
         }
     }
 
-    /// Publishes the versions of a batch, where the reader meets them, and gives the codes of its updates. The group comes back where another version than the
-    /// one of this number was published last, which the reader had then not seen, or there is no room for all of them.
+    /// Publishes the versions of a batch, where the reader meets them. The group comes back where another version than the one of this number was published last,
+    /// which the reader had then not seen, or there is no room for all of them.
     pub fn publish_batch(
         &mut self,
         reader: &mut VersionReader<N>,
         number: u64,
         group: Group<SharedVersion>,
-    ) -> Result<Vec<u8>, Group<SharedVersion>>
+    ) -> Result<(), Group<SharedVersion>>
         requires { IsJudgedIn Z.zone reader.old.seen number (versions_of group) }
         ensures met { reader.new ≡ record { cell = reader.old.cell; seen = self.new.held.published; left = reader.old.left; gone = reader.old.gone } }
         ensures begun { Begins reader.old.seen self.new.held.published }
-        ensures published { IfOk result (λ codes. (codes.items ≡ codes_of group) × (self.new.held.published ≡ reader.old.seen ++ versions_of group)) }
-        // Each of the updates that it was judged of is told its code in what is published then.
-        ensures done { IfOk result (λ codes. (asked : List Request) (updates : List (List ℕ)) (last : Version) → IsLatest Z.zone reader.old.seen last
-            → Judged passes tells makes octets_of last asked codes.items (versions_of group) updates → AreDone Z.zone reader.new.seen last.number asked codes.items) }
+        ensures published { OnOk result (self.new.held.published ≡ reader.old.seen ++ versions_of group) }
+        // Each of the updates that it was judged of is told its code and its own serials in what is published then.
+        ensures done { OnOk result ((asked : List Request) (verdicts : List Verdict) (updates : List (List ℕ)) (last : Version) → IsLatest Z.zone reader.old.seen last
+            → Judged passes tells makes octets_of serial_in last asked verdicts (versions_of group) updates → AreDone Z.zone reader.new.seen last.number asked verdicts) }
         ensures kept { IfErr result (λ back. (back ≡ group) × (self.new.held ≡ self.old.held)) }
         ensures refused { IfErr result (λ _. IsTurnedAway self.new number (versions_of group)) }
     {
@@ -238,9 +240,9 @@ impl<'a, Z: FirstZone, N: Naming> Desk<'a, Z, N> {
         if last != number || free < count {
             return Err(group);
         }
-        let codes = publish_group(self, group);
+        publish_group(self, group);
         self.meet(reader);
-        Ok(codes)
+        Ok(())
     }
 }
 
@@ -257,6 +259,8 @@ impl<'a, Z: FirstZone, N: Naming> Judging for Desk<'a, Z, N> {
 
     ghost makes = { makes };
 
+    ghost serial = { serial_in };
+
     fn judge(
         &self,
         alloc: Global,
@@ -268,6 +272,10 @@ impl<'a, Z: FirstZone, N: Naming> Judging for Desk<'a, Z, N> {
 
     fn octets_of<'b>(&self, asked: &'b Asked) -> &'b [u8] {
         asked.octets()
+    }
+
+    fn serial_of(&self, version: &SharedVersion) -> u32 {
+        serial_in(version)
     }
 }
 

@@ -11,4 +11,4 @@ mod done;
 mod seats;
 
 pub use desk::{Begun, Desk};
-pub use done::{Done, Fetched};
+pub use done::{Done, Fetched, Serials, serials_of};

@@ -11,7 +11,9 @@ use Rattle.journal_store.specs.declared.log.Log.{Log}
 use Rattle.journal_store.specs.Log.{Holds, IsStuck}
 use Rattle.update_group.specs.declared.group.Group.{Group}
 use Rattle.update_group.specs.Engine.{IsLast, AreMade}
-use Rattle.update_group.specs.Group.{noerror, servfail, newest_of, logged, codes_of, versions_of, IsBatch, IsGivenUp, Judged, nothing, told, starved, changed, IsGroup, Lasts, Fails}
+use Rattle.update_group.specs.declared.verdict.Verdict.{Verdict}
+use Rattle.update_group.specs.Verdict.{told_verdict, made_verdict, failed}
+use Rattle.update_group.specs.Group.{newest_of, logged, versions_of, IsBatch, IsGivenUp, Judged, nothing, told, starved, changed, IsGroup, Lasts, Fails}
 use Rattle.update_group.specs.Private.{SoFar}
 
 -- the newest of versions is the last of them
@@ -46,13 +48,13 @@ newest_none first (x ∷ versions) none = absurd (omega (arith, none))
 batch_more : (updates : List (List ℕ)) (update : List ℕ) → batch_of (updates ++ update ∷ []) ≡ batch_of updates ++ counted update
 batch_more updates update = flat_map-append counted updates (update ∷ []) ∙ ap (λ (o : List ℕ). batch_of updates ++ o) (append-nil (counted update))
 
-module _ {V A : Type 0} (passes : V → A → Type 0) (tells : V → A → ℕ → Type 0) (makes : V → A → V → Type 0) (octets : A → List ℕ) (first : V) (room : ℕ) where
-  pub none_so_far : (codes : List ℕ) (versions : List V) (body : List ℕ) → codes ≡ [] → versions ≡ [] → body ≡ []
-      → SoFar passes tells makes octets first [] codes versions body room
-  none_so_far codes versions body no_codes no_versions no_body = record {
+module _ {V A : Type 0} (passes : V → A → Type 0) (tells : V → A → ℕ → Type 0) (makes : V → A → V → Type 0) (octets : A → List ℕ) (serial : V → ℕ) (first : V) (room : ℕ) where
+  pub none_so_far : (verdicts : List Verdict) (versions : List V) (body : List ℕ) → verdicts ≡ [] → versions ≡ [] → body ≡ []
+      → SoFar passes tells makes octets serial first [] verdicts versions body room
+  none_so_far verdicts versions body no_verdicts no_versions no_body = record {
     updates = [];
-    judged = subst (λ (cs : List ℕ). Judged passes tells makes octets first [] cs versions []) (sym no_codes)
-        (subst (λ (vs : List V). Judged passes tells makes octets first [] [] vs []) (sym no_versions) nothing);
+    judged = subst (λ (cs : List Verdict). Judged passes tells makes octets serial first [] cs versions []) (sym no_verdicts)
+        (subst (λ (vs : List V). Judged passes tells makes octets serial first [] [] vs []) (sym no_versions) nothing);
     spelt = no_body;
     many = sym (ap length no_versions);
     few = omega (arith, ap length no_versions);
@@ -60,65 +62,70 @@ module _ {V A : Type 0} (passes : V → A → Type 0) (tells : V → A → ℕ �
   }
 
   -- each update has a code
-  pub judged_long : {asked : List A} {codes : List ℕ} {made : List V} {updates : List (List ℕ)} → Judged passes tells makes octets first asked codes made updates
-      → length codes ≡ length asked
+  pub judged_long : {asked : List A} {verdicts : List Verdict} {made : List V} {updates : List (List ℕ)} → Judged passes tells makes octets serial first asked verdicts made updates
+      → length verdicts ≡ length asked
   judged_long nothing = refl
-  judged_long (told {asked} {codes} one code judged is) = length_push codes code ∙ (ap (λ (n : ℕ). n + 1) (judged_long judged) ∙ sym (length_push asked one))
-  judged_long (starved {asked} {codes} one judged is) = length_push codes servfail ∙ (ap (λ (n : ℕ). n + 1) (judged_long judged) ∙ sym (length_push asked one))
-  judged_long (changed {asked} {codes} one next judged lets is) = length_push codes noerror ∙ (ap (λ (n : ℕ). n + 1) (judged_long judged) ∙ sym (length_push asked one))
+  judged_long (told {asked} {verdicts} {made} one code judged is) = length_push verdicts (told_verdict (serial (newest_of first made)) code) ∙ (ap (λ (n : ℕ). n + 1) (judged_long judged) ∙ sym (length_push asked one))
+  judged_long (starved {asked} {verdicts} one judged is) = length_push verdicts failed ∙ (ap (λ (n : ℕ). n + 1) (judged_long judged) ∙ sym (length_push asked one))
+  judged_long (changed {asked} {verdicts} {made} one next judged lets is) = length_push verdicts (made_verdict (serial (newest_of first made)) (serial next)) ∙ (ap (λ (n : ℕ). n + 1) (judged_long judged) ∙ sym (length_push asked one))
 
   -- each version is made from the one before it
-  pub judged_made : {asked : List A} {codes : List ℕ} {made : List V} {updates : List (List ℕ)} → Judged passes tells makes octets first asked codes made updates
+  pub judged_made : {asked : List A} {verdicts : List Verdict} {made : List V} {updates : List (List ℕ)} → Judged passes tells makes octets serial first asked verdicts made updates
       → AreMade makes first made
   judged_made nothing = tt
   judged_made (told one code judged is) = judged_made judged
   judged_made (starved one judged is) = judged_made judged
-  judged_made (changed {asked} {codes} {made} one next judged lets is) = made_push makes first made one next (judged_made judged) is
+  judged_made (changed {asked} {verdicts} {made} one next judged lets is) = made_push makes first made one next (judged_made judged) is
 
   -- the same of the same lists
-  pub so_far_same : (asked others : List A) (codes told_codes : List ℕ) (versions : List V) (body : List ℕ) → others ≡ asked → told_codes ≡ codes
-      → SoFar passes tells makes octets first asked codes versions body room → SoFar passes tells makes octets first others told_codes versions body room
-  so_far_same asked others codes told_codes versions body same_asked same_codes so_far =
-      subst (λ (xs : List A). SoFar passes tells makes octets first xs told_codes versions body room) (sym same_asked)
-      (subst (λ (cs : List ℕ). SoFar passes tells makes octets first asked cs versions body room) (sym same_codes) so_far)
+  pub so_far_same : (asked others : List A) (verdicts told_verdicts : List Verdict) (versions : List V) (body : List ℕ) → others ≡ asked → told_verdicts ≡ verdicts
+      → SoFar passes tells makes octets serial first asked verdicts versions body room → SoFar passes tells makes octets serial first others told_verdicts versions body room
+  so_far_same asked others verdicts told_verdicts versions body same_asked same_verdicts so_far =
+      subst (λ (xs : List A). SoFar passes tells makes octets serial first xs told_verdicts versions body room) (sym same_asked)
+      (subst (λ (cs : List Verdict). SoFar passes tells makes octets serial first asked cs versions body room) (sym same_verdicts) so_far)
 
-  pub told_more : (asked : List A) (codes : List ℕ) (versions : List V) (body : List ℕ) (one : A) (code : ℕ)
-      → SoFar passes tells makes octets first asked codes versions body room → tells (newest_of first versions) one code
-      → SoFar passes tells makes octets first (asked ++ one ∷ []) (codes ++ code ∷ []) versions body room
-  told_more asked codes versions body one code so_far is =
-      record { updates = so_far.updates; judged = told one code so_far.judged is; spelt = so_far.spelt; many = so_far.many; few = so_far.few; long = so_far.long }
+  pub told_more : (asked : List A) (verdicts : List Verdict) (versions : List V) (body : List ℕ) (one : A) (code : ℕ) (verdict : Verdict)
+      → SoFar passes tells makes octets serial first asked verdicts versions body room → tells (newest_of first versions) one code
+      → verdict ≡ told_verdict (serial (newest_of first versions)) code
+      → SoFar passes tells makes octets serial first (asked ++ one ∷ []) (verdicts ++ verdict ∷ []) versions body room
+  told_more asked verdicts versions body one code verdict so_far is same =
+      subst (λ (v : Verdict). SoFar passes tells makes octets serial first (asked ++ one ∷ []) (verdicts ++ v ∷ []) versions body room) (sym same)
+      (record { updates = so_far.updates; judged = told one code so_far.judged is; spelt = so_far.spelt; many = so_far.many; few = so_far.few; long = so_far.long })
 
-  pub starved_more : (asked : List A) (codes : List ℕ) (versions : List V) (body : List ℕ) (one : A)
-      → SoFar passes tells makes octets first asked codes versions body room → passes (newest_of first versions) one
-      → SoFar passes tells makes octets first (asked ++ one ∷ []) (codes ++ servfail ∷ []) versions body room
-  starved_more asked codes versions body one so_far is =
-      record { updates = so_far.updates; judged = starved one so_far.judged is; spelt = so_far.spelt; many = so_far.many; few = so_far.few; long = so_far.long }
+  pub starved_more : (asked : List A) (verdicts : List Verdict) (versions : List V) (body : List ℕ) (one : A) (verdict : Verdict)
+      → SoFar passes tells makes octets serial first asked verdicts versions body room → passes (newest_of first versions) one → verdict ≡ failed
+      → SoFar passes tells makes octets serial first (asked ++ one ∷ []) (verdicts ++ verdict ∷ []) versions body room
+  starved_more asked verdicts versions body one verdict so_far is same =
+      subst (λ (v : Verdict). SoFar passes tells makes octets serial first (asked ++ one ∷ []) (verdicts ++ v ∷ []) versions body room) (sym same)
+      (record { updates = so_far.updates; judged = starved one so_far.judged is; spelt = so_far.spelt; many = so_far.many; few = so_far.few; long = so_far.long })
 
-  pub starved_same : (asked : List A) (codes : List ℕ) (versions all : List V) (body octets_all : List ℕ) (one : A)
-      → SoFar passes tells makes octets first asked codes versions body room → passes (newest_of first versions) one → all ≡ versions → octets_all ≡ body
-      → SoFar passes tells makes octets first (asked ++ one ∷ []) (codes ++ servfail ∷ []) all octets_all room
-  starved_same asked codes versions all body octets_all one so_far is same_versions same_body =
-      subst (λ (vs : List V). SoFar passes tells makes octets first (asked ++ one ∷ []) (codes ++ servfail ∷ []) vs octets_all room) (sym same_versions)
-      (subst (λ (o : List ℕ). SoFar passes tells makes octets first (asked ++ one ∷ []) (codes ++ servfail ∷ []) versions o room) (sym same_body)
-      (starved_more asked codes versions body one so_far is))
+  pub starved_same : (asked : List A) (verdicts : List Verdict) (versions all : List V) (body octets_all : List ℕ) (one : A) (verdict : Verdict)
+      → SoFar passes tells makes octets serial first asked verdicts versions body room → passes (newest_of first versions) one → verdict ≡ failed → all ≡ versions → octets_all ≡ body
+      → SoFar passes tells makes octets serial first (asked ++ one ∷ []) (verdicts ++ verdict ∷ []) all octets_all room
+  starved_same asked verdicts versions all body octets_all one verdict so_far is same same_versions same_body =
+      subst (λ (vs : List V). SoFar passes tells makes octets serial first (asked ++ one ∷ []) (verdicts ++ verdict ∷ []) vs octets_all room) (sym same_versions)
+      (subst (λ (o : List ℕ). SoFar passes tells makes octets serial first (asked ++ one ∷ []) (verdicts ++ verdict ∷ []) versions o room) (sym same_body)
+      (starved_more asked verdicts versions body one verdict so_far is same))
 
-  pub changed_more : (asked : List A) (codes : List ℕ) (versions all : List V) (body octets_all : List ℕ) (one : A) (next : V)
-      → SoFar passes tells makes octets first asked codes versions body room → passes (newest_of first versions) one → makes (newest_of first versions) one next
+  pub changed_more : (asked : List A) (verdicts : List Verdict) (versions all : List V) (body octets_all : List ℕ) (one : A) (next : V) (verdict : Verdict)
+      → SoFar passes tells makes octets serial first asked verdicts versions body room → passes (newest_of first versions) one → makes (newest_of first versions) one next
+      → verdict ≡ made_verdict (serial (newest_of first versions)) (serial next)
       → length versions < room → IsShort (octets one) → all ≡ versions ++ next ∷ [] → octets_all ≡ body ++ counted (octets one)
-      → SoFar passes tells makes octets first (asked ++ one ∷ []) (codes ++ noerror ∷ []) all octets_all room
-  changed_more asked codes versions all body octets_all one next so_far lets is few short is_all is_body =
+      → SoFar passes tells makes octets serial first (asked ++ one ∷ []) (verdicts ++ verdict ∷ []) all octets_all room
+  changed_more asked verdicts versions all body octets_all one next verdict so_far lets is same few short is_all is_body =
       let more : length all ≡ length versions + 1 = ap length is_all ∙ length_push versions next in
       let longer : length octets_all ≡ length body + (2 + length (octets one)) =
       ap length is_body ∙ (length-append body (counted (octets one)) ∙ ap (λ (n : ℕ). length body + n) (counted_long (octets one))) in
-      record {
+      subst (λ (v : Verdict). SoFar passes tells makes octets serial first (asked ++ one ∷ []) (verdicts ++ v ∷ []) all octets_all room) (sym same)
+      (record {
         updates = so_far.updates ++ octets one ∷ [];
-        judged = subst (λ (vs : List V). Judged passes tells makes octets first (asked ++ one ∷ []) (codes ++ noerror ∷ []) vs (so_far.updates ++ octets one ∷ []))
-            (sym is_all) (changed one next so_far.judged lets is);
+        judged = subst (λ (vs : List V). Judged passes tells makes octets serial first (asked ++ one ∷ []) (verdicts ++ made_verdict (serial (newest_of first versions)) (serial next) ∷ []) vs
+            (so_far.updates ++ octets one ∷ [])) (sym is_all) (changed one next so_far.judged lets is);
         spelt = is_body ∙ (ap (λ (o : List ℕ). o ++ counted (octets one)) so_far.spelt ∙ sym (batch_more so_far.updates (octets one)));
         many = length_push so_far.updates (octets one) ∙ omega (arith, so_far.many, more);
         few = omega (arith, few, more);
         long = omega (arith, longer, more, so_far.long, short);
-      }
+      })
 
 -- whether a group's batch got to the disk or not, what it publishes is made from the same version
 pub made_still : {V A X : Type 0} (makes : V → A → V → Type 0) (fault : Option X) (first : V) (group done : Group V) → MatchOption fault (done ≡ group) (λ _. IsGivenUp group done)
@@ -126,36 +133,37 @@ pub made_still : {V A X : Type 0} (makes : V → A → V → Type 0) (fault : Op
 made_still makes None first group done same made = subst (λ g. AreMade makes first (versions_of g)) (sym same) made
 made_still makes (Some fault) first group done given_up made = subst (λ vs. AreMade makes first vs) (sym given_up.none) tt
 
-module _ {V A D F X : Type 0} (passes : V → A → Type 0) (tells : V → A → ℕ → Type 0) (makes : V → A → V → Type 0) (octets : A → List ℕ) (written synced : D → List ℕ) where
-  -- a group that is judged, brought to the disk and published is told as it is
-  pub told_together : (fault : Option X) (first : V) (old new : List V) (asked : List A) (codes : List ℕ) (before after : Log D F) (group done : Group V) (room : ℕ)
-      → IsLast old first → IsGroup passes tells makes octets first asked group room
+module _ {V A D F X : Type 0} (passes : V → A → Type 0) (tells : V → A → ℕ → Type 0) (makes : V → A → V → Type 0) (octets : A → List ℕ) (serial : V → ℕ) (written synced : D → List ℕ) where
+  -- a group that is judged, brought to the disk and published, whose updates get what was judged, or SERVFAIL
+  pub told_together : (fault : Option X) (first : V) (old new : List V) (asked : List A) (judged verdicts : List Verdict) (before after : Log D F) (group done : Group V) (room : ℕ)
+      → IsLast old first → IsGroup passes tells makes octets serial first asked judged group room
       → MatchOption fault (done ≡ group) (λ _. IsGivenUp group done)
+      → MatchOption fault (verdicts ≡ judged) (λ _. verdicts ≡ replicate (length judged) failed)
       → MatchOption fault
       ((updates : List (List ℕ)) → IsBatch group updates → (head : Head) (bodies : List (List ℕ)) → Holds written synced head before bodies
       → Holds written synced head after (logged bodies updates))
       (λ _. (head : Head) (bodies : List (List ℕ)) → Holds written synced head before bodies → Holds written synced head after bodies ⊎ IsStuck synced head after bodies)
-      → new ≡ old ++ versions_of done → codes ≡ codes_of done
-      → MatchOption fault (Lasts passes tells makes octets written synced old new asked codes before after)
-      (λ _. Fails passes tells makes octets written synced old new asked codes before after)
-  told_together None first old new asked codes before after group done room last is same on_disk published codes_is = record {
+      → new ≡ old ++ versions_of done
+      → MatchOption fault (Lasts passes tells makes octets serial written synced old new asked verdicts before after)
+      (λ _. Fails passes tells makes octets serial written synced old new asked verdicts before after)
+  told_together None first old new asked judged verdicts before after group done room last is same gets on_disk published = record {
     first = first;
     versions = versions_of group;
     updates = is.updates;
     last = last;
-    judged = subst (λ (cs : List ℕ). Judged passes tells makes octets first asked cs (versions_of group) is.updates) (sym (codes_is ∙ ap (λ g. codes_of g) same)) is.judged;
+    judged = subst (λ (vs : List Verdict). Judged passes tells makes octets serial first asked vs (versions_of group) is.updates) (sym gets) is.judged;
     published = published ∙ ap (λ g. old ++ versions_of g) same;
     on_disk = on_disk is.updates is.batch;
   }
-  told_together (Some fault) first old new asked codes before after group done room last is given_up kept published codes_is = record {
+  told_together (Some fault) first old new asked judged verdicts before after group done room last is given_up get kept published = record {
     first = first;
-    judged_codes = codes_of group;
+    judged_verdicts = judged;
     versions = versions_of group;
     updates = is.updates;
     last = last;
     judged = is.judged;
     some = omega (arith, is.batch.many, given_up.some);
-    told = codes_is ∙ (given_up.told ∙ ap (λ (n : ℕ). replicate n servfail) (judged_long passes tells makes octets first room is.judged));
+    told = get ∙ ap (λ (n : ℕ). replicate n failed) (judged_long passes tells makes octets serial first room is.judged);
     published = published ∙ (ap (λ (vs : List V). old ++ vs) given_up.none ∙ append-nil old);
     kept = kept;
   }

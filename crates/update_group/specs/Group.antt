@@ -1,18 +1,13 @@
 -- Updates that are judged one upon the other, and last together.
 use Rattle.std.specs.Prelude.{◌≡◌, ◌⊎◌, ◌<◌, ◌≤◌, ℕ, List, [], ◌∷◌, ◌++◌, length, replicate}
+use Rattle.update_group.specs.declared.verdict.Verdict.{Verdict}
+use Rattle.update_group.specs.Verdict.{told_verdict, made_verdict, failed}
 use Rattle.journal.specs.declared.heads.Head.{Head}
 use Rattle.journal.specs.Batch.{batch_of}
 use Rattle.journal_store.specs.declared.log.Log.{Log}
 use Rattle.journal_store.specs.Log.{Holds, IsStuck}
 use Rattle.update_group.specs.declared.group.Group.{Group}
 use Rattle.update_group.specs.Engine.{IsLast}
-
--- the codes of RFC 2136, 2.2
-abbrev pub noerror : ℕ
-noerror = 0
-
-abbrev pub servfail : ℕ
-servfail = 2
 
 -- the last of versions that were made from a first one, which is that one where none was
 abbrev pub newest_of : {V : Type 0} → V → List V → V
@@ -25,11 +20,7 @@ logged bodies [] = bodies
 logged bodies (update ∷ updates) = bodies ++ batch_of (update ∷ updates) ∷ []
 
 module _ {V : Type 0} where
-  -- the codes of a group's updates
-  abbrev pub codes_of : Group V → List ℕ
-  codes_of group = group.codes.items
-
-  -- the versions that they make
+  -- the versions that a group's updates make
   abbrev pub versions_of : Group V → List V
   versions_of group = group.versions.items
 
@@ -42,54 +33,54 @@ module _ {V : Type 0} where
     pub spelt : group.body.items ≡ batch_of updates
     pub many : length updates ≡ length (versions_of group)
 
-  -- a group of which some update makes a version is told SERVFAIL, and has no version
+  -- a group of which some update makes a version has none any more
   pub record IsGivenUp (old new : Group V) : Type 0 where
     pub some : 0 < length (versions_of old)
-    pub told : codes_of new ≡ replicate (length (codes_of old)) servfail
     pub none : versions_of new ≡ []
 
-module _ {V A : Type 0} (passes : V → A → Type 0) (tells : V → A → ℕ → Type 0) (makes : V → A → V → Type 0) (octets : A → List ℕ) where
-  -- updates that are judged from a version on, each in the version that those before it made: their codes, the versions that they make, and the octets of those
-  -- that make one. An update that each rule lets through may be told SERVFAIL, and then makes none
-  pub data Judged (first : V) : List A → List ℕ → List V → List (List ℕ) → Type 0 where
+module _ {V A : Type 0} (passes : V → A → Type 0) (tells : V → A → ℕ → Type 0) (makes : V → A → V → Type 0) (octets : A → List ℕ) (serial : V → ℕ) where
+  -- updates that are judged from a version on, each in the version that those before it made: their verdicts, each with the serials of that version and of the one
+  -- that it makes itself; the versions that they make; and the octets of those that make one. An update that each rule lets through may get SERVFAIL, and then makes
+  -- none
+  pub data Judged (first : V) : List A → List Verdict → List V → List (List ℕ) → Type 0 where
     nothing : Judged first [] [] [] []
-    told : {asked : List A} {codes : List ℕ} {made : List V} {updates : List (List ℕ)} (one : A) (code : ℕ) → Judged first asked codes made updates
-        → tells (newest_of first made) one code → Judged first (asked ++ one ∷ []) (codes ++ code ∷ []) made updates
-    starved : {asked : List A} {codes : List ℕ} {made : List V} {updates : List (List ℕ)} (one : A) → Judged first asked codes made updates
-        → passes (newest_of first made) one → Judged first (asked ++ one ∷ []) (codes ++ servfail ∷ []) made updates
-    changed : {asked : List A} {codes : List ℕ} {made : List V} {updates : List (List ℕ)} (one : A) (next : V) → Judged first asked codes made updates
+    told : {asked : List A} {verdicts : List Verdict} {made : List V} {updates : List (List ℕ)} (one : A) (code : ℕ) → Judged first asked verdicts made updates
+        → tells (newest_of first made) one code → Judged first (asked ++ one ∷ []) (verdicts ++ told_verdict (serial (newest_of first made)) code ∷ []) made updates
+    starved : {asked : List A} {verdicts : List Verdict} {made : List V} {updates : List (List ℕ)} (one : A) → Judged first asked verdicts made updates
+        → passes (newest_of first made) one → Judged first (asked ++ one ∷ []) (verdicts ++ failed ∷ []) made updates
+    changed : {asked : List A} {verdicts : List Verdict} {made : List V} {updates : List (List ℕ)} (one : A) (next : V) → Judged first asked verdicts made updates
         → passes (newest_of first made) one → makes (newest_of first made) one next
-        → Judged first (asked ++ one ∷ []) (codes ++ noerror ∷ []) (made ++ next ∷ []) (updates ++ octets one ∷ [])
+        → Judged first (asked ++ one ∷ []) (verdicts ++ made_verdict (serial (newest_of first made)) (serial next) ∷ []) (made ++ next ∷ []) (updates ++ octets one ∷ [])
 
   -- a group of updates that are judged from a version on, of which at most so many make one
-  pub record IsGroup (first : V) (asked : List A) (group : Group V) (room : ℕ) : Type 0 where
+  pub record IsGroup (first : V) (asked : List A) (verdicts : List Verdict) (group : Group V) (room : ℕ) : Type 0 where
     pub updates : List (List ℕ)
-    pub judged : Judged first asked (codes_of group) (versions_of group) updates
+    pub judged : Judged first asked verdicts (versions_of group) updates
     pub batch : IsBatch group updates
     pub few : length (versions_of group) ≤ room
 
   module _ {D F : Type 0} (written synced : D → List ℕ) where
-    -- all is told as it was judged: the versions are published, in their order, and their updates are on the disk, as one batch
-    pub record Lasts (old new : List V) (asked : List A) (codes : List ℕ) (before after : Log D F) : Type 0 where
+    -- each gets what was judged: the versions are published, in their order, and their updates are on the disk, as one batch
+    pub record Lasts (old new : List V) (asked : List A) (verdicts : List Verdict) (before after : Log D F) : Type 0 where
       pub first : V
       pub versions : List V
       pub updates : List (List ℕ)
       pub last : IsLast old first
-      pub judged : Judged first asked codes versions updates
+      pub judged : Judged first asked verdicts versions updates
       pub published : new ≡ old ++ versions
       pub on_disk : (head : Head) (bodies : List (List ℕ)) → Holds written synced head before bodies → Holds written synced head after (logged bodies updates)
 
-    -- some make a version, and their batch isn't on the disk: each update is told SERVFAIL, nothing is published, and the journal holds what it held, or takes
+    -- some make a version, and their batch isn't on the disk: each update gets SERVFAIL, nothing is published, and the journal holds what it held, or takes
     -- nothing more
-    pub record Fails (old new : List V) (asked : List A) (codes : List ℕ) (before after : Log D F) : Type 0 where
+    pub record Fails (old new : List V) (asked : List A) (verdicts : List Verdict) (before after : Log D F) : Type 0 where
       pub first : V
-      pub judged_codes : List ℕ
+      pub judged_verdicts : List Verdict
       pub versions : List V
       pub updates : List (List ℕ)
       pub last : IsLast old first
-      pub judged : Judged first asked judged_codes versions updates
+      pub judged : Judged first asked judged_verdicts versions updates
       pub some : 0 < length updates
-      pub told : codes ≡ replicate (length asked) servfail
+      pub told : verdicts ≡ replicate (length asked) failed
       pub published : new ≡ old
       pub kept : (head : Head) (bodies : List (List ℕ)) → Holds written synced head before bodies
           → Holds written synced head after bodies ⊎ IsStuck synced head after bodies

@@ -1,3 +1,4 @@
 pub mod Engine
 pub mod Group
 pub mod Private
+pub mod Verdict

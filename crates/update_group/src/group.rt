@@ -4,25 +4,21 @@ ghost use Rattle.std.specs.Prelude.{◌<◌, ◌^◌, length};
 use journal_store::{Disk, Log, LogFault};
 use std::alloc::Global;
 
-/// SERVFAIL (RFC 2136, 2.2).
-pub(crate) const SERVFAIL: u8 = 2;
-
-/// Updates that are judged one upon the other: their codes, and the versions that they make, with the batch of the updates that make one.
+/// What updates make that are judged one upon the other: the versions, and the batch of the updates that make one.
 #[derive(Drop)]
 pub struct Group<V: Drop> {
-    pub(crate) codes: Vec<u8>,
     pub(crate) versions: Vec<V>,
     pub(crate) body: Vec<u8>,
     ghost short: { length body.items < 2 ^ 32 },
 }
 
 impl<V: Drop> Group<V> {
-    ghost use Rattle.std.specs.Prelude.{◌≡◌, ◌⊎◌, ◌<◌, ◌^◌, ℕ, List, [], length, replicate, MatchOption};
+    ghost use Rattle.std.specs.Prelude.{◌≡◌, ◌⊎◌, ◌<◌, ◌^◌, ℕ, List, [], length, MatchOption};
     ghost use Rattle.journal.specs.declared.heads.Head.{Head};
     ghost use Rattle.journal_store.specs.Log.{Holds, IsStuck};
-    ghost use Rattle.update_group.specs.Group.{servfail, codes_of, versions_of, body_of, IsBatch, IsGivenUp, logged};
+    ghost use Rattle.update_group.specs.Group.{versions_of, body_of, IsBatch, IsGivenUp, logged};
 
-    /// The versions that its updates make.
+    /// The versions.
     pub fn versions(&self) -> &[V]
         ensures { result.now ≡ versions_of self.now }
     {
@@ -37,17 +33,15 @@ impl<V: Drop> Group<V> {
         &self.body
     }
 
-    /// Gives its updates up: each is told SERVFAIL, and there is no version to publish. It takes no memory.
+    /// Gives its updates up: there is no version to publish. It takes no memory.
     pub fn give_up(&mut self)
-        ensures told { codes_of self.new ≡ replicate (length (codes_of self.old)) servfail }
-        ensures none { versions_of self.new ≡ [] }
+        ensures { versions_of self.new ≡ [] }
     {
-        self.codes.fill(SERVFAIL);
         self.versions.clear();
     }
 
-    /// Brings the batch to the disk, if some update makes a version; else the disk isn't called. At a fault each update is told SERVFAIL, and there is no
-    /// version to publish: the journal has what it had, or takes nothing more. It takes memory, before anything is written.
+    /// Brings the batch to the disk, if some update makes a version; else the disk isn't called. At a fault there is no version to
+    /// publish: the journal has what it had, or takes nothing more. It takes memory, before anything is written.
     pub fn append<D: Disk>(&mut self, alloc: Global, log: &mut Log<D>) -> Option<LogFault<D::Fault>>
         ensures told { MatchOption result (self.new ≡ self.old) (λ _. IsGivenUp self.old self.new) }
         ensures on_disk { MatchOption result

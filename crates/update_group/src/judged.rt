@@ -1,17 +1,15 @@
 //! Updates judged one upon the other, in versions that nobody sees yet (own).
-ghost use Rattle.std.specs.Prelude.{◌≡◌, ℕ, ◌≤◌, List, [], ◌∷◌, ◌++◌, IfOk, MatchBool};
+ghost use Rattle.std.specs.Prelude.{◌≡◌, ◌≤◌, List, [], ◌∷◌, ◌++◌, length, vec_capacity, MatchBool};
 ghost use Rattle.journal.specs.Batch.{counted, IsShort};
-ghost use Rattle.update_group.specs.Engine.{IsJudged};
 ghost use Rattle.update_group.specs.Group.{newest_of, IsGroup};
 ghost use Rattle.update_group.specs.Private.{SoFar};
+ghost use Rattle.update_group.specs.declared.verdict.Verdict.{Verdict as VerdictOf};
 
-use crate::group::{Group, SERVFAIL};
+use crate::group::Group;
 use crate::judging::{Judgement, Judging};
+use crate::verdict::Verdict;
 use journal::put_update;
-use std::alloc::{AllocError, Global};
-
-/// NOERROR (RFC 2136, 2.2).
-const NOERROR: u8 = 0;
+use std::alloc::Global;
 
 /// The versions that updates make, and the batch of these updates.
 #[derive(Drop)]
@@ -20,32 +18,34 @@ struct Batch<V: Drop> {
     body: Vec<u8>,
 }
 
-/// What updates do in a version, one upon the other, of which at most `room` make one, and 64 at most. It takes memory; at an error it has none for their
-/// codes.
+/// What updates do in a version, one upon the other, of which at most `room` make one, and 64 at most: their verdicts, in place of what was there, and what they
+/// make. It takes memory for what they make; an update for which there is none gets SERVFAIL.
 pub fn judge_group<J: Judging>(
     judging: &J,
     alloc: Global,
     last: &J::Version,
     asked: &[J::Asked],
     room: usize,
-) -> Result<Group<J::Version>, AllocError>
-    requires { room ≤ 64 }
-    ensures { IfOk result (λ group. IsGroup J.passes J.tells J.makes J.octets last.now asked.now group room) }
+    verdicts: &mut Vec<Verdict>,
+) -> Group<J::Version>
+    requires few { room ≤ 64 }
+    requires verdicts_room { length asked.now ≤ vec_capacity verdicts.old }
+    ensures judged { IsGroup J.passes J.tells J.makes J.octets J.serial last.now asked.now verdicts.new.items result room }
+    ensures verdicts_room { vec_capacity verdicts.new ≡ vec_capacity verdicts.old }
 {
-    let mut codes = Vec::new(alloc);
+    verdicts.clear();
     let mut batch = Batch {
         versions: Vec::new(alloc),
         body: Vec::new(alloc),
     };
     for one in asked {
-        let code = judge_one(judging, alloc, last, one, room, &mut batch);
-        codes.push(code)?;
+        let verdict = judge_one(judging, alloc, last, one, room, &mut batch);
+        verdicts.push_reserved(verdict);
     }
-    Ok(Group {
-        codes,
+    Group {
         versions: batch.versions,
         body: batch.body,
-    })
+    }
 }
 
 /// What one more update does, behind others that are judged from a first version on.
@@ -56,37 +56,36 @@ fn judge_one<J: Judging>(
     one: &J::Asked,
     room: usize,
     batch: &mut Batch<J::Version>,
-) -> u8
+) -> Verdict
     requires { room ≤ 64 }
-    ensures { (asked : List J.Asked) (codes : List ℕ) → SoFar J.passes J.tells J.makes J.octets first.now asked codes batch.old.versions.items batch.old.body.items room
-        → SoFar J.passes J.tells J.makes J.octets first.now (asked ++ one.now ∷ []) (codes ++ result ∷ []) batch.new.versions.items batch.new.body.items room }
+    ensures { (asked : List J.Asked) (verdicts : List VerdictOf)
+        → SoFar J.passes J.tells J.makes J.octets J.serial first.now asked verdicts batch.old.versions.items batch.old.body.items room
+        → SoFar J.passes J.tells J.makes J.octets J.serial first.now (asked ++ one.now ∷ []) (verdicts ++ result ∷ []) batch.new.versions.items batch.new.body.items room }
 {
-    match judge_next(judging, alloc, first, one, &batch.versions) {
-        Judgement::Told(code) => code,
-        Judgement::Starved => SERVFAIL,
+    let newest = newest_of(first, &batch.versions);
+    let before = judging.serial_of(newest);
+    match judging.judge(alloc, newest, one) {
+        Judgement::Told(code) => Verdict::told(code, before),
+        Judgement::Starved => Verdict::failed(),
         Judgement::Made(next) => {
+            let made = Verdict::made(before, judging.serial_of(&next));
+            let failed = Verdict::failed();
             if batch.versions.len() < room && put(batch, next, judging.octets_of(one)) {
-                NOERROR
+                made
             } else {
-                SERVFAIL
+                failed
             }
         }
     }
 }
 
-/// What an update does in the newest of versions, in the first one where they are none.
-fn judge_next<J: Judging>(
-    judging: &J,
-    alloc: Global,
-    first: &J::Version,
-    one: &J::Asked,
-    versions: &[J::Version],
-) -> Judgement<J::Version>
-    ensures { IsJudged J.passes J.tells J.makes (newest_of first.now versions.now) one.now result }
+/// The newest of versions, the first one where they are none.
+fn newest_of<'a, V>(first: &'a V, versions: &'a [V]) -> &'a V
+    ensures { result.now ≡ newest_of first.now versions.now }
 {
     match versions.last() {
-        Some(version) => judging.judge(alloc, version, one),
-        None => judging.judge(alloc, first, one),
+        Some(version) => version,
+        None => first,
     }
 }
 

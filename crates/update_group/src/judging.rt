@@ -36,6 +36,9 @@ pub trait Judging {
     /// In a version an update makes this one.
     ghost makes: { Self.Version → Self.Asked → Self.Version → Type 0 };
 
+    /// The serial of a version's zone (RFC 1035, 3.3.13).
+    ghost serial: { Self.Version → ℕ };
+
     /// What an update does in a version. It takes memory.
     fn judge(
         &self,
@@ -49,4 +52,8 @@ pub trait Judging {
     fn octets_of<'a>(&self, asked: &'a Self::Asked) -> &'a [u8]
         ensures octets { result.now ≡ octets asked.now }
         ensures short { IsShort result.now };
+
+    /// The serial of a version's zone.
+    fn serial_of(&self, version: &Self::Version) -> u32
+        ensures { result ≡ serial version.now };
 }

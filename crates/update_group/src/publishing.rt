@@ -1,20 +1,18 @@
 //! Versions published in their order (own).
 ghost use Rattle.std.specs.Prelude.{◌≡◌, ◌≤◌, ◌++◌, length};
 ghost use Rattle.update_group.specs.Engine.{IsLast, AreMade};
-ghost use Rattle.update_group.specs.Group.{codes_of, versions_of};
+ghost use Rattle.update_group.specs.Group.{versions_of};
 
 use crate::engine::Engine;
 use crate::group::Group;
 
-/// Publishes the versions of a group behind the last one, in their order: the codes of its updates.
-pub fn publish_group<E: Engine>(engine: &mut E, group: Group<E::Version>) -> Vec<u8>
+/// Publishes the versions of a group behind the last one, in their order.
+pub fn publish_group<E: Engine>(engine: &mut E, group: Group<E::Version>)
     requires free { length (versions_of group) ≤ E.free engine.old }
     requires made { (first : E.Version) × IsLast (E.published engine.old) first × AreMade E.makes first (versions_of group) }
     ensures published { E.published engine.new ≡ E.published engine.old ++ versions_of group }
-    ensures codes { result.items ≡ codes_of group }
 {
     publish_all(engine, group.versions);
-    group.codes
 }
 
 /// Publishes versions, in their order, each of which some update makes from the one before it.

@@ -1,59 +1,71 @@
 -- What becomes of a batch that is judged, brought to a store and published.
-use Rattle.std.proofs.Common.{◌≡◌, refl, ℕ, List, [], ◌∷◌, ◌++◌, Option, None, Some, inl, inr, length, ◌⊎◌, sym, ap, ◌∙◌, subst, append-nil, append_assoc}
-use Rattle.std.specs.Prelude.{replicate, drop, MatchOption}
+use Rattle.std.proofs.Common.{◌≡◌, refl, ℕ, zero, suc, ◌<◌, ◌≤◌, List, [], ◌∷◌, ◌++◌, take, Option, None, Some, inl, inr, length, ◌⊎◌, sym, ap, ◌∙◌, subst, append-nil, append_assoc, arith}
+use Rattle.std.specs.Prelude.{replicate, drop, min, MatchOption}
+use Rattle.std.proofs.lemmas.Bool.{cases_lt}
+use Rattle.std.proofs.lemmas.List.{length-replicate, length-take, drop_all}
 use Rattle.journal_store.specs.declared.log.LogFault.{LogFault}
 use Rattle.update_group.specs.declared.group.Group.{Group}
 use Rattle.update_group.specs.Engine.{IsLast}
-use Rattle.update_group.specs.Group.{servfail, codes_of, versions_of, IsBatch, IsGivenUp, IsGroup, Judged}
+use Rattle.update_group.specs.declared.verdict.Verdict.{Verdict}
+use Rattle.update_group.specs.Verdict.{failed}
+use Rattle.update_group.specs.Group.{versions_of, IsBatch, IsGivenUp, IsGroup, Judged}
 use Rattle.update_group.proofs.GroupLemmas.{judged_long}
-use Rattle.update_job.specs.Done.{BeginsWith, code_of, told_of, told_behind}
-use Rattle.update_job.specs.Turned.{IsTold, HasServed}
+use Rattle.update_job.specs.Done.{BeginsWith, first_verdict, told_of, told_behind}
+use Rattle.update_job.specs.Turned.{IsTold}
 
-module _ {V A S F : Type 0} (passes : V → A → Type 0) (tells : V → A → ℕ → Type 0) (makes : V → A → V → Type 0) (octets : A → List ℕ)
+-- where a batch isn't on the disk each of it gets SERVFAIL, so that each gets something
+pub gets_long : {X : Type 0} (fault : Option X) (judged verdicts : List Verdict) → MatchOption fault (verdicts ≡ judged) (λ _. verdicts ≡ replicate (length judged) failed)
+    → length verdicts ≡ length judged
+gets_long None judged verdicts gets = ap length gets
+gets_long (Some fault) judged verdicts gets = ap length gets ∙ length-replicate (length judged) failed
+
+module _ {V A S F : Type 0} (passes : V → A → Type 0) (tells : V → A → ℕ → Type 0) (makes : V → A → V → Type 0) (octets : A → List ℕ) (serial : V → ℕ)
     (stores : S → S → List V → List (List ℕ) → Type 0) (keeps closes tends : S → S → Type 0) where
   -- a group that is brought to a store, and published
-  pub told_published : (fault : Option (LogFault F)) (first : V) (published later : List V) (batch : List A) (codes : List ℕ) (before after : S) (group done : Group V) (room : ℕ)
-      → IsLast published first → IsGroup passes tells makes octets first batch group room
+  pub told_published : (fault : Option (LogFault F)) (first : V) (published later : List V) (batch : List A) (judged verdicts : List Verdict) (before after : S) (group done : Group V) (room : ℕ)
+      → IsLast published first → IsGroup passes tells makes octets serial first batch judged group room
       → MatchOption fault (done ≡ group) (λ _. IsGivenUp group done)
+      → MatchOption fault (verdicts ≡ judged) (λ _. verdicts ≡ replicate (length judged) failed)
       → MatchOption fault ((updates : List (List ℕ)) → IsBatch group updates → stores before after (versions_of group) updates) (λ _. keeps before after)
-      → later ≡ published ++ versions_of done → codes ≡ codes_of done
-      → IsTold passes tells makes octets stores keeps closes published later batch codes fault before after
-  told_published None first published later batch codes before after group done room last is same stored seen codes_are = inl (inl (record {
+      → later ≡ published ++ versions_of done
+      → IsTold passes tells makes octets serial stores keeps closes published later batch verdicts fault before after
+  told_published None first published later batch judged verdicts before after group done room last is same gets stored seen = inl (record {
     first = first;
     versions = versions_of group;
     updates = is.updates;
     last = last;
-    judged = subst (λ (cs : List ℕ). Judged passes tells makes octets first batch cs (versions_of group) is.updates) (sym (codes_are ∙ ap (λ g. codes_of g) same)) is.judged;
+    judged = subst (λ (vs : List Verdict). Judged passes tells makes octets serial first batch vs (versions_of group) is.updates) (sym gets) is.judged;
     seen = seen ∙ ap (λ g. published ++ versions_of g) same;
     stored = stored is.updates is.batch;
-  }))
-  told_published (Some fault) first published later batch codes before after group done room last is given_up kept seen codes_are = inl (record {
+  })
+  told_published (Some fault) first published later batch judged verdicts before after group done room last is given_up gets kept seen = inl (record {
     first = first;
-    judged_codes = codes_of group;
+    judged_verdicts = judged;
     versions = versions_of group;
     updates = is.updates;
     last = last;
     judged = is.judged;
     some = given_up.some;
-    told = codes_are ∙ (given_up.told ∙ ap (λ (n : ℕ). replicate n servfail) (judged_long passes tells makes octets first room is.judged));
+    told = gets ∙ ap (λ (n : ℕ). replicate n failed) (judged_long passes tells makes octets serial first room is.judged);
     seen = seen ∙ (ap (λ (vs : List V). published ++ vs) given_up.none ∙ append-nil published);
     stored = kept;
   })
 
   -- a group that is brought to a store, where another one has published meanwhile
-  pub told_overtaken : (fault : Option (LogFault F)) (first : V) (published later : List V) (batch : List A) (codes : List ℕ) (before middle after : S) (group : Group V) (room : ℕ)
-      → IsLast published first → IsGroup passes tells makes octets first batch group room
+  pub told_overtaken : (fault : Option (LogFault F)) (first : V) (published later : List V) (batch : List A) (judged middling verdicts : List Verdict) (before middle after : S) (group : Group V) (room : ℕ)
+      → IsLast published first → IsGroup passes tells makes octets serial first batch judged group room
+      → MatchOption fault (middling ≡ judged) (λ _. middling ≡ replicate (length judged) failed)
       → MatchOption fault ((updates : List (List ℕ)) → IsBatch group updates → stores before middle (versions_of group) updates) (λ _. keeps before middle)
-      → BeginsWith later published → length codes ≡ 0 → closes middle after
-      → IsTold passes tells makes octets stores keeps closes published later batch codes fault before after
-  told_overtaken fault first published later batch codes before middle after group room last is stored seen none closed = inr (record {
+      → BeginsWith later published → verdicts ≡ replicate (length middling) failed → closes middle after
+      → IsTold passes tells makes octets serial stores keeps closes published later batch verdicts fault before after
+  told_overtaken fault first published later batch judged middling verdicts before middle after group room last is gets stored seen all_fail closed = inr (record {
     first = first;
-    judged_codes = codes_of group;
+    judged_verdicts = judged;
     versions = versions_of group;
     updates = is.updates;
     last = last;
     judged = is.judged;
-    told = none;
+    told = all_fail ∙ ap (λ (n : ℕ). replicate n failed) (gets_long fault judged middling gets ∙ judged_long passes tells makes octets serial first room is.judged);
     seen = seen;
     middle = middle;
     brought = brought_or_kept fault stored;
@@ -65,15 +77,6 @@ module _ {V A S F : Type 0} (passes : V → A → Type 0) (tells : V → A → �
           → stores before middle (versions_of group) is.updates ⊎ keeps before middle
       brought_or_kept None all = inl (all is.updates is.batch)
       brought_or_kept (Some fault) kept = inr kept
-
-  -- the same of the same lists
-  pub served_same : (known : List V) (before : S) (old : Option (List (A × ℕ))) (seen others : List V) (store same : S) (sent all : Option (List (A × ℕ)))
-      → others ≡ seen → same ≡ store → all ≡ sent → HasServed passes tells makes octets stores keeps closes F tends known before old seen store sent
-      → HasServed passes tells makes octets stores keeps closes F tends known before old others same all
-  served_same known before old seen others store same sent all same_seen same_store same_sent served =
-      subst (λ (l : List V). HasServed passes tells makes octets stores keeps closes F tends known before old l same all) (sym same_seen)
-      (subst (λ (s : S). HasServed passes tells makes octets stores keeps closes F tends known before old seen s all) (sym same_store)
-      (subst (λ (o : Option (List (A × ℕ))). HasServed passes tells makes octets stores keeps closes F tends known before old seen store o) (sym same_sent) served))
 
 -- what is told behind others, and then behind these
 pub told_on : {T : Type 0} (old : Option (List T)) (one : T) (more : List T) → told_behind (told_behind old (one ∷ [])) more ≡ told_behind old (one ∷ more)
@@ -89,13 +92,27 @@ pub begins_on : {X : Type 0} (longest longer shorter : List X) → BeginsWith lo
 begins_on longest longer shorter more some =
     (some.0 ++ more.0, more.1 ∙ (ap (λ l. l ++ more.0) some.1 ∙ append_assoc shorter some.0 more.0))
 
--- one more of a batch is told its code
-pub told_next : {A : Type 0} (old new : Option (List (A × ℕ))) (one : A) (code : ℕ) (codes left : List ℕ) (batch rest : List A)
-    → batch ≡ one ∷ rest → code ≡ code_of codes → left ≡ drop 1 codes → new ≡ told_behind old ((one, code) ∷ [])
-    → told_behind new (told_of left rest) ≡ told_behind old (told_of codes batch)
-told_next {A} old new one code codes left batch rest is coded behind told =
-    ap (λ (o : Option (List (A × ℕ))). told_behind o (told_of left rest)) told
-    ∙ (told_on old (one, code) (told_of left rest)
-    ∙ (ap (λ (n : ℕ). told_behind old ((one, n) ∷ told_of left rest)) coded
-    ∙ (ap (λ (cs : List ℕ). told_behind old ((one, code_of codes) ∷ told_of cs rest)) behind
-    ∙ ap (λ (l : List A). told_behind old (told_of codes l)) (sym is))))
+-- one more of a batch is told what it gets
+pub told_next : {A : Type 0} (old new : Option (List (A × Verdict))) (one : A) (verdict : Verdict) (verdicts left : List Verdict) (batch rest : List A)
+    → batch ≡ one ∷ rest → verdict ≡ first_verdict verdicts → left ≡ drop 1 verdicts → new ≡ told_behind old ((one, verdict) ∷ [])
+    → told_behind new (told_of left rest) ≡ told_behind old (told_of verdicts batch)
+told_next {A} old new one verdict verdicts left batch rest is gets behind told =
+    ap (λ (o : Option (List (A × Verdict))). told_behind o (told_of left rest)) told
+    ∙ (told_on old (one, verdict) (told_of left rest)
+    ∙ (ap (λ (v : Verdict). told_behind old ((one, v) ∷ told_of left rest)) gets
+    ∙ (ap (λ (vs : List Verdict). told_behind old ((one, first_verdict verdicts) ∷ told_of vs rest)) behind
+    ∙ ap (λ (l : List A). told_behind old (told_of verdicts l)) (sym is))))
+
+-- some are taken of some
+pub take_some : {X : Type 0} (n : ℕ) (l : List X) → 0 < n → 0 < length l → 0 < length (take n l)
+take_some zero l some any = absurd (omega (arith, some))
+take_some (suc n) [] some any = absurd (omega (arith, any))
+take_some (suc n) (x ∷ l) some any = omega arith
+
+-- the first of some are so many, or none is left
+pub taken_many : {X : Type 0} (count most : ℕ) (l rest : List X) → count ≡ min (length l) most → rest ≡ drop count l → (rest ≡ []) ⊎ (length (take count l) ≡ most)
+taken_many {X} count most l rest is left = by (cases_lt most (length l))
+  where
+    by : (most < length l) ⊎ (length l ≤ most) → (rest ≡ []) ⊎ (length (take count l) ≡ most)
+    by (inl more) = inr (omega (arith, length-take count l, is, more))
+    by (inr all) = inl (left ∙ drop_all count l (omega (arith, is, all)))

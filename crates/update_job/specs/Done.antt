@@ -1,37 +1,41 @@
--- What is told of updates that waited (RFC 2136, 3).
+-- What updates get that waited (RFC 2136, 3).
 use Rattle.std.specs.Prelude.{◌≡◌, ◌⊎◌, ◌+◌, ◌≤◌, ℕ, List, [], ◌∷◌, ◌++◌, length, drop, Option, option_map}
-use Rattle.update_group.specs.Group.{noerror, servfail}
+use Rattle.update_group.specs.declared.verdict.Verdict.{Verdict}
+use Rattle.update_group.specs.Verdict.{told_verdict, made_verdict, failed}
 
 -- a list begins with another one
 abbrev pub BeginsWith : {X : Type 0} → List X → List X → Type 0
 BeginsWith {X} longer shorter = (more : List X) × (longer ≡ shorter ++ more)
 
--- the first of these codes, SERVFAIL where there is none (RFC 2136, 2.2)
-abbrev pub code_of : List ℕ → ℕ
-code_of [] = servfail
-code_of (code ∷ codes) = code
+-- the first of these verdicts, SERVFAIL where there is none (RFC 2136, 2.2)
+abbrev pub first_verdict : List Verdict → Verdict
+first_verdict [] = failed
+first_verdict (verdict ∷ verdicts) = verdict
 
--- each update of a batch with its code, SERVFAIL where there are too few codes
-abbrev pub told_of : {A : Type 0} → List ℕ → List A → List (A × ℕ)
-told_of codes [] = []
-told_of codes (one ∷ batch) = (one, code_of codes) ∷ told_of (drop 1 codes) batch
+-- each update of a batch with its verdict, SERVFAIL where there are too few
+abbrev pub told_of : {A : Type 0} → List Verdict → List A → List (A × Verdict)
+told_of verdicts [] = []
+told_of verdicts (one ∷ batch) = (one, first_verdict verdicts) ∷ told_of (drop 1 verdicts) batch
 
 -- these are told behind those that were, where they are kept
 abbrev pub told_behind : {T : Type 0} → Option (List T) → List T → Option (List T)
 told_behind old more = option_map (λ before. before ++ more) old
 
-module _ {V A : Type 0} (passes : V → A → Type 0) (tells : V → A → ℕ → Type 0) (makes : V → A → V → Type 0) (published : List V) (begun : ℕ) where
-  -- an update gets this code in one of the versions that are published, which isn't older than the last of the first so many, and makes none of it
-  pub record IsToldIn (one : A) (code : ℕ) : Type 0 where
+module _ {V A : Type 0} (passes : V → A → Type 0) (tells : V → A → ℕ → Type 0) (makes : V → A → V → Type 0) (serial : V → ℕ) (published : List V) (begun : ℕ) where
+  -- an update gets a code in one of the versions that are published, which isn't older than the last of the first so many, and makes none of it: it is told with that
+  -- version's serial
+  pub record IsToldIn (one : A) (verdict : Verdict) : Type 0 where
     pub version : V
+    pub code : ℕ
     pub front : List V
     pub newer : List V
     pub place : published ≡ front ++ version ∷ newer
     pub late : begun ≤ length front + 1
     pub tells_it : tells version one code
+    pub told : verdict ≡ told_verdict (serial version) code
 
-  -- or it makes the version behind that one, and is told NOERROR
-  pub record IsMadeIn (one : A) (code : ℕ) : Type 0 where
+  -- or it makes the version behind that one, and is told NOERROR with the serials of the two
+  pub record IsMadeIn (one : A) (verdict : Verdict) : Type 0 where
     pub version : V
     pub next : V
     pub front : List V
@@ -40,13 +44,13 @@ module _ {V A : Type 0} (passes : V → A → Type 0) (tells : V → A → ℕ �
     pub late : begun ≤ length front + 1
     pub lets : passes version one
     pub makes_it : makes version one next
-    pub told : code ≡ noerror
+    pub told : verdict ≡ made_verdict (serial version) (serial next)
 
   -- what is told of an update is so by the versions that are published; or it is told SERVFAIL, where memory, room or the disk is wanted for it (own)
-  abbrev pub IsDone : A → ℕ → Type 0
-  IsDone one code = IsToldIn one code ⊎ IsMadeIn one code ⊎ (code ≡ servfail)
+  abbrev pub IsDone : A → Verdict → Type 0
+  IsDone one verdict = IsToldIn one verdict ⊎ IsMadeIn one verdict ⊎ (verdict ≡ failed)
 
   -- so it is of each of a batch
-  abbrev pub AreDone : List ℕ → List A → Type 0
-  AreDone codes [] = Unit {0}
-  AreDone codes (one ∷ batch) = IsDone one (code_of codes) × AreDone (drop 1 codes) batch
+  abbrev pub AreDone : List Verdict → List A → Type 0
+  AreDone verdicts [] = Unit {0}
+  AreDone verdicts (one ∷ batch) = IsDone one (first_verdict verdicts) × AreDone (drop 1 verdicts) batch

@@ -1,8 +1,8 @@
 //! Batches of updates (RFC 2136, 3 and 3.5).
-ghost use Rattle.std.specs.Prelude.{◌≡◌, ◌≤◌, List, length, min, max, take, drop, IfOk, IfErr, OnErr};
+ghost use Rattle.std.specs.Prelude.{◌≡◌, ◌≤◌, ◌<◌, [], ◌++◌, List, length, vec_capacity, min, max, take, drop, IfOk, IfErr, OnOk, OnErr};
 ghost use Rattle.update_group.specs.Engine.{IsLast};
-ghost use Rattle.update_job.specs.Done.{BeginsWith, AreDone, code_of, told_of, told_behind};
-ghost use Rattle.update_job.specs.Turned.{IsTold, HasTurned, HasServed};
+ghost use Rattle.update_job.specs.Done.{BeginsWith, AreDone, first_verdict, told_of, told_behind};
+ghost use Rattle.update_job.specs.Turned.{IsTold, state_of, HasTurned, HasServed};
 
 use crate::faults::Faults;
 use crate::publishing::Publishing;
@@ -10,27 +10,15 @@ use crate::storing::Storing;
 use journal_store::LogFault;
 use std::alloc::Global;
 use std::sync::Wait;
-use update_group::{MOST, judge_group};
+use update_group::{MOST, Verdict, fail_all, fail_unkept, judge_group};
 use update_queue::Queue;
 
 /// How many updates a batch has at most (own).
 pub const BATCH: usize = 64;
 
-/// SERVFAIL (RFC 2136, 2.2).
-const SERVFAIL: u8 = 2;
-
 /// That no more updates come.
 #[derive(Clone, Copy)]
 pub struct Ended;
-
-/// What a batch has come to.
-#[derive(Drop)]
-struct Outcome<F> {
-    /// The codes of its updates; those behind them are told SERVFAIL.
-    codes: Vec<u8>,
-    /// Why it isn't on the disk; none where it is, or nothing changes the zone.
-    fault: Option<LogFault<F>>,
-}
 
 /// Who judges updates on a thread of its own.
 #[derive(Drop)]
@@ -44,6 +32,10 @@ where
     alloc: Global,
     /// Updates that were taken from the queue, and wait for their batch.
     waiting: Vec<P::Asked>,
+    /// What those of the last batch got. It has room for a batch, so that no update fails for want of memory for its verdict.
+    verdicts: Vec<Verdict>,
+    ghost waiting_room: { 0 < vec_capacity waiting },
+    ghost verdicts_room: { 64 ≤ vec_capacity verdicts },
 }
 
 impl<'a, P: Publishing, S: Storing<P::Version>> UpdateJob<'a, P, S>
@@ -63,12 +55,16 @@ where
         let Ok(waiting) = Vec::with_capacity(alloc, BATCH) else {
             return Err((publishing, store));
         };
+        let Ok(verdicts) = Vec::with_capacity(alloc, BATCH) else {
+            return Err((publishing, store));
+        };
         Ok(UpdateJob {
             publishing,
             store,
             queue,
             alloc,
             waiting,
+            verdicts,
         })
     }
 
@@ -82,32 +78,45 @@ where
             queue: _,
             alloc: _,
             waiting: _,
+            verdicts: _,
         } = self;
         (publishing, store)
     }
 
-    /// Waits until there are updates that wait for their batch; false where there are none, and the queue is ended.
-    fn has_some<R: Wait>(&mut self, rt: &R) -> bool
+    /// Waits until there are updates that wait for their batch: those that did, and, where these are none, those that the queue gives. [`Ended`] where there are none,
+    /// and the queue is ended.
+    fn fill<R: Wait>(&mut self, rt: &R) -> Result<(), Ended>
         ensures same { (self.new.publishing ≡ self.old.publishing) × (self.new.store ≡ self.old.store) }
+        ensures some { OnOk result (0 < length self.new.waiting.items) }
+        ensures arrived { OnOk result ((arrived : List P.Asked) × (self.new.waiting.items ≡ self.old.waiting.items ++ arrived)) }
+        ensures none { OnErr result ((self.new.waiting.items ≡ self.old.waiting.items) × (self.new.waiting.items ≡ [])) }
     {
-        !self.waiting.is_empty() || self.queue.take(rt, &mut self.waiting)
+        if !self.waiting.is_empty() {
+            return Ok(());
+        }
+        if self.queue.take(rt, &mut self.waiting) {
+            Ok(())
+        } else {
+            Err(Ended)
+        }
     }
 
-    /// Waits for updates, takes as many as wait, up to [`BATCH`], judges the first of them as one batch, as many as versions are sure to find room, and tells each its
-    /// code: why the batch isn't on the disk, if it isn't. The others are of the next batch. In front of the batch and behind it the store is tended: so what was to be
+    /// Waits for updates, takes as many as wait, up to [`BATCH`], judges the first of them as one batch, as many as versions are sure to find room, and tells each what
+    /// it gets: why the batch isn't on the disk, if it isn't. The others are of the next batch. In front of the batch and behind it the store is tended: so what was to be
     /// done for updates to go on is done before they are judged, and nobody waits for what is begun behind them. [`Ended`] where the queue is ended, and nothing waits.
     pub fn turn<R: Wait>(&mut self, rt: &R) -> Result<Option<LogFault<S::Fault>>, Ended>
-        ensures turned { IfOk result (λ fault. HasTurned P.passes P.tells P.makes P.octets S.stored S.kept S.closed S.Fault S.tended (P.seen self.old.publishing) (P.seen self.new.publishing)
-            fault self.old.store self.new.store (P.told self.old.publishing) (P.told self.new.publishing)) }
-        ensures ended { OnErr result ((self.new.publishing ≡ self.old.publishing) × (self.new.store ≡ self.old.store)) }
+        ensures turned { IfOk result (λ fault. HasTurned P.passes P.tells P.makes P.octets P.serial S.stored S.kept S.closed S.Fault S.tended fault
+            (state_of (P.seen self.old.publishing) (P.room self.old.publishing) (P.told self.old.publishing) self.old.store self.old.waiting.items)
+            (state_of (P.seen self.new.publishing) (P.room self.new.publishing) (P.told self.new.publishing) self.new.store self.new.waiting.items)) }
+        ensures ended { OnErr result (state_of (P.seen self.new.publishing) (P.room self.new.publishing) (P.told self.new.publishing) self.new.store self.new.waiting.items
+            ≡ state_of (P.seen self.old.publishing) (P.room self.old.publishing) (P.told self.old.publishing) self.old.store self.old.waiting.items) }
+        ensures none { OnErr result (self.new.waiting.items ≡ []) }
     {
-        if !self.has_some(rt) {
-            return Err(Ended);
-        }
+        self.fill(rt)?;
         self.store.tend(rt, self.alloc);
         let (last, room) = self.publishing.begin(rt);
         let count = first_of(self.waiting.len(), room);
-        let Outcome { codes, fault } = judge_batch(
+        let fault = judge_batch(
             rt,
             self.alloc,
             &mut self.publishing,
@@ -115,16 +124,25 @@ where
             &last,
             room,
             &self.waiting[..count],
+            &mut self.verdicts,
         );
-        tell_first(rt, &mut self.publishing, &mut self.waiting, count, &codes);
+        tell_first(
+            rt,
+            &mut self.publishing,
+            &mut self.waiting,
+            count,
+            &self.verdicts,
+        );
         self.store.tend(rt, self.alloc);
         Ok(fault)
     }
 
     /// Judges batches until the queue is ended, and nothing waits. Of each it is noted why it isn't on the disk, or that it is.
     pub fn serve<R: Wait, N: Faults<S::Fault>>(&mut self, rt: &R, faults: &mut N)
-        ensures { HasServed P.passes P.tells P.makes P.octets S.stored S.kept S.closed S.Fault S.tended (P.seen self.old.publishing) self.old.store (P.told self.old.publishing)
-            (P.seen self.new.publishing) self.new.store (P.told self.new.publishing) }
+        ensures served { HasServed P.passes P.tells P.makes P.octets P.serial S.stored S.kept S.closed S.Fault S.tended
+            (state_of (P.seen self.old.publishing) (P.room self.old.publishing) (P.told self.old.publishing) self.old.store self.old.waiting.items)
+            (state_of (P.seen self.new.publishing) (P.room self.new.publishing) (P.told self.new.publishing) self.new.store self.new.waiting.items) }
+        ensures none { self.new.waiting.items ≡ [] }
     {
         for _ in rt.forever() {
             match self.turn(rt) {
@@ -136,14 +154,16 @@ where
     }
 }
 
-/// How many of those that wait are judged as one batch: as many as versions are sure to find room, but one at least, so that each is told its code.
+/// How many of those that wait are judged as one batch: as many as versions are sure to find room, but one at least, so that each is told what it gets, and
+/// [`BATCH`] at most.
 fn first_of(waiting: usize, room: usize) -> usize
-    ensures { result ≡ min waiting (max room 1) }
+    ensures { result ≡ min waiting (min (max room 1) 64) }
 {
-    waiting.min(room.max(1))
+    waiting.min(room.max(1).min(BATCH))
 }
 
-/// Judges a batch in the version published last, brings it to the store, and publishes what it makes, of which so many are sure to find room.
+/// Judges a batch in the version published last, brings it to the store, and publishes what it makes, of which so many are sure to find room: why it isn't on the disk, if
+/// it isn't; none where nothing changes the zone. What its updates get stands in `verdicts`.
 fn judge_batch<R: Wait, P: Publishing, S: Storing<P::Version>>(
     rt: &R,
     alloc: Global,
@@ -152,62 +172,59 @@ fn judge_batch<R: Wait, P: Publishing, S: Storing<P::Version>>(
     last: &P::Version,
     room: usize,
     batch: &[P::Asked],
-) -> Outcome<S::Fault>
+    verdicts: &mut Vec<Verdict>,
+) -> Option<LogFault<S::Fault>>
     requires last { IsLast (P.seen publishing.old) last.now }
     requires begun { P.begun publishing.old ≡ length (P.seen publishing.old) }
-    ensures told { IsTold P.passes P.tells P.makes P.octets S.stored S.kept S.closed (P.seen publishing.old) (P.seen publishing.new) batch.now result.codes.items result.fault store.old store.new }
-    ensures done { AreDone P.passes P.tells P.makes (P.seen publishing.new) (P.begun publishing.new) result.codes.items batch.now }
-    ensures same { P.told publishing.new ≡ P.told publishing.old }
+    requires verdicts_room { length batch.now ≤ vec_capacity verdicts.old }
+    ensures told { IsTold P.passes P.tells P.makes P.octets P.serial S.stored S.kept S.closed (P.seen publishing.old) (P.seen publishing.new) batch.now verdicts.new.items result store.old store.new }
+    ensures done { AreDone P.passes P.tells P.makes P.serial (P.seen publishing.new) (P.begun publishing.new) verdicts.new.items batch.now }
+    ensures same { (P.told publishing.new ≡ P.told publishing.old) × (P.room publishing.new ≡ P.room publishing.old) }
+    ensures verdicts_room { vec_capacity verdicts.new ≡ vec_capacity verdicts.old }
 {
-    let Ok(mut group) = judge_group(publishing, alloc, last, batch, room.min(MOST)) else {
-        return Outcome {
-            codes: Vec::new(alloc),
-            fault: None,
-        };
-    };
+    let mut group = judge_group(publishing, alloc, last, batch, room.min(MOST), verdicts);
     let fault = store.append(rt, alloc, &mut group);
-    match publishing.publish(rt, group) {
-        Ok(codes) => Outcome { codes, fault },
-        Err(_) => {
-            store.close();
-            Outcome {
-                codes: Vec::new(alloc),
-                fault,
-            }
-        }
-    }
+    fail_unkept(verdicts, &fault);
+    let Err(_) = publishing.publish(rt, group) else {
+        return fault;
+    };
+    store.close();
+    fail_all(verdicts);
+    fault
 }
 
-/// Tells each of a batch its code, of so many that wait in front; those behind them wait on.
+/// Tells each of a batch what it gets, of so many that wait in front; those behind them wait on.
 fn tell_first<R: Wait, P: Publishing>(
     rt: &R,
     publishing: &mut P,
     waiting: &mut Vec<P::Asked>,
     count: usize,
-    codes: &[u8],
+    verdicts: &[Verdict],
 )
 where
     P::Asked: Drop,
     requires some { count ≤ length waiting.old.items }
-    requires done { AreDone P.passes P.tells P.makes (P.seen publishing.old) (P.begun publishing.old) codes.now (take count waiting.old.items) }
+    requires done { AreDone P.passes P.tells P.makes P.serial (P.seen publishing.old) (P.begun publishing.old) verdicts.now (take count waiting.old.items) }
     ensures grows { BeginsWith (P.seen publishing.new) (P.seen publishing.old) }
-    ensures told { P.told publishing.new ≡ told_behind (P.told publishing.old) (told_of codes.now (take count waiting.old.items)) }
+    ensures told { P.told publishing.new ≡ told_behind (P.told publishing.old) (told_of verdicts.now (take count waiting.old.items)) }
+    ensures room { P.room publishing.new ≡ P.room publishing.old }
     ensures rest { waiting.new.items ≡ drop count waiting.old.items }
+    ensures waiting_room { vec_capacity waiting.new ≡ vec_capacity waiting.old }
 {
-    let mut left = codes;
+    let mut left = verdicts;
     for asked in waiting.drain(..count) {
-        let (code, behind) = first_code(left);
-        publishing.tell(rt, asked, code);
+        let (verdict, behind) = first_verdict(left);
+        publishing.tell(rt, asked, verdict);
         left = behind;
     }
 }
 
-/// The first of these codes, SERVFAIL where there is none, and those behind it.
-fn first_code(codes: &[u8]) -> (u8, &[u8])
-    ensures { (result.0 ≡ code_of codes.now) × (result.1.now ≡ drop 1 codes.now) }
+/// The first of these verdicts, SERVFAIL where there is none, and those behind it.
+fn first_verdict(verdicts: &[Verdict]) -> (Verdict, &[Verdict])
+    ensures { (result.0 ≡ first_verdict verdicts.now) × (result.1.now ≡ drop 1 verdicts.now) }
 {
-    match codes.split_first() {
+    match verdicts.split_first() {
         Some((first, behind)) => (*first, behind),
-        None => (SERVFAIL, codes),
+        None => (Verdict::failed(), verdicts),
     }
 }

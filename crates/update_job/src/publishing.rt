@@ -1,11 +1,12 @@
-//! What publishes the versions of batches, and tells codes (own).
-ghost use Rattle.std.specs.Prelude.{◌≡◌, ℕ, List, [], ◌∷◌, ◌++◌, Option, length, IfOk, IfErr};
+//! What publishes the versions of batches, and tells updates what they get (own).
+ghost use Rattle.std.specs.Prelude.{◌≡◌, ℕ, List, [], ◌∷◌, ◌++◌, Option, length, OnOk, IfErr};
+ghost use Rattle.update_group.specs.declared.verdict.Verdict.{Verdict as VerdictOf};
 ghost use Rattle.update_group.specs.Engine.{IsLast, AreMade};
-ghost use Rattle.update_group.specs.Group.{codes_of, versions_of};
+ghost use Rattle.update_group.specs.Group.{versions_of};
 ghost use Rattle.update_job.specs.Done.{BeginsWith, IsDone, told_behind};
 
 use std::sync::Wait;
-use update_group::{Group, Judging};
+use update_group::{Group, Judging, Verdict};
 
 /// Versions that are published one after the other, behind a lock that others take too, and who tells of updates. The lock is held for short, and never while
 /// something is judged or brought to a disk.
@@ -16,8 +17,11 @@ pub trait Publishing: Judging + Drop {
     /// How many were, when the last batch was begun.
     ghost begun: { Self → ℕ };
 
-    /// What was told, with its code, the first one first, where it is kept.
-    ghost told: { Self → Option (List (Self.Asked × ℕ)) };
+    /// How many more versions were sure to find room then, if nobody else publishes.
+    ghost room: { Self → ℕ };
+
+    /// What was told, each update with what it got, the first one first, where it is kept.
+    ghost told: { Self → Option (List (Self.Asked × VerdictOf)) };
 
     /// Begins a batch: the version that is published last, in which it is to be judged, and how many more are sure to find room behind it, if nobody else
     /// publishes.
@@ -25,25 +29,28 @@ pub trait Publishing: Judging + Drop {
         ensures last { IsLast (seen self.new) result.0 }
         ensures grows { BeginsWith (seen self.new) (seen self.old) }
         ensures begun { begun self.new ≡ length (seen self.new) }
+        ensures room { room self.new ≡ result.1 }
         ensures told { told self.new ≡ told self.old };
 
-    /// Publishes the versions of a batch behind the version that it was begun with, and gives its codes. The group comes back where another one has published
-    /// since, or there is no room for all.
+    /// Publishes the versions of a batch behind the version that it was begun with. The group comes back where another one has published since, or there is no room for
+    /// all.
     fn publish<R: Wait>(
         &mut self,
         rt: &R,
         group: Group<Self::Version>,
-    ) -> Result<Vec<u8>, Group<Self::Version>>
+    ) -> Result<(), Group<Self::Version>>
         requires { (first : Self.Version) × IsLast (seen self.old) first × AreMade Self.makes first (versions_of group) }
-        ensures published { IfOk result (λ codes. (codes.items ≡ codes_of group) × (seen self.new ≡ seen self.old ++ versions_of group)) }
+        ensures published { OnOk result (seen self.new ≡ seen self.old ++ versions_of group) }
         ensures given_back { IfErr result (λ back. (back ≡ group) × BeginsWith (seen self.new) (seen self.old)) }
         ensures begun { begun self.new ≡ begun self.old }
+        ensures room { room self.new ≡ room self.old }
         ensures told { told self.new ≡ told self.old };
 
-    /// Tells an update its code, of one that is so by the versions that are known to be published.
-    fn tell<R: Wait>(&mut self, rt: &R, asked: Self::Asked, code: u8)
-        requires { IsDone Self.passes Self.tells Self.makes (seen self.old) (begun self.old) asked code }
+    /// Tells an update what it gets, which is so by the versions that are known to be published.
+    fn tell<R: Wait>(&mut self, rt: &R, asked: Self::Asked, verdict: Verdict)
+        requires { IsDone Self.passes Self.tells Self.makes Self.serial (seen self.old) (begun self.old) asked verdict }
         ensures grows { BeginsWith (seen self.new) (seen self.old) }
         ensures begun { begun self.new ≡ begun self.old }
-        ensures told { told self.new ≡ told_behind (told self.old) ((asked, code) ∷ []) };
+        ensures room { room self.new ≡ room self.old }
+        ensures told { told self.new ≡ told_behind (told self.old) ((asked, verdict) ∷ []) };
 }

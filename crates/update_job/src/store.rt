@@ -12,7 +12,7 @@ pub enum Store<D: Disk> {
     Nowhere,
     /// To a journal.
     Journal(Log<D>),
-    /// Nowhere any more: each batch that would change the zone is told SERVFAIL.
+    /// Nowhere any more: each batch that would change the zone fails.
     Closed,
 }
 

@@ -29,8 +29,8 @@ pub trait Storing<V: Drop>: Drop {
     fn tend<R: Wait>(&mut self, rt: &R, alloc: Global)
         ensures { tended self.old self.new };
 
-    /// Brings the updates of a group that make a version there, as one batch. At a fault each update of the group is told SERVFAIL, and there is no version to
-    /// publish. It takes memory, before anything is written.
+    /// Brings the updates of a group that make a version there, as one batch. At a fault there is no version to publish. It takes memory, before anything is
+    /// written.
     fn append<R: Wait>(
         &mut self,
         rt: &R,

@@ -1,5 +1,5 @@
 //! What threads put, and one takes.
-ghost use Rattle.std.specs.Prelude.{◌≡◌, IfErr, vec_capacity};
+ghost use Rattle.std.specs.Prelude.{◌≡◌, ◌<◌, IfErr, IsTrue, false, vec_capacity, vec_len};
 ghost use Rattle.update_queue.specs.Waiting.{BeginsWith};
 
 use crate::waiting::{Most, Waiting};
@@ -54,6 +54,8 @@ impl<T: Drop> Queue<T> {
     pub fn take<R: Wait>(&self, rt: &R, taken: &mut Vec<T>) -> bool
         ensures begins { BeginsWith taken.new.items taken.old.items }
         ensures room { vec_capacity taken.new ≡ vec_capacity taken.old }
+        ensures some { IsTrue result → vec_len taken.old < vec_capacity taken.old → vec_len taken.old < vec_len taken.new }
+        ensures none { result ≡ false → taken.new ≡ taken.old }
     {
         let guard = self.state.lock(rt);
         let mut state = self.came.wait_while(rt, guard, |state| {

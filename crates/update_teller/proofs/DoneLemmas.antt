@@ -1,10 +1,9 @@
 -- What is told of an update that waits is so by the versions that are known to be published.
 use Rattle.std.proofs.Common.{◌≡◌, refl, ℕ, ◌+◌, ◌≤◌, List, [], ◌∷◌, ◌++◌, inl, inr, sym, ap, ◌∙◌, subst, append_assoc, arith}
-use Rattle.std.specs.Prelude.{true, take, None}
+use Rattle.std.specs.Prelude.{true, take, Option, None}
 use Rattle.dns_rdata.specs.Numbers.{rcode_number}
 use Rattle.dns_rdata.specs.Record.{Record}
 use Rattle.dns_rdata.specs.declared.numbers.Rcode.{Rcode}
-use Rattle.dns_rdata.specs.declared.numbers.Serial.{Serial}
 use Rattle.dns_rdata.specs.declared.numbers.Rcode.TheVariants.{NoError, ServFail}
 use Rattle.dns_message.specs.Octets.{fit}
 use Rattle.dns_message.specs.Request.{reads}
@@ -16,7 +15,11 @@ use Rattle.dns_engine.specs.Versions.{IsFirst, IsNext}
 use Rattle.dns_engine.specs.Held.{IsLatest}
 use Rattle.dns_engine.proofs.ReplayLemmas.{number_of, latest_replay}
 use Rattle.lasting_engine.specs.declared.asked.Asked.{Asked}
-use Rattle.update_desk.specs.Done.{IsDoneBy}
+use Rattle.update_group.specs.declared.verdict.Verdict.{Verdict}
+use Rattle.update_group.specs.Verdict.{told_verdict, made_verdict, failed}
+use Rattle.lasting_engine.specs.Asked.{serial_in}
+use Rattle.update_desk.specs.declared.done.Serials.{Serials}
+use Rattle.update_desk.specs.Done.{IsDoneBy, IsGiven, serials_of}
 use Rattle.update_desk.proofs.DeskLemmas.{done_grows}
 use Rattle.update_desk.proofs.JudgedLemmas.{tells_done, starved_done, made_done}
 use Rattle.update_job.specs.Done.{IsDone as IsDoneIn, IsToldIn, IsMadeIn}
@@ -48,57 +51,72 @@ module _ (first : List Record) (published : List Version) (latest_version : Vers
   put_behind : (front newer : List Version) (version : Version) → published ≡ front ++ version ∷ newer → IsHistory (IsFirst first) IsNext ((front ++ version ∷ []) ++ newer)
   put_behind front newer version place = subst (IsHistory (IsFirst first) IsNext) (place ∙ sym (append_assoc front (version ∷ []) newer)) latest.history
 
-  told_done : (waiting : Waiting) (code : ℕ) → IsToldIn passes_waiting tells_waiting makes_waiting published (number + 1) waiting code
-      → (is : Rcode) × (rcode_number is ≡ code) × IsDoneBy first published waiting.asked number is
-  told_done waiting code told =
+  told_done : (waiting : Waiting) (verdict : Verdict) → IsToldIn passes_waiting tells_waiting makes_waiting serial_in published (number + 1) waiting verdict
+      → IsGiven first published number waiting.asked verdict
+  told_done waiting verdict told =
       let history = put_behind told.front told.newer told.version told.place in
       let here = front_latest first told.front told.newer told.version history in
       let late : number ≤ told.version.number = omega (arith, told.late, number_of first told.front told.version (front_history first told.front told.newer told.version history)) in
-      let done = tells_done first (told.front ++ told.version ∷ []) told.version here (latest_replay first _ told.version here) number late waiting.asked told.tells_it.0 told.tells_it.2 in (
-        told.tells_it.0,
+      let is : Rcode = told.tells_it.0 in
+      let done : IsDoneBy first (told.front ++ told.version ∷ []) waiting.asked number is (serials_of (told_verdict (serial_in told.version) told.code).serials) =
+      subst (λ (n : ℕ). IsDoneBy first (told.front ++ told.version ∷ []) waiting.asked number is (serials_of (told_verdict (serial_in told.version) n).serials)) told.tells_it.1
+      (tells_done first (told.front ++ told.version ∷ []) told.version here (latest_replay first _ told.version here) number late waiting.asked is told.tells_it.2) in
+      let given : IsGiven first published number waiting.asked (told_verdict (serial_in told.version) told.code) = (
+        is,
         told.tells_it.1,
-        λ before after. subst (λ (l : List Version). IsDoneBy first l waiting.asked number told.tells_it.0) (append_assoc told.front (told.version ∷ []) told.newer ∙ sym told.place)
-            (λ before after. done_grows first (told.front ++ told.version ∷ []) told.newer history _ (done before after)) before after,
-      )
+        subst (λ (l : List Version). IsDoneBy first l waiting.asked number is (serials_of (told_verdict (serial_in told.version) told.code).serials))
+            (append_assoc told.front (told.version ∷ []) told.newer ∙ sym told.place)
+            (done_grows first (told.front ++ told.version ∷ []) told.newer history _ done),
+      ) in
+      subst (λ (v : Verdict). IsGiven first published number waiting.asked v) (sym told.told) given
 
-  made_in : (waiting : Waiting) (code : ℕ) → IsMadeIn passes_waiting tells_waiting makes_waiting published (number + 1) waiting code → IsDoneBy first published waiting.asked number NoError
-  made_in waiting code made =
+  made_in : (waiting : Waiting) (verdict : Verdict) → IsMadeIn passes_waiting tells_waiting makes_waiting serial_in published (number + 1) waiting verdict
+      → IsGiven first published number waiting.asked verdict
+  made_in waiting verdict made =
       let front = made.front ++ made.version ∷ [] in
       let history = put_behind made.front (made.next ∷ made.newer) made.version made.place in
       let here = front_latest first made.front (made.next ∷ made.newer) made.version history in
       let late : number ≤ made.version.number = omega (arith, made.late, number_of first made.front made.version (front_history first made.front (made.next ∷ made.newer) made.version history)) in
       let longer : (front ++ made.next ∷ []) ++ made.newer ≡ front ++ made.next ∷ made.newer = append_assoc front (made.next ∷ []) made.newer in
       let behind = subst (IsHistory (IsFirst first) IsNext) (sym longer) history in
-      let done = made_done first front made.version here (latest_replay first front made.version here) number late waiting.asked made.next (front_history first front made.newer made.next behind) made.lets made.makes_it in
-      λ before after. subst (λ (l : List Version). IsDoneBy first l waiting.asked number NoError) (longer ∙ append_assoc made.front (made.version ∷ []) (made.next ∷ made.newer) ∙ sym made.place)
-      (λ before after. done_grows first (front ++ made.next ∷ []) made.newer behind _ (done before after)) before after
+      let own : Verdict = made_verdict (serial_in made.version) (serial_in made.next) in
+      let done : IsDoneBy first (front ++ made.next ∷ []) waiting.asked number NoError (serials_of own.serials) =
+      made_done first front made.version here (latest_replay first front made.version here) number late waiting.asked made.next (front_history first front made.newer made.next behind) made.lets made.makes_it in
+      let given : IsGiven first published number waiting.asked own = (
+        NoError,
+        refl,
+        subst (λ (l : List Version). IsDoneBy first l waiting.asked number NoError (serials_of own.serials))
+            (longer ∙ append_assoc made.front (made.version ∷ []) (made.next ∷ made.newer) ∙ sym made.place)
+            (done_grows first (front ++ made.next ∷ []) made.newer behind _ done),
+      ) in
+      subst (λ (v : Verdict). IsGiven first published number waiting.asked v) (sym made.told) given
 
-  failed_done : (waiting : Waiting) → IsDoneBy first published waiting.asked number ServFail
-  failed_done waiting = starved_done first published latest_version latest (latest_replay first published latest_version latest) number least waiting.asked
+  failed_done : (waiting : Waiting) → IsGiven first published number waiting.asked failed
+  failed_done waiting = (ServFail, refl, starved_done first published latest_version latest (latest_replay first published latest_version latest) number least waiting.asked)
 
-  -- what is told of an update by the number of its code is so
-  done_in : (waiting : Waiting) (code : ℕ) → IsDoneIn passes_waiting tells_waiting makes_waiting published (number + 1) waiting code
-      → (is : Rcode) × (rcode_number is ≡ code) × IsDoneBy first published waiting.asked number is
-  done_in waiting code (inl told) = told_done waiting code told
-  done_in waiting code (inr (inl made)) = (NoError, sym made.told, made_in waiting code made)
-  done_in waiting code (inr (inr failed)) = (ServFail, sym failed, failed_done waiting)
+  -- what an update gets is told by a code of that number
+  done_in : (waiting : Waiting) (verdict : Verdict) → IsDoneIn passes_waiting tells_waiting makes_waiting serial_in published (number + 1) waiting verdict
+      → IsGiven first published number waiting.asked verdict
+  done_in waiting verdict (inl told) = told_done waiting verdict told
+  done_in waiting verdict (inr (inl made)) = made_in waiting verdict made
+  done_in waiting verdict (inr (inr fails)) = subst (λ (v : Verdict). IsGiven first published number waiting.asked v) (sym fails) (failed_done waiting)
 
-  -- and so is what is told by the one code of that number
-  pub waiting_done : (waiting : Waiting) (code : ℕ) (told : Rcode) → IsDoneIn passes_waiting tells_waiting makes_waiting published (number + 1) waiting code
-      → ((is : Rcode) → rcode_number is ≡ code → told ≡ is) → (rcode_number told ≡ code) × IsDoneBy first published waiting.asked number told
-  waiting_done waiting code told is names =
-      let done = done_in waiting code is in
+  -- and so by the one code of that number
+  pub waiting_done : (waiting : Waiting) (verdict : Verdict) (told : Rcode) → IsDoneIn passes_waiting tells_waiting makes_waiting serial_in published (number + 1) waiting verdict
+      → ((is : Rcode) → rcode_number is ≡ verdict.code → told ≡ is) → (rcode_number told ≡ verdict.code) × IsDoneBy first published waiting.asked number told (serials_of verdict.serials)
+  waiting_done waiting verdict told is names =
+      let done = done_in waiting verdict is in
       let same : told ≡ done.0 = names done.0 done.1 in
-      (ap rcode_number same ∙ done.1, subst (λ (r : Rcode). IsDoneBy first published waiting.asked number r) (sym same) done.2)
+      (ap rcode_number same ∙ done.1, subst (λ (r : Rcode). IsDoneBy first published waiting.asked number r (serials_of verdict.serials)) (sym same) done.2)
 
 -- the message that tells an update its code is the reply to it
-pub reply_told : (first : List Record) (seen : List Version) (number : ℕ) (asked : Asked) (code : ℕ) (told : Rcode) (before after : Serial) (out : List ℕ) (len : ℕ) → IsDoneBy first seen asked number told → rcode_number told ≡ code
+pub reply_told : (first : List Record) (seen : List Version) (number : ℕ) (asked : Asked) (code : ℕ) (told : Rcode) (serials : Option Serials) (out : List ℕ) (len : ℕ) → IsDoneBy first seen asked number told serials → rcode_number told ≡ code
     → reads asked.octets.items ≡ SaysUpdate asked.update → asked.may ≡ true → take len out ≡ fit (coded (heading_of_update asked.update) told) (limit_of Udp None) → IsTold first seen (number + 1) asked code (take len out)
-reply_told first seen number asked code told before after out len done numbered reading may written = record {
+reply_told first seen number asked code told serials out len done numbered reading may written = record {
   code = told;
   numbered = numbered;
   spelt = written;
   reply = λ peer known udp may_update fresh.
-      done_replied first peer known (record { published = seen; buried = [] }) asked.octets.items out len (record { asked = asked; least = number; code = told; before = before; after = after })
-      (done before after) fresh reading (may ∙ sym may_update) (written ∙ ap (λ (t : Transport). fit (coded (heading_of_update asked.update) told) (limit_of t None)) (sym udp));
+      done_replied first peer known (record { published = seen; buried = [] }) asked.octets.items out len (record { asked = asked; least = number; code = told; serials = serials })
+      done fresh reading (may ∙ sym may_update) (written ∙ ap (λ (t : Transport). fit (coded (heading_of_update asked.update) told) (limit_of t None)) (sym udp));
 }

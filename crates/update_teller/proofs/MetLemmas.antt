@@ -21,7 +21,7 @@ latest_long first published version latest = ap length latest.ends ∙ length_pu
 
 -- a batch is begun where a reader has met what is published
 pub has_begun : (first : List Record) (before after : ReaderState Version) (begun : Begun) (brought : Option (List Brought)) → IsBegun first before after begun
-    → HasBegun first before.seen (record { seen = after.seen; begun = begun.number + 1; brought = brought }) begun.last
+    → HasBegun first before.seen (record { seen = after.seen; begun = begun.number + 1; room = begun.room; brought = brought }) begun.last
 has_begun first before after begun brought meets =
     let engine = meets.0 in
     let seen : after.seen ≡ engine.held.published = ap (λ (r : ReaderState Version). r.seen) meets.1.seen in
@@ -31,6 +31,9 @@ has_begun first before after begun brought meets =
       latest = subst (λ (v : Version). IsLatest first after.seen v) meets.2 latest;
       replayed = subst (λ (v : Version). IsReplay first v) meets.2 meets.1.replayed;
       begun = ap (λ (n : ℕ). n + 1) (sym meets.3) ∙ sym (latest_long first after.seen engine.held.last latest);
+      engine = engine;
+      published = seen;
+      room = sym meets.4;
     }
 
 -- what updates that wait make, they make as they are asked for

@@ -7,10 +7,12 @@ use Rattle.dns_engine.specs.Replayed.{IsReplay}
 use Rattle.update_job.specs.Done.{BeginsWith}
 use Rattle.update_teller.specs.Brought.{Brought}
 
--- the versions that are known to be published, the first one first, how many were when the last batch was begun, and what was brought, where it is kept
+-- the versions that are known to be published, the first one first, how many were when the last batch was begun, how many more were sure to find room then, and what
+-- was brought, where it is kept
 pub record TellerState : Type 0 where
   pub seen : List Version
   pub begun : ℕ
+  pub room : ℕ
   pub brought : Option (List Brought)
 
 -- the last of those that are known to be published has this number, and isn't older than the one that the last batch was begun with
@@ -20,12 +22,16 @@ pub record HasMetLast (first : List Record) (seen : List Version) (last begun : 
   pub number : version.number ≡ last
   pub begun_before : begun ≤ last
 
--- a batch is begun: all that is published is known, of which a part was; its last version is the first zone with updates replayed
+-- a batch is begun: all that is published is known, of which a part was; its last version is the first zone with updates replayed; and as many more as an engine that has
+-- published these is sure to publish find room
 pub record HasBegun (first : List Record) (known : List Version) (after : TellerState) (last : Version) : Type 0 where
   pub grows : BeginsWith after.seen known
   pub latest : IsLatest first after.seen last
   pub replayed : IsReplay first last
   pub begun : after.begun ≡ length after.seen
+  pub engine : EngineState
+  pub published : after.seen ≡ engine.held.published
+  pub room : after.room ≡ engine.free
 
 -- versions that are made behind the last of those that were known to be published aren't: others are published there, or too few more are sure to find room
 pub record IsTurnedBack (first : List Record) (known later : List Version) (versions : List Version) : Type 0 where

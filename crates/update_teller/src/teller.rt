@@ -1,8 +1,9 @@
 //! Telling those whose updates waited (RFC 2136, 3.8).
-ghost use Rattle.std.specs.Prelude.{◌≡◌, ◌≤◌, ◌++◌, [], ◌∷◌, length, IfOk, IfErr};
+ghost use Rattle.std.specs.Prelude.{◌≡◌, ◌≤◌, ◌++◌, [], ◌∷◌, length, OnOk, IfErr};
 ghost use Rattle.zone_tree.specs.Version.{Version as VersionOf};
 ghost use Rattle.update_group.specs.Engine.{IsLast, AreMade};
-ghost use Rattle.update_group.specs.Group.{codes_of, versions_of};
+ghost use Rattle.update_group.specs.Group.{versions_of};
+ghost use Rattle.lasting_engine.specs.Asked.{serial_in};
 ghost use Rattle.update_job.specs.Done.{BeginsWith, IsDone, told_behind};
 ghost use Rattle.update_teller.specs.Brought.{Brought as BroughtOne, IsBrought};
 ghost use Rattle.update_teller.specs.Met.{HasBegun, IsTurnedBack};
@@ -11,20 +12,18 @@ ghost use Rattle.update_teller.specs.Waits.{passes_waiting, tells_waiting, makes
 use crate::codes::code_of;
 use crate::replying::Replying;
 use dns_engine::{FirstZone, SharedVersion, VersionReader};
-use lasting_engine::judge_asked;
+use lasting_engine::{judge_asked, serial_in};
 use notify::{Large, passed_by};
 use serve_core::{Peer, Transport, UDP_LIMIT};
 use snapshot_cell::Naming;
 use std::alloc::Global;
 use std::marker::Model;
 use std::sync::Wait;
-use update_desk::Done;
-use update_group::{Group, Judgement, Judging};
+use update_desk::{Done, serials_of};
+use update_group::{Group, Judgement, Judging, Verdict};
 use update_job::Publishing;
 use wire_names::NameWriter;
-use zone_service::{
-    Event, Serials, Server, ServiceLog, Told, Waiting, Way, tell_update, write_done,
-};
+use zone_service::{Event, Server, ServiceLog, Told, Waiting, Way, tell_update, write_done};
 use zone_tree::Version;
 
 /// The first owner that one of these versions gives more than stock secondaries take, each of them made from the one before it, and the first from this one; None where
@@ -73,8 +72,8 @@ pub struct Teller<'a, 's, Z: FirstZone, N: Naming, L, P: Replying + Drop> {
     last: u64,
     /// The number of the version that the last batch was begun with.
     begun: u64,
-    /// The serials of the zone before that batch, and after it.
-    serials: Serials,
+    /// How many more versions were sure to find room then.
+    room: usize,
     /// That version, until the batch is published.
     first: Option<SharedVersion>,
 }
@@ -85,7 +84,7 @@ impl<'a, 's, Z: FirstZone, N: Naming, L, P: Replying + Drop> Model for Teller<'a
 
     ghost Value = { TellerState };
 
-    ghost view = { λ t. record { seen = t.reader.seen; begun = t.begun + 1; brought = P.brought t.replying } };
+    ghost view = { λ t. record { seen = t.reader.seen; begun = t.begun + 1; room = t.room; brought = P.brought t.replying } };
 
     ghost invariant = { λ t. HasMetLast Z.zone t.reader.seen t.last t.begun };
 }
@@ -111,7 +110,6 @@ impl<'a, 's, Z: FirstZone, N: Naming, L: ServiceLog, P: Replying + Drop> Teller<
     {
         let mut met = reader;
         let begun = server.begin(rt, &mut met);
-        let serial = begun.last.get().serial();
         Teller {
             server,
             reader: met,
@@ -121,10 +119,7 @@ impl<'a, 's, Z: FirstZone, N: Naming, L: ServiceLog, P: Replying + Drop> Teller<
             names: NameWriter::new(),
             last: begun.number,
             begun: begun.number,
-            serials: Serials {
-                before: serial,
-                after: serial,
-            },
+            room: begun.room,
             first: None,
         }
     }
@@ -143,7 +138,7 @@ impl<'a, 's, Z: FirstZone, N: Naming, L: ServiceLog, P: Replying + Drop> Teller<
             names: _,
             last: _,
             begun: _,
-            serials: _,
+            room: _,
             first: _,
         } = self;
         (reader, replying)
@@ -164,6 +159,8 @@ impl<'a, 's, Z: FirstZone, N: Naming, L, P: Replying + Drop> Judging
 
     ghost makes = { makes_waiting };
 
+    ghost serial = { serial_in };
+
     fn judge(
         &self,
         alloc: Global,
@@ -176,6 +173,10 @@ impl<'a, 's, Z: FirstZone, N: Naming, L, P: Replying + Drop> Judging
     fn octets_of<'b>(&self, waiting: &'b Waiting) -> &'b [u8] {
         waiting.asked.octets()
     }
+
+    fn serial_of(&self, version: &SharedVersion) -> u32 {
+        serial_in(version)
+    }
 }
 
 impl<'a, 's, Z: FirstZone, N: Naming, L: ServiceLog, P: Replying + Drop> Publishing
@@ -186,23 +187,22 @@ impl<'a, 's, Z: FirstZone, N: Naming, L: ServiceLog, P: Replying + Drop> Publish
 
     ghost begun = { λ teller. teller.begun };
 
+    ghost room = { λ teller. teller.room };
+
     ghost told = { λ teller. None };
 
     fn begin<R: Wait>(&mut self, rt: &R) -> (SharedVersion, usize)
         ensures last { IsLast self.new.seen result.0 }
         ensures grows { BeginsWith self.new.seen self.old.seen }
         ensures begun { self.new.begun ≡ length self.new.seen }
+        ensures room { self.new.room ≡ result.1 }
         ensures all { HasBegun Z.zone self.old.seen self.new result.0 }
         ensures brought { self.new.brought ≡ self.old.brought }
     {
         let begun = self.server.begin(rt, &mut self.reader);
-        let serial = begun.last.get().serial();
         self.last = begun.number;
         self.begun = begun.number;
-        self.serials = Serials {
-            before: serial,
-            after: serial,
-        };
+        self.room = begun.room;
         self.first = Some(begun.last.share(rt));
         (begun.last, begun.room)
     }
@@ -211,11 +211,12 @@ impl<'a, 's, Z: FirstZone, N: Naming, L: ServiceLog, P: Replying + Drop> Publish
         &mut self,
         rt: &R,
         group: Group<SharedVersion>,
-    ) -> Result<Vec<u8>, Group<SharedVersion>>
+    ) -> Result<(), Group<SharedVersion>>
         requires { (first : VersionOf) × IsLast self.old.seen first × AreMade makes_waiting first (versions_of group) }
-        ensures published { IfOk result (λ codes. (codes.items ≡ codes_of group) × (self.new.seen ≡ self.old.seen ++ versions_of group)) }
+        ensures published { OnOk result (self.new.seen ≡ self.old.seen ++ versions_of group) }
         ensures given_back { IfErr result (λ back. (back ≡ group) × BeginsWith self.new.seen self.old.seen) }
         ensures begun { self.new.begun ≡ self.old.begun }
+        ensures room { self.new.room ≡ self.old.room }
         ensures brought { self.new.brought ≡ self.old.brought }
         ensures turned_back { IfErr result (λ _. IsTurnedBack Z.zone self.old.seen self.new.seen (versions_of group)) }
     {
@@ -226,39 +227,38 @@ impl<'a, 's, Z: FirstZone, N: Naming, L: ServiceLog, P: Replying + Drop> Publish
         self.first = None;
         let (number, published) = self.server.publish(rt, &mut self.reader, self.last, group);
         self.last = number;
-        let (codes, after) = published?;
-        self.serials.after = after;
+        if let Err(back) = published {
+            return Err(back);
+        }
         if let Some(large) = large {
             self.log.tell(rt, Event::Large(large));
         }
-        Ok(codes)
+        Ok(())
     }
 
-    fn tell<R: Wait>(&mut self, rt: &R, waiting: Waiting, code: u8)
-        requires { IsDone passes_waiting tells_waiting makes_waiting self.old.seen self.old.begun waiting code }
+    fn tell<R: Wait>(&mut self, rt: &R, waiting: Waiting, verdict: Verdict)
+        requires { IsDone passes_waiting tells_waiting makes_waiting serial_in self.old.seen self.old.begun waiting verdict }
         ensures grows { BeginsWith self.new.seen self.old.seen }
         ensures begun { self.new.begun ≡ self.old.begun }
-        ensures brought { (one : BroughtOne) × IsBrought Z.zone self.old.seen self.old.begun waiting code one × (self.new.brought ≡ told_behind self.old.brought (one ∷ [])) }
+        ensures room { self.new.room ≡ self.old.room }
+        ensures brought { (one : BroughtOne) × IsBrought Z.zone self.old.seen self.old.begun waiting verdict.code one × (self.new.brought ≡ told_behind self.old.brought (one ∷ [])) }
     {
         let Waiting { asked, way } = waiting;
-        let (code, serials) = (code_of(code), self.serials);
+        let done = Done {
+            asked,
+            least: self.begun,
+            code: code_of(verdict.code),
+            serials: serials_of(verdict.serials),
+        };
         match way {
             Way::Connection { worker, key, seat } => {
-                let done = Done {
-                    asked,
-                    least: self.begun,
-                    code,
-                    before: serials.before,
-                    after: serials.after,
-                };
                 self.last = self.server.tell(rt, &mut self.reader, seat, done);
                 self.replying.tell(rt, worker, key);
             }
             Way::Datagram { worker, to } => {
                 let peer = Peer::over(Transport::Udp, true);
-                let serials = Some(serials);
-                tell_update(rt, self.log, peer, to, Told { code, serials });
-                let len = write_done(&mut self.names, &asked, code, peer, &mut self.out);
+                tell_update(rt, self.log, peer, to, Told::of(&done));
+                let len = write_done(&mut self.names, &done.asked, done.code, peer, &mut self.out);
                 self.replying.send(worker, to, &self.out[..len]);
             }
         }

@@ -165,6 +165,8 @@ impl Answering<Transfer> for Putting<'_> {
 
     ghost is_later = { λ _ _. ⊤ };
 
+    ghost spent = { λ _. ⊥ };
+
     #[tactic(auto, using(connections::proofs::AskedLemmas::each_itself))]
     fn turn_to(&mut self, other: Peer, _from: SocketAddr, key: usize) {
         self.peer = other;

@@ -1,3 +1,4 @@
+pub mod CallLemmas
 pub mod EntryLemmas
 pub mod JudgeLemmas
 pub mod PlayLemmas

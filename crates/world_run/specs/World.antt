@@ -42,6 +42,7 @@ use Rattle.world_run.specs.declared.step.Answer.{Answer}
 use Rattle.world_run.specs.declared.step.Answer.TheVariants.{Owner, Reply, Silent}
 use Rattle.world_run.specs.declared.step.Call.{Call}
 use Rattle.world_run.specs.declared.step.Call.TheVariants.{Load, Drop, Copy, Weak, Fade, Up, Ask, Transfer, Update}
+use Rattle.world_run.specs.declared.step.StepName.{StepName}
 use Rattle.world_run.specs.declared.step.WorldReply.{WorldReply}
 use Rattle.world_run.specs.declared.step.WorldReply.TheVariants.{Answered, Begun, Step, Last, NotEnabled}
 use Rattle.world_run.specs.declared.step.WorldStep.{WorldStep}
@@ -388,6 +389,12 @@ stepped world name phase (Some (On next, words)) =
     (Step (step_name phase), record world { words = words; calls = without_call name world.calls ++ record { name = name; phase = next } ∷ [] })
 stepped world name phase (Some (Done end, words)) =
     (Last (step_name phase) (answer_at end), record world { words = words; names = names_at end world.names; weak_names = weak_names_at end world.weak_names; calls = without_call name world.calls; kept = kept_at world.keep end world.kept; entries = entries_at world.window end world.entries })
+
+-- a call that was taken out of those under way, behind a step (own)
+abbrev pub gone_on : World → List ℕ → StepName → Progress → WorldReply × World
+gone_on world name step (On next) = (Step step, record world { calls = world.calls ++ record { name = name; phase = next } ∷ [] })
+gone_on world name step (Done end) =
+    (Last step (answer_at end), record world { names = names_at end world.names; weak_names = weak_names_at end world.weak_names; kept = kept_at world.keep end world.kept; entries = entries_at world.window end world.entries })
 
 abbrev pub next : World → List ℕ → Option UnderWay → WorldReply × World
 next world name None = (NotEnabled, world)

@@ -1,8 +1,10 @@
 //! What requests get that ask for no update, and the replies to updates (RFC 1034, 4.3.2; RFC 2136, 3.8).
-ghost use Rattle.std.specs.Prelude.{◌≡◌, Some, IfOk, IfErr};
+ghost use Rattle.std.specs.Prelude.{◌≡◌, ◌==◌, ◌||◌, false, Some, IfOk, IfErr, if◌then◌else◌};
+ghost use Rattle.dns_message.specs.Message.{opcode_UPDATE};
 ghost use Rattle.dns_message.specs.declared.query.Parsed.TheVariants.{Query as Asks};
 ghost use Rattle.serve_core.specs.declared.transport.Transport.TheVariants.{Udp};
 ghost use Rattle.world_run.specs.World.{answering, ask_said, ask_start, asks_sent, code_reply};
+ghost use Rattle.world_run.specs.declared.start.Start.TheVariants.{Refused, Answers};
 ghost use Rattle.world_run.specs.declared.step.Answer.TheVariants.{Reply};
 
 use crate::fault::WorldFault;
@@ -25,19 +27,28 @@ pub(crate) fn answer_in(
     ensures refused { IfErr result (λ fault. fault ≡ WorldFault.NoMemory) }
 {
     match parse(alloc, request.as_slice()) {
-        Parsed::Silent => Ok(Some(Answer::Silent)),
-        Parsed::Fault(head, _) if head.opcode == OPCODE_UPDATE => Ok(None),
-        Parsed::Fault(head, code) => {
-            Ok(Some(reply_with(alloc, &Heading::header_alone(head), code)?))
-        }
-        Parsed::BadOpt(head, _, _, _) if head.opcode == OPCODE_UPDATE => Ok(None),
-        Parsed::BadOpt(head, question, code, dnssec_ok) => {
-            let heading = Heading::of_bad(head, &question, dnssec_ok);
-            Ok(Some(reply_with(alloc, &heading, code)?))
-        }
         Parsed::Query(query) => answer_query(alloc, version, &query),
+        Parsed::Fault(head, code) => answer_fault(alloc, &Heading::header_alone(head), code),
+        Parsed::BadOpt(head, question, code, dnssec_ok) => {
+            answer_fault(alloc, &Heading::of_bad(head, &question, dnssec_ok), code)
+        }
+        Parsed::Silent => Ok(Some(Answer::Silent)),
         Parsed::Update(_update) => Ok(None),
         Parsed::NoMemory(_) => Err(WorldFault::NoMemory),
+    }
+}
+
+/// What a request over UDP gets that can't be read, or whose OPT isn't obeyed; None of an update.
+fn answer_fault(alloc: Global, heading: &Heading, code: Rcode) -> Result<Option<Answer>, WorldFault>
+    ensures ok { IfOk result (λ answer. answering answer ≡ (if heading.now.head.opcode == opcode_UPDATE || false then Refused else Answers (code_reply heading.now code))) }
+    ensures refused { IfErr result (λ fault. fault ≡ WorldFault.NoMemory) }
+{
+    if heading.head.opcode == OPCODE_UPDATE {
+        return Ok(None);
+    }
+    match reply_with(alloc, heading, code) {
+        Ok(answer) => Ok(Some(answer)),
+        Err(fault) => Err(fault),
     }
 }
 

@@ -1,7 +1,7 @@
 //! The calls under way, with their names.
-ghost use Rattle.std.specs.Prelude.{◌≡◌, ◌++◌, ◌∷◌, [], IfErr, OnOk, filter, not, bytes_eq, find};
+ghost use Rattle.std.specs.Prelude.{◌≡◌, ◌++◌, ◌∷◌, [], IfErr, OnOk, filter, not, bytes_eq, find, position};
 ghost use Rattle.std.specs.List.{list_any};
-ghost use Rattle.std.specs.Option.{option_copied};
+ghost use Rattle.std.specs.Option.{option_copied, option_map};
 ghost use Rattle.world_run.specs.Phases.{reserves as says_reserves, reserves_weakly as says_reserves_weakly};
 ghost use Rattle.world_run.specs.World.{call_of, is_used as says_used, is_barred as says_barred, without_call};
 ghost use Rattle.world_run.specs.declared.calls.UnderWay.{UnderWay as UnderWayRow};
@@ -9,6 +9,7 @@ ghost use Rattle.world_run.specs.declared.calls.UnderWay.{UnderWay as UnderWayRo
 use crate::fault::WorldFault;
 use crate::lent::Handle;
 use crate::phase::Phase;
+use std::mem;
 
 /// A call under way, with its name.
 #[derive(Drop)]
@@ -71,11 +72,24 @@ pub(crate) fn call_under<'b, 'a>(
     calls.iter().find(|call| is_call(call, name))
 }
 
-/// Takes out the call under way of a name.
-pub(crate) fn take_out(calls: &mut Vec<UnderWay<'_>>, name: &Handle<'_>)
-    ensures { calls.new.items ≡ without_call name.now calls.old.items }
+/// The place of the call under way of a name.
+fn place_of(calls: &[UnderWay<'_>], name: &Handle<'_>) -> Option<usize>
+    ensures { result ≡ position (λ call. bytes_eq call.name name.now) calls.now }
 {
+    calls.iter().position(|call| is_call(call, name))
+}
+
+/// Takes out the call under way of a name, and gives how far it has come.
+pub(crate) fn take_out<'a>(calls: &mut Vec<UnderWay<'a>>, name: &Handle<'_>) -> Option<Phase<'a>>
+    ensures taken { result ≡ option_map (λ call. call.phase) (call_of name.now calls.old.items) }
+    ensures left { calls.new.items ≡ without_call name.now calls.old.items }
+{
+    let Some(at) = place_of(calls, name) else {
+        return None;
+    };
+    let call = calls.remove(at);
     calls.retain(|call| !is_call(call, name));
+    Some(call.phase)
 }
 
 /// One call under way more.
@@ -87,12 +101,13 @@ pub(crate) fn put_under_way<'a>(
     ensures ok { OnOk result (calls.new.items ≡ calls.old.items ++ record { name = name.now; phase = phase.entry } ∷ []) }
     ensures refused { IfErr result (λ fault. fault ≡ WorldFault.NoMemory) }
 {
-    let call = UnderWay {
+    if calls.reserve(1).is_err() {
+        mem::drop(phase);
+        return Err(WorldFault::NoMemory);
+    }
+    calls.push_reserved(UnderWay {
         name: name.copy(),
         phase,
-    };
-    match calls.push(call) {
-        Ok(()) => Ok(()),
-        Err(_) => Err(WorldFault::NoMemory),
-    }
+    });
+    Ok(())
 }

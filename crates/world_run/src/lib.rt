@@ -12,6 +12,7 @@ mod asked;
 mod calls;
 mod entries;
 mod fault;
+mod following;
 mod judged;
 mod kept_owners;
 mod lent;

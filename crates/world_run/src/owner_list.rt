@@ -56,17 +56,4 @@ impl OwnerList {
         }
         Some(self.items.remove(0))
     }
-
-    /// The same again.
-    ///
-    /// `NoMemory` where a growth was refused.
-    pub fn copy(&self, alloc: Global) -> Result<OwnerList, WorldFault>
-        ensures ok { IfOk result (λ owners. owners ≡ self.now) }
-        ensures refused { IfErr result (λ fault. fault ≡ WorldFault.NoMemory) }
-    {
-        match self.items.as_slice().to_vec(alloc) {
-            Ok(items) => Ok(OwnerList { items }),
-            Err(_) => Err(WorldFault::NoMemory),
-        }
-    }
 }

@@ -1,6 +1,6 @@
-//! How far calls have come: the step that each takes next, and what follows on it.
+//! How far calls have come: the step that each takes next.
 ghost use Rattle.std.specs.Prelude.{◌≡◌, IfOk, IfErr};
-ghost use Rattle.world_run.specs.Phases.{word_step, step_name, after, reserves as says_reserves, reserves_weakly as says_reserves_weakly, uses as says_uses, updates as says_updates, seeks as says_seeks, bars as says_bars};
+ghost use Rattle.world_run.specs.Phases.{word_step, step_name, reserves as says_reserves, reserves_weakly as says_reserves_weakly, uses as says_uses, uses_for, updates as says_updates, is_for_update, seeks as says_seeks, bars as says_bars};
 
 use crate::entries::Entry;
 use crate::fault::WorldFault;
@@ -9,10 +9,9 @@ use crate::owner_list::OwnerList;
 use crate::published::Published;
 use crate::sending::{Seeking, Sending};
 use crate::step::{Answer, StepName};
-use cell_core::{WordEvent, WordMachine, WordStep};
+use cell_core::WordStep;
 use dns_rdata::Serial;
 use serve_core::Heading;
-use std::alloc::Global;
 
 /// What an update does behind its publication.
 #[derive(Drop)]
@@ -25,23 +24,6 @@ pub struct Keeping {
     pub enters: Option<Serial>,
     /// The weak owners of the entries that leave the window for it, the oldest first.
     pub leaving: OwnerList,
-}
-
-impl Keeping {
-    /// The same again.
-    ///
-    /// `NoMemory` where a growth was refused.
-    fn copy(&self, alloc: Global) -> Result<Keeping, WorldFault>
-        ensures ok { IfOk result (λ keeping. keeping ≡ self.now) }
-        ensures refused { IfErr result (λ fault. fault ≡ WorldFault.NoMemory) }
-    {
-        Ok(Keeping {
-            heading: self.heading.copy(),
-            oldest: self.oldest,
-            enters: self.enters,
-            leaving: self.leaving.copy(alloc)?,
-        })
-    }
 }
 
 /// What an owner is released for.
@@ -180,51 +162,6 @@ impl<'a> Phase<'a> {
         }
     }
 
-    /// What follows on the step, by the words behind it and what it told.
-    ///
-    /// `NoMemory` where a growth was refused, or so many hold a version that it goes on with that they can't be counted.
-    pub fn after(
-        &self,
-        alloc: Global,
-        machine: &WordMachine<Published>,
-        event: WordEvent,
-    ) -> Result<Progress<'a>, WorldFault>
-        ensures ok { IfOk result (λ progress. progress ≡ after machine.now self.now event) }
-        ensures refused { IfErr result (λ fault. fault ≡ WorldFault.NoMemory) }
-    {
-        match self {
-            Phase::Load(name) => Ok(after_load(name, event)),
-            Phase::Look(name, owner) => Ok(after_look(name, *owner, event)),
-            Phase::Raise(name, owner) => Ok(after_raise(name, *owner, event)),
-            Phase::Note(name, owner) => Ok(after_note(name, *owner, event)),
-            Phase::Probe(version, keeping) => after_probe(version, keeping.copy(alloc)?, event),
-            Phase::Prepare(_, keeping) => Ok(Progress::On(Phase::Swap(keeping.copy(alloc)?))),
-            Phase::Swap(keeping) => Ok(Progress::On(Phase::Settle(keeping.copy(alloc)?))),
-            Phase::Settle(keeping) => Ok(after_settle(keeping.copy(alloc)?, event)),
-            Phase::Keep(given, keeping) => Ok(after_keep(*given, keeping.copy(alloc)?, event)),
-            Phase::Enter(given, kept, keeping) => {
-                Ok(after_enter(*given, *kept, keeping.copy(alloc)?, event))
-            }
-            Phase::Seek(owner, seeking) => Ok(after_seek(*owner, seeking.copy(alloc)?, event)),
-            Phase::Gain(owner, seeking) => {
-                after_gain(machine, *owner, seeking.copy(alloc)?, event)
-            }
-            Phase::Release(owner, purpose) => {
-                Ok(after_release(*owner, purpose.copy(alloc)?, event))
-            }
-            Phase::Bury(owner, purpose) => Ok(after_bury(*owner, purpose.copy(alloc)?, event)),
-            Phase::Fade(owner, number, purpose) => {
-                Ok(after_fade(*owner, *number, purpose.copy(alloc)?, event))
-            }
-            Phase::Reset(owner, number, purpose) => Ok(Progress::On(Phase::Free(
-                *owner,
-                *number,
-                purpose.copy(alloc)?,
-            ))),
-            Phase::Free(_, number, purpose) => Ok(purpose.copy(alloc)?.past(gone(*number))),
-        }
-    }
-
     /// Whether the call is to put this name into use for a strong owner.
     pub fn reserves(&self, name: &Handle<'_>) -> bool
         ensures { result ≡ says_reserves name.now self.now }
@@ -296,56 +233,7 @@ impl<'a> Phase<'a> {
     }
 }
 
-ghost use Rattle.world_run.specs.Phases.{load_after, look_after, raise_after, note_after, probe_after, settle_after, keep_after, enter_after, entry_of as says_entry_of, seek_after, gain_after, gained_after, sent_after, release_after, bury_after, fade_after, gone as says_gone, past as says_past, leaving_after, oldest_after, uses_for, is_for_update};
-
 impl<'a> Purpose<'a> {
-    /// The same again.
-    ///
-    /// `NoMemory` where a growth was refused, or so many hold a version that they can't be counted.
-    fn copy(&self, alloc: Global) -> Result<Purpose<'a>, WorldFault>
-        ensures ok { IfOk result (λ purpose. purpose ≡ self.now) }
-        ensures refused { IfErr result (λ fault. fault ≡ WorldFault.NoMemory) }
-    {
-        Ok(match self {
-            Purpose::Drop => Purpose::Drop,
-            Purpose::Publish(keeping, kept, entry) => {
-                Purpose::Publish(keeping.copy(alloc)?, *kept, *entry)
-            }
-            Purpose::Oldest(heading, kept, entry, leaving) => {
-                Purpose::Oldest(heading.copy(), *kept, *entry, leaving.copy(alloc)?)
-            }
-            Purpose::Leaves(heading, kept, entry, leaving) => {
-                Purpose::Leaves(heading.copy(), *kept, *entry, leaving.copy(alloc)?)
-            }
-            Purpose::Sent(sending, owners) => {
-                Purpose::Sent(sending.copy(alloc)?, owners.copy(alloc)?)
-            }
-        })
-    }
-
-    /// What follows where the owner is gone; a drop gives this.
-    fn past(self, answer: Answer) -> Progress<'a>
-        ensures { result ≡ says_past self.entry answer }
-    {
-        match self {
-            Purpose::Drop => Progress::Done(End::Told(answer)),
-            Purpose::Publish(keeping, kept, entry) => oldest_after(
-                keeping.heading,
-                kept,
-                entry,
-                keeping.leaving,
-                keeping.oldest,
-            ),
-            Purpose::Oldest(heading, kept, entry, leaving) => {
-                leaving_after(heading, kept, entry, leaving)
-            }
-            Purpose::Leaves(heading, kept, entry, leaving) => {
-                leaving_after(heading, kept, entry, leaving)
-            }
-            Purpose::Sent(sending, owners) => sent_after(sending, owners),
-        }
-    }
-
     /// Whether an owner is in use of the version that is served, so that its name can't be given up.
     fn uses(&self, owner: usize) -> bool
         ensures { result ≡ uses_for owner self.now }
@@ -361,264 +249,5 @@ impl<'a> Purpose<'a> {
         ensures { result ≡ is_for_update self.now }
     {
         !matches!(self, Purpose::Drop | Purpose::Sent(_, _))
-    }
-}
-
-/// What follows where the owner that a publication gave is gone.
-fn oldest_after<'a>(
-    heading: Heading,
-    kept: usize,
-    entry: Option<Entry>,
-    leaving: OwnerList,
-    oldest: Option<usize>,
-) -> Progress<'a>
-    ensures { result ≡ oldest_after heading kept entry leaving oldest }
-{
-    match oldest {
-        None => leaving_after(heading, kept, entry, leaving),
-        Some(owner) => Progress::On(Phase::Release(
-            owner,
-            Purpose::Oldest(heading, kept, entry, leaving),
-        )),
-    }
-}
-
-/// What follows where the oldest version that was kept is gone, or an entry that left the window.
-fn leaving_after<'a>(
-    heading: Heading,
-    kept: usize,
-    entry: Option<Entry>,
-    leaving: OwnerList,
-) -> Progress<'a>
-    ensures { result ≡ leaving_after heading kept entry leaving }
-{
-    let mut left = leaving;
-    match left.take_first() {
-        None => Progress::Done(End::Kept(heading, kept, entry)),
-        Some(owner) => Progress::On(Phase::Fade(
-            owner,
-            None,
-            Purpose::Leaves(heading, kept, entry, left),
-        )),
-    }
-}
-
-/// What follows where a transfer is to give up the owners that it has got.
-fn sent_after<'a>(sending: Sending<'a>, owners: OwnerList) -> Progress<'a>
-    ensures { result ≡ sent_after sending.entry owners }
-{
-    let mut left = owners;
-    match left.take_first() {
-        None => Progress::Done(End::Sent(sending)),
-        Some(owner) => Progress::On(Phase::Release(owner, Purpose::Sent(sending, left))),
-    }
-}
-
-/// What follows on a load.
-fn after_load<'a>(name: &Handle<'a>, event: WordEvent) -> Progress<'a>
-    ensures { result ≡ load_after name.now event }
-{
-    match event {
-        WordEvent::Loaded { owner, number } => {
-            Progress::Done(End::Owned(name.copy(), owner, number))
-        }
-        _ => Progress::On(Phase::Load(name.copy())),
-    }
-}
-
-/// What follows on a look.
-fn after_look<'a>(name: &Handle<'a>, owner: usize, event: WordEvent) -> Progress<'a>
-    ensures { result ≡ look_after name.now owner event }
-{
-    match event {
-        WordEvent::Alive => Progress::On(Phase::Raise(name.copy(), owner)),
-        WordEvent::Dead => Progress::Done(End::Told(Answer::Nothing)),
-        _ => Progress::On(Phase::Look(name.copy(), owner)),
-    }
-}
-
-/// What follows on a raise.
-fn after_raise<'a>(name: &Handle<'a>, owner: usize, event: WordEvent) -> Progress<'a>
-    ensures { result ≡ raise_after name.now owner event }
-{
-    match event {
-        WordEvent::Raised {
-            owner: next,
-            number,
-        } => Progress::Done(End::Owned(name.copy(), next, number)),
-        WordEvent::Dead => Progress::Done(End::Told(Answer::Nothing)),
-        _ => Progress::On(Phase::Raise(name.copy(), owner)),
-    }
-}
-
-/// What follows on a note.
-fn after_note<'a>(name: &Handle<'a>, owner: usize, event: WordEvent) -> Progress<'a>
-    ensures { result ≡ note_after name.now owner event }
-{
-    match event {
-        WordEvent::Noted {
-            owner: next,
-            number,
-        } => Progress::Done(End::OwnedWeakly(name.copy(), next, number)),
-        _ => Progress::On(Phase::Note(name.copy(), owner)),
-    }
-}
-
-/// What follows on a probe.
-fn after_probe<'a>(
-    version: &Published,
-    keeping: Keeping,
-    event: WordEvent,
-) -> Result<Progress<'a>, WorldFault>
-    ensures ok { IfOk result (λ progress. progress ≡ probe_after version.now keeping event) }
-    ensures refused { IfErr result (λ fault. fault ≡ WorldFault.NoMemory) }
-{
-    match event {
-        WordEvent::Taken => Ok(Progress::On(Phase::Prepare(version.share()?, keeping))),
-        WordEvent::NoSlot => Ok(Progress::Done(End::NoSlot(keeping.heading))),
-        _ => Ok(Progress::On(Phase::Probe(version.share()?, keeping))),
-    }
-}
-
-/// What follows on a settle.
-fn after_settle<'a>(keeping: Keeping, event: WordEvent) -> Progress<'a>
-    ensures { result ≡ settle_after keeping event }
-{
-    match event {
-        WordEvent::Settled { owner, number: _ } => Progress::On(Phase::Keep(owner, keeping)),
-        _ => Progress::On(Phase::Settle(keeping)),
-    }
-}
-
-/// What follows on the load of the version that was published.
-fn after_keep<'a>(given: usize, keeping: Keeping, event: WordEvent) -> Progress<'a>
-    ensures { result ≡ keep_after given keeping event }
-{
-    match event {
-        WordEvent::Loaded { owner, number: _ } if keeping.enters.is_some() => {
-            Progress::On(Phase::Enter(given, owner, keeping))
-        }
-        WordEvent::Loaded { owner, number: _ } => {
-            Progress::On(Phase::Release(given, Purpose::Publish(keeping, owner, None)))
-        }
-        _ => Progress::On(Phase::Keep(given, keeping)),
-    }
-}
-
-/// The entry of a version, where it has one.
-fn entry_of(serial: Option<Serial>, number: u64, owner: usize) -> Option<Entry>
-    ensures { result ≡ says_entry_of serial number owner }
-{
-    Some(Entry {
-        number,
-        serial: serial?,
-        owner,
-    })
-}
-
-/// What follows on the note of the version that was published.
-fn after_enter<'a>(given: usize, kept: usize, keeping: Keeping, event: WordEvent) -> Progress<'a>
-    ensures { result ≡ enter_after given kept keeping event }
-{
-    match event {
-        WordEvent::Noted { owner, number } => {
-            let entry = entry_of(keeping.enters, number, owner);
-            Progress::On(Phase::Release(given, Purpose::Publish(keeping, kept, entry)))
-        }
-        _ => Progress::On(Phase::Enter(given, kept, keeping)),
-    }
-}
-
-/// What follows on a look at the version of an entry.
-fn after_seek<'a>(owner: usize, seeking: Seeking<'a>, event: WordEvent) -> Progress<'a>
-    ensures { result ≡ seek_after owner seeking.entry event }
-{
-    match event {
-        WordEvent::Alive => Progress::On(Phase::Gain(owner, seeking)),
-        WordEvent::Dead => sent_after(seeking.sending, seeking.owners),
-        _ => Progress::On(Phase::Seek(owner, seeking)),
-    }
-}
-
-/// What follows on a raise of the version of an entry.
-fn after_gain<'a>(
-    machine: &WordMachine<Published>,
-    owner: usize,
-    seeking: Seeking<'a>,
-    event: WordEvent,
-) -> Result<Progress<'a>, WorldFault>
-    ensures ok { IfOk result (λ progress. progress ≡ gain_after machine.now owner seeking.entry event) }
-    ensures refused { IfErr result (λ fault. fault ≡ WorldFault.NoMemory) }
-{
-    match event {
-        WordEvent::Raised {
-            owner: next,
-            number: _,
-        } => match machine.value(next) {
-            None => Ok(Progress::On(Phase::Gain(owner, seeking))),
-            Some(version) => {
-                let mut further = seeking;
-                further.put_got(next, version.share()?)?;
-                Ok(gained_after(further))
-            }
-        },
-        WordEvent::Dead => Ok(sent_after(seeking.sending, seeking.owners)),
-        _ => Ok(Progress::On(Phase::Gain(owner, seeking))),
-    }
-}
-
-/// What follows where a transfer has got one more owner.
-fn gained_after<'a>(seeking: Seeking<'a>) -> Progress<'a>
-    ensures { result ≡ gained_after seeking.entry seeking.entry.left }
-{
-    let mut further = seeking;
-    match further.left.take_first() {
-        None => sent_after(further.sending.completed(), further.owners),
-        Some(owner) => Progress::On(Phase::Seek(owner, further)),
-    }
-}
-
-/// What follows on a release.
-fn after_release<'a>(owner: usize, purpose: Purpose<'a>, event: WordEvent) -> Progress<'a>
-    ensures { result ≡ release_after owner purpose.entry event }
-{
-    match event {
-        WordEvent::Emptied => Progress::On(Phase::Bury(owner, purpose)),
-        _ => purpose.past(Answer::Left),
-    }
-}
-
-/// What follows on a bury.
-fn after_bury<'a>(owner: usize, purpose: Purpose<'a>, event: WordEvent) -> Progress<'a>
-    ensures { result ≡ bury_after owner purpose.entry event }
-{
-    match event {
-        WordEvent::Buried(number) => Progress::On(Phase::Fade(owner, Some(number), purpose)),
-        _ => purpose.past(Answer::Left),
-    }
-}
-
-/// What a release gives that has buried the version of this number, or that of a weak owner.
-fn gone(number: Option<u64>) -> Answer
-    ensures { result ≡ says_gone number }
-{
-    match number {
-        None => Answer::Faded,
-        Some(number) => Answer::Buried(number),
-    }
-}
-
-/// What follows on a fade.
-fn after_fade<'a>(
-    owner: usize,
-    number: Option<u64>,
-    purpose: Purpose<'a>,
-    event: WordEvent,
-) -> Progress<'a>
-    ensures { result ≡ fade_after owner number purpose.entry event }
-{
-    match event {
-        WordEvent::Closed => Progress::On(Phase::Reset(owner, number, purpose)),
-        _ => purpose.past(gone(number)),
     }
 }

@@ -2,7 +2,9 @@
 //! line at a time.
 ghost use Rattle.std.specs.Prelude.{◌≡◌, ◌++◌, ◌∷◌, [], nat_lt, if◌then◌else◌, IsTrue, IsFalse, Some, None, IfOk, IfErr, OnOk};
 ghost use Rattle.world_run.specs.declared.entries.Entry.{Entry as EntryRow};
-ghost use Rattle.world_run.specs.World.{World, started, most_steps, call_of, start as says_start, names_at, weak_names_at, kept_at, entries_at, answer_at, steps_up_to, is_full as says_full, all_made as says_all_made, whole as says_whole, begin as says_begin, begin_under, next as says_next, turn as says_turn};
+ghost use Rattle.world_run.specs.World.{World, started, most_steps, call_of, start as says_start, names_at, weak_names_at, kept_at, entries_at, answer_at, code_reply, steps_up_to, is_full as says_full, all_made as says_all_made, whole as says_whole, begin as says_begin, begin_under, gone_on, next as says_next, turn as says_turn};
+ghost use Rattle.dns_rdata.specs.declared.numbers.Rcode.TheVariants.{NoError};
+ghost use Rattle.world_run.specs.declared.phase.End.TheVariants.{Kept};
 ghost use Rattle.world_run.specs.declared.start.Start.TheVariants.{Takes};
 ghost use Rattle.world_run.specs.declared.step.Answer.TheVariants.{Owner};
 ghost use Rattle.world_run.specs.declared.step.WorldReply.TheVariants.{Answered};
@@ -18,10 +20,11 @@ use crate::options::Options;
 use crate::phase::{End, Phase, Progress};
 use crate::published::Published;
 use crate::start::Start;
-use crate::step::{Answer, Call, Octets, WorldReply, WorldStep};
-use crate::words::{FIRST_OWNER, started_words, step_once, take_steps};
+use crate::step::{Answer, Call, Octets, StepName, WorldReply, WorldStep};
+use crate::words::{FIRST_OWNER, make_step, started_words, take_steps};
 use cell_core::WordMachine;
 use dns_rdata::{Rcode, Serial};
+use serve_core::Heading;
 use std::alloc::Global;
 use std::marker::Model;
 use std::mem;
@@ -103,10 +106,11 @@ impl<'a> Play<'a> {
         ensures ok { IfOk result (λ reply. says_whole self.old call.now (says_start self.old call.now) ≡ Some (reply, self.new)) }
         ensures limit { IfErr result (λ fault. fault ≡ WorldFault.Limit → says_whole self.old call.now (says_start self.old call.now) ≡ None) }
     {
-        match self.start(alloc, call)? {
-            Start::Refused => Ok(WorldReply::NotEnabled),
-            Start::Answers(answer) => self.answered(answer),
-            Start::Takes(phase) => self.take_in_room(alloc, call, phase),
+        match self.start(alloc, call) {
+            Ok(Start::Refused) => Ok(WorldReply::NotEnabled),
+            Ok(Start::Answers(answer)) => self.answered(answer),
+            Ok(Start::Takes(phase)) => self.take_in_room(alloc, call, phase),
+            Err(fault) => Err(fault),
         }
     }
 
@@ -152,10 +156,11 @@ impl<'a> Play<'a> {
         if call_under(&self.calls, name).is_some() {
             return Ok(WorldReply::NotEnabled);
         }
-        match self.start(alloc, call)? {
-            Start::Refused => Ok(WorldReply::NotEnabled),
-            Start::Answers(answer) => self.answered(answer),
-            Start::Takes(phase) => self.begin_in_room(name, call, phase),
+        match self.start(alloc, call) {
+            Ok(Start::Refused) => Ok(WorldReply::NotEnabled),
+            Ok(Start::Answers(answer)) => self.answered(answer),
+            Ok(Start::Takes(phase)) => self.begin_in_room(name, call, phase),
+            Err(fault) => Err(fault),
         }
     }
 
@@ -188,19 +193,40 @@ impl<'a> Play<'a> {
             return Ok(WorldReply::NotEnabled);
         };
         let step = call.phase().step_name();
-        let Some(progress) = step_once(alloc, &mut self.machine, call.phase())? else {
-            return Ok(WorldReply::NotEnabled);
+        let event = match make_step(&mut self.machine, call.phase()) {
+            Ok(Some(event)) => event,
+            Ok(None) => return Ok(WorldReply::NotEnabled),
+            Err(fault) => return Err(fault),
         };
-        take_out(&mut self.calls, name);
+        let Some(phase) = take_out(&mut self.calls, name) else {
+            unreachable!()
+        };
+        match phase.after(&self.machine, event) {
+            Ok(progress) => self.go_on(alloc, name, step, progress),
+            Err(fault) => Err(fault),
+        }
+    }
+
+    /// Puts a call that was taken out under way again behind its step, or gives what it gives at its end.
+    fn go_on(
+        &mut self,
+        alloc: Global,
+        name: &Handle<'a>,
+        step: StepName,
+        progress: Progress<'a>,
+    ) -> Result<WorldReply, WorldFault>
+        ensures ok { IfOk result (λ reply. gone_on self.old name.now step progress.entry ≡ (reply, self.new)) }
+        ensures refused { IfErr result (λ fault. fault ≡ WorldFault.NoMemory) }
+    {
         match progress {
             Progress::On(phase) => {
                 put_under_way(&mut self.calls, name, phase)?;
                 Ok(WorldReply::Step(step))
             }
-            Progress::Done(end) => {
-                let answer = self.finish(alloc, end)?;
-                Ok(WorldReply::Last(step, answer))
-            }
+            Progress::Done(end) => match self.finish(alloc, end) {
+                Ok(answer) => Ok(WorldReply::Last(step, answer)),
+                Err(fault) => Err(fault),
+            },
         }
     }
 
@@ -225,8 +251,10 @@ impl<'a> Play<'a> {
         ensures ok { IfOk result (λ reply. (reply, self.new) ≡ says_all_made self.old call.now (steps_up_to most_steps self.old.words phase.entry)) }
         ensures refused { IfErr result (λ fault. fault ≡ WorldFault.NoMemory) }
     {
-        let came = take_steps(alloc, &mut self.machine, phase)?;
-        self.come_to(alloc, call, came)
+        match take_steps(&mut self.machine, phase) {
+            Ok(came) => self.come_to(alloc, call, came),
+            Err(fault) => Err(fault),
+        }
     }
 
     /// What a call gives that has made its steps; where one couldn't be made, it isn't enabled.
@@ -240,12 +268,17 @@ impl<'a> Play<'a> {
         ensures refused { IfErr result (λ fault. fault ≡ WorldFault.NoMemory) }
     {
         match came {
-            Progress::On(_) => Ok(WorldReply::NotEnabled),
+            Progress::On(phase) => {
+                mem::drop(phase);
+                Ok(WorldReply::NotEnabled)
+            }
             Progress::Done(end) => {
                 give_up(&mut self.names, call);
                 give_up_weakly(&mut self.weak_names, call);
-                let answer = self.finish(alloc, end)?;
-                Ok(WorldReply::Answered(answer))
+                match self.finish(alloc, end) {
+                    Ok(answer) => Ok(WorldReply::Answered(answer)),
+                    Err(fault) => Err(fault),
+                }
             }
         }
     }
@@ -265,15 +298,28 @@ impl<'a> Play<'a> {
                 put_owner(alloc, &mut self.weak_names, name, owner, number)
             }
             End::NoSlot(heading) => reply_with(alloc, &heading, Rcode::ServFail),
-            End::Kept(heading, owner, entry) => {
-                put_kept(&mut self.kept, self.keep, owner)?;
-                if let Some(entry) = entry {
-                    put_entry(alloc, self.window, &mut self.entries, entry)?;
-                }
-                reply_with(alloc, &heading, Rcode::NoError)
-            }
+            End::Kept(heading, owner, entry) => self.keep_version(alloc, &heading, owner, entry),
             End::Sent(sending) => sending.answer(alloc),
         }
+    }
+
+    /// Keeps a version under its owner, and enters it in the window, where it has an entry; gives the reply to its update, which repeats this.
+    fn keep_version(
+        &mut self,
+        alloc: Global,
+        heading: &Heading,
+        owner: usize,
+        entry: Option<Entry>,
+    ) -> Result<Answer, WorldFault>
+        ensures ok { IfOk result (λ answer. (answer ≡ code_reply heading.now NoError)
+            × (self.new ≡ record self.old { kept = kept_at self.old.keep (Kept heading.now owner entry) self.old.kept; entries = entries_at self.old.window (Kept heading.now owner entry) self.old.entries })) }
+        ensures refused { IfErr result (λ fault. fault ≡ WorldFault.NoMemory) }
+    {
+        put_kept(&mut self.kept, self.keep, owner)?;
+        if let Some(entry) = entry {
+            put_entry(alloc, self.window, &mut self.entries, entry)?;
+        }
+        reply_with(alloc, heading, Rcode::NoError)
     }
 }
 

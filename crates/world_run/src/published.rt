@@ -4,6 +4,7 @@ ghost use Rattle.std.specs.Prelude.{◌≡◌, IfOk, IfErr};
 use crate::fault::WorldFault;
 use std::alloc::Global;
 use std::marker::Model;
+use std::mem;
 use std::sync::Arc;
 use zone_tree::Version;
 
@@ -31,7 +32,10 @@ impl Published {
     {
         match Arc::new(alloc, version) {
             Ok(version) => Ok(Published { version }),
-            Err(_) => Err(WorldFault::NoMemory),
+            Err(refused) => {
+                mem::drop(refused);
+                Err(WorldFault::NoMemory)
+            }
         }
     }
 

@@ -56,18 +56,6 @@ impl GotVersions {
             Err(_) => Err(WorldFault::NoMemory),
         }
     }
-
-    /// The same again.
-    fn copy(&self, alloc: Global) -> Result<GotVersions, WorldFault>
-        ensures ok { IfOk result (λ versions. versions ≡ self.now) }
-        ensures refused { IfErr result (λ fault. fault ≡ WorldFault.NoMemory) }
-    {
-        let mut versions = GotVersions::new(alloc);
-        for version in &self.items {
-            versions.push(version.share()?)?;
-        }
-        Ok(versions)
-    }
 }
 
 /// The versions after the asker's, or that they weren't all got.
@@ -124,22 +112,6 @@ pub struct Sending<'a> {
 }
 
 impl<'a> Sending<'a> {
-    /// The same again.
-    ///
-    /// `NoMemory` where a growth was refused, or so many hold a version that they can't be counted.
-    pub fn copy(&self, alloc: Global) -> Result<Sending<'a>, WorldFault>
-        ensures ok { IfOk result (λ sending. sending ≡ self.now) }
-        ensures refused { IfErr result (λ fault. fault ≡ WorldFault.NoMemory) }
-    {
-        Ok(Sending {
-            served: self.served,
-            version: self.version.share()?,
-            request: self.request.copy(),
-            whole: self.whole,
-            got: self.got.copy(alloc)?,
-        })
-    }
-
     /// The same, with each version got that it asks for.
     pub fn completed(self) -> Sending<'a>
         ensures { result ≡ completed self.entry }
@@ -156,8 +128,8 @@ impl<'a> Sending<'a> {
     /// What the question gets: the messages of the transfer (RFC 5936, 2.2).
     ///
     /// `NoMemory` where a growth was refused.
-    pub fn answer(&self, alloc: Global) -> Result<Answer, WorldFault>
-        ensures ok { IfOk result (λ answer. answer ≡ sent_answer self.now) }
+    pub fn answer(self, alloc: Global) -> Result<Answer, WorldFault>
+        ensures ok { IfOk result (λ answer. answer ≡ sent_answer self.entry) }
         ensures refused { IfErr result (λ fault. fault ≡ WorldFault.NoMemory) }
     {
         match parse(alloc, self.request.as_slice()) {
@@ -178,7 +150,10 @@ impl<'a> Sending<'a> {
         if !self.is_permitted(query) {
             return Ok(Answer::Silent);
         }
-        Ok(Answer::Messages(self.messages(alloc, query)?))
+        match self.messages(alloc, query) {
+            Ok(messages) => Ok(Answer::Messages(messages)),
+            Err(fault) => Err(fault),
+        }
     }
 
     /// Whether a query is for a transfer of the version that is sent.
@@ -225,20 +200,6 @@ pub struct Seeking<'a> {
 }
 
 impl<'a> Seeking<'a> {
-    /// The same again.
-    ///
-    /// `NoMemory` where a growth was refused, or so many hold a version that they can't be counted.
-    pub fn copy(&self, alloc: Global) -> Result<Seeking<'a>, WorldFault>
-        ensures ok { IfOk result (λ seeking. seeking ≡ self.now) }
-        ensures refused { IfErr result (λ fault. fault ≡ WorldFault.NoMemory) }
-    {
-        Ok(Seeking {
-            sending: self.sending.copy(alloc)?,
-            left: self.left.copy(alloc)?,
-            owners: self.owners.copy(alloc)?,
-        })
-    }
-
     /// One more owner was got, which finds this version.
     ///
     /// `NoMemory` where a growth was refused.

@@ -1,5 +1,5 @@
 //! How a call begins.
-ghost use Rattle.std.specs.Prelude.{◌≡◌, ◌||◌, IfOk, IfErr};
+ghost use Rattle.std.specs.Prelude.{◌≡◌, ◌||◌, Some, IfOk, IfErr};
 ghost use Rattle.std.specs.Option.{option_copied, option_and_then};
 ghost use Rattle.cell_core.specs.Words.{found_last};
 ghost use Rattle.world_run.specs.Judgements.{judged as says_judged};
@@ -179,12 +179,24 @@ impl<'a> Play<'a> {
         let Some(last) = self.machine.last() else {
             return Ok(Start::Refused);
         };
-        match judge(alloc, last, request)? {
-            None => Ok(Start::Refused),
-            Some(Judged::Told(heading, code)) => {
-                Ok(Start::Answers(reply_with(alloc, &heading, code)?))
-            }
-            Some(Judged::Makes(heading, version)) => self.publication(alloc, heading, version),
+        match judge(alloc, last, request) {
+            Ok(None) => Ok(Start::Refused),
+            Ok(Some(judged)) => self.update_judged(alloc, judged),
+            Err(fault) => Err(fault),
+        }
+    }
+
+    /// How an update begins, by what it comes to.
+    fn update_judged(&self, alloc: Global, judged: Judged) -> Result<Start<'a>, WorldFault>
+        ensures ok { IfOk result (λ how. how ≡ update_start self.now (Some judged)) }
+        ensures refused { IfErr result (λ fault. fault ≡ WorldFault.NoMemory) }
+    {
+        match judged {
+            Judged::Told(heading, code) => match reply_with(alloc, &heading, code) {
+                Ok(answer) => Ok(Start::Answers(answer)),
+                Err(fault) => Err(fault),
+            },
+            Judged::Makes(heading, version) => self.publication(alloc, heading, version),
         }
     }
 

@@ -1,5 +1,5 @@
 //! What is asked of the world, and what it replies.
-ghost use Rattle.std.specs.Prelude.{Some};
+ghost use Rattle.std.specs.Prelude.{◌≡◌, Some};
 ghost use Rattle.world_run.specs.Told.{step_words};
 
 use crate::lent::{Handle, Request};
@@ -73,25 +73,34 @@ pub enum StepName {
     Free,
 }
 
+impl StepName {
+    /// Its word.
+    fn word(self) -> &'static str
+        ensures { result.now ≡ step_words self }
+    {
+        match self {
+            StepName::Load => "load",
+            StepName::Probe => "probe",
+            StepName::Prepare => "prepare",
+            StepName::Swap => "swap",
+            StepName::Settle => "settle",
+            StepName::Release => "release",
+            StepName::Bury => "bury",
+            StepName::Look => "look",
+            StepName::Raise => "raise",
+            StepName::Note => "note",
+            StepName::Fade => "fade",
+            StepName::Reset => "reset",
+            StepName::Free => "free",
+        }
+    }
+}
+
 impl fmt::Display for StepName {
     ghost output = { λ name. Some (step_words name) };
 
     fn fmt<W: fmt::Write>(&self, f: &mut fmt::Formatter<W>) -> fmt::Result {
-        match self {
-            StepName::Load => write!(f, "load"),
-            StepName::Probe => write!(f, "probe"),
-            StepName::Prepare => write!(f, "prepare"),
-            StepName::Swap => write!(f, "swap"),
-            StepName::Settle => write!(f, "settle"),
-            StepName::Release => write!(f, "release"),
-            StepName::Bury => write!(f, "bury"),
-            StepName::Look => write!(f, "look"),
-            StepName::Raise => write!(f, "raise"),
-            StepName::Note => write!(f, "note"),
-            StepName::Fade => write!(f, "fade"),
-            StepName::Reset => write!(f, "reset"),
-            StepName::Free => write!(f, "free"),
-        }
+        f.write_str(self.word())
     }
 }
 

@@ -15,6 +15,7 @@ use crate::sending::{GotVersions, Seeking, Sending};
 use crate::start::Start;
 use dns_message::{Parsed, Query, parse};
 use std::alloc::Global;
+use std::mem;
 
 /// A transfer of an owner's version of which nothing is got yet.
 fn none_got<'a>(
@@ -51,9 +52,11 @@ impl<'a> Play<'a> {
         let Some(version) = self.machine.value(owner) else {
             return Ok(Start::Refused);
         };
-        let sending = none_got(alloc, owner, version, request)?;
         match parse(alloc, request.as_slice()) {
-            Parsed::Query(query) => self.transfer_asked(alloc, sending, &query),
+            Parsed::Query(query) => match none_got(alloc, owner, version, request) {
+                Ok(sending) => self.transfer_asked(alloc, sending, &query),
+                Err(fault) => Err(fault),
+            },
             Parsed::Silent => Ok(Start::Refused),
             Parsed::Fault(_, _) => Ok(Start::Refused),
             Parsed::BadOpt(_, _, _, _) => Ok(Start::Refused),
@@ -74,14 +77,21 @@ impl<'a> Play<'a> {
         ensures refused { IfErr result (λ fault. fault ≡ WorldFault.NoMemory) }
     {
         if !sending.is_permitted(query) {
+            mem::drop(sending);
             return Ok(Start::Refused);
         }
         if query.serial.is_some() && is_barred(&self.calls) {
+            mem::drop(sending);
             return Ok(Start::Refused);
         }
         let number = sending.version.version().number();
-        let owners = later(alloc, &self.entries, number, query.serial)?;
-        self.seek(alloc, sending, owners)
+        match later(alloc, &self.entries, number, query.serial) {
+            Ok(owners) => self.seek(alloc, sending, owners),
+            Err(fault) => {
+                mem::drop(sending);
+                Err(fault)
+            }
+        }
     }
 
     /// How a transfer begins that upgrades the entries of these owners.
@@ -97,9 +107,13 @@ impl<'a> Play<'a> {
         let has_shares = self.machine.has_shares_for(owners.len());
         let mut left = owners;
         let Some(owner) = left.take_first() else {
-            return Ok(Start::Answers(sending.answer(alloc)?));
+            return match sending.answer(alloc) {
+                Ok(answer) => Ok(Start::Answers(answer)),
+                Err(fault) => Err(fault),
+            };
         };
         if !has_shares {
+            mem::drop(sending);
             return Ok(Start::Refused);
         }
         let owners = OwnerList::new(alloc);

@@ -1,12 +1,13 @@
 //! The steps of calls on the words of the cell.
-ghost use Rattle.std.specs.Prelude.{◌≡◌, Some, None, IfOk, IfErr, MatchBool, MatchOption};
-ghost use Rattle.world_run.specs.declared.phase.Progress.TheVariants.{On};
-ghost use Rattle.world_run.specs.World.{loaded_once as says_loaded_once, started_words as says_started_words, most_steps, step_once as says_step_once, steps_up_to};
+ghost use Rattle.std.specs.Prelude.{◌≡◌, Some, None, IfOk, IfErr, MatchOption};
+ghost use Rattle.cell_core.specs.Made.{made};
+ghost use Rattle.world_run.specs.Phases.{word_step};
+ghost use Rattle.world_run.specs.World.{loaded_once as says_loaded_once, started_words as says_started_words, most_steps, steps_up_to};
 
 use crate::fault::WorldFault;
 use crate::phase::{Phase, Progress};
 use crate::published::Published;
-use cell_core::{StepFault, WordMachine, WordStep};
+use cell_core::{StepFault, WordEvent, WordMachine, WordStep};
 use std::alloc::Global;
 use std::mem;
 
@@ -16,48 +17,29 @@ pub(crate) const FIRST_OWNER: usize = 0;
 /// No call takes more steps.
 const MOST_STEPS: usize = 127;
 
-/// Takes the next step of a call; none where the words have no such step.
-pub(crate) fn step_once<'a>(
-    alloc: Global,
+/// Makes the next step of a call on the words, and gives what that told; none where the words have no such step.
+pub(crate) fn make_step(
     machine: &mut WordMachine<Published>,
-    phase: &Phase<'a>,
-) -> Result<Option<Progress<'a>>, WorldFault>
+    phase: &Phase<'_>,
+) -> Result<Option<WordEvent>, WorldFault>
     ensures ok { IfOk result (λ told. MatchOption told
-        ((says_step_once machine.old phase.now ≡ None) × (machine.new ≡ machine.old))
-        (λ progress. says_step_once machine.old phase.now ≡ Some (progress, machine.new))) }
+        ((made machine.old (word_step phase.now) ≡ None) × (machine.new ≡ machine.old))
+        (λ event. made machine.old (word_step phase.now) ≡ Some (event, machine.new))) }
     ensures refused { IfErr result (λ fault. fault ≡ WorldFault.NoMemory) }
 {
-    let taken = phase.word_step()?;
+    let taken = match phase.word_step() {
+        Ok(taken) => taken,
+        Err(fault) => return Err(fault),
+    };
     match machine.step(taken) {
-        Ok(event) => Ok(Some(phase.after(alloc, machine, event)?)),
+        Ok(event) => Ok(Some(event)),
         Err(StepFault::NotEnabled) => Ok(None),
         Err(StepFault::NoMemory) => Err(WorldFault::NoMemory),
     }
 }
 
-/// Takes the next step of a call, and tells that it was made; where it can't be made, the call stays there.
-fn go_further<'a>(
-    alloc: Global,
-    machine: &mut WordMachine<Published>,
-    phase: Phase<'a>,
-) -> Result<(Progress<'a>, bool), WorldFault>
-    ensures ok { IfOk result (λ told. MatchBool told.1
-        (says_step_once machine.old phase.entry ≡ Some (told.0, machine.new))
-        ((says_step_once machine.old phase.entry ≡ None) × (machine.new ≡ machine.old) × (told.0 ≡ On phase.entry))) }
-    ensures refused { IfErr result (λ fault. fault ≡ WorldFault.NoMemory) }
-{
-    match step_once(alloc, machine, &phase)? {
-        None => Ok((Progress::On(phase), false)),
-        Some(progress) => {
-            mem::drop(phase);
-            Ok((progress, true))
-        }
-    }
-}
-
 /// Takes the steps of a call up to its end; where one can't be made, it stays there.
 pub(crate) fn take_steps<'a>(
-    alloc: Global,
     machine: &mut WordMachine<Published>,
     first: Phase<'a>,
 ) -> Result<Progress<'a>, WorldFault>
@@ -66,15 +48,20 @@ pub(crate) fn take_steps<'a>(
 {
     let mut phase = first;
     for _ in 0..MOST_STEPS {
-        let (progress, made) = go_further(alloc, machine, phase)?;
-        match progress {
-            Progress::On(further) => {
-                if made {
-                    phase = further;
-                } else {
-                    return Ok(Progress::On(further));
-                }
+        let event = match make_step(machine, &phase) {
+            Ok(Some(event)) => event,
+            Ok(None) => return Ok(Progress::On(phase)),
+            Err(fault) => {
+                mem::drop(phase);
+                return Err(fault);
             }
+        };
+        let progress = match phase.after(machine, event) {
+            Ok(progress) => progress,
+            Err(fault) => return Err(fault),
+        };
+        match progress {
+            Progress::On(further) => phase = further,
             Progress::Done(end) => return Ok(Progress::Done(end)),
         }
     }

@@ -24,7 +24,10 @@ pub fn run<'a>(
     ensures told { IfOk result (λ replies. replies_of zone options.keep options.window lines.now ≡ Some replies.items) }
     ensures limit { IfErr result (λ fault. fault ≡ WorldFault.Limit → replies_of zone options.keep options.window lines.now ≡ None) }
 {
-    let mut play = Play::new(alloc, zone, options)?;
+    let mut play = match Play::new(alloc, zone, options) {
+        Ok(play) => play,
+        Err(fault) => return Err(fault),
+    };
     let mut replies = Vec::new(alloc);
     for line in lines {
         play_line(alloc, &mut play, line, &mut replies)?;
@@ -42,9 +45,14 @@ fn play_line<'a>(
     ensures ok { OnOk result (option_map {U = List Reply × World} (λ told. (replies.old.items ++ told.0 ∷ [], told.1)) (turn play.old line.now) ≡ Some (replies.new.items, play.new)) }
     ensures limit { IfErr result (λ fault. fault ≡ WorldFault.Limit → turn play.old line.now ≡ None) }
 {
-    let reply = play.turn(alloc, line)?;
-    match replies.push(reply) {
-        Ok(()) => Ok(()),
-        Err(_) => Err(WorldFault::NoMemory),
+    if replies.reserve(1).is_err() {
+        return Err(WorldFault::NoMemory);
+    }
+    match play.turn(alloc, line) {
+        Ok(reply) => {
+            replies.push_reserved(reply);
+            Ok(())
+        }
+        Err(fault) => Err(fault),
     }
 }

@@ -23,7 +23,12 @@ use Rattle.zone_service.proofs.DoneLemmas.{done_replied, unheard_replied, grows_
 use Rattle.zone_service.proofs.ReplyLemmas.{still_replied}
 use Rattle.zone_replies.specs.declared.taken.Place.{Place}
 use Rattle.zone_replies.specs.State.{TakenState, RepliesState}
-use Rattle.zone_replies.specs.Taken.{known_at, place_in, IsTakenUp, AreTakenUp, IsLater, IsWritten}
+use Rattle.zone_service.specs.declared.answer.Told.{Told}
+use Rattle.dns_rdata.specs.declared.numbers.Rcode.{Rcode}
+use Rattle.dns_message.specs.Octets.{fit}
+use Rattle.serve_core.specs.Heading.{heading_of_update, coded}
+use Rattle.serve_core.specs.Transport.{limit_of}
+use Rattle.zone_replies.specs.Taken.{known_at, place_in, IsTakenUp, AreTakenUp, IsLater, IsToldAt, IsWritten}
 use Rattle.zone_replies.proofs.TakenLemmas.{none_known, place_known, known_room}
 
 -- a reader that meets what is published has forgotten nothing
@@ -39,6 +44,14 @@ meets_taken first before after number one meets is same = record {
       let here : length one.known.seen ≡ length before.seen = ap (λ (r : ReaderState Version). length r.seen) is in
       omega (arith, fresh, here, meets.2, same);
 }
+
+-- what is told is what is written
+pub told_written : (peer : Peer) (place : Place) (done : Done) (told : Told) (octets : List ℕ) → IsToldAt place done told
+    → octets ≡ fit (coded (heading_of_update done.asked.update) told.code) (limit_of peer.transport None) → IsWritten peer place done octets
+told_written peer place done told octets (inl own) is =
+    inl (own.0, is ∙ ap (λ (r : Rcode). fit (coded (heading_of_update done.asked.update) r) (limit_of peer.transport None)) own.1)
+told_written peer place done told octets (inr late) is =
+    inr (late.0, is ∙ ap (λ (r : Rcode). fit (coded (heading_of_update done.asked.update) r) (limit_of peer.transport None)) late.1)
 
 module _ (first : List Record) (peer : Peer) (taken : List (Option TakenState)) (before after : ReaderState Version) (key number : ℕ) (place : Place) (done : Done) (request out : List ℕ) (len : ℕ) where
   -- what is written of an update that was taken up is its reply
@@ -112,3 +125,9 @@ pub spent_later : {T : Type 0} (first : List Record) (peer same : Peer) (request
     → IfErr result (λ unmade. unmade ≡ Spent → IsTransfer first peer request × (after.left ≡ 0)) → IfErr result (λ unmade. unmade ≡ Spent → HasNoAnswer first same request before after)
 spent_later first peer same request before after (Ok x) is spent = tt
 spent_later first peer same request before after (Err unmade) is spent = λ e. inr (subst (λ (p : Peer). IsTransfer first p request × (after.left ≡ 0)) is (spent e))
+
+-- and no grant is left behind it
+pub spent_left : {T : Type 0} (first : List Record) (peer : Peer) (request : List ℕ) (after : ReaderState Version) (result : Result T Unmade)
+    → IfErr result (λ unmade. unmade ≡ Spent → IsTransfer first peer request × (after.left ≡ 0)) → IfErr result (λ unmade. unmade ≡ Spent → after.left ≡ 0)
+spent_left first peer request after (Ok x) spent = tt
+spent_left first peer request after (Err unmade) spent = λ e. (spent e).1

@@ -13,6 +13,7 @@ use Rattle.serve_core.specs.declared.peer.Peer.{Peer}
 use Rattle.serve_core.specs.Heading.{heading_of_update, coded}
 use Rattle.serve_core.specs.Transport.{limit_of}
 use Rattle.update_desk.specs.declared.done.Done.{Done}
+use Rattle.zone_service.specs.declared.answer.Told.{Told}
 use Rattle.zone_service.specs.Known.{learned_by}
 use Rattle.zone_service.specs.Replied.{IsReplied}
 use Rattle.zone_replies.specs.State.{TakenState}
@@ -55,6 +56,11 @@ AreTakenUp taken reader = All (IsEntry reader) taken
 -- a request that may be answered later: an update of a peer that may update
 abbrev pub IsLater : Peer → List ℕ → Type 0
 IsLater peer request = (is_update request ≡ true) × (peer.may_update ≡ true)
+
+-- what is told of an update that was taken up: its code and its serials; SERVFAIL, and none, where it was judged in an older version than was published last then
+abbrev pub IsToldAt : Place → Done → Told → Type 0
+IsToldAt place done told =
+    ((place.number ≤ done.least) × (told.code ≡ done.code) × (told.serials ≡ done.serials)) ⊎ ((done.least < place.number) × (told.code ≡ ServFail) × (told.serials ≡ None))
 
 -- what is written of an update that was taken up: the code that is told of it; SERVFAIL where it was judged in an older version than was published last then
 abbrev pub IsWritten : Peer → Place → Done → List ℕ → Type 0

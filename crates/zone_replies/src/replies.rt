@@ -15,12 +15,11 @@ ghost use Rattle.conversation.specs.Served.{Grows};
 ghost use Rattle.zone_service.specs.Known.{learned_by};
 ghost use Rattle.zone_replies.specs.Taken.{known_at, place_in, IsLater, IsWritten, IsToldOnce};
 
-use crate::taken::{Place, Taken, TakenUp};
+use crate::taken::{Place, Taken, TakenUp, told_at};
 use crate::transfer::Transfer;
 use connections::{Answering, Reply, Unmade};
 use dns_engine::{FirstZone, SharedVersion, VersionChain, VersionReader};
 use dns_message::{Query, is_update};
-use dns_rdata::Rcode;
 use serve_core::{Peer, Transport};
 use snapshot_cell::Naming;
 use std::alloc::Global;
@@ -31,8 +30,8 @@ use std::sync::Wait;
 use update_desk::{Done, Fetched};
 use wire_names::NameWriter;
 use zone_service::{
-    Hand, Handed, Now, Serials, Served, Server, ServiceLog, Told, answer_kept, hand_in, serve_one,
-    tell_refused, tell_signed, tell_update, write_done, write_transfer,
+    Hand, Handed, Now, Served, Server, ServiceLog, answer_kept, hand_in, serve_one, tell_refused,
+    tell_signed, tell_update, write_done, write_transfer,
 };
 
 /// A server that answers the peers of connections, with a worker's reader, of which contracts know what it has seen published. A log is told of
@@ -171,24 +170,21 @@ impl<'a, 's, Z: FirstZone, N: Naming, L: ServiceLog> Replies<'a, 's, Z, N, L> {
         self.taken.remove(self.asker);
     }
 
-    /// Writes what is told of an update that was taken up to the front of `out`, and tells the log: SERVFAIL where it was judged in an older version than
-    /// was published last when it was taken up, which is never so.
+    /// Writes what is told of an update that was taken up to the front of `out`, and tells the log ([`told_at`]).
     fn reply_done<R: Wait>(&self, rt: &R, place: Place, done: Done, out: &mut [u8]) -> usize
         requires room { message_limit ≤ length out.old }
         ensures bound { (result ≤ message_limit) × (result ≤ length out.new) }
         ensures octets { IsWritten self.now.peer place done (take result out.new) }
     {
-        let code = if place.number <= done.least {
-            done.code
-        } else {
-            Rcode::ServFail
-        };
-        let serials = Some(Serials {
-            before: done.before,
-            after: done.after,
-        });
-        tell_update(rt, self.log, self.peer, self.from, Told { code, serials });
-        write_done(&mut NameWriter::new(), &done.asked, code, self.peer, out)
+        let told = told_at(place, &done);
+        tell_update(rt, self.log, self.peer, self.from, told);
+        write_done(
+            &mut NameWriter::new(),
+            &done.asked,
+            told.code,
+            self.peer,
+            out,
+        )
     }
 
     /// Takes an update of a peer that may update up: it is told to be made later, or gets a reply at once where nobody judges it.
@@ -387,6 +383,8 @@ impl<'a, 's, Z: FirstZone, N: Naming, L: ServiceLog> Answering<Transfer>
 
     ghost is_later = { IsLater };
 
+    ghost spent = { λ replies. replies.reader.left ≡ 0 };
+
     #[tactic(auto, using(connections::proofs::AskedLemmas::each_itself))]
     fn turn_to(&mut self, other: Peer, from: SocketAddr, key: usize) {
         self.peer = other;
@@ -408,8 +406,9 @@ impl<'a, 's, Z: FirstZone, N: Naming, L: ServiceLog> Answering<Transfer>
         ensures bound { IfOk result (λ reply. (len : ℕ) → reply ≡ ReplyOf.One len → (len ≤ message_limit) × (len ≤ length out.new)) }
         ensures reply { IfOk result (λ reply. IsReplied Z.zone self.old.peer (known_at self.old.taken self.old.reader self.old.asker) (known_at self.new.taken self.new.reader self.old.asker) request.now (messages_of transfer_left reply out.new)) }
         ensures later { IfErr result (λ unmade. unmade ≡ WhyUnmade.Later → IsLater self.old.peer request.now) }
+        ensures spent { IfErr result (λ unmade. unmade ≡ WhyUnmade.Spent → self.new.reader.left ≡ 0) }
         // What can't be read as a query is replied to, whether a version can be loaded or not.
-        ensures spent { IfErr result (λ unmade. unmade ≡ WhyUnmade.Spent → HasNoAnswer Z.zone self.old.peer request.now self.old.reader self.new.reader) }
+        ensures unanswered { IfErr result (λ unmade. unmade ≡ WhyUnmade.Spent → HasNoAnswer Z.zone self.old.peer request.now self.old.reader self.new.reader) }
     {
         self.settle(rt, request);
         let cell = self.server.cell();

@@ -1,14 +1,17 @@
 //! Updates that are taken up on connections, and wait to be judged.
 ghost use Rattle.std.specs.Prelude.{◌≡◌, ◌<◌, ◌++◌, ℕ, [], None, Some, length, replicate, slice_set};
 ghost use Rattle.std.specs.Bool.{OnTrue};
-ghost use Rattle.zone_replies.specs.Taken.{place_in};
+ghost use Rattle.zone_replies.specs.Taken.{place_in, IsToldAt};
 
 use dns_engine::VersionReader;
+use dns_rdata::Rcode;
 use snapshot_cell::Naming;
 use std::alloc::Global;
 use std::marker::Model;
 use std::net::SocketAddr;
 use std::snapshot::Snapshot;
+use update_desk::Done;
+use zone_service::Told;
 
 /// An update that is taken up.
 #[derive(Drop)]
@@ -40,6 +43,16 @@ pub(crate) struct Place {
     pub seat: usize,
     /// The number of the version that was published last when it was taken up.
     pub number: u64,
+}
+
+/// What is told of an update that was taken up: SERVFAIL where it was judged in an older version than was published last when it was taken up, which is never so.
+pub(crate) fn told_at(place: Place, done: &Done) -> Told
+    ensures { IsToldAt place done.now result }
+{
+    if place.number <= done.least {
+        return Told::of(done);
+    }
+    Told::code(Rcode::ServFail)
 }
 
 /// Updates that are taken up, by the key of their connection, at most one each. Contracts see them in the order of the keys.

@@ -3,4 +3,5 @@ pub mod Notified
 pub mod Waiting
 pub mod Updated
 pub mod Replied
+pub mod Refused
 pub mod Signed

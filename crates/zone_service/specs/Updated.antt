@@ -1,8 +1,9 @@
 -- What has come of an update (RFC 2136, 3).
-use Rattle.std.specs.Prelude.{◌≡◌, ◌≢◌, ◌⊎◌, ℕ, Bool, true, false, List, ◌∷◌, None, Some}
+use Rattle.std.specs.Prelude.{◌≡◌, ◌≢◌, ◌⊎◌, ℕ, Bool, true, false, ◌==◌, List, ◌∷◌, Option, None, Some, if◌then◌else◌}
+use Rattle.dns_rdata.specs.Numbers.{rcode_number}
 use Rattle.dns_rdata.specs.Record.{Record}
 use Rattle.dns_rdata.specs.declared.numbers.Rcode.{Rcode}
-use Rattle.dns_rdata.specs.declared.numbers.Rcode.TheVariants.{ServFail}
+use Rattle.dns_rdata.specs.declared.numbers.Rcode.TheVariants.{NoError, ServFail}
 use Rattle.dns_message.specs.Octets.{fit}
 use Rattle.dns_message.specs.Request.{is_update, reads, IsWant}
 use Rattle.dns_message.specs.declared.query.Head.{Head}
@@ -24,7 +25,7 @@ use Rattle.serve_core.specs.Heading.{header_alone, heading_of_update, heading_of
 use Rattle.serve_core.specs.Transport.{limit_of}
 use Rattle.zone_service.specs.Known.{HasLoaded, HasMet, IsNoOlder}
 use Rattle.zone_service.specs.declared.answer.Told.{Told}
-use Rattle.zone_service.specs.declared.service_log.Serials.{Serials}
+use Rattle.update_desk.specs.declared.done.Serials.{Serials}
 
 -- the code that an engine tells of an update, and the serials of its last version in front of the update and behind it, the first of which is
 -- the first zone with updates replayed, and the last of the versions that the engine had published, of which a reader had seen a beginning. The
@@ -53,11 +54,15 @@ TellsOf first may known later version ForNothing update = IsNoOlder known versio
 TellsOf first may known later version ForReading update = Unit {0}
 TellsOf first may known later version ForMaking update = IsNoOlder known version × IsPublished first later version
 
+-- the serials that are told with a code: none where it isn't NOERROR (own)
+abbrev pub told_with : Rcode → Serials → Option Serials
+told_with code serials = if rcode_number code == rcode_number NoError then Some serials else None
+
 -- what is told of an update that was read, by whether its peer may update, and by what becomes of the reader of who answers: of a peer that may,
--- or where no load is left, the code that an engine tells of it, with the serials of that engine's last version before it and after it, and all that
+-- or where no load is left, the code that an engine tells of it, if it is NOERROR with the serials of that engine's last version before it and after it, and all that
 -- the engine has then published is seen; else the code of the first rule that it breaks in the version that is loaded for it, which is the first zone with updates replayed, and no serials
 pub data IsJudged (first : List Record) (update : Update) (may : Bool) (before after : ReaderState Version) (told : Told) : Type 0 where
-  by_engine : (serials : Serials) → (may ≡ true) ⊎ (before.left ≡ 0) → told.serials ≡ Some serials → IsUpdated first update may before after told.code serials → IsJudged first update may before after told
+  by_engine : (serials : Serials) → (may ≡ true) ⊎ (before.left ≡ 0) → told.serials ≡ told_with told.code serials → IsUpdated first update may before after told.code serials → IsJudged first update may before after told
   in_version : (version : Version) → may ≡ false → IsReplay first version → HasLoaded first before after version → verdict version.zone update false ≡ Some told.code → told.serials ≡ None → IsJudged first update may before after told
 
 -- what is told of a request that asks for an update, and what its reply repeats of it: of one that is read what is told of that update; of one that

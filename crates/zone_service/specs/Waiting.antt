@@ -25,10 +25,11 @@ memory_of asked = length asked.octets.items + (length asked.update.prerequisites
 abbrev pub MeetsAt : List Record → ReaderState Version → ReaderState Version → ℕ → Type 0
 MeetsAt first before after number = (engine : EngineState) × HasMet first engine before after × (engine.held.last.number ≡ number)
 
--- a batch is begun: a reader meets all that is published, of which the last version is the one that it is to be judged in (own)
+-- a batch is begun: a reader meets all that is published, of which the last version is the one that it is to be judged in, and so many more are sure to find room
+-- (own)
 abbrev pub IsBegun : List Record → ReaderState Version → ReaderState Version → Begun → Type 0
 IsBegun first before after begun =
-    (engine : EngineState) × HasMet first engine before after × (engine.held.last ≡ begun.last) × (engine.held.last.number ≡ begun.number)
+    (engine : EngineState) × HasMet first engine before after × (engine.held.last ≡ begun.last) × (engine.held.last.number ≡ begun.number) × (engine.free ≡ begun.room)
 
 -- the versions of a batch aren't published: a reader meets all that is published, and another version than the one of this number is the last of it, or too few
 -- more are sure to find room (own)

@@ -8,11 +8,10 @@ ghost use Rattle.dns_engine.specs.Held.{IsLatest};
 ghost use Rattle.zone_service.specs.declared.answer.Now.{Now as AtOnce};
 ghost use Rattle.dns_message.specs.Request.{reads};
 ghost use Rattle.dns_message.specs.declared.query.Parsed.TheVariants.{Update as SaysUpdate};
-ghost use Rattle.zone_service.specs.Updated.{IsJudged, IsToldOf, IsToldUnread};
+ghost use Rattle.zone_service.specs.Updated.{IsJudged, IsToldOf, IsToldUnread, told_with};
 ghost use Rattle.update_core.specs.Verdict.{verdict};
 
 use crate::server::Server;
-use crate::service_log::Serials;
 use dns_engine::{
     FirstZone, SharedVersion, VersionCell, VersionChain, VersionOwner, VersionReader,
 };
@@ -23,6 +22,7 @@ use snapshot_cell::{Naming, Spent};
 use std::alloc::Global;
 use std::sync::Wait;
 use update_core::check;
+use update_desk::{Done, Serials};
 use wire_names::NameWriter;
 use zone_tree::Version;
 
@@ -44,14 +44,40 @@ pub enum Now {
 pub struct Told {
     /// Its code.
     pub code: Rcode,
-    /// The zone's serials before it and after it; none of an update that can't be read, or whose OPT isn't obeyed, or for whose reading
-    /// memory is wanted, nor of one that is refused without the engine.
+    /// Its own serials: that of the zone that it found, and that of the zone that it left, which is the same where it changed nothing; none where its code isn't
+    /// NOERROR.
     pub serials: Option<Serials>,
 }
 
 impl Told {
+    /// What is told of an update that has waited.
+    pub fn of(done: &Done) -> Told
+        ensures code { result.code ≡ done.now.code }
+        ensures serials { result.serials ≡ done.now.serials }
+    {
+        Told {
+            code: done.code,
+            serials: done.serials,
+        }
+    }
+
+    /// A code with the serials about an update, which are told where the code is NOERROR.
+    fn with(code: Rcode, serials: Serials) -> Told
+        ensures code { result.code ≡ code }
+        ensures serials { result.serials ≡ told_with code serials }
+    {
+        Told {
+            code,
+            serials: if code.number() == Rcode::NoError.number() {
+                Some(serials)
+            } else {
+                None
+            },
+        }
+    }
+
     /// A code alone.
-    pub(crate) fn code(code: Rcode) -> Told
+    pub fn code(code: Rcode) -> Told
         ensures code { result.code ≡ code }
         ensures serials { result.serials ≡ None }
     {
@@ -255,10 +281,7 @@ fn judge<R: Wait, Z: FirstZone, N: Naming>(
         }
     }
     let (code, serials) = server.update(rt, alloc, reader, update, may);
-    Told {
-        code,
-        serials: Some(serials),
-    }
+    Told::with(code, serials)
 }
 
 /// The code of an update from a peer that may not update: that of the first rule that it breaks, of which the permission is one, after

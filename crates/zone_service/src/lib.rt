@@ -20,6 +20,6 @@ pub use asked::Asked;
 pub use handing::{Hand, Handed, Waiting, Way, hand_in, hand_over, write_done};
 pub use notifying::{NextTurn, Notifying};
 pub use server::Server;
-pub use service_log::{Event, JobEnd, Losses, NoLog, Serials, ServiceLog, Wanted};
+pub use service_log::{Event, JobEnd, Losses, NoLog, ServiceLog, Wanted};
 pub use telling::{tell_refused, tell_signed, tell_update};
 pub use transfer::write_transfer;

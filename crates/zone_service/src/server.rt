@@ -1,10 +1,10 @@
 //! The server: a cell of versions, and its engine behind a lock.
-ghost use Rattle.std.specs.Prelude.{◌≡◌, ◌⊎◌, ◌↔◌, ◌<◌, ◌≤◌, ◌++◌, ℕ, IfOk, IfErr, length};
+ghost use Rattle.std.specs.Prelude.{◌≡◌, ◌⊎◌, ◌↔◌, ◌<◌, ◌≤◌, ◌++◌, ℕ, IfOk, OnOk, IfErr, length};
 ghost use Rattle.cell_core.specs.Words.{notes};
 ghost use Rattle.zone_tree.specs.Version.{Version, zone_serial};
 ghost use Rattle.dns_engine.specs.Replayed.{IsReplay};
 ghost use Rattle.conversation.specs.Served.{BeginsWith, Grows};
-ghost use Rattle.update_group.specs.Group.{codes_of, versions_of};
+ghost use Rattle.update_group.specs.Group.{versions_of};
 ghost use Rattle.update_desk.specs.Done.{IsDone, IsFetched, IsJudgedIn};
 ghost use Rattle.zone_service.specs.Known.{learned_by, HasMet, MeetsAndAsks};
 ghost use Rattle.zone_service.specs.Waiting.{MeetsAt, IsBegun, MeetsInVain};
@@ -14,7 +14,6 @@ ghost use Rattle.dns_engine.specs.Held.{IsLatest};
 ghost use Rattle.dns_engine.specs.declared.fault.EngineFault.{EngineFault as Fault};
 ghost use Rattle.transfer_core.specs.declared.kept.TheConstants.{KEPT};
 
-use crate::service_log::Serials;
 use dns_engine::{
     Engine, FirstZone, NoEngine, SharedVersion, ToldChain, VersionCell, VersionPublisher,
     VersionReader,
@@ -24,7 +23,7 @@ use dns_rdata::{Rcode, Serial};
 use snapshot_cell::Naming;
 use std::alloc::Global;
 use std::sync::{Mutex, Wait};
-use update_desk::{Begun, Desk, Done, Fetched};
+use update_desk::{Begun, Desk, Done, Fetched, Serials};
 use update_group::Group;
 
 /// A cell of versions, with the engine that publishes in it behind a lock, and what is told of updates that wait for their replies. Queries take no lock.
@@ -211,19 +210,18 @@ impl<'a, Z: FirstZone, N: Naming> Server<'a, Z, N> {
         self.desk.lock(rt).begin(rt, reader)
     }
 
-    /// Publishes the versions of a batch, behind the lock, where the reader meets them, and gives the number of the version published last, with the codes of its
-    /// updates, and the serial of that version. The group comes back where another version than the one of this number was published last, which the reader had then not
-    /// seen, or there is no room for all of them.
+    /// Publishes the versions of a batch, behind the lock, where the reader meets them, and gives the number of the version published last. The group comes back where
+    /// another version than the one of this number was published last, which the reader had then not seen, or there is no room for all of them.
     pub fn publish<R: Wait>(
         &self,
         rt: &R,
         reader: &mut VersionReader<N>,
         number: u64,
         group: Group<SharedVersion>,
-    ) -> (u64, Result<(Vec<u8>, Serial), Group<SharedVersion>>)
+    ) -> (u64, Result<(), Group<SharedVersion>>)
         requires { IsJudgedIn Z.zone reader.old.seen number (versions_of group) }
         ensures met { MeetsAt Z.zone reader.old reader.new result.0 }
-        ensures published { IfOk result.1 (λ r. (r.0.items ≡ codes_of group) × (reader.new.seen ≡ reader.old.seen ++ versions_of group)) }
+        ensures published { OnOk result.1 (reader.new.seen ≡ reader.old.seen ++ versions_of group) }
         ensures kept { IfErr result.1 (λ back. back ≡ group) }
         ensures refused { IfErr result.1 (λ _. MeetsInVain Z.zone reader.old reader.new number (versions_of group)) }
     {
@@ -231,7 +229,7 @@ impl<'a, Z: FirstZone, N: Naming> Server<'a, Z, N> {
         let published = desk.publish_batch(reader, number, group);
         let last = desk.number();
         match published {
-            Ok(codes) => (last, Ok((codes, desk.serial()))),
+            Ok(()) => (last, Ok(())),
             Err(group) => (last, Err(group)),
         }
     }

@@ -1,11 +1,12 @@
 //! What an operator is told of a running server: a line for each change of the zone, and one for each end of a worker.
 use dns_name::Name;
-use dns_rdata::{Rcode, Serial};
+use dns_rdata::Rcode;
 use notify::Large;
 use serve_core::Transport;
 use std::fmt::{self, Display, Formatter};
 use std::net::SocketAddr;
 use std::sync::Wait;
+use update_desk::Serials;
 
 /// Who is told what happens, so that it may be written down.
 pub trait ServiceLog {
@@ -30,7 +31,7 @@ pub enum Event {
         from: SocketAddr,
         /// The code.
         code: Rcode,
-        /// The zone's serials; none of an update that the engine wasn't asked for, since it can't be read or memory was wanted.
+        /// The serials of the zone that it found and of the one that it left, its own; none where its code isn't NOERROR.
         serials: Option<Serials>,
     },
     /// A peer was refused what it may not have (RFC 2136, 3.3; RFC 5936, 2.2.1).
@@ -107,15 +108,6 @@ pub struct Losses {
     pub turned_away: u64,
     /// Those that got none for want of a descriptor or of memory.
     pub no_room: u64,
-}
-
-/// The zone's serial when an update is looked at, and the one after that update: the same where it has changed nothing.
-#[derive(Clone, Copy)]
-pub struct Serials {
-    /// The serial that the update finds.
-    pub before: Serial,
-    /// The serial that it leaves.
-    pub after: Serial,
 }
 
 /// What a peer may have only where it is permitted.

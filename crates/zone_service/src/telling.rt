@@ -1,5 +1,6 @@
 //! What is logged of requests: updates, and transfers and updates that are refused, or signed where there are no keys.
-ghost use Rattle.std.specs.Prelude.{◌≡◌, ◌≤◌, length, if◌then◌else◌};
+ghost use Rattle.std.specs.Prelude.{◌≡◌, ◌≤◌, ◌↔◌, IsTrue, length, if◌then◌else◌};
+ghost use Rattle.zone_service.specs.Refused.{IsRefusal, AsksTransfer};
 ghost use Rattle.zone_service.specs.Signed.{key_in};
 ghost use Rattle.zone_service.specs.declared.service_log.Event.TheVariants.{Update as UpdateEvent, Refused as RefusedEvent};
 ghost use Rattle.zone_service.specs.declared.service_log.Wanted.TheVariants.{Update as AnUpdate};
@@ -92,15 +93,16 @@ fn key_of(request: &[u8]) -> Option<Name>
 }
 
 /// Whether the code of a reply is REFUSED (RFC 1035, 4.1.1).
-fn is_refused(reply: &[u8]) -> bool {
-    match reply.get(3) {
-        Some(octet) => *octet & 15 == REFUSED,
-        None => false,
-    }
+fn is_refused(reply: &[u8]) -> bool
+    ensures { IsTrue result ↔ IsRefusal reply.now }
+{
+    reply.len() > 3 && reply[3] % 16 == REFUSED
 }
 
 /// Whether a query is for a transfer (RFC 5936, 2.1; RFC 1995, 3).
-fn asks_transfer(query: &Query) -> bool {
+fn asks_transfer(query: &Query) -> bool
+    ensures { IsTrue result ↔ AsksTransfer query.now }
+{
     let qtype = query.question.rtype;
     qtype == RType::AXFR || qtype == RType::IXFR
 }

@@ -6,7 +6,7 @@ use Rattle.dns_engine.specs.Held.{IsLatest}
 use Rattle.update_group.specs.Engine.{AreMade}
 use Rattle.update_group.specs.Group.{versions_of}
 use Rattle.update_group.proofs.GroupLemmas.{judged_made}
-use Rattle.lasting_engine.specs.Asked.{passes, tells, makes, octets_of}
+use Rattle.lasting_engine.specs.Asked.{passes, tells, makes, octets_of, serial_in}
 use Rattle.desk_tests.proofs.batches.judge.Goals as goal
 
 pub returns-clause-judged_in : goal.returns-clause-judged_in
@@ -15,6 +15,6 @@ returns-clause-judged_in g c =
       last,
       subst (λ (l : List Version). IsLatest g.Z.FirstZone.zone l last) (sym (ap (λ (r : ReaderState Version). r.seen) c.begin-begun.ensures.met)) c.begin-begun.ensures.latest,
       sym c.begin-begun.ensures.number,
-      subst (λ (v : Version). AreMade makes v (versions_of c.in-Ok.group)) c.begin-begun.ensures.last
-          (judged_made passes tells makes octets_of c.begin-begun.result.last c.args.most c.in-Ok.ensures.judged),
+      subst (λ (v : Version). AreMade makes v (versions_of c.judge_group-group.result)) c.begin-begun.ensures.last
+          (judged_made passes tells makes octets_of serial_in c.begin-begun.result.last c.args.most c.judge_group-group.ensures.judged.judged),
     )

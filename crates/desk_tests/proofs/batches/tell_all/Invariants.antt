@@ -1,4 +1,4 @@
--- Those that are still to be told have the codes that are left.
+-- Those that are still to be told have the verdicts that are left.
 use Rattle.std.specs.Vec.Iter.{into_iter_items}
 use Rattle.update_desk.specs.Done.{AreDone}
 use Rattle.desk_tests.proofs.batches.tell_all.Given as goal

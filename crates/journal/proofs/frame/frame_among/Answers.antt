@@ -1,51 +1,23 @@
-use Rattle.std.proofs.Common.{refl, arith}
-use Rattle.journal.proofs.FrameLemmas.{frame_shows, frame_leads, frame_from, sum_of_frame}
-use Rattle.journal.proofs.PartLemmas.{split_again, not_so}
+use Rattle.std.proofs.Common.{List, ℕ, ◌++◌, ap, sym, ◌∙◌}
+use Rattle.journal.specs.Frame.{summed}
+use Rattle.journal.proofs.FrameLemmas.{behind_mark, frame_in, frame_out}
 use Rattle.journal.proofs.frame.frame_among.Goals as goal
-use Rattle.journal.proofs.frame.frame_among.Goals.{then-number-low-via-then-number-low, then-number-low-via-else-number-low+then-high-number}
 
-pub returns-in_err-size : goal.returns-in_err-size
-returns-in_err-size c = rw c.from_residual.ensures (λ number low high body rest frame.
-    let shows = frame_shows c.args.salt.now number c.args.octets.now body rest frame in omega (arith, shows.long, c.in_err-size.ensures))
+pub returns-in_err-behind-clause-found : goal.returns-in_err-behind-clause-found
+returns-in_err-behind-clause-found c = rw c.from_residual.ensures (λ number low high body rest frame.
+    c.in_err-behind.ensures _ (behind_mark c.args.salt.now number c.args.octets.now body rest frame
+    ∙ ap (λ (o : List ℕ). o ++ (summed c.args.salt.now number body ++ rest)) c.mark_of.ensures))
 
-pub returns-in_err-number : goal.returns-in_err-number
-returns-in_err-number c = rw c.from_residual-in_err-number.ensures (λ number low high body rest frame.
-    let shows = frame_shows c.args.salt.now number c.args.octets.now body rest frame in omega (arith, shows.long, c.in_ok-size.ensures.1, c.in_err-number.ensures))
+pub returns-in_err-number-clause-found : goal.returns-in_err-number-clause-found
+returns-in_err-number-clause-found c = rw c.from_residual-in_err-number.ensures (λ number low high body rest frame.
+    c.in_err-number.ensures.found number low high body rest
+    (frame_in c.args.salt.now number c.args.octets.now c.in_ok-behind.behind.now body rest
+    (c.in_ok-behind.ensures ∙ ap (λ (o : List ℕ). o ++ c.in_ok-behind.behind.now) (sym c.mark_of.ensures)) frame))
 
-pub returns-then-number-low : goal.returns-then-number-low
-returns-then-number-low c = λ number low high body rest frame.
-    let leads = frame_leads c.args.salt.now c.args.octets.now c.in_ok-size.size c.in_ok-number.number c.in_ok-size.behind_size.now c.in_ok-number.behind_number.now
-    c.in_ok-size.ensures.2 c.in_ok-number.ensures.2 c.in_ok-size.ensures.0 c.in_ok-number.ensures.0 number body rest frame in
-    elim c.then-number-low.branch [
-      | then-number-low-via-then-number-low w ↦ omega (arith, leads.is_number, low, w.if-number-low.true)
-      | then-number-low-via-else-number-low+then-high-number w ↦ omega (arith, leads.is_number, high, w.if-high-number.true)
-    ]
-
-pub returns-in_err-body : goal.returns-in_err-body
-returns-in_err-body c = rw c.from_residual-in_err-body.ensures (λ number low high body rest frame.
-    let leads = frame_leads c.args.salt.now c.args.octets.now c.in_ok-size.size c.in_ok-number.number c.in_ok-size.behind_size.now c.in_ok-number.behind_number.now
-    c.in_ok-size.ensures.2 c.in_ok-number.ensures.2 c.in_ok-size.ensures.0 c.in_ok-number.ensures.0 number body rest frame in
-    omega (arith, leads.is_size, leads.long, c.in_err-body.ensures.cases))
-
-pub returns-in_err-sum : goal.returns-in_err-sum
-returns-in_err-sum c = rw c.from_residual-in_err-sum.ensures (λ number low high body rest frame.
-    let leads = frame_leads c.args.salt.now c.args.octets.now c.in_ok-size.size c.in_ok-number.number c.in_ok-size.behind_size.now c.in_ok-number.behind_number.now
-    c.in_ok-size.ensures.2 c.in_ok-number.ensures.2 c.in_ok-size.ensures.0 c.in_ok-number.ensures.0 number body rest frame in
-    omega (arith, leads.is_size, leads.long, c.in_ok-body.ensures.cases.4, c.in_err-sum.ensures))
-
-pub returns-then-not-is_sum_of : goal.returns-then-not-is_sum_of
-returns-then-not-is_sum_of c = λ number low high body rest frame.
-    not_so (c.if-not-is_sum_of.ensures.1 (sum_of_frame c.args.salt.now c.args.octets.now c.in_ok-size.size c.in_ok-number.number c.in_ok-size.behind_size.now c.in_ok-number.behind_number.now
-    c.in_ok-body.body.now c.in_ok-body.behind_body.now c.in_ok-sum.sum.now c.in_ok-sum.rest.now c.in_ok-size.ensures.2 c.in_ok-number.ensures.2
-    c.in_ok-size.ensures.0 c.in_ok-number.ensures.0 (split_again c.in_ok-number.behind_number.now c.in_ok-size.size c.in_ok-body.body.now c.in_ok-body.behind_body.now c.in_ok-body.ensures.cases) c.in_ok-sum.ensures.0 c.in_ok-body.ensures.cases.3 c.in_ok-sum.ensures.1
-    number body rest frame))
-
-pub returns : goal.returns
-returns c = (
-  c.if-number-low.false,
-  c.if-high-number.false,
-  frame_from c.args.salt.now c.args.octets.now c.in_ok-size.size c.in_ok-number.number c.in_ok-size.behind_size.now c.in_ok-number.behind_number.now
-      c.in_ok-body.body.now c.in_ok-body.behind_body.now c.in_ok-sum.sum.now c.in_ok-sum.rest.now c.in_ok-size.ensures.2 c.in_ok-number.ensures.2
-      c.in_ok-size.ensures.0 c.in_ok-number.ensures.0 (split_again c.in_ok-number.behind_number.now c.in_ok-size.size c.in_ok-body.body.now c.in_ok-body.behind_body.now c.in_ok-body.ensures.cases) c.in_ok-sum.ensures.0 c.in_ok-body.ensures.cases.3
-      (c.if-not-is_sum_of.ensures.0 refl),
+pub returns-clause-found : goal.returns-clause-found
+returns-clause-found c = (
+  c.in_ok-number.ensures.found.0,
+  c.in_ok-number.ensures.found.1,
+  frame_out c.args.salt.now c.in_ok-number.number c.args.octets.now c.in_ok-behind.behind.now c.in_ok-number.body.now c.in_ok-number.rest.now
+      (c.in_ok-behind.ensures ∙ ap (λ (o : List ℕ). o ++ c.in_ok-behind.behind.now) (sym c.mark_of.ensures)) c.in_ok-number.ensures.found.2,
 )

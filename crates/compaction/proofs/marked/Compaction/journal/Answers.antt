@@ -12,7 +12,7 @@ loop-number-preserved c =
     let within : c.loop-number.number < length all = search rules in
     let is : body ≡ get_or all c.loop-number.number body = c.body-item.is ∙ ap (λ (bs : List Body). get_or bs c.loop-number.number body) c.deref-body-items.ensures.value in
     let salt = c.in_ok-octets.salt in
-    let frame : c.in_ok-frame.frame.items ≡ framed salt c.loop-number.number body.octets.items = c.in_ok-frame.ensures ∙ ap (λ (o : List ℕ). framed salt c.loop-number.number o) c.deref.ensures.value in
+    let frame : c.in_ok-frame.frame.items ≡ framed salt c.loop-number.number body.octets.items = c.in_ok-frame.ensures.frame ∙ ap (λ (o : List ℕ). framed salt c.loop-number.number o) c.deref.ensures.value in
     let old = c.loop-number.octets.items in
     let more : c.extend_from_slice.new.self.items ≡ old ++ c.in_ok-frame.frame.items =
     c.in_ok-extend_from_slice.ensures.items ∙ ap (λ (o : List ℕ). old ++ o) c.deref-in-loop-number.ensures.value in

@@ -22,4 +22,7 @@ returns-in-Err-clause-later g c = λ later.
     let request = c.in-Some.request.now in
     let read : c.as_slice.result.now ≡ held = c.as_slice.ensures ∙ ap (λ (k : Kept). k.held) c.self.view_is in
     let whole : held ≡ frame_of request ++ drop (2 + length request) held = subst (λ l. l ≡ frame_of request ++ drop (2 + length request) l) read c.in-Some.ensures.frame in
-    (request, drop (2 + length request) held, whole, c.in-Err.ensures.later (c.broken_by.ensures later))
+    (request, drop (2 + length request) held, whole, c.in-Err.ensures.later (c.broken_by.ensures.later later))
+
+pub returns-in-Err-clause-spent : goal.returns-in-Err-clause-spent
+returns-in-Err-clause-spent g c = λ spent. c.in-Err.ensures.spent (c.broken_by.ensures.spent spent)

@@ -1,5 +1,5 @@
 -- The batch is to be judged in the version that was published last.
-use Rattle.std.proofs.Common.{◌≡◌, ap, ◌∙◌, subst}
+use Rattle.std.proofs.Common.{◌≡◌, sym, ap, ◌∙◌, subst}
 use Rattle.dns_engine.specs.Held.{EngineState, Held, IsLatest}
 use Rattle.dns_engine.specs.Replayed.{IsReplay}
 use Rattle.update_desk.proofs.desk.Desk.begin.Goals as goal
@@ -14,5 +14,6 @@ returns g c =
       replayed = subst (λ (h : Held). IsReplay g.Z.FirstZone.zone h.last) held c.number-number.ensures.replayed;
       last = c.share-last.ensures ∙ c.last_shared.ensures ∙ ap (λ (h : Held). h.last) held;
       number = c.number-number.ensures.number ∙ ap (λ (h : Held). h.last.number) held;
+      room = sym (ap (λ (s : EngineState). s.free) c.room-free.ensures);
       held = held;
     }

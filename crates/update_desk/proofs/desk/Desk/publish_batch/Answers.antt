@@ -12,8 +12,8 @@ use Rattle.update_desk.proofs.JudgedLemmas.{judged_done}
 use Rattle.update_desk.proofs.desk.Desk.publish_batch.Goals as goal
 use Rattle.update_desk.proofs.desk.Desk.publish_batch.Goals.{then-last-number-via-then-last-number, then-last-number-via-else-last-number+then-free-count}
 
-pub publish_group-codes-requires : goal.publish_group-codes-requires
-publish_group-codes-requires g c =
+pub publish_group-requires : goal.publish_group-requires
+publish_group-requires g c =
     let engine = c.room-free.new.self in
     let held : engine.held ≡ c.args.self.now.held = ap (λ (s : EngineState). s.held) c.room-free.ensures ∙ ap (λ (s : EngineState). s.held) c.meet.ensures.same in
     let begun : Begins c.args.reader.now.seen engine.held.published = subst (λ (h : Held). Begins c.args.reader.now.seen h.published) (sym held) c.meet.ensures.begun in
@@ -35,20 +35,20 @@ returns g c =
     let begun : Begins seen engine.held.published = subst (λ (h : Held). Begins seen h.published) (sym held) c.meet.ensures.begun in
     let number : engine.held.last.number ≡ c.args.number = sym c.number-last.ensures.number ∙ c.if-last-number.false in
     let all : engine.held.published ≡ seen = seen_all first seen engine c.requires.0 begun c.requires.1 c.number-last.ensures.latest (number ∙ sym c.requires.2) in
-    let made = c.publish_group-codes.new.engine in
+    let made = c.publish_group.new.engine in
     let met : c.meet-2.new.reader ≡ record { cell = c.args.reader.now.cell; seen = made.held.published; left = c.args.reader.now.left; gone = c.args.reader.now.gone } =
     met_twice c.args.reader.now c.meet.new.reader c.meet-2.new.reader c.args.self.now.held.published made.held.published c.meet.ensures.met c.meet-2.ensures.met in
     let same : c.meet-2.new.self ≡ made = c.meet-2.ensures.same in
-    let published : made.held.published ≡ seen ++ versions = c.publish_group-codes.ensures.published ∙ ap (λ (l : List Version). l ++ versions) all in
+    let published : made.held.published ≡ seen ++ versions = c.publish_group.ensures.published ∙ ap (λ (l : List Version). l ++ versions) all in
     let later : c.meet-2.new.self.held.published ≡ seen ++ versions = ap (λ (s : EngineState). s.held.published) same ∙ published in
     let sees : c.meet-2.new.reader.seen ≡ seen ++ versions = ap (λ (r : ReaderState Version). r.seen) met ∙ published in
     record {
       met = met_as c.args.reader.now c.meet-2.new.reader made.held.published c.meet-2.new.self.held.published met (ap (λ (s : EngineState). s.held.published) (sym same));
       begun = (versions, sym later);
-      published = (c.publish_group-codes.ensures.codes, later);
-      done = λ asked updates last latest judged.
-          subst (λ (l : List Version). AreDone first l last.number asked c.publish_group-codes.result.items) (sym sees)
-          (judged_done first seen last latest asked c.publish_group-codes.result.items versions updates judged);
+      published = later;
+      done = λ asked verdicts updates last latest judged.
+          subst (λ (l : List Version). AreDone first l last.number asked verdicts) (sym sees)
+          (judged_done first seen last latest asked verdicts versions updates judged);
       kept = tt;
       refused = tt;
     }

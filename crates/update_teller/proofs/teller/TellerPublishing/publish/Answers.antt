@@ -1,6 +1,5 @@
 -- A batch that is begun in the last version that is known is published behind it.
 use Rattle.std.proofs.Common.{sym, subst, lit<}
-use Rattle.std.proofs.lemmas.Result.{err_from_is_err_and}
 use Rattle.update_group.specs.Engine.{IsLast}
 use Rattle.update_group.specs.Group.{versions_of}
 use Rattle.update_teller.specs.Met.{TellerState, IsTurnedBack}
@@ -16,9 +15,8 @@ publish-number-requires g c =
           (subst (λ (s : TellerState). IsLast s.seen made.0) (sym c.self.view_is) made.1) made.2,
     )
 
-pub returns-in_err-codes-clause-turned_back : goal.returns-in_err-codes-clause-turned_back
-returns-in_err-codes-clause-turned_back g c =
+pub returns-in-Err-clause-turned_back : goal.returns-in-Err-clause-turned_back
+returns-in-Err-clause-turned_back g c =
     let t = c.self.inside in
-    let p = err_from_is_err_and c.from_residual.result c.from_residual.ensures.1 in
-    rw p.1 (subst (λ (s : TellerState). IsTurnedBack g.Z.FirstZone.zone s.seen c.publish-number.new.reader.seen (versions_of c.args.group)) c.self.view_is
-    (turned_by g.Z.FirstZone.zone t.reader c.publish-number.new.reader t.last t.begun (versions_of c.args.group) c.publish-number.result.1 _ c.self.invariant c.in_err-codes.was c.publish-number.ensures.refused))
+    subst (λ (s : TellerState). IsTurnedBack g.Z.FirstZone.zone s.seen c.publish-number.new.reader.seen (versions_of c.args.group)) c.self.view_is
+    (turned_by g.Z.FirstZone.zone t.reader c.publish-number.new.reader t.last t.begun (versions_of c.args.group) c.publish-number.result.1 _ c.self.invariant c.in-Err.is c.publish-number.ensures.refused)

@@ -1,11 +1,14 @@
 -- What is told of an update is so by the versions that are known to be published.
-use Rattle.std.proofs.Common.{◌≡◌, ◌≤◌, ◌∷◌, [], None, refl, ap, ◌∙◌, sym, subst, append-nil, lit<, arith}
+use Rattle.std.proofs.Common.{◌≡◌, ◌≤◌, ◌∷◌, [], Option, None, refl, ap, ◌∙◌, sym, subst, append-nil, lit<, arith}
 use Rattle.std.specs.Prelude.{take}
 use Rattle.dns_message.specs.Octets.{fit}
 use Rattle.serve_core.specs.declared.transport.Transport.{Transport}
 use Rattle.serve_core.specs.declared.transport.Transport.TheVariants.{Udp}
 use Rattle.serve_core.specs.Heading.{heading_of_update, coded}
 use Rattle.serve_core.specs.Transport.{limit_of}
+use Rattle.lasting_engine.specs.Asked.{serial_in}
+use Rattle.update_desk.specs.declared.done.Serials.{Serials}
+use Rattle.update_desk.specs.Done.{IsDoneBy}
 use Rattle.update_job.specs.Done.{IsDone, told_behind}
 use Rattle.zone_service.specs.declared.handing.Way.{Way}
 use Rattle.update_teller.specs.Brought.{key_to, sent_by, IsTold, IsBroughtBy}
@@ -19,15 +22,16 @@ tell-self-inside-requires g c =
     let t = c.self.inside in
     let had = c.self.invariant in
     let least : t.begun ≤ had.version.number = omega (arith, had.begun_before, had.number) in
-    let is = subst (λ (s : TellerState). IsDone passes_waiting tells_waiting makes_waiting s.seen s.begun c.args.waiting c.args.code) (sym c.self.view_is) c.requires in (
+    let is = subst (λ (s : TellerState). IsDone passes_waiting tells_waiting makes_waiting serial_in s.seen s.begun c.args.waiting c.args.verdict) (sym c.self.view_is) c.requires in (
       lit< tt,
-      (waiting_done g.Z.FirstZone.zone t.reader.seen had.version had.latest t.begun least c.args.waiting c.args.code c.code_of-code.result is c.code_of-code.ensures.named).1 t.serials.before t.serials.after,
+      subst (λ (o : Option Serials). IsDoneBy g.Z.FirstZone.zone t.reader.seen c.args.waiting.asked t.begun c.code_of.result o) (sym c.serials_of.ensures)
+          (waiting_done g.Z.FirstZone.zone t.reader.seen had.version had.latest t.begun least c.args.waiting c.args.verdict c.code_of.result is c.code_of.ensures.named).1,
     )
 
 pub returns-in-Connection-clause-brought : goal.returns-in-Connection-clause-brought
 returns-in-Connection-clause-brought g c = (
   key_to c.in-Connection.worker c.in-Connection.key,
-  subst (λ (w : Way). IsBroughtBy w g.Z.FirstZone.zone c.args.self.now.seen c.args.self.now.begun c.args.waiting.asked c.args.code (key_to c.in-Connection.worker c.in-Connection.key)) (sym c.in-Connection.is) refl,
+  subst (λ (w : Way). IsBroughtBy w g.Z.FirstZone.zone c.args.self.now.seen c.args.self.now.begun c.args.waiting.asked c.args.verdict.code (key_to c.in-Connection.worker c.in-Connection.key)) (sym c.in-Connection.is) refl,
   c.tell.ensures ∙ ap (λ (s : TellerState). told_behind s.brought (key_to c.in-Connection.worker c.in-Connection.key ∷ [])) c.self.view_is,
 )
 
@@ -40,18 +44,18 @@ returns-in-Datagram-clause-brought g c =
     let had = c.self.invariant in
     let least : t.begun ≤ had.version.number = omega (arith, had.begun_before, had.number) in
     let asked = c.args.waiting.asked in
-    let code = c.code_of-code.result in
-    let is = subst (λ (s : TellerState). IsDone passes_waiting tells_waiting makes_waiting s.seen s.begun c.args.waiting c.args.code) (sym c.self.view_is) c.requires in
-    let done = waiting_done g.Z.FirstZone.zone t.reader.seen had.version had.latest t.begun least c.args.waiting c.args.code code is c.code_of-code.ensures.named in
+    let code = c.code_of.result in
+    let is = subst (λ (s : TellerState). IsDone passes_waiting tells_waiting makes_waiting serial_in s.seen s.begun c.args.waiting c.args.verdict) (sym c.self.view_is) c.requires in
+    let done = waiting_done g.Z.FirstZone.zone t.reader.seen had.version had.latest t.begun least c.args.waiting c.args.verdict code is c.code_of.ensures.named in
     let len = c.write_done-len.result in
     let out = c.write_done-len.new.out in
     let written : take len out ≡ fit (coded (heading_of_update asked.update) code) (limit_of Udp None) =
     c.write_done-len.ensures.octets ∙ ap (λ (p : Transport). fit (coded (heading_of_update asked.update) code) (limit_of p None)) c.over-peer.ensures.carried in
-    let told = reply_told g.Z.FirstZone.zone t.reader.seen t.begun asked c.args.code code t.serials.before t.serials.after out len done.1 done.0 asked.read c.args.waiting.may written in
+    let told = reply_told g.Z.FirstZone.zone t.reader.seen t.begun asked c.args.verdict.code code _ out len done.1 done.0 asked.read c.args.waiting.may written in
     let one = sent_by c.in-Datagram.worker c.in-Datagram.to (take len out) in (
       one,
-      subst (λ (w : Way). IsBroughtBy w g.Z.FirstZone.zone c.args.self.now.seen c.args.self.now.begun asked c.args.code one) (sym c.in-Datagram.is)
-          (take len out, refl, subst (λ (s : TellerState). IsTold g.Z.FirstZone.zone s.seen s.begun asked c.args.code (take len out)) c.self.view_is told),
+      subst (λ (w : Way). IsBroughtBy w g.Z.FirstZone.zone c.args.self.now.seen c.args.self.now.begun asked c.args.verdict.code one) (sym c.in-Datagram.is)
+          (take len out, refl, subst (λ (s : TellerState). IsTold g.Z.FirstZone.zone s.seen s.begun asked c.args.verdict.code (take len out)) c.self.view_is told),
       c.send.ensures
           ∙ ap (λ (s : TellerState). told_behind s.brought (one ∷ [])) c.self.view_is,
     )

@@ -1,5 +1,5 @@
 -- What the reader has seen grows, and a reply by what it saw meanwhile is one by what it had seen.
-use Rattle.std.proofs.Common.{◌≡◌, [], ◌∷◌, None, IfErr, take, inl, inr, sym, subst}
+use Rattle.std.proofs.Common.{◌≡◌, [], ◌∷◌, None, IfErr, take, inl, inr, sym, ap, ◌∙◌, subst}
 use Rattle.zone_tree.specs.Version.{Version}
 use Rattle.snapshot_cell.specs.Tokens.{ReaderState}
 use Rattle.serve_core.specs.declared.peer.Peer.{Peer}
@@ -11,7 +11,7 @@ use Rattle.zone_replies.specs.Going.{transfer_left}
 use Rattle.zone_replies.specs.State.{RepliesState}
 use Rattle.zone_replies.specs.Taken.{known_at, place_in, IsLater}
 use Rattle.zone_replies.proofs.TakenLemmas.{known_grows, taken_grow}
-use Rattle.zone_replies.proofs.TakenReplies.{step_replied, settled_replied, never_later, spent_later}
+use Rattle.zone_replies.proofs.TakenReplies.{step_replied, settled_replied, never_later, spent_later, spent_left}
 use Rattle.zone_replies.proofs.replies.RepliesAnsweringTransfer.reply.Goals as goal
 
 pub invariant_of-self : goal.invariant_of-self
@@ -48,7 +48,10 @@ returns-in-Bytes-clause-reply g c =
     (subst (λ (s : RepliesState). EachGrows {T = Version} (known_at s.taken s.reader) (known_at c.args.self.now.taken c.args.self.now.reader)) (sym c.self.view_is) c.settle.ensures.grows) c.in-Bytes.ensures.now.1
 
 pub returns-in-Spent-clause-spent : goal.returns-in-Spent-clause-spent
-returns-in-Spent-clause-spent g c =
+returns-in-Spent-clause-spent g c = λ _. ap (λ (r : ReaderState Version). r.left) c.in-Spent.ensures.now.1.1 ∙ c.in-Spent.ensures.now.1.0
+
+pub returns-in-Spent-clause-unanswered : goal.returns-in-Spent-clause-unanswered
+returns-in-Spent-clause-unanswered g c =
     let reader : c.self.inside.reader ≡ c.args.self.now.reader = subst (λ (s : RepliesState). s.reader ≡ c.args.self.now.reader) (sym c.self.view_is) c.settle.ensures.reader in
     λ _. inl (c.in-Spent.ensures.now.0, subst (λ (r : ReaderState Version). r.left ≡ 0) reader c.in-Spent.ensures.now.1.0)
 
@@ -72,6 +75,9 @@ returns-in-Later-clause-later g c =
     subst (λ (p : Peer). IfErr c.reply_later.result (λ unmade. unmade ≡ Later → IsLater p c.args.request.now)) peer c.reply_later.ensures.later
 
 pub returns-in-Later-clause-spent : goal.returns-in-Later-clause-spent
-returns-in-Later-clause-spent g c =
+returns-in-Later-clause-spent g c = spent_left g.Z.FirstZone.zone c.self.inside.peer c.args.request.now c.reply_later.new.self.reader c.reply_later.result c.reply_later.ensures.spent
+
+pub returns-in-Later-clause-unanswered : goal.returns-in-Later-clause-unanswered
+returns-in-Later-clause-unanswered g c =
     let peer : c.self.inside.peer ≡ c.args.self.now.peer = subst (λ (s : RepliesState). s.peer ≡ c.args.self.now.peer) (sym c.self.view_is) c.settle.ensures.peer in
     spent_later g.Z.FirstZone.zone c.self.inside.peer c.args.self.now.peer c.args.request.now c.args.self.now.reader c.reply_later.new.self.reader c.reply_later.result peer c.reply_later.ensures.spent

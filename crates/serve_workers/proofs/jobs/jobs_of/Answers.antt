@@ -1,0 +1,23 @@
+-- One job more is that of its duty.
+use Rattle.std.proofs.Common.{rules, ◌≡◌, [], ◌∷◌, ◌++◌, All, sym, ap, ◌∙◌, subst, append_assoc}
+use Rattle.std.proofs.lemmas.List.{map_push}
+use Rattle.std.proofs.lemmas.List.Elements.{All-push}
+use Rattle.std.specs.Vec.Iter.{into_iter_items}
+use Rattle.serve_workers.specs.Numbers.{number_of, takes_datagrams, are_datagrams, HasRights}
+use Rattle.worker_jobs.proofs.ListLemmas.{map_more}
+use Rattle.serve_workers.proofs.jobs.jobs_of.Goals as goal
+
+pub loop-duty-preserved : goal.loop-duty-preserved
+loop-duty-preserved g c =
+    let pushed : c.push_reserved.new.self.items ≡ c.loop-duty.jobs.items ++ c.in-Ok-job_of.job ∷ [] = c.push_reserved.ensures.items in record {
+      left = append_assoc c.loop-duty.yielded (c.in-Some.duty ∷ []) (into_iter_items c.next.new.self) ∙ ap (λ rest. c.loop-duty.yielded ++ rest) (sym c.in-Some.ensures.steps.0) ∙ c.loop-duty.invariant.left;
+      count = search rules;
+      room = search rules;
+      numbers =
+          map_more (λ job. number_of job) _ _ _ _ _ pushed c.loop-duty.invariant.numbers c.in-Ok-job_of.ensures.number ∙ sym (map_push (λ duty. duty.worker) c.loop-duty.yielded c.in-Some.duty);
+      kinds =
+          map_more (λ job. takes_datagrams job) _ _ _ _ _ pushed c.loop-duty.invariant.kinds c.in-Ok-job_of.ensures.kind ∙ sym (map_push (λ duty. are_datagrams duty.sockets) c.loop-duty.yielded c.in-Some.duty);
+      rights =
+          subst (λ jobs. All (λ job. HasRights c.args.plan.connections.allowed.addresses.now job) jobs) (sym pushed)
+          (All-push (λ job. HasRights c.args.plan.connections.allowed.addresses.now job) c.loop-duty.jobs.items c.in-Ok-job_of.job c.loop-duty.invariant.rights c.in-Ok-job_of.ensures.rights);
+    }
