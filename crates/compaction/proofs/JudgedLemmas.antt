@@ -1,4 +1,4 @@
--- The trail behind updates that are judged, brought to the disk and published.
+-- Updates that are judged, and the last of the versions that they make.
 use Rattle.std.proofs.Common.{◌≡◌, ℕ, List, [], ◌∷◌, ◌++◌, Option, None, Some, refl, sym, ap, ◌∙◌, subst, append_assoc}
 use Rattle.std.specs.Prelude.{All, MatchOption}
 use Rattle.std.proofs.lemmas.List.{append-nil}
@@ -25,32 +25,6 @@ judged_short (told one code judged is) = judged_short judged
 judged_short (starved one judged is) = judged_short judged
 judged_short (changed {asked} {verdicts} {made} {updates} one next judged lets is) =
     All-append IsShort updates (octets_of one ∷ []) (judged_short judged) (All-cons IsShort (octets_of one) [] one.short (All-nil IsShort))
-
--- the trail of what is published, where a group's batch gets to the disk, and where it doesn't
-pub trail_behind : {E : Type 0} (fault : Option E) (first : Version) (asked : List Asked) (judged : List Verdict) (group after : Group Version) (room : ℕ) (old new : TrailState)
-    → IsGroup passes tells makes octets_of serial_in first asked judged group room → MatchOption fault (after ≡ group) (λ _. IsGivenUp group after)
-    → MatchOption fault
-    ((updates : List (List ℕ)) → IsBatch group updates → All IsShort updates → (steps : List Step) × AreSteps steps (versions_of group) updates × (new ≡ followed old steps))
-    (λ _. new ≡ old)
-    → IsTrail old → last_in old ≡ first → IsTrail new × (last_in new ≡ newest_of first (versions_of after))
-trail_behind None first asked judged group after room old new is same follows trail last =
-    let found = follows is.updates is.batch (judged_short is.judged) in
-    let steps : List Step = found.0 in
-    let made : AreMadeBy first (versions_of group) is.updates = judged_by is.judged in
-    let here : AreMadeBy (last_in old) (versions_in steps) (updates_of steps) =
-    subst (λ (v : Version). AreMadeBy v (versions_in steps) (updates_of steps)) (sym last)
-    (subst (λ (us : List (List ℕ)). AreMadeBy first (versions_in steps) us) (sym found.1.updates_are)
-    (subst (λ (vs : List Version). AreMadeBy first vs is.updates) (sym found.1.versions_are) made)) in
-    let behind = followed_is old steps trail here in (
-      subst IsTrail (sym found.2) behind.0,
-      ap last_in found.2
-          ∙ (behind.1 ∙ (ap (λ (v : Version). newest_of v (versions_in steps)) last
-          ∙ (ap (newest_of first) found.1.versions_are ∙ ap (λ (g : Group Version). newest_of first (versions_of g)) (sym same)))),
-    )
-trail_behind (Some fault) first asked judged group after room old new is given same trail last = (
-  subst IsTrail (sym same) trail,
-  ap last_in same ∙ (last ∙ sym (ap (newest_of first) given.none)),
-)
 
 -- the last of versions behind which others stand
 newest_last : (first : Version) (versions : List Version) → IsLast (first ∷ versions) (newest_of first versions)

@@ -18,7 +18,6 @@ mod next;
 mod step;
 mod steps;
 mod texts;
-mod together;
 mod trail;
 mod writer;
 
@@ -30,6 +29,5 @@ pub use marked::{Compaction, next_text};
 pub use next::{NextJournal, NextText};
 pub use step::Step;
 pub use steps::{group_steps, steps_of};
-pub use together::update_stored;
 pub use trail::Trail;
 pub use writer::StoreWriter;

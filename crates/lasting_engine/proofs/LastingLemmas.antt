@@ -30,31 +30,3 @@ judged_by nothing = tt
 judged_by (told one code judged is) = judged_by judged
 judged_by (starved one judged is) = judged_by judged
 judged_by {first} (changed {asked} {verdicts} {made} {updates} one next judged lets is) = made_more first made updates (octets_of one) one.update next (judged_by judged) one.read is
-
-pub journal_kept : {D F : Type 0} (written synced : D → List ℕ) (old new : EngineState) (asked : List Asked) (verdicts : List Verdict) (before after : Log D F) (head : Head) (bodies : List (List ℕ))
-    → IsKept written synced old new asked verdicts before after → Holds written synced head before bodies → IsJournal old.held.published bodies
-    → (more : List (List ℕ)) × Holds written synced head after more × IsJournal new.held.published more
-journal_kept written synced old new asked verdicts before after head bodies kept holds journal = (
-  logged bodies kept.updates,
-  kept.on_disk head bodies holds,
-  subst (λ (p : List Version). IsJournal p (logged bodies kept.updates)) (sym kept.published) (goes_on kept.first kept.versions kept.updates journal kept.last (judged_by kept.judged)),
-)
-
--- what the journal keeps once updates were told these verdicts, and a fault of the disk or none
-journal_by : {D F E : Type 0} (fault : Option E) (verdicts : List Verdict) (written synced : D → List ℕ) (old new : EngineState) (asked : List Asked) (before after : Log D F) (head : Head) (bodies : List (List ℕ))
-    → MatchOption fault (IsKept written synced old new asked verdicts before after) (λ _. IsRefused written synced old new asked verdicts before after)
-    → Holds written synced head before bodies → IsJournal old.held.published bodies
-    → MatchOption fault ((more : List (List ℕ)) × Holds written synced head after more × IsJournal new.held.published more) (λ _. IsJournal new.held.published bodies)
-journal_by None verdicts written synced old new asked before after head bodies kept holds journal =
-    journal_kept written synced old new asked verdicts before after head bodies kept holds journal
-journal_by (Some fault) verdicts written synced old new asked before after head bodies refused holds journal =
-    subst (λ (p : List Version). IsJournal p bodies) (sym refused.published) journal
-
-pub journal_told : {D F R E X : Type 0} (result : Result R X) (verdicts_of : R → List Verdict) (fault_of : R → Option E) (written synced : D → List ℕ) (old new : EngineState) (asked : List Asked)
-    (before after : Log D F) (head : Head) (bodies : List (List ℕ))
-    → IfOk result (λ r. MatchOption (fault_of r) (IsKept written synced old new asked (verdicts_of r) before after) (λ _. IsRefused written synced old new asked (verdicts_of r) before after))
-    → Holds written synced head before bodies → IsJournal old.held.published bodies
-    → IfOk result (λ r. MatchOption (fault_of r) ((more : List (List ℕ)) × Holds written synced head after more × IsJournal new.held.published more) (λ _. IsJournal new.held.published bodies))
-journal_told (Ok r) verdicts_of fault_of written synced old new asked before after head bodies is holds journal =
-    journal_by (fault_of r) (verdicts_of r) written synced old new asked before after head bodies is holds journal
-journal_told (Err e) verdicts_of fault_of written synced old new asked before after head bodies is holds journal = tt

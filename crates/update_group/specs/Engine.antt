@@ -7,10 +7,6 @@ use Rattle.update_group.specs.declared.judging.Judgement.TheVariants.{Told, Made
 abbrev pub IsLast : {V : Type 0} → List V → V → Type 0
 IsLast {V} versions version = (front : List V) × (versions ≡ front ++ version ∷ [])
 
--- some update makes it from the last of these
-abbrev pub IsMadeFrom : {V A : Type 0} → (V → A → V → Type 0) → List V → V → Type 0
-IsMadeFrom {V} {A} makes versions next = (last : V) × (asked : A) × IsLast versions last × makes last asked next
-
 -- each of these is made by some update from the one before it, and the first from this one
 abbrev pub AreMade : {V A : Type 0} → (V → A → V → Type 0) → V → List V → Type 0
 AreMade makes first [] = Unit {0}

@@ -58,29 +58,3 @@ module _ {V A : Type 0} (passes : V → A → Type 0) (tells : V → A → ℕ �
     pub judged : Judged first asked verdicts (versions_of group) updates
     pub batch : IsBatch group updates
     pub few : length (versions_of group) ≤ room
-
-  module _ {D F : Type 0} (written synced : D → List ℕ) where
-    -- each gets what was judged: the versions are published, in their order, and their updates are on the disk, as one batch
-    pub record Lasts (old new : List V) (asked : List A) (verdicts : List Verdict) (before after : Log D F) : Type 0 where
-      pub first : V
-      pub versions : List V
-      pub updates : List (List ℕ)
-      pub last : IsLast old first
-      pub judged : Judged first asked verdicts versions updates
-      pub published : new ≡ old ++ versions
-      pub on_disk : (head : Head) (bodies : List (List ℕ)) → Holds written synced head before bodies → Holds written synced head after (logged bodies updates)
-
-    -- some make a version, and their batch isn't on the disk: each update gets SERVFAIL, nothing is published, and the journal holds what it held, or takes
-    -- nothing more
-    pub record Fails (old new : List V) (asked : List A) (verdicts : List Verdict) (before after : Log D F) : Type 0 where
-      pub first : V
-      pub judged_verdicts : List Verdict
-      pub versions : List V
-      pub updates : List (List ℕ)
-      pub last : IsLast old first
-      pub judged : Judged first asked judged_verdicts versions updates
-      pub some : 0 < length updates
-      pub told : verdicts ≡ replicate (length asked) failed
-      pub published : new ≡ old
-      pub kept : (head : Head) (bodies : List (List ℕ)) → Holds written synced head before bodies
-          → Holds written synced head after bodies ⊎ IsStuck synced head after bodies

@@ -25,6 +25,13 @@ impl<V: Drop> Group<V> {
         &self.versions
     }
 
+    /// The versions, for who publishes them.
+    pub fn into_versions(self) -> Vec<V>
+        ensures { result.items ≡ versions_of self }
+    {
+        self.versions
+    }
+
     /// The batch of the updates that make one.
     pub fn body(&self) -> &[u8]
         ensures body { result.now ≡ body_of self.now }

@@ -11,6 +11,9 @@ use crate::verdict::Verdict;
 use journal::put_update;
 use std::alloc::Global;
 
+/// How many updates of a batch make a version at most.
+pub const MOST: usize = 64;
+
 /// The versions that updates make, and the batch of these updates.
 #[derive(Drop)]
 struct Batch<V: Drop> {
