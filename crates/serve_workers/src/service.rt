@@ -4,6 +4,7 @@ ghost use Rattle.std.specs.List.{All, Any};
 ghost use Rattle.dns_engine.specs.Held.{KEPT};
 ghost use Rattle.dns_engine.specs.Versions.{IsFirst, AreNext};
 ghost use Rattle.snapshot_cell.specs.declared.tokens.TheConstants.{READERS};
+ghost use Rattle.update_desk.specs.Right.{AreNamed};
 ghost use Rattle.serve_workers.specs.Numbers.{end_of, fault_by};
 
 use crate::ending::{end_cell, end_named};
@@ -31,7 +32,7 @@ use update_job::{Faults, Storing, UpdateJob};
 use update_queue::Most;
 use update_teller::Teller;
 use worker_jobs::{Meanwhile, Muster, NotStarted, Progress, Secondaries};
-use zone_service::{JobEnd, Server, ServiceLog};
+use zone_service::{JobEnd, PublishRight, Server, ServerLedgers, ServerName, ServiceLog};
 
 /// How a zone is served.
 #[derive(Clone, Copy)]
@@ -166,7 +167,10 @@ pub fn serve_zone<
         Err(NewFault::TooManyReaders) => unreachable!(),
         Err(NewFault::NoMemory) => return Err(ServeFault::NoMemory),
     };
-    serve_parts::<R, Z, Brand, L, S, F>(rt, alloc, parts, later, jobs, plan, judging, log)
+    let ledgers = ServerLedgers::new();
+    serve_parts::<R, Z, Brand, L, S, F>(
+        rt, alloc, parts, later, ledgers, jobs, plan, judging, log,
+    )
 }
 
 /// Serves the versions of a cell in which the first one alone is published, and these are to be published behind it, by jobs, with a reader for
@@ -174,7 +178,7 @@ pub fn serve_zone<
 fn serve_parts<
     R: Threads + Wait + Clock + Sync,
     Z: FirstZone + Send + Sync,
-    N: Naming + Send + Sync,
+    N: ServerName + Send + Sync,
     L: ServiceLog + Sync,
     S: Storing<SharedVersion>,
     F: Faults<S::Fault> + Drop,
@@ -183,12 +187,13 @@ fn serve_parts<
     alloc: Global,
     parts: Parts<SharedVersion, ZoneVersions<Z>>,
     later: Vec<SharedVersion>,
+    ledgers: ServerLedgers,
     jobs: Vec<SocketJob<'_, R>>,
     plan: Plan<'_>,
     judging: Judging<'_, S, F>,
     log: &L,
 ) -> Result<(), ServeFault>
-    requires named { parts.cell ≡ N.cell }
+    requires named { (parts.cell ≡ N.cell) × AreNamed N.published N.reserved ledgers }
     requires publisher { (parts.publisher.cell ≡ parts.cell) × (parts.publisher.number ≡ 0) }
     requires notes { parts.publisher.noted ≡ 0 }
     requires readers { All (λ r. (r.cell ≡ parts.cell) × (0 < r.left)) parts.readers.items }
@@ -220,7 +225,7 @@ fn serve_parts<
     let (own, reader) = (NamedReader::of(own), NamedReader::of(reader));
     let pairs = pairs_of(readers, jobs, pairs);
     let (served, publisher, readers) = serve_cell::<R, Z, N, L, S, F>(
-        rt, alloc, &cell, publisher, own, reader, later, pairs, back, plan, judging, log,
+        rt, alloc, &cell, publisher, own, reader, later, ledgers, pairs, back, plan, judging, log,
     );
     end_named(rt, cell, publisher, readers);
     served
@@ -231,7 +236,7 @@ fn serve_parts<
 fn serve_cell<
     R: Threads + Wait + Clock + Sync,
     Z: FirstZone + Send + Sync,
-    N: Naming + Send + Sync,
+    N: ServerName + Send + Sync,
     L: ServiceLog + Sync,
     S: Storing<SharedVersion>,
     F: Faults<S::Fault> + Drop,
@@ -243,6 +248,7 @@ fn serve_cell<
     own: VersionReader<N>,
     reader: VersionReader<N>,
     later: Vec<SharedVersion>,
+    ledgers: ServerLedgers,
     pairs: Vec<(VersionReader<N>, SocketJob<'_, R>)>,
     mut back: Vec<VersionReader<N>>,
     plan: Plan<'_>,
@@ -254,6 +260,7 @@ fn serve_cell<
     Vec<VersionReader<N>>,
 )
     requires first { publisher.number ≡ 0 }
+    requires named { AreNamed N.published N.reserved ledgers }
     requires notes { publisher.noted ≡ 0 }
     requires grant { 0 < own.left }
     requires follow { AreNext publisher.value later.items }
@@ -263,8 +270,10 @@ fn serve_cell<
     ensures { vec_len result.2 ≡ vec_len pairs.entry + 2 }
 {
     let count = later.len();
-    let server = match Server::resume(alloc, cell, publisher, own, plan.keep, later) {
-        Ok(server) => server,
+    let (server, right) = match Server::resume(
+        alloc, cell, publisher, own, plan.keep, later, ledgers,
+    ) {
+        Ok(resumed) => resumed,
         Err(
             NoEngine {
                 fault: EngineFault::Spent,
@@ -291,6 +300,7 @@ fn serve_cell<
         plan.muster,
         judging,
         reader,
+        right,
         pairs,
         &mut back,
         log,
@@ -305,7 +315,7 @@ fn serve_cell<
 fn serve_handing<
     R: Threads + Wait + Clock + Sync,
     Z: FirstZone + Send + Sync,
-    N: Naming + Send + Sync,
+    N: ServerName + Send + Sync,
     L: ServiceLog + Sync,
     S: Storing<SharedVersion>,
     F: Faults<S::Fault> + Drop,
@@ -316,6 +326,7 @@ fn serve_handing<
     muster: &Muster,
     judging: Judging<'_, S, F>,
     reader: VersionReader<N>,
+    right: PublishRight<N>,
     pairs: Vec<(VersionReader<N>, SocketJob<'_, R>)>,
     back: &mut Vec<VersionReader<N>>,
     log: &L,
@@ -331,7 +342,7 @@ fn serve_handing<
         store,
         faults,
     } = judging;
-    let teller = Teller::new(rt, server, reader, log, bringing);
+    let teller = Teller::new(rt, server, reader, right, log, bringing);
     let job = match UpdateJob::new(alloc, teller, store, updates.queue()) {
         Ok(job) => job,
         Err((teller, _)) => {
@@ -356,7 +367,7 @@ fn serve_handing<
 fn serve_with<
     R: Threads + Wait + Clock + Sync,
     Z: FirstZone + Send + Sync,
-    N: Naming + Send + Sync,
+    N: ServerName + Send + Sync,
     L: ServiceLog + Sync,
     M: Meanwhile,
 >(

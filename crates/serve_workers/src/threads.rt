@@ -9,7 +9,6 @@ use crate::updates::Updates;
 use dns_engine::{FirstZone, VersionReader};
 use ready_sockets::{TcpPeer, TcpPlace, Watch};
 use serve_core::{Peer, Transport};
-use snapshot_cell::Naming;
 use std::alloc::Global;
 use std::sync::Wait;
 use std::thread::Threads;
@@ -19,7 +18,7 @@ use worker_jobs::{
     do_all, nobody,
 };
 use zone_replies::Replies;
-use zone_service::{Asked, Event, Hand, JobEnd, Server, ServiceLog};
+use zone_service::{Asked, Event, Hand, JobEnd, Server, ServerName, ServiceLog};
 
 /// A job on TCP connections of the system's.
 pub type TcpJob<'a, C> = ConnectionsJob<'a, TcpPeer, Watch<'a, C>, TcpPlace, C>;
@@ -37,12 +36,12 @@ pub enum SocketJob<'a, C> {
 
 /// A job on a socket of datagrams, and who answers in it by a reader.
 #[derive(Drop)]
-struct DatagramsSeat<'g, 's, Z: FirstZone, N: Naming, L> {
+struct DatagramsSeat<'g, 's, Z: FirstZone, N: ServerName, L> {
     asked: Asked<'g, 's, Z, N, L>,
     job: DatagramsJob<'g, WorkerSocket<'g>>,
 }
 
-impl<'g, 's, Z: FirstZone, N: Naming, L: ServiceLog> DatagramsSeat<'g, 's, Z, N, L> {
+impl<'g, 's, Z: FirstZone, N: ServerName, L: ServiceLog> DatagramsSeat<'g, 's, Z, N, L> {
     /// Does its job, and gives how that has ended.
     fn serve<R: Wait>(&mut self, rt: &R) -> JobEnd
         ensures number { self.new.job.number ≡ self.old.job.number }
@@ -55,12 +54,12 @@ impl<'g, 's, Z: FirstZone, N: Naming, L: ServiceLog> DatagramsSeat<'g, 's, Z, N,
 
 /// A job on connections, and who answers in it by a reader.
 #[derive(Drop)]
-struct ConnectionsSeat<'g, 's, Z: FirstZone, N: Naming, L, C> {
+struct ConnectionsSeat<'g, 's, Z: FirstZone, N: ServerName, L, C> {
     replies: Replies<'g, 's, Z, N, L>,
     job: TcpJob<'g, C>,
 }
 
-impl<'g, 's, Z: FirstZone, N: Naming, L: ServiceLog, C: Clock> ConnectionsSeat<'g, 's, Z, N, L, C> {
+impl<'g, 's, Z: FirstZone, N: ServerName, L: ServiceLog, C: Clock> ConnectionsSeat<'g, 's, Z, N, L, C> {
     /// Does its job, and gives how that has ended.
     fn serve<R: Wait>(&mut self, rt: &R, log: &L) -> JobEnd
         ensures number { self.new.job.number ≡ self.old.job.number }
@@ -73,12 +72,12 @@ impl<'g, 's, Z: FirstZone, N: Naming, L: ServiceLog, C: Clock> ConnectionsSeat<'
 
 /// A job that tells secondaries, and who loads in it by a reader.
 #[derive(Drop)]
-struct SecondariesSeat<'g, 's, Z: FirstZone, N: Naming, L, C> {
+struct SecondariesSeat<'g, 's, Z: FirstZone, N: ServerName, L, C> {
     asked: Asked<'g, 's, Z, N, L>,
     job: NotifyJob<'g, C>,
 }
 
-impl<'g, 's, Z: FirstZone, N: Naming, L: ServiceLog, C: Clock> SecondariesSeat<'g, 's, Z, N, L, C> {
+impl<'g, 's, Z: FirstZone, N: ServerName, L: ServiceLog, C: Clock> SecondariesSeat<'g, 's, Z, N, L, C> {
     /// Does its job, and gives how that has ended.
     fn serve<R: Wait>(&mut self, rt: &R, log: &L) -> JobEnd
         ensures number { self.new.job.number ≡ self.old.job.number }
@@ -99,7 +98,7 @@ fn hand_at(updates: &Updates, place: usize) -> Hand<'_> {
 
 /// A thread's job, and who answers in it by a reader.
 #[derive(Drop)]
-enum Seat<'g, 's, Z: FirstZone, N: Naming, L, C> {
+enum Seat<'g, 's, Z: FirstZone, N: ServerName, L, C> {
     /// On a socket of datagrams.
     Datagrams(DatagramsSeat<'g, 's, Z, N, L>),
     /// On listeners.
@@ -108,7 +107,7 @@ enum Seat<'g, 's, Z: FirstZone, N: Naming, L, C> {
     Secondaries(SecondariesSeat<'g, 's, Z, N, L, C>),
 }
 
-impl<'g, 's, Z: FirstZone, N: Naming, L: ServiceLog, C: Clock> Seat<'g, 's, Z, N, L, C> {
+impl<'g, 's, Z: FirstZone, N: ServerName, L: ServiceLog, C: Clock> Seat<'g, 's, Z, N, L, C> {
     /// A job with a reader, of the thread at a place, which hands updates to where they wait.
     fn of(
         alloc: Global,
@@ -208,7 +207,7 @@ impl<'g, 's, Z: FirstZone, N: Naming, L: ServiceLog, C: Clock> Seat<'g, 's, Z, N
 
 /// A thread of a server.
 #[derive(Drop)]
-struct ServerThread<'g, 's, Z: FirstZone, N: Naming, L, C> {
+struct ServerThread<'g, 's, Z: FirstZone, N: ServerName, L, C> {
     seat: Seat<'g, 's, Z, N, L, C>,
     muster: &'g Muster,
     log: &'g L,
@@ -229,7 +228,7 @@ impl<
     'g,
     's,
     Z: FirstZone + Send + Sync,
-    N: Naming + Send + Sync,
+    N: ServerName + Send + Sync,
     L: ServiceLog + Sync,
     C: Clock + Sync,
 > Work for ServerThread<'g, 's, Z, N, L, C> {
@@ -255,7 +254,7 @@ impl<
 }
 
 /// Puts the threads of pairs into `threads`, which has room for them.
-fn put_threads<'g, 's, Z: FirstZone, N: Naming, L: ServiceLog, C: Clock>(
+fn put_threads<'g, 's, Z: FirstZone, N: ServerName, L: ServiceLog, C: Clock>(
     alloc: Global,
     server: &'g Server<'s, Z, N>,
     muster: &'g Muster,
@@ -282,7 +281,7 @@ fn put_threads<'g, 's, Z: FirstZone, N: Naming, L: ServiceLog, C: Clock>(
 }
 
 /// Puts the pairs of threads into `back`, which has room for them.
-fn put_back<'g, Z: FirstZone, N: Naming, L: ServiceLog, C: Clock>(
+fn put_back<'g, Z: FirstZone, N: ServerName, L: ServiceLog, C: Clock>(
     done: Vec<ServerThread<'g, '_, Z, N, L, C>>,
     back: &mut Vec<(VersionReader<N>, SocketJob<'g, C>)>,
 )
@@ -304,7 +303,7 @@ pub(crate) fn run_threads<
     's,
     R: Threads + Wait + Sync,
     Z: FirstZone + Send + Sync,
-    N: Naming + Send + Sync,
+    N: ServerName + Send + Sync,
     L: ServiceLog + Sync,
     C: Clock + Sync,
     M: Meanwhile,

@@ -1,5 +1,5 @@
 -- What is told of an update by who judges those that wait, and lets them last (RFC 2136, 3 and 3.5).
-use Rattle.std.specs.Prelude.{◌≡◌, ◌≢◌, ◌<◌, ◌≤◌, ◌⊎◌, ℕ, Bool, List, [], ◌∷◌, length, Option, None, Some, unwrap_or}
+use Rattle.std.specs.Prelude.{◌≡◌, ◌≢◌, ◌≤◌, ◌⊎◌, ℕ, Bool, List, [], ◌∷◌, Option, None, Some, unwrap_or}
 use Rattle.dns_rdata.specs.Numbers.{rcode_number}
 use Rattle.dns_rdata.specs.Record.{Record}
 use Rattle.dns_rdata.specs.declared.numbers.Rcode.{Rcode}
@@ -12,7 +12,7 @@ use Rattle.update_core.specs.Applied.{code_of}
 use Rattle.update_group.specs.declared.verdict.Verdict.{Verdict}
 use Rattle.update_group.specs.Engine.{AreMade}
 use Rattle.dns_engine.specs.Chain.{IsPublished}
-use Rattle.dns_engine.specs.Held.{EngineState, IsLatest}
+use Rattle.dns_engine.specs.Held.{IsLatest}
 use Rattle.dns_engine.specs.Replayed.{IsReplay}
 use Rattle.lasting_engine.specs.declared.asked.Asked.{Asked}
 use Rattle.lasting_engine.specs.Asked.{makes}
@@ -65,14 +65,9 @@ IsFetched first published IsNothing = Unit {0}
 IsFetched first published StillWaits = Unit {0}
 IsFetched first published (IsTold done) = IsDone first published done
 
--- versions are made one from the other, the first from the last of those that are known to be published, which has this number (RFC 2136, 3)
-abbrev pub IsJudgedIn : List Record → List Version → ℕ → List Version → Type 0
-IsJudgedIn first published number versions =
-    (last : Version) × IsLatest first published last × (last.number ≡ number) × AreMade makes last versions
-
--- versions aren't published: the last one that an engine has published hasn't this number, or it is sure to publish fewer than they are (own)
-abbrev pub IsTurnedAway : EngineState → ℕ → List Version → Type 0
-IsTurnedAway engine number versions = (engine.held.last.number ≢ number) ⊎ (engine.free < length versions)
+-- versions are made one from the other, the first from the last of those that are published (RFC 2136, 3)
+abbrev pub IsJudgedIn : List Record → List Version → List Version → Type 0
+IsJudgedIn first published versions = (last : Version) × IsLatest first published last × AreMade makes last versions
 
 -- the serials of a verdict, before an update and after it
 abbrev pub serials_of : Option (ℕ × ℕ) → Option Serials

@@ -8,7 +8,9 @@
 
 mod desk;
 mod done;
+mod right;
 mod seats;
 
 pub use desk::{Begun, Desk};
 pub use done::{Done, Fetched, Serials, serials_of};
+pub use right::{PublishRight, ServerLedgers, ServerName};

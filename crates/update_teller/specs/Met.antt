@@ -32,10 +32,3 @@ pub record HasBegun (first : List Record) (known : List Version) (after : Teller
   pub engine : EngineState
   pub published : after.seen ≡ engine.held.published
   pub room : after.room ≡ engine.free
-
--- versions that are made behind the last of those that were known to be published aren't: others are published there, or too few more are sure to find room
-pub record IsTurnedBack (first : List Record) (known later : List Version) (versions : List Version) : Type 0 where
-  pub engine : EngineState
-  pub latest : IsLatest first engine.held.published engine.held.last
-  pub published : later ≡ engine.held.published
-  pub why : (later ≢ known) ⊎ (engine.free < length versions)

@@ -1,12 +1,12 @@
 //! Telling those whose updates waited (RFC 2136, 3.8).
-ghost use Rattle.std.specs.Prelude.{◌≡◌, ◌≤◌, ◌++◌, [], ◌∷◌, length, OnOk, IfErr};
+ghost use Rattle.std.specs.Prelude.{◌≡◌, ◌+◌, ◌≤◌, ◌++◌, [], ◌∷◌, length};
 ghost use Rattle.zone_tree.specs.Version.{Version as VersionOf};
 ghost use Rattle.update_group.specs.Engine.{IsLast, AreMade};
 ghost use Rattle.update_group.specs.Group.{versions_of};
 ghost use Rattle.lasting_engine.specs.Asked.{serial_in};
-ghost use Rattle.update_job.specs.Done.{BeginsWith, IsDone, told_behind};
+ghost use Rattle.update_job.specs.Done.{IsDone, told_behind};
 ghost use Rattle.update_teller.specs.Brought.{Brought as BroughtOne, IsBrought};
-ghost use Rattle.update_teller.specs.Met.{HasBegun, IsTurnedBack};
+ghost use Rattle.update_teller.specs.Met.{HasBegun};
 ghost use Rattle.update_teller.specs.Waits.{passes_waiting, tells_waiting, makes_waiting, octets_of_waiting};
 
 use crate::codes::code_of;
@@ -15,7 +15,6 @@ use dns_engine::{FirstZone, SharedVersion, VersionReader};
 use lasting_engine::{judge_asked, serial_in};
 use notify::{Large, passed_by};
 use serve_core::{Peer, Transport, UDP_LIMIT};
-use snapshot_cell::Naming;
 use std::alloc::Global;
 use std::marker::Model;
 use std::sync::Wait;
@@ -23,7 +22,9 @@ use update_desk::{Done, serials_of};
 use update_group::{Group, Judgement, Judging, Verdict};
 use update_job::Publishing;
 use wire_names::NameWriter;
-use zone_service::{Event, Server, ServiceLog, Told, Waiting, Way, tell_update, write_done};
+use zone_service::{
+    Event, PublishRight, Server, ServerName, ServiceLog, Told, Waiting, Way, tell_update, write_done,
+};
 use zone_tree::Version;
 
 /// The first owner that one of these versions gives more than stock secondaries take, each of them made from the one before it, and the first from this one; None where
@@ -58,38 +59,38 @@ fn passed_of(before: &Version, version: &Version) -> Option<Large> {
     passed_by(before.zone(), version.zone(), delta.additions())
 }
 
-/// Who publishes the versions of batches in a server, and tells those whose updates waited, with a reader, of which contracts know what it has seen published.
+/// Who publishes the versions of batches in a server, by the right to publish, and tells those whose updates waited, with a reader, which has seen all that is published,
+/// since nobody else publishes.
 #[derive(Drop)]
-pub struct Teller<'a, 's, Z: FirstZone, N: Naming, L, P: Replying + Drop> {
+pub struct Teller<'a, 's, Z: FirstZone, N: ServerName, L, P: Replying + Drop> {
     server: &'a Server<'s, Z, N>,
     reader: VersionReader<N>,
+    right: PublishRight<N>,
     log: &'a L,
     replying: P,
     /// What the reply to a datagram is written into, and by.
     out: [u8; UDP_LIMIT],
     names: NameWriter,
-    /// The number of the last version that the reader has seen.
+    /// The number of the version published last.
     last: u64,
     /// The number of the version that the last batch was begun with.
     begun: u64,
-    /// How many more versions were sure to find room then.
-    room: usize,
     /// That version, until the batch is published.
     first: Option<SharedVersion>,
 }
 
-impl<'a, 's, Z: FirstZone, N: Naming, L, P: Replying + Drop> Model for Teller<'a, 's, Z, N, L, P> {
-    ghost use Rattle.std.specs.Prelude.{◌+◌};
+impl<'a, 's, Z: FirstZone, N: ServerName, L, P: Replying + Drop> Model for Teller<'a, 's, Z, N, L, P> {
+    ghost use Rattle.std.specs.Prelude.{◌≡◌, ◌+◌, length};
     ghost use Rattle.update_teller.specs.Met.{TellerState, HasMetLast};
 
     ghost Value = { TellerState };
 
-    ghost view = { λ t. record { seen = t.reader.seen; begun = t.begun + 1; room = t.room; brought = P.brought t.replying } };
+    ghost view = { λ t. record { seen = t.reader.seen; begun = t.begun + 1; room = t.right.reserved.amount; brought = P.brought t.replying } };
 
-    ghost invariant = { λ t. HasMetLast Z.zone t.reader.seen t.last t.begun };
+    ghost invariant = { λ t. HasMetLast Z.zone t.reader.seen t.last t.begun × (t.right.published.amount ≡ length t.reader.seen) };
 }
 
-impl<'a, 's, Z: FirstZone, N: Naming, L: ServiceLog, P: Replying + Drop> Teller<
+impl<'a, 's, Z: FirstZone, N: ServerName, L: ServiceLog, P: Replying + Drop> Teller<
     'a,
     's,
     Z,
@@ -97,29 +98,32 @@ impl<'a, 's, Z: FirstZone, N: Naming, L: ServiceLog, P: Replying + Drop> Teller<
     L,
     P,
 > {
-    /// Who tells them, of a server, with a reader, which meets what is published. A log is told of updates by datagrams, as their workers tell of others.
+    /// Who tells them, of a server, with a reader, which meets what is published, and the right to publish. A log is told of updates by datagrams, as their workers tell of
+    /// others.
     pub fn new<R: Wait>(
         rt: &R,
         server: &'a Server<'s, Z, N>,
-        reader: VersionReader<N>,
+        mut reader: VersionReader<N>,
+        mut right: PublishRight<N>,
         log: &'a L,
         replying: P,
     ) -> Teller<'a, 's, Z, N, L, P>
         ensures begun { (last : VersionOf) × HasBegun Z.zone reader.seen result last }
+        ensures all { right.published.amount ≡ length result.seen }
         ensures brought { result.brought ≡ P.brought replying }
     {
-        let mut met = reader;
-        let begun = server.begin(rt, &mut met);
+        let _ = server.audit(rt, &mut reader, &mut right);
+        let begun = server.begin(rt, &mut reader, &mut right);
         Teller {
             server,
-            reader: met,
+            reader,
+            right,
             log,
             replying,
             out: [0u8; UDP_LIMIT],
             names: NameWriter::new(),
             last: begun.number,
             begun: begun.number,
-            room: begun.room,
             first: None,
         }
     }
@@ -132,20 +136,20 @@ impl<'a, 's, Z: FirstZone, N: Naming, L: ServiceLog, P: Replying + Drop> Teller<
         let Teller {
             server: _,
             reader,
+            right: _,
             log: _,
             replying,
             out: _,
             names: _,
             last: _,
             begun: _,
-            room: _,
             first: _,
         } = self;
         (reader, replying)
     }
 }
 
-impl<'a, 's, Z: FirstZone, N: Naming, L, P: Replying + Drop> Judging
+impl<'a, 's, Z: FirstZone, N: ServerName, L, P: Replying + Drop> Judging
     for Teller<'a, 's, Z, N, L, P> {
     type Version = SharedVersion;
 
@@ -179,11 +183,11 @@ impl<'a, 's, Z: FirstZone, N: Naming, L, P: Replying + Drop> Judging
     }
 }
 
-impl<'a, 's, Z: FirstZone, N: Naming, L: ServiceLog, P: Replying + Drop> Publishing
+impl<'a, 's, Z: FirstZone, N: ServerName, L: ServiceLog, P: Replying + Drop> Publishing
     for Teller<'a, 's, Z, N, L, P> {
     ghost use Rattle.std.specs.Prelude.{None};
 
-    ghost seen = { λ teller. teller.seen };
+    ghost published = { λ teller. teller.seen };
 
     ghost begun = { λ teller. teller.begun };
 
@@ -193,52 +197,57 @@ impl<'a, 's, Z: FirstZone, N: Naming, L: ServiceLog, P: Replying + Drop> Publish
 
     fn begin<R: Wait>(&mut self, rt: &R) -> (SharedVersion, usize)
         ensures last { IsLast self.new.seen result.0 }
-        ensures grows { BeginsWith self.new.seen self.old.seen }
+        ensures published { self.new.seen ≡ self.old.seen }
         ensures begun { self.new.begun ≡ length self.new.seen }
         ensures room { self.new.room ≡ result.1 }
         ensures all { HasBegun Z.zone self.old.seen self.new result.0 }
         ensures brought { self.new.brought ≡ self.old.brought }
     {
-        let begun = self.server.begin(rt, &mut self.reader);
-        self.last = begun.number;
-        self.begun = begun.number;
-        self.room = begun.room;
-        self.first = Some(begun.last.share(rt));
-        (begun.last, begun.room)
+        let Teller {
+            server,
+            reader,
+            right,
+            last,
+            begun,
+            first,
+            ..
+        } = self;
+        let batch = server.begin(rt, reader, right);
+        *last = batch.number;
+        *begun = batch.number;
+        *first = Some(batch.last.share(rt));
+        (batch.last, batch.room)
     }
 
-    fn publish<R: Wait>(
-        &mut self,
-        rt: &R,
-        group: Group<SharedVersion>,
-    ) -> Result<(), Group<SharedVersion>>
-        requires { (first : VersionOf) × IsLast self.old.seen first × AreMade makes_waiting first (versions_of group) }
-        ensures published { OnOk result (self.new.seen ≡ self.old.seen ++ versions_of group) }
-        ensures given_back { IfErr result (λ back. (back ≡ group) × BeginsWith self.new.seen self.old.seen) }
+    fn publish<R: Wait>(&mut self, rt: &R, group: Group<SharedVersion>)
+        requires made { (first : VersionOf) × IsLast self.old.seen first × AreMade makes_waiting first (versions_of group) }
+        requires room { length (versions_of group) ≤ self.old.room }
+        ensures published { self.new.seen ≡ self.old.seen ++ versions_of group }
         ensures begun { self.new.begun ≡ self.old.begun }
-        ensures room { self.new.room ≡ self.old.room }
+        ensures room { self.new.room + length (versions_of group) ≡ self.old.room }
         ensures brought { self.new.brought ≡ self.old.brought }
-        ensures turned_back { IfErr result (λ _. IsTurnedBack Z.zone self.old.seen self.new.seen (versions_of group)) }
     {
         let large = match &self.first {
             Some(first) => passed_in(first, group.versions()),
             None => None,
         };
         self.first = None;
-        let (number, published) = self.server.publish(rt, &mut self.reader, self.last, group);
-        self.last = number;
-        if let Err(back) = published {
-            return Err(back);
-        }
+        let Teller {
+            server,
+            reader,
+            right,
+            last,
+            ..
+        } = self;
+        *last = server.publish(rt, reader, right, group);
         if let Some(large) = large {
             self.log.tell(rt, Event::Large(large));
         }
-        Ok(())
     }
 
     fn tell<R: Wait>(&mut self, rt: &R, waiting: Waiting, verdict: Verdict)
         requires { IsDone passes_waiting tells_waiting makes_waiting serial_in self.old.seen self.old.begun waiting verdict }
-        ensures grows { BeginsWith self.new.seen self.old.seen }
+        ensures published { self.new.seen ≡ self.old.seen }
         ensures begun { self.new.begun ≡ self.old.begun }
         ensures room { self.new.room ≡ self.old.room }
         ensures brought { (one : BroughtOne) × IsBrought Z.zone self.old.seen self.old.begun waiting verdict.code one × (self.new.brought ≡ told_behind self.old.brought (one ∷ [])) }
@@ -252,7 +261,8 @@ impl<'a, 's, Z: FirstZone, N: Naming, L: ServiceLog, P: Replying + Drop> Publish
         };
         match way {
             Way::Connection { worker, key, seat } => {
-                self.last = self.server.tell(rt, &mut self.reader, seat, done);
+                self.server
+                    .tell(rt, &mut self.reader, &mut self.right, seat, done);
                 self.replying.tell(rt, worker, key);
             }
             Way::Datagram { worker, to } => {

@@ -13,7 +13,7 @@ use std::net::{Ipv4Addr, SocketAddr, SocketAddrV4};
 use std::snapshot::Snapshot;
 use std::sync::{OnceLock, OnceToken, Wait};
 use std::thread::{self, Promise, PromisedHandle, Scope, Threads};
-use zone_service::{Asked, Server, ServiceLog};
+use zone_service::{Asked, Server, ServerName, ServiceLog};
 
 /// What a worker does.
 pub trait Job: Send + Drop {
@@ -81,7 +81,7 @@ pub fn nobody() -> SocketAddr {
 
 /// A job with who answers in it by a reader, and the gate and the log that it is done with.
 #[derive(Drop)]
-struct Worker<'g, 's, Z: FirstZone, N: Naming, J, G, L> {
+struct Worker<'g, 's, Z: FirstZone, N: ServerName, J, G, L> {
     asked: Asked<'g, 's, Z, N, L>,
     job: J,
     gate: &'g G,
@@ -92,7 +92,7 @@ impl<
     'g,
     's,
     Z: FirstZone + Send + Sync,
-    N: Naming + Send + Sync,
+    N: ServerName + Send + Sync,
     J: Job,
     G: Gate + Sync,
     L: ServiceLog + Sync,
@@ -311,7 +311,7 @@ pub fn do_all<R: Threads + Wait + Sync, W: Work, M: Meanwhile>(
 }
 
 /// Puts the workers of pairs into `works`, which has room for them.
-fn put_workers<'g, 's, Z: FirstZone, N: Naming, J: Drop, G, L: ServiceLog>(
+fn put_workers<'g, 's, Z: FirstZone, N: ServerName, J: Drop, G, L: ServiceLog>(
     alloc: Global,
     server: &'g Server<'s, Z, N>,
     gate: &'g G,
@@ -335,7 +335,7 @@ fn put_workers<'g, 's, Z: FirstZone, N: Naming, J: Drop, G, L: ServiceLog>(
 }
 
 /// Puts the pairs of workers into `back`, which has room for them.
-fn put_pairs<Z: FirstZone, N: Naming, J: Drop, G, L: ServiceLog>(
+fn put_pairs<Z: FirstZone, N: ServerName, J: Drop, G, L: ServiceLog>(
     done: Vec<Worker<'_, '_, Z, N, J, G, L>>,
     back: &mut Vec<(VersionReader<N>, J)>,
 )
@@ -357,7 +357,7 @@ pub fn run_workers<
     's,
     R: Threads + Wait + Sync,
     Z: FirstZone + Send + Sync,
-    N: Naming + Send + Sync,
+    N: ServerName + Send + Sync,
     J: Job,
     G: Gate + Sync,
     L: ServiceLog + Sync,

@@ -21,13 +21,12 @@ use connections::{Answering, Reply, Unmade};
 use dns_engine::{FirstZone, SharedVersion, VersionChain, VersionReader};
 use dns_message::{Query, is_update};
 use serve_core::{Peer, Transport};
-use snapshot_cell::Naming;
 use std::alloc::Global;
 use std::marker::Model;
 use std::net::SocketAddr;
 use std::snapshot::Snapshot;
 use std::sync::Wait;
-use update_desk::{Done, Fetched};
+use update_desk::{Done, Fetched, ServerName};
 use wire_names::NameWriter;
 use zone_service::{
     Hand, Handed, Now, Served, Server, ServiceLog, answer_kept, hand_in, serve_one, tell_refused,
@@ -37,7 +36,7 @@ use zone_service::{
 /// A server that answers the peers of connections, with a worker's reader, of which contracts know what it has seen published. A log is told of
 /// updates.
 #[derive(Drop)]
-pub struct Replies<'a, 's, Z: FirstZone, N: Naming, L> {
+pub struct Replies<'a, 's, Z: FirstZone, N: ServerName, L> {
     server: &'a Server<'s, Z, N>,
     reader: VersionReader<N>,
     log: &'a L,
@@ -53,7 +52,7 @@ pub struct Replies<'a, 's, Z: FirstZone, N: Naming, L> {
     taken: TakenUp<N>,
 }
 
-impl<'a, 's, Z: FirstZone, N: Naming, L> Model for Replies<'a, 's, Z, N, L> {
+impl<'a, 's, Z: FirstZone, N: ServerName, L> Model for Replies<'a, 's, Z, N, L> {
     ghost use Rattle.std.specs.Prelude.{is_some};
     ghost use Rattle.zone_replies.specs.State.{RepliesState};
     ghost use Rattle.zone_replies.specs.Taken.{AreTakenUp};
@@ -88,7 +87,7 @@ fn reply_transfer(
     }
 }
 
-impl<'a, 's, Z: FirstZone, N: Naming, L: ServiceLog> Replies<'a, 's, Z, N, L> {
+impl<'a, 's, Z: FirstZone, N: ServerName, L: ServiceLog> Replies<'a, 's, Z, N, L> {
     /// A server that answers peers, with a reader; to begin with this peer, who asks from an address.
     pub fn new(
         alloc: Global,
@@ -370,7 +369,7 @@ impl<'a, 's, Z: FirstZone, N: Naming, L: ServiceLog> Replies<'a, 's, Z, N, L> {
     }
 }
 
-impl<'a, 's, Z: FirstZone, N: Naming, L: ServiceLog> Answering<Transfer>
+impl<'a, 's, Z: FirstZone, N: ServerName, L: ServiceLog> Answering<Transfer>
     for Replies<'a, 's, Z, N, L> {
     // While an update waits to be judged, what is known on its connection is what was known when it was taken up.
     ghost seen = { λ replies. known_at replies.taken replies.reader };

@@ -9,7 +9,6 @@ use Rattle.lasting_engine.specs.declared.asked.Asked.{Asked}
 use Rattle.serve_core.specs.declared.peer.Peer.{Peer}
 use Rattle.serve_core.specs.Served.{limit_for}
 use Rattle.update_desk.specs.declared.desk.Begun.{Begun}
-use Rattle.update_desk.specs.Done.{IsTurnedAway}
 use Rattle.conversation.specs.Served.{Learned, Grows}
 use Rattle.zone_service.specs.Known.{learned_by, HasMet}
 use Rattle.zone_service.specs.Replied.{IsReplied}
@@ -30,11 +29,6 @@ MeetsAt first before after number = (engine : EngineState) × HasMet first engin
 abbrev pub IsBegun : List Record → ReaderState Version → ReaderState Version → Begun → Type 0
 IsBegun first before after begun =
     (engine : EngineState) × HasMet first engine before after × (engine.held.last ≡ begun.last) × (engine.held.last.number ≡ begun.number) × (engine.free ≡ begun.room)
-
--- the versions of a batch aren't published: a reader meets all that is published, and another version than the one of this number is the last of it, or too few
--- more are sure to find room (own)
-abbrev pub MeetsInVain : List Record → ReaderState Version → ReaderState Version → ℕ → List Version → Type 0
-MeetsInVain first before after number versions = (engine : EngineState) × HasMet first engine before after × IsTurnedAway engine number versions
 
 -- a request gets a reply of so many octets at once, and its reader forgets nothing that it had seen (own)
 pub record IsRepliedAtOnce (first : List Record) (peer : Peer) (request : List ℕ) (before after : ReaderState Version) (out : List ℕ) (len : ℕ) : Type 0 where

@@ -22,7 +22,7 @@ use snapshot_cell::{Naming, Spent};
 use std::alloc::Global;
 use std::sync::Wait;
 use update_core::check;
-use update_desk::{Done, Serials};
+use update_desk::{Done, Serials, ServerName};
 use wire_names::NameWriter;
 use zone_tree::Version;
 
@@ -163,7 +163,7 @@ pub fn answer_kept<Z: FirstZone, N: Naming>(
 /// Answers an update: writes the code that it gets to the front of `out` (RFC 2136, 3.8), and tells it. Of a transfer it gives the version
 /// that is loaded, of an IXFR with those since the asker's, as they are there when the engine's lock is had, and the query: the messages are
 /// made of these after the lock is free. Where the transfer is no longer permitted it gives the reply.
-pub fn serve_one<R: Wait, Z: FirstZone, N: Naming>(
+pub fn serve_one<R: Wait, Z: FirstZone, N: ServerName>(
     rt: &R,
     alloc: Global,
     server: &Server<'_, Z, N>,
@@ -200,7 +200,7 @@ pub fn serve_one<R: Wait, Z: FirstZone, N: Naming>(
 
 /// The versions since the one that the asker of an IXFR holds, up to one that the reader has loaded: none of another query. [`Spent`] where
 /// the reader hasn't a grant left for each of them.
-fn chain_for<R: Wait, Z: FirstZone, N: Naming>(
+fn chain_for<R: Wait, Z: FirstZone, N: ServerName>(
     rt: &R,
     server: &Server<'_, Z, N>,
     reader: &mut VersionReader<N>,
@@ -223,7 +223,7 @@ fn chain_for<R: Wait, Z: FirstZone, N: Naming>(
 
 /// What is told of a request that asks for an update, and what its reply repeats of it: of one that is read what is judged, else what
 /// [`read_update`] tells.
-fn told_of<R: Wait, Z: FirstZone, N: Naming>(
+fn told_of<R: Wait, Z: FirstZone, N: ServerName>(
     rt: &R,
     alloc: Global,
     server: &Server<'_, Z, N>,
@@ -264,7 +264,7 @@ pub(crate) fn read_update(alloc: Global, request: &[u8]) -> Result<Update, (Head
 
 /// What is told of an update: what the engine tells; but one of a peer that may not update is judged in the version that is loaded, so
 /// that no stranger holds the engine's lock, and by the engine only where no load is left.
-fn judge<R: Wait, Z: FirstZone, N: Naming>(
+fn judge<R: Wait, Z: FirstZone, N: ServerName>(
     rt: &R,
     alloc: Global,
     server: &Server<'_, Z, N>,

@@ -21,15 +21,16 @@ use dns_engine::{FirstZone, VersionReader};
 use dns_message::{Query, is_update};
 use notify::Notifier;
 use serve_core::{Peer, Transport};
-use snapshot_cell::{Naming, Spent};
+use snapshot_cell::Spent;
 use std::alloc::Global;
 use std::net::SocketAddr;
 use std::sync::Wait;
+use update_desk::ServerName;
 use wire_names::NameWriter;
 
 /// A server that answers the datagrams of peers, with a worker's reader, of which contracts know what it has seen published and buried. A log is told of updates.
 #[derive(Drop)]
-pub struct Asked<'a, 's, Z: FirstZone, N: Naming, L> {
+pub struct Asked<'a, 's, Z: FirstZone, N: ServerName, L> {
     server: &'a Server<'s, Z, N>,
     reader: VersionReader<N>,
     log: &'a L,
@@ -42,7 +43,7 @@ pub struct Asked<'a, 's, Z: FirstZone, N: Naming, L> {
     hand: Option<Hand<'a>>,
 }
 
-impl<'a, 's, Z: FirstZone, N: Naming, L: ServiceLog> Asked<'a, 's, Z, N, L> {
+impl<'a, 's, Z: FirstZone, N: ServerName, L: ServiceLog> Asked<'a, 's, Z, N, L> {
     /// A server that answers peers, with a reader; to begin with this peer, who asks from an address.
     pub fn new(
         alloc: Global,
@@ -165,7 +166,7 @@ impl<'a, 's, Z: FirstZone, N: Naming, L: ServiceLog> Asked<'a, 's, Z, N, L> {
     }
 }
 
-impl<'a, 's, Z: FirstZone, N: Naming, L: ServiceLog> Answering for Asked<'a, 's, Z, N, L> {
+impl<'a, 's, Z: FirstZone, N: ServerName, L: ServiceLog> Answering for Asked<'a, 's, Z, N, L> {
     ghost seen = { λ asked. learned_by asked.reader };
 
     ghost peer = { λ asked. asked.peer };
@@ -222,7 +223,7 @@ impl<'a, 's, Z: FirstZone, N: Naming, L: ServiceLog> Answering for Asked<'a, 's,
     }
 }
 
-impl<'a, 's, Z: FirstZone, N: Naming, L: ServiceLog> Notifying for Asked<'a, 's, Z, N, L> {
+impl<'a, 's, Z: FirstZone, N: ServerName, L: ServiceLog> Notifying for Asked<'a, 's, Z, N, L> {
     fn next_turn(
         &mut self,
         notifier: &mut Notifier,

@@ -16,10 +16,10 @@ use dns_message::Update;
 use dns_rdata::Rcode;
 use lasting_engine::Asked;
 use serve_core::{Heading, Peer, write_code, write_code_by};
-use snapshot_cell::Naming;
 use std::alloc::Global;
 use std::net::SocketAddr;
 use std::sync::Wait;
+use update_desk::ServerName;
 use update_queue::Queue;
 use wire_names::NameWriter;
 
@@ -135,7 +135,7 @@ fn refuse(heading: &Heading, peer: Peer, out: &mut [u8]) -> (usize, Told)
 
 /// Hands in an update of a peer that may update, who asks on the connection under a key. It gets a reply at once where it can't be read, and SERVFAIL
 /// where too many wait or too many octets, there is no memory, or nobody takes it (no `hand`): then nobody judges it (own).
-pub fn hand_in<R: Wait, Z: FirstZone, N: Naming>(
+pub fn hand_in<R: Wait, Z: FirstZone, N: ServerName>(
     rt: &R,
     alloc: Global,
     server: &Server<'_, Z, N>,
@@ -184,7 +184,7 @@ pub fn hand_in<R: Wait, Z: FirstZone, N: Naming>(
 
 /// Hands in an update of a peer that may update, which came by a datagram: None where it waits to be judged, and who judges it sends the reply. It gets one
 /// at once as [`hand_in`] says.
-pub fn hand_over<R: Wait, Z: FirstZone, N: Naming>(
+pub fn hand_over<R: Wait, Z: FirstZone, N: ServerName>(
     rt: &R,
     alloc: Global,
     server: &Server<'_, Z, N>,

@@ -23,3 +23,4 @@ pub use server::Server;
 pub use service_log::{Event, JobEnd, Losses, NoLog, ServiceLog, Wanted};
 pub use telling::{tell_refused, tell_signed, tell_update};
 pub use transfer::write_transfer;
+pub use update_desk::{PublishRight, ServerLedgers, ServerName};

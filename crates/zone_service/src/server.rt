@@ -1,13 +1,14 @@
 //! The server: a cell of versions, and its engine behind a lock.
-ghost use Rattle.std.specs.Prelude.{◌≡◌, ◌⊎◌, ◌↔◌, ◌<◌, ◌≤◌, ◌++◌, ℕ, IfOk, OnOk, IfErr, length};
+ghost use Rattle.std.specs.Prelude.{◌≡◌, ◌⊎◌, ◌↔◌, ◌+◌, ◌<◌, ◌≤◌, ◌++◌, ℕ, IfOk, IfErr, length};
 ghost use Rattle.cell_core.specs.Words.{notes};
 ghost use Rattle.zone_tree.specs.Version.{Version, zone_serial};
 ghost use Rattle.dns_engine.specs.Replayed.{IsReplay};
 ghost use Rattle.conversation.specs.Served.{BeginsWith, Grows};
 ghost use Rattle.update_group.specs.Group.{versions_of};
 ghost use Rattle.update_desk.specs.Done.{IsDone, IsFetched, IsJudgedIn};
+ghost use Rattle.update_desk.specs.Right.{AreNamed};
 ghost use Rattle.zone_service.specs.Known.{learned_by, HasMet, MeetsAndAsks};
-ghost use Rattle.zone_service.specs.Waiting.{MeetsAt, IsBegun, MeetsInVain};
+ghost use Rattle.zone_service.specs.Waiting.{MeetsAt, IsBegun};
 ghost use Rattle.zone_service.specs.Updated.{IsUpdated};
 ghost use Rattle.dns_engine.specs.Versions.{AreNext};
 ghost use Rattle.dns_engine.specs.Held.{IsLatest};
@@ -20,21 +21,22 @@ use dns_engine::{
 };
 use dns_message::Update;
 use dns_rdata::{Rcode, Serial};
-use snapshot_cell::Naming;
 use std::alloc::Global;
 use std::sync::{Mutex, Wait};
-use update_desk::{Begun, Desk, Done, Fetched, Serials};
+use update_desk::{
+    Begun, Desk, Done, Fetched, PublishRight, Serials, ServerLedgers, ServerName,
+};
 use update_group::Group;
 
 /// A cell of versions, with the engine that publishes in it behind a lock, and what is told of updates that wait for their replies. Queries take no lock.
 #[derive(Drop)]
-pub struct Server<'a, Z: FirstZone, N: Naming> {
+pub struct Server<'a, Z: FirstZone, N: ServerName> {
     cell: &'a VersionCell<Z, N>,
     desk: Mutex<Desk<'a, Z, N>>,
 }
 
 /// The serial of an engine's last version, which a reader meets with all that is published.
-fn meet_last<Z: FirstZone, N: Naming>(
+fn meet_last<Z: FirstZone, N: ServerName>(
     desk: &mut Desk<'_, Z, N>,
     reader: &mut VersionReader<N>,
 ) -> Serial
@@ -47,17 +49,19 @@ fn meet_last<Z: FirstZone, N: Naming>(
     desk.serial()
 }
 
-impl<'a, Z: FirstZone, N: Naming> Server<'a, Z, N> {
+impl<'a, Z: FirstZone, N: ServerName> Server<'a, Z, N> {
     /// The server of a cell in which the first version alone is published, whose engine keeps so many older versions beside the
-    /// last. It is refused as the engine is, and both tokens come back as they were.
+    /// last, and publishes what updates make that it is handed. It is refused as the engine is, and both tokens come back as they were.
     pub fn new(
         alloc: Global,
         cell: &'a VersionCell<Z, N>,
         publisher: VersionPublisher<Z, N>,
         reader: VersionReader<N>,
         keep: usize,
+        ledgers: ServerLedgers,
     ) -> Result<Server<'a, Z, N>, NoEngine<Z, N>>
-        requires { publisher.number ≡ 0 }
+        requires first { publisher.number ≡ 0 }
+        requires named { AreNamed N.published N.reserved ledgers }
         ensures kept { IfOk result (λ _. keep ≤ KEPT) }
         ensures grant { IfOk result (λ _. 0 < reader.left) }
         ensures refused { IfErr result (λ refused. (refused.fault ≡ Fault.TooGreat) ↔ (KEPT < keep)) }
@@ -65,13 +69,15 @@ impl<'a, Z: FirstZone, N: Naming> Server<'a, Z, N> {
         ensures given_back { IfErr result (λ refused. (refused.publisher ≡ publisher) × (refused.reader ≡ reader)) }
     {
         let engine = Engine::new(cell, publisher, reader, keep)?;
+        let (mut desk, right) = Desk::of(alloc, cell, engine, ledgers);
+        desk.keep(right);
         Ok(Server {
             cell,
-            desk: Mutex::new(Desk::of(alloc, cell, engine)),
+            desk: Mutex::new(desk),
         })
     }
 
-    /// The server of a cell in which the first version alone is published, once its engine has published these behind it. It is refused as the
+    /// The server of a cell in which the first version alone is published, once its engine has published these after it, and the right to publish more. It is refused as the
     /// engine is, which has then published none, and both tokens come back.
     pub fn resume(
         alloc: Global,
@@ -80,19 +86,24 @@ impl<'a, Z: FirstZone, N: Naming> Server<'a, Z, N> {
         reader: VersionReader<N>,
         keep: usize,
         later: Vec<SharedVersion>,
-    ) -> Result<Server<'a, Z, N>, NoEngine<Z, N>>
+        ledgers: ServerLedgers,
+    ) -> Result<(Server<'a, Z, N>, PublishRight<N>), NoEngine<Z, N>>
         requires first { publisher.number ≡ 0 }
+        requires named { AreNamed N.published N.reserved ledgers }
         requires follow { AreNext publisher.value later.items }
+        ensures right { IfOk result (λ made. made.1.published.amount ≡ length (publisher.published ++ later.items)) }
         ensures kept { IfOk result (λ _. keep ≤ KEPT) }
         ensures refused { IfErr result (λ refused. (refused.fault ≡ Fault.TooGreat) ↔ (KEPT < keep)) }
         ensures spent { IfErr result (λ refused. refused.fault ≡ Fault.Spent → (reader.left ≡ 0) ⊎ (publisher.noted ≡ notes) ⊎ (0 < length later.items)) }
         ensures given_back { IfErr result (λ refused. refused.publisher.published ≡ publisher.published) }
     {
         let engine = Engine::resume(cell, publisher, reader, keep, later)?;
-        Ok(Server {
+        let (desk, right) = Desk::of(alloc, cell, engine, ledgers);
+        let server = Server {
             cell,
-            desk: Mutex::new(Desk::of(alloc, cell, engine)),
-        })
+            desk: Mutex::new(desk),
+        };
+        Ok((server, right))
     }
 
     /// Its cell.
@@ -102,7 +113,8 @@ impl<'a, Z: FirstZone, N: Naming> Server<'a, Z, N> {
 
     /// Hands an update to the engine, behind its lock, and gives the code that is told, and the serials of the zone before the
     /// update and after it: those of an engine whose last version is the first zone with updates replayed. The reader meets what is
-    /// published behind the lock, before and after, so that it has seen the version that is told to be made.
+    /// published behind the lock, before and after, so that it has seen the version that is told to be made. Where another one has the right to publish, an update that would
+    /// change the zone gets SERVFAIL.
     pub fn update<R: Wait>(
         &self,
         rt: &R,
@@ -183,55 +195,81 @@ impl<'a, Z: FirstZone, N: Naming> Server<'a, Z, N> {
         self.desk.lock(rt).close(seat);
     }
 
-    /// Tells something at a seat, if one waits at it, behind the lock, where the reader meets what is published: what is told is about versions that it
-    /// has seen before. The number of the version published last.
+    /// Lets the reader of who has the right to publish see all that is published, behind the lock: the number of the version published last.
+    pub fn audit<R: Wait>(
+        &self,
+        rt: &R,
+        reader: &mut VersionReader<N>,
+        right: &mut PublishRight<N>,
+    ) -> u64
+        ensures met { MeetsAt Z.zone reader.old reader.new result }
+        ensures counted { right.new.published.amount ≡ length reader.new.seen }
+        ensures all { right.old.published.amount ≡ length reader.old.seen → reader.new ≡ reader.old }
+        ensures right { (right.new.published.amount ≡ right.old.published.amount) × (right.new.reserved.amount ≡ right.old.reserved.amount) }
+    {
+        let mut desk = self.desk.lock(rt);
+        let number = desk.number();
+        desk.audit(reader, right);
+        number
+    }
+
+    /// Tells something at a seat, if one waits at it, behind the lock, for who has the right to publish: what is told is about versions that its reader, which has seen all
+    /// that is published, has seen.
     pub fn tell<R: Wait>(
         &self,
         rt: &R,
         reader: &mut VersionReader<N>,
+        right: &mut PublishRight<N>,
         seat: usize,
         done: Done,
-    ) -> u64
-        requires { IsDone Z.zone reader.old.seen done }
-        ensures { MeetsAt Z.zone reader.old reader.new result }
+    )
+        requires counted { right.old.published.amount ≡ length reader.old.seen }
+        requires done { IsDone Z.zone reader.old.seen done }
+        ensures same { reader.new ≡ reader.old }
+        ensures right { (right.new.published.amount ≡ right.old.published.amount) × (right.new.reserved.amount ≡ right.old.reserved.amount) }
     {
         let mut desk = self.desk.lock(rt);
-        meet_last(&mut desk, reader);
-        let number = desk.number();
+        desk.audit(reader, right);
         desk.tell(seat, done);
-        number
     }
 
-    /// Begins a batch of updates, behind the lock, where the reader meets what is published: the version that they are to be judged in, and how many
-    /// more can be published behind it. The lock is free while they are judged, and brought to a disk.
-    pub fn begin<R: Wait>(&self, rt: &R, reader: &mut VersionReader<N>) -> Begun
-        ensures { IsBegun Z.zone reader.old reader.new result }
+    /// Begins a batch of updates, behind the lock, for who has the right to publish, and whose reader has seen all that is published: the version that they are to be judged
+    /// in, and how many more are reserved to be published after it. The lock is free while they are judged, and brought to a disk.
+    pub fn begin<R: Wait>(
+        &self,
+        rt: &R,
+        reader: &mut VersionReader<N>,
+        right: &mut PublishRight<N>,
+    ) -> Begun
+        requires counted { right.old.published.amount ≡ length reader.old.seen }
+        ensures begun { IsBegun Z.zone reader.old reader.new result }
+        ensures same { reader.new ≡ reader.old }
+        ensures reserved { right.new.reserved.amount ≡ result.room }
+        ensures counted { right.new.published.amount ≡ right.old.published.amount }
     {
-        self.desk.lock(rt).begin(rt, reader)
+        self.desk.lock(rt).begin(rt, reader, right)
     }
 
-    /// Publishes the versions of a batch, behind the lock, where the reader meets them, and gives the number of the version published last. The group comes back where
-    /// another version than the one of this number was published last, which the reader had then not seen, or there is no room for all of them.
+    /// Publishes the versions of a batch, for which room is reserved, behind the lock, for who has the right to publish, whose reader sees them then: the number of the
+    /// version published last.
     pub fn publish<R: Wait>(
         &self,
         rt: &R,
         reader: &mut VersionReader<N>,
-        number: u64,
+        right: &mut PublishRight<N>,
         group: Group<SharedVersion>,
-    ) -> (u64, Result<(), Group<SharedVersion>>)
-        requires { IsJudgedIn Z.zone reader.old.seen number (versions_of group) }
-        ensures met { MeetsAt Z.zone reader.old reader.new result.0 }
-        ensures published { OnOk result.1 (reader.new.seen ≡ reader.old.seen ++ versions_of group) }
-        ensures kept { IfErr result.1 (λ back. back ≡ group) }
-        ensures refused { IfErr result.1 (λ _. MeetsInVain Z.zone reader.old reader.new number (versions_of group)) }
+    ) -> u64
+        requires counted { right.old.published.amount ≡ length reader.old.seen }
+        requires judged { IsJudgedIn Z.zone reader.old.seen (versions_of group) }
+        requires room { length (versions_of group) ≤ right.old.reserved.amount }
+        ensures met { MeetsAt Z.zone reader.old reader.new result }
+        ensures published { reader.new.seen ≡ reader.old.seen ++ versions_of group }
+        ensures counted { right.new.published.amount ≡ length reader.new.seen }
+        ensures reserved { right.new.reserved.amount + length (versions_of group) ≡ right.old.reserved.amount }
     {
         let mut desk = self.desk.lock(rt);
-        let published = desk.publish_batch(reader, number, group);
-        let last = desk.number();
-        match published {
-            Ok(()) => (last, Ok(())),
-            Err(group) => (last, Err(group)),
-        }
+        desk.publish_batch(reader, right, group);
+        desk.number()
     }
 
     /// Ends the server: its engine's history and owners are given up, and its publisher and its reader come back, with all that was published.
