@@ -14,4 +14,4 @@ mod verdict;
 pub use group::Group;
 pub use judged::{MOST, judge_group};
 pub use judging::{Judgement, Judging};
-pub use verdict::{Verdict, fail_all, fail_unkept};
+pub use verdict::{Verdict, fail_unkept};

@@ -54,7 +54,7 @@ impl Verdict {
 }
 
 /// Fails each update of a batch: none changes the zone.
-pub fn fail_all(verdicts: &mut Vec<Verdict>)
+fn fail_all(verdicts: &mut Vec<Verdict>)
     ensures failed { verdicts.new.items ≡ replicate (length verdicts.old.items) failed }
     ensures room { vec_capacity verdicts.new ≡ vec_capacity verdicts.old }
 {
