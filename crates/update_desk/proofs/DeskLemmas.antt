@@ -11,19 +11,16 @@ use Rattle.dns_message.specs.declared.update.Update.{Update}
 use Rattle.zone_tree.specs.Version.{Version}
 use Rattle.counted_handles.specs.History.{IsHistory}
 use Rattle.counted_handles.specs.Ruled.{Begins}
-use Rattle.snapshot_cell.specs.Tokens.{ReaderState}
 use Rattle.dns_engine.specs.Versions.{IsFirst, IsNext}
 use Rattle.dns_engine.specs.Held.{EngineState, IsLatest, state_with}
 use Rattle.dns_engine.specs.Chain.{IsPublished}
 use Rattle.dns_engine.specs.Told.{IsTold, made, refused, unchanged, full, starved}
-use Rattle.update_group.specs.Engine.{IsLast, AreMade}
-use Rattle.lasting_engine.specs.Asked.{makes}
 use Rattle.update_desk.specs.declared.done.Done.{Done}
 use Rattle.update_desk.specs.declared.done.Fetched.{Fetched}
 use Rattle.update_desk.specs.declared.seats.Seat.{Seat}
 use Rattle.update_desk.specs.declared.seats.Seat.TheVariants.{Free, Waits, Left, Told}
 use Rattle.update_desk.specs.Seats.{IsFreed, IsOpened, FetchesOf, LeavesOf, ClosesOf, TellsOf}
-use Rattle.update_desk.specs.Done.{IsMadeBehind, IsToldIn, IsDone, IsSeatDone, IsFetched, IsJudgedIn}
+use Rattle.update_desk.specs.Done.{IsMadeBehind, IsToldIn, IsDone, IsSeatDone, IsFetched}
 
 module _ (first : List Record) (published more : List Version) (history : IsHistory (IsFirst first) IsNext (published ++ more)) where
   -- a version that is published stays so, and more may stand behind it
@@ -148,31 +145,12 @@ module _ (first : List Record) (published : List Version) where
   told_at None old at done new is so all = stays old new is all
 
 -- a list of which all is known is that list
-all_known : (seen published : List Version) → Begins seen published → length published ≤ length seen → published ≡ seen
+pub all_known : (seen published : List Version) → Begins seen published → length published ≤ length seen → published ≡ seen
 all_known seen published begun long = nothing_more begun.0 begun.1 (omega (arith, length-append seen begun.0, ap length begun.1))
   where
     nothing_more : (more : List Version) → seen ++ more ≡ published → length more ≤ 0 → published ≡ seen
     nothing_more [] is none = sym is ∙ append-nil seen
     nothing_more (version ∷ more) is none = absurd (omega arith)
 
-latest_length : (first : List Record) (published : List Version) (version : Version) → IsLatest first published version → length published ≡ version.number + 1
+pub latest_length : (first : List Record) (published : List Version) (version : Version) → IsLatest first published version → length published ≡ version.number + 1
 latest_length first published version latest = ap length latest.ends ∙ length_push latest.before version ∙ ap (λ n. n + 1) latest.number
-
--- what a reader has seen is all that is published, where the last version that it has seen has the number of the last one that is
-pub seen_all : (first : List Record) (seen : List Version) (engine : EngineState) (last : Version) → Begins seen engine.held.published → IsLatest first seen last → IsLatest first engine.held.published engine.held.last
-    → engine.held.last.number ≡ last.number → engine.held.published ≡ seen
-seen_all first seen engine last begun known latest same =
-    all_known seen engine.held.published begun (omega (arith, latest_length first seen last known, latest_length first engine.held.published engine.held.last latest, same))
-
--- versions that are judged in the last one that a reader has seen are made of the last one that is published, where the numbers are the same
-pub judged_last : (first : List Record) (seen : List Version) (engine : EngineState) (number : ℕ) (versions : List Version) → Begins seen engine.held.published → IsJudgedIn first seen number versions
-    → IsLatest first engine.held.published engine.held.last → engine.held.last.number ≡ number → (last : Version) × IsLast engine.held.published last × AreMade makes last versions
-judged_last first seen engine number versions begun judged latest same =
-    let all = seen_all first seen engine judged.0 begun judged.1 latest (same ∙ sym judged.2) in
-    (judged.0, subst (λ (l : List Version). IsLast l judged.0) (sym all) (judged.1.before, judged.1.ends), judged.3)
-
--- a reader that meets what is published, and then what is published behind it
-pub met_twice : (old met new : ReaderState Version) (one two : List Version) → met ≡ record { cell = old.cell; seen = one; left = old.left; gone = old.gone } → new ≡ record { cell = met.cell; seen = two; left = met.left; gone = met.gone }
-    → new ≡ record { cell = old.cell; seen = two; left = old.left; gone = old.gone }
-met_twice old met new one two is again =
-    let shows : ReaderState Version → ReaderState Version = λ r. record { cell = r.cell; seen = two; left = r.left; gone = r.gone } in again ∙ ap shows is

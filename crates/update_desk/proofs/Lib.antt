@@ -1,4 +1,5 @@
 pub mod CodeLemmas
+pub mod CountedLemmas
 pub mod DeskLemmas
 pub mod JudgedLemmas
 pub mod MetLemmas

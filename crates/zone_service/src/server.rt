@@ -208,9 +208,8 @@ impl<'a, Z: FirstZone, N: ServerName> Server<'a, Z, N> {
         ensures right { (right.new.published.amount ≡ right.old.published.amount) × (right.new.reserved.amount ≡ right.old.reserved.amount) }
     {
         let mut desk = self.desk.lock(rt);
-        let number = desk.number();
         desk.audit(reader, right);
-        number
+        desk.number()
     }
 
     /// Tells something at a seat, if one waits at it, behind the lock, for who has the right to publish: what is told is about versions that its reader, which has seen all
