@@ -1,5 +1,5 @@
 //! A board on which versions are published, and which keeps what is told. A version is a number, and an update the octet that is added to it.
-ghost use Rattle.std.specs.Prelude.{◌++◌, ◌∷◌, [], ◌-◌, ◌%◌, vec_len, vec_capacity, length, ◌<◌, ◌^◌};
+ghost use Rattle.std.specs.Prelude.{◌≡◌, ◌≤◌, ◌++◌, ◌∷◌, [], ◌-◌, ◌%◌, vec_len, vec_capacity, length, ◌<◌, ◌^◌};
 
 use journal_store::LogFault;
 use std::alloc::{AllocError, Global};
@@ -47,22 +47,21 @@ pub(crate) struct Board {
     begun: usize,
     room: usize,
     pub(crate) told: Vec<(Option<u8>, u8, Option<(u32, u32)>)>,
-    /// Whether another one publishes when a batch is judged.
-    pub(crate) overtaken: bool,
     /// How many versions of a batch find room at most.
     pub(crate) most: usize,
+    ghost held: { 16 ≤ vec_capacity before },
+    ghost fits: { room ≤ 16 - vec_len before },
 }
 
 impl Board {
     /// A board with one version, the number 0.
-    pub fn new(alloc: Global, overtaken: bool) -> Result<Board, AllocError> {
+    pub fn new(alloc: Global) -> Result<Board, AllocError> {
         Ok(Board {
             before: Vec::with_capacity(alloc, ROOM)?,
             last: Sum(0),
             begun: 0,
             room: 0,
             told: Vec::with_capacity(alloc, ROOM)?,
-            overtaken,
             most: ROOM,
         })
     }
@@ -123,19 +122,19 @@ impl Engine for Board {
     fn publish(&mut self, version: Sum) {
         let before = mem::replace(&mut self.last, version);
         self.before.push_reserved(before);
+        self.room = 0;
     }
 }
 
 impl Publishing for Board {
-    ghost use Rattle.std.specs.Prelude.{◌≡◌, List, Option, ◌++◌, ◌∷◌, [], None, OnOk, IfErr};
+    ghost use Rattle.std.specs.Prelude.{◌≡◌, ◌+◌, ◌≤◌, List, Option, ◌++◌, ◌∷◌, [], None, length};
     ghost use Rattle.update_group.specs.Engine.{IsLast, AreMade};
     ghost use Rattle.update_group.specs.declared.verdict.Verdict.{Verdict};
     ghost use Rattle.update_group.specs.Group.{versions_of};
-    ghost use Rattle.update_job.specs.Done.{BeginsWith};
     ghost use Rattle.job_tests.specs.declared.board.Added.{Added};
     ghost use Rattle.job_tests.specs.declared.board.Sum.{Sum};
 
-    ghost seen = { λ board. board.before.items ++ board.last ∷ [] };
+    ghost published = { λ board. board.before.items ++ board.last ∷ [] };
 
     ghost begun = { λ board. board.begun };
 
@@ -144,29 +143,23 @@ impl Publishing for Board {
     ghost told = { λ _. None };
 
     fn begin<R: Wait>(&mut self, _rt: &R) -> (Sum, usize) {
-        let room = self.before.capacity() - self.before.len();
         self.begun = self.before.len() + 1;
-        self.room = room.min(self.most);
+        self.room = ROOM.saturating_sub(self.before.len()).min(self.most);
         (self.last, self.room)
     }
 
-    fn publish<R: Wait>(&mut self, _rt: &R, group: Group<Sum>) -> Result<(), Group<Sum>>
-        requires { (first : Sum) × IsLast (self.old.before.items ++ self.old.last ∷ []) first × AreMade {V = Sum} {A = Added} (λ _ _ _. Unit {0}) first (versions_of group) }
-        ensures published { OnOk result (self.new.before.items ++ self.new.last ∷ [] ≡ (self.old.before.items ++ self.old.last ∷ []) ++ versions_of group) }
-        ensures given_back { IfErr result (λ back. (back ≡ group) × BeginsWith (self.new.before.items ++ self.new.last ∷ []) (self.old.before.items ++ self.old.last ∷ [])) }
+    fn publish<R: Wait>(&mut self, _rt: &R, group: Group<Sum>)
+        requires made { (first : Sum) × IsLast (self.old.before.items ++ self.old.last ∷ []) first × AreMade {V = Sum} {A = Added} (λ _ _ _. Unit {0}) first (versions_of group) }
+        requires room { length (versions_of group) ≤ self.old.room }
+        ensures published { self.new.before.items ++ self.new.last ∷ [] ≡ (self.old.before.items ++ self.old.last ∷ []) ++ versions_of group }
         ensures begun { self.new.begun ≡ self.old.begun }
-        ensures room { self.new.room ≡ self.old.room }
+        ensures room { self.new.room + length (versions_of group) ≡ self.old.room }
         ensures told { let told : Option (List (Added × Verdict)) = None in told ≡ told }
     {
-        let room = self.before.capacity() - self.before.len();
-        if self.overtaken || room < group.versions().len() {
-            return Err(group);
-        }
-        let (begun, told_room) = (self.begun, self.room);
+        let (begun, left) = (self.begun, self.room - group.versions().len());
         publish_group(self, group);
         self.begun = begun;
-        self.room = told_room;
-        Ok(())
+        self.room = left;
     }
 
     fn tell<R: Wait>(&mut self, _rt: &R, asked: Added, verdict: Verdict) {

@@ -1,4 +1,4 @@
-//! Batches that last, that fail, and that are overtaken.
+//! Batches that last, and that fail.
 use crate::board::{Added, Board, Noted};
 use journal::{Head, TextSum, recover};
 use journal_store::{Log, LogFault};
@@ -89,7 +89,7 @@ fn a_batch_lasts(rt: HostRuntime) -> Result<(), Fail> {
     let queue: Queue<Added> = Queue::new(alloc, MOST)?;
     assert!(rt; put_all(&rt, alloc, &queue, &[5, 0, 7, 255])?);
     let store = journal_on(alloc, &[])?;
-    let mut job = job_on(alloc, Board::new(alloc, false)?, store, &queue)?;
+    let mut job = job_on(alloc, Board::new(alloc)?, store, &queue)?;
     assert!(rt; matches!(job.turn(&rt), Ok(None)));
     let (board, store) = job.into_parts();
     let told = [
@@ -111,7 +111,7 @@ fn a_batch_is_as_long_as_there_is_room(rt: HostRuntime) -> Result<(), Fail> {
     let alloc: Global = rt.alloc();
     let queue: Queue<Added> = Queue::new(alloc, MOST)?;
     let store = journal_on(alloc, &[])?;
-    let mut board = Board::new(alloc, false)?;
+    let mut board = Board::new(alloc)?;
     board.most = 2;
     let mut job = job_on(alloc, board, store, &queue)?;
     assert!(rt; put_all(&rt, alloc, &queue, &[5, 6, 7])?);
@@ -147,7 +147,7 @@ fn a_batch_fails(rt: HostRuntime) -> Result<(), Fail> {
     let queue: Queue<Added> = Queue::new(alloc, MOST)?;
     // The append works, and the sync fails; what it left is cut off.
     let store = journal_on(alloc, &[1, 0])?;
-    let mut job = job_on(alloc, Board::new(alloc, false)?, store, &queue)?;
+    let mut job = job_on(alloc, Board::new(alloc)?, store, &queue)?;
     assert!(rt; put_all(&rt, alloc, &queue, &[5, 0])?);
     assert!(rt; matches!(job.turn(&rt), Ok(Some(LogFault::Disk(DiskFault::Planned)))));
     assert!(rt; put_all(&rt, alloc, &queue, &[6])?);
@@ -166,44 +166,13 @@ fn a_batch_fails(rt: HostRuntime) -> Result<(), Fail> {
     Ok(())
 }
 
-// Where another one publishes meanwhile each is told SERVFAIL, and the journal takes nothing more; what changes nothing is told its code.
-#[test]
-fn a_batch_is_overtaken(rt: HostRuntime) -> Result<(), Fail> {
-    let alloc: Global = rt.alloc();
-    let queue: Queue<Added> = Queue::new(alloc, MOST)?;
-    let store = journal_on(alloc, &[])?;
-    let mut job = job_on(alloc, Board::new(alloc, true)?, store, &queue)?;
-    assert!(rt; put_all(&rt, alloc, &queue, &[5])?);
-    assert!(rt; matches!(job.turn(&rt), Ok(None)));
-    let (mut board, store) = job.into_parts();
-    assert!(rt; matches!(store, Store::Closed));
-    board.overtaken = false;
-    let mut job = job_on(alloc, board, store, &queue)?;
-    assert!(rt; put_all(&rt, alloc, &queue, &[6])?);
-    assert!(rt; matches!(job.turn(&rt), Ok(Some(LogFault::Stuck))));
-    assert!(rt; put_all(&rt, alloc, &queue, &[0])?);
-    assert!(rt; matches!(job.turn(&rt), Ok(None)));
-    let (board, _) = job.into_parts();
-    let told = [
-        (Some(5), 2, None),
-        (None, 2, None),
-        (Some(6), 2, None),
-        (None, 2, None),
-        (Some(0), 0, Some((0, 0))),
-        (None, 1, None),
-    ];
-    assert_eq!(rt; board.told.as_slice(), told.as_slice());
-    assert!(rt; board.published() == 1);
-    Ok(())
-}
-
 // Without a journal updates are lost at the end, and told as they are judged. What waits when the queue is ended is still judged.
 #[test]
 fn a_queue_is_served_to_its_end(rt: HostRuntime) -> Result<(), Fail> {
     let alloc: Global = rt.alloc();
     let queue: Queue<Added> = Queue::new(alloc, MOST)?;
     let store: Store<ToldDisk> = Store::Nowhere;
-    let mut job = job_on(alloc, Board::new(alloc, false)?, store, &queue)?;
+    let mut job = job_on(alloc, Board::new(alloc)?, store, &queue)?;
     assert!(rt; put_all(&rt, alloc, &queue, &[5, 7])?);
     queue.end(&rt);
     let mut noted = Noted {

@@ -1,5 +1,5 @@
-//! Tests of batches of updates that wait in a queue: what is told of each, what is published and what is on the disk, where it works, where the disk
-//! fails, and where another one has published meanwhile.
+//! Tests of batches of updates that wait in a queue: what is told of each, what is published and what is on the disk, where it works, and where the disk
+//! fails.
 #![tactic(auto)]
 
 #[cfg(test)]

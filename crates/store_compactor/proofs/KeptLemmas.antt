@@ -128,7 +128,6 @@ module _ {F : Type 0} where
   pub tended_kept : (before middle after : CompactorState F) → IsTended before middle → IsKept middle after → IsTended before after
   tended_kept before middle after tended kept = record {
     trail = kept.trail ∙ tended.trail;
-    closed = kept.closed ∙ tended.closed;
     stands = λ text batches zone updates k at.
         let from = (tended.stands text batches zone updates k at).0 in (
           record {
@@ -147,12 +146,11 @@ module _ {F : Type 0} where
   pub tended_same : (state : CompactorState F) → IsTended state state
   tended_same state = record {
     trail = refl;
-    closed = refl;
     stands = λ text batches zone updates k at. (from_here written synced text batches zone updates k state.writer state.wanted at, refl);
   }
 
   pub kept_same : (state : CompactorState F) → IsKept state state
-  kept_same state = record { trail = refl; origin = refl; closed = refl; stands = λ text batches zone updates k at. at }
+  kept_same state = record { trail = refl; origin = refl; stands = λ text batches zone updates k at. at }
 
   -- a log that is on the disk and isn't stuck holds its batches
   pub goes_on : (head : Head) (log : Log FileDisk F) (bodies : List (List ℕ)) → IsOnDisk written synced head log bodies → is_stuck log ≡ false → Holds written synced head log bodies
@@ -233,27 +231,23 @@ module _ {F : Type 0} where
       ]
 
   -- a store is tended by what becomes of its parts
-  pub tended_parts : (before : CompactorState F) (old new : StoreWriter FileDisk F) (was now : Option Wanted) (closed : Bool) → record { writer = old; wanted = was; closed = closed } ≡ before
+  pub tended_parts : (before : CompactorState F) (old new : StoreWriter FileDisk F) (was now : Option Wanted) → record { writer = old; wanted = was } ≡ before
       → trail_of new ≡ trail_of old
       → ((text : List ℕ) (batches : List (List (List ℕ))) (zone : List Record) (updates : List Update) (k : ℕ) → Stands written synced text batches zone updates k old was
       → StandsFrom written synced zone updates new now × ((head_of new).origin ≡ (head_of old).origin))
-      → IsTended before (record { writer = new; wanted = now; closed = closed })
-  tended_parts before old new was now closed is trail stands =
-      subst (λ (s : CompactorState F). IsTended s (record { writer = new; wanted = now; closed = closed })) is (record { trail = trail; closed = refl; stands = stands })
+      → IsTended before (record { writer = new; wanted = now })
+  tended_parts before old new was now is trail stands =
+      subst (λ (s : CompactorState F). IsTended s (record { writer = new; wanted = now })) is (record { trail = trail; stands = stands })
 
   -- where there is no update nothing is stored
   pub stored_none : (state : CompactorState F) (versions : List Version) (octets : List (List ℕ)) → length octets ≡ 0 → IsStored state state versions octets
   stored_none state [] [] none = record {
     origin = refl;
-    closed = refl;
-    none = λ closed. refl;
     last = λ trail short made. (trail, refl);
     stands = λ short made text batches zone updates k at. more_none text batches zone updates k [] state refl at;
   }
   stored_none state (version ∷ versions) [] none = record {
     origin = refl;
-    closed = refl;
-    none = λ closed. refl;
     last = λ trail short made. absurd made;
     stands = λ short made. absurd made;
   }
@@ -266,7 +260,7 @@ module _ {F : Type 0} where
   still_there old new on kept head bodies disk = kept head bodies (goes_on head old bodies disk on)
 
   -- one that is appended
-  stored_some : (group : Group Version) (old new : StoreWriter FileDisk F) (wanted : Option Wanted) (closed : Bool) → closed ≡ false → is_stuck (log_of old) ≡ false
+  stored_some : (group : Group Version) (old new : StoreWriter FileDisk F) (wanted : Option Wanted) → is_stuck (log_of old) ≡ false
       → 0 < length (versions_of group) → (updates : List (List ℕ)) → IsBatch group updates
       → ((head : Head) (bodies : List (List ℕ)) → Holds written synced head (log_of old) bodies → Holds written synced head (log_of new) (logged bodies updates))
       → (All IsShort updates → (steps : List Step) × AreSteps steps (versions_of group) updates × (trail_of new ≡ followed (trail_of old) steps))
@@ -274,25 +268,23 @@ module _ {F : Type 0} where
       → (All IsShort updates → 0 < length updates → (k : ℕ) (batches : List (List (List ℕ))) (was now : Compaction)
       → under_way_of old ≡ Some was → under_way_of new ≡ Some now → IsMarked k batches was → k ≤ length (updates_in batches) → IsMarked k (batches ++ updates ∷ []) now)
       → head_of new ≡ head_of old
-      → IsStored (record { writer = old; wanted = wanted; closed = closed }) (record { writer = new; wanted = wanted; closed = closed }) (versions_of group) updates
-  stored_some group old new wanted closed free on some [] batch stored trail way marks head = absurd (omega (arith, some, batch.many))
-  stored_some group old new wanted closed free on some (one ∷ others) batch stored trail way marks head = record {
+      → IsStored (record { writer = old; wanted = wanted }) (record { writer = new; wanted = wanted }) (versions_of group) updates
+  stored_some group old new wanted on some [] batch stored trail way marks head = absurd (omega (arith, some, batch.many))
+  stored_some group old new wanted on some (one ∷ others) batch stored trail way marks head = record {
     origin = ap (λ (h : Head). h.origin) head;
-    closed = refl;
-    none = λ shut. absurd (let wrong : true ≡ false = sym shut ∙ free in cc);
     last = λ is short made.
         let found = trail short in
         last_follows (trail_of old) (trail_of new) (versions_of group) (one ∷ others) found.0 is found.1 found.2 made;
     stands = λ short made text batches zone updates k at.
         let found = trail short in
-        more_some text batches zone updates k one others (record { writer = old; wanted = wanted; closed = closed }) (record { writer = new; wanted = wanted; closed = closed })
+        more_some text batches zone updates k one others (record { writer = old; wanted = wanted }) (record { writer = new; wanted = wanted })
         (versions_of group) found.0 at (goes_on (head_of old) (log_of old) (map batch_of batches) at.log on) found.1 made found.2 head refl way
         (λ m all was now. marks short (omega arith) m all was now) stored;
   }
 
   -- a batch that is appended, and one that isn't
-  pub appended : {X : Type 0} (result : Option X) (group : Group Version) (before : CompactorState F) (old new : StoreWriter FileDisk F) (wanted : Option Wanted) (closed : Bool)
-      → record { writer = old; wanted = wanted; closed = closed } ≡ before → closed ≡ false → is_stuck (log_of old) ≡ false → 0 < length (versions_of group)
+  pub appended : {X : Type 0} (result : Option X) (group : Group Version) (before : CompactorState F) (old new : StoreWriter FileDisk F) (wanted : Option Wanted)
+      → record { writer = old; wanted = wanted } ≡ before → is_stuck (log_of old) ≡ false → 0 < length (versions_of group)
       → MatchOption result
       ((updates : List (List ℕ)) → IsBatch group updates → (head : Head) (bodies : List (List ℕ)) → Holds written synced head (log_of old) bodies
       → Holds written synced head (log_of new) (logged bodies updates))
@@ -308,19 +300,18 @@ module _ {F : Type 0} where
       (λ _. ⊤)
       → head_of new ≡ head_of old
       → MatchOption result
-      ((updates : List (List ℕ)) → IsBatch group updates → IsStored before (record { writer = new; wanted = wanted; closed = closed }) (versions_of group) updates)
-      (λ _. IsKept before (record { writer = new; wanted = wanted; closed = closed }))
-  appended (Some fault) group before old new wanted closed is free on some kept trail way marks head =
-      subst (λ (s : CompactorState F). IsKept s (record { writer = new; wanted = wanted; closed = closed })) is (record {
+      ((updates : List (List ℕ)) → IsBatch group updates → IsStored before (record { writer = new; wanted = wanted }) (versions_of group) updates)
+      (λ _. IsKept before (record { writer = new; wanted = wanted }))
+  appended (Some fault) group before old new wanted is on some kept trail way marks head =
+      subst (λ (s : CompactorState F). IsKept s (record { writer = new; wanted = wanted })) is (record {
         trail = trail;
         origin = ap (λ (h : Head). h.origin) head;
-        closed = refl;
         stands = λ text batches zone updates k at.
             stands_still written synced text batches zone updates k old new wanted at trail head way (still_there (log_of old) (log_of new) on kept);
       })
-  appended None group before old new wanted closed is free on some stored trail way marks head = λ updates batch.
-      subst (λ (s : CompactorState F). IsStored s (record { writer = new; wanted = wanted; closed = closed }) (versions_of group) updates) is
-      (stored_some group old new wanted closed free on some updates batch (stored updates batch) (trail updates batch) (way updates batch) (marks updates batch) head)
+  appended None group before old new wanted is on some stored trail way marks head = λ updates batch.
+      subst (λ (s : CompactorState F). IsStored s (record { writer = new; wanted = wanted }) (versions_of group) updates) is
+      (stored_some group old new wanted on some updates batch (stored updates batch) (trail updates batch) (way updates batch) (marks updates batch) head)
 
 -- what is told of a text, and what was wanted
 pub taken_told : {X E : Type 0} (f : X → Wanted) (old new : Option X) (writing : X) (result : Result Head E) → old ≡ Some writing → new ≡ None → IfOk result (IsWritten (f writing))

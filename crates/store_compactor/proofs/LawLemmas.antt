@@ -1,5 +1,5 @@
 -- Laws of stores that are compacted.
-use Rattle.std.proofs.Common.{◌≡◌, ◌⊎◌, ℕ, ◌+◌, true, List, ◌++◌, length, map, Option, None, Some, inl, inr, sym, subst}
+use Rattle.std.proofs.Common.{◌≡◌, ◌⊎◌, ℕ, ◌+◌, List, ◌++◌, length, map, Option, None, Some, inl, inr, sym, subst}
 use Rattle.dns_rdata.specs.Record.{Record}
 use Rattle.dns_message.specs.declared.update.Update.{Update}
 use Rattle.zone_tree.specs.Version.{Version}
@@ -30,7 +30,7 @@ use Rattle.compaction.specs.Writer.{log_of, trail_of, head_of}
 use Rattle.compaction.proofs.EndLemmas.{last_is, compaction_started}
 use Rattle.compaction.proofs.JudgedLemmas.{judged_short, last_more}
 use Rattle.store_compactor.specs.Stands.{StandsFrom}
-use Rattle.store_compactor.specs.Kept.{CompactorState, IsAt, IsKept, IsStored, IsClosed}
+use Rattle.store_compactor.specs.Kept.{CompactorState, IsAt, IsKept, IsStored}
 use Rattle.store_compactor.proofs.StandsLemmas.{IsOnDisk}
 
 module _ {F : Type 0} where
@@ -63,23 +63,21 @@ module _ {F : Type 0} where
       from.stands.end.store is is_later
 
   pub published_last : (published later : List Version) (batch : List Asked) (verdicts : List Verdict) (fault : Option (LogFault F)) (before after : CompactorState F)
-      → IsTold passes tells makes octets_of serial_in IsStored IsKept IsClosed published later batch verdicts fault before after
+      → IsTold passes tells makes octets_of serial_in IsStored IsKept published later batch verdicts fault before after
       → IsTrail (trail_of before.writer) → IsLast published (last_in (trail_of before.writer))
-      → (after.closed ≡ true) ⊎ (IsTrail (trail_of after.writer) × IsLast later (last_in (trail_of after.writer)))
-  published_last published later batch verdicts fault before after (inr overtaken) trail last = inl overtaken.closed.closed
-  published_last published later batch verdicts None before after (inl lasts) trail last =
+      → IsTrail (trail_of after.writer) × IsLast later (last_in (trail_of after.writer))
+  published_last published later batch verdicts None before after lasts trail last =
       let old : TrailState = trail_of before.writer in
       let same : last_in old ≡ lasts.first = last_once published (last_in old) lasts.first last lasts.last in
       let made : AreMadeBy (last_in old) lasts.versions lasts.updates =
       subst (λ (v : Version). AreMadeBy v lasts.versions lasts.updates) (sym same) (judged_by lasts.judged) in
-      let found = lasts.stored.last trail (judged_short lasts.judged) made in
-      inr (
+      let found = lasts.stored.last trail (judged_short lasts.judged) made in (
         found.0,
-        subst (λ (vs : List Version). IsLast vs (last_in (trail_of after.writer))) (sym lasts.seen)
+        subst (λ (vs : List Version). IsLast vs (last_in (trail_of after.writer))) (sym lasts.later_are)
             (subst (λ (v : Version). IsLast (published ++ lasts.versions) v) (sym found.1) (last_more published (last_in old) lasts.versions last)),
       )
-  published_last published later batch verdicts (Some why) before after (inl fails) trail last = inr (
+  published_last published later batch verdicts (Some why) before after fails trail last = (
     subst IsTrail (sym fails.stored.trail) trail,
-    subst (λ (vs : List Version). IsLast vs (last_in (trail_of after.writer))) (sym fails.seen)
+    subst (λ (vs : List Version). IsLast vs (last_in (trail_of after.writer))) (sym fails.later_are)
         (subst (λ (t : TrailState). IsLast published (last_in t)) (sym fails.stored.trail) last),
   )

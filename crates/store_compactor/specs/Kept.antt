@@ -1,5 +1,5 @@
 -- What each call makes of a store that is compacted while updates go on (RFC 2136, 3.5; own).
-use Rattle.std.specs.Prelude.{◌≡◌, ◌⊎◌, ℕ, Bool, true, List, ◌++◌, Option, length, map, All}
+use Rattle.std.specs.Prelude.{◌≡◌, ◌⊎◌, ℕ, List, ◌++◌, Option, length, map, All}
 use Rattle.dns_rdata.specs.Record.{Record}
 use Rattle.dns_message.specs.declared.update.Update.{Update}
 use Rattle.zone_tree.specs.Version.{Version}
@@ -15,11 +15,10 @@ use Rattle.compaction.specs.Writer.{log_of, trail_of, head_of}
 use Rattle.store_compactor.specs.Texts.{Wanted}
 use Rattle.store_compactor.specs.Stands.{Stands, StandsFrom}
 
--- a store that is compacted: its writer, the text that is wanted, and whether nothing more is taken
+-- a store that is compacted: its writer, and the text that is wanted
 pub record CompactorState (F : Type 0) : Type 0 where
   pub writer : StoreWriter FileDisk F
   pub wanted : Option Wanted
-  pub closed : Bool
 
 module _ {F : Type 0} where
   -- of a store
@@ -29,7 +28,6 @@ module _ {F : Type 0} where
   -- between two batches the store that stands stays, or one of the same versions comes in its place
   pub record IsTended (before after : CompactorState F) : Type 0 where
     pub trail : trail_of after.writer ≡ trail_of before.writer
-    pub closed : after.closed ≡ before.closed
     pub stands : (text : List ℕ) (batches : List (List (List ℕ))) (zone : List Record) (updates : List Update) (k : ℕ) → IsAt text batches zone updates k before
         → StandsFrom written synced zone updates after.writer after.wanted × ((head_of after.writer).origin ≡ (head_of before.writer).origin)
 
@@ -37,7 +35,6 @@ module _ {F : Type 0} where
   pub record IsKept (before after : CompactorState F) : Type 0 where
     pub trail : trail_of after.writer ≡ trail_of before.writer
     pub origin : (head_of after.writer).origin ≡ (head_of before.writer).origin
-    pub closed : after.closed ≡ before.closed
     pub stands : (text : List ℕ) (batches : List (List (List ℕ))) (zone : List Record) (updates : List Update) (k : ℕ) → IsAt text batches zone updates k before
         → IsAt text batches zone updates k after
 
@@ -50,19 +47,11 @@ module _ {F : Type 0} where
     pub bodies : map batch_of all ≡ logged (map batch_of batches) octets
     pub on_disk : (length octets ≡ 0) ⊎ Holds written synced (head_of after.writer) (log_of after.writer) (map batch_of all)
 
-  -- the updates of these versions, which they make one from the other, are behind those of the store that stands, as one batch on the disk; a store that is closed takes none
+  -- the updates of these versions, which they make one from the other, are after those of the store that stands, as one batch on the disk
   pub record IsStored (before after : CompactorState F) (versions : List Version) (octets : List (List ℕ)) : Type 0 where
     pub origin : (head_of after.writer).origin ≡ (head_of before.writer).origin
-    pub closed : after.closed ≡ before.closed
-    pub none : before.closed ≡ true → length octets ≡ 0
     pub last : IsTrail (trail_of before.writer) → All IsShort octets → AreMadeBy (last_in (trail_of before.writer)) versions octets
         → IsTrail (trail_of after.writer) × (last_in (trail_of after.writer) ≡ newest_of (last_in (trail_of before.writer)) versions)
     pub stands : All IsShort octets → AreMadeBy (last_in (trail_of before.writer)) versions octets
         → (text : List ℕ) (batches : List (List (List ℕ))) (zone : List Record) (updates : List Update) (k : ℕ) → IsAt text batches zone updates k before
         → HasMore text batches zone updates octets after
-
-  -- nothing more is taken
-  pub record IsClosed (before after : CompactorState F) : Type 0 where
-    pub writer : after.writer ≡ before.writer
-    pub wanted : after.wanted ≡ before.wanted
-    pub closed : after.closed ≡ true

@@ -20,7 +20,7 @@ use update_job::Storing;
 const MISPLACED: &str =
     "the store's directory has no journal, or another one: it was moved or removed";
 
-/// A store of a folder, which is compacted between two batches. Contracts see its writer, the text that is wanted, and whether it takes nothing more.
+/// A store of a folder, which is compacted between two batches. Contracts see its writer, and the text that is wanted.
 #[derive(Drop)]
 pub struct StoreCompactor<R: Files<File = File> + Alloc + Clone + Drop, T: Texts, N: Notes + Drop> {
     files: R,
@@ -34,7 +34,6 @@ pub struct StoreCompactor<R: Files<File = File> + Alloc + Clone + Drop, T: Texts
     had: u64,
     /// Whether the last zone text came to nothing: the next one is begun a few seconds later.
     failed: bool,
-    closed: bool,
 }
 
 impl<R: Files<File = File> + Alloc + Clone + Drop, T: Texts, N: Notes + Drop> Model
@@ -44,7 +43,7 @@ impl<R: Files<File = File> + Alloc + Clone + Drop, T: Texts, N: Notes + Drop> Mo
 
     ghost Value = { CompactorState IoError };
 
-    ghost view = { λ a. record { writer = a.writer; wanted = T.wanted a.texts; closed = a.closed } };
+    ghost view = { λ a. record { writer = a.writer; wanted = T.wanted a.texts } };
 }
 
 impl<R: Files<File = File> + Alloc + Clone + Drop, T: Texts, N: Notes + Drop> StoreCompactor<
@@ -52,7 +51,7 @@ impl<R: Files<File = File> + Alloc + Clone + Drop, T: Texts, N: Notes + Drop> St
     T,
     N,
 > {
-    ghost use Rattle.std.specs.Prelude.{◌≡◌, false};
+    ghost use Rattle.std.specs.Prelude.{◌≡◌};
     ghost use Rattle.store_compactor.specs.Kept.{IsTended, IsKept};
 
     /// That of a folder, with its writer, who writes its zone texts, and who notes what becomes of them. A journal with more than `most` octets is compacted.
@@ -64,7 +63,7 @@ impl<R: Files<File = File> + Alloc + Clone + Drop, T: Texts, N: Notes + Drop> St
         notes: N,
         most: u64,
     ) -> StoreCompactor<R, T, N>
-        ensures { result ≡ record { writer = writer; wanted = T.wanted texts; closed = false } }
+        ensures { result ≡ record { writer = writer; wanted = T.wanted texts } }
     {
         StoreCompactor {
             files,
@@ -75,7 +74,6 @@ impl<R: Files<File = File> + Alloc + Clone + Drop, T: Texts, N: Notes + Drop> St
             most,
             had: 0,
             failed: false,
-            closed: false,
         }
     }
 
@@ -143,7 +141,7 @@ impl<R: Files<File = File> + Alloc + Clone + Drop, T: Texts, N: Notes + Drop> St
 
 impl<R: Files<File = File> + Alloc + Clone + Drop, T: Texts, N: Notes + Drop> Storing<SharedVersion>
     for StoreCompactor<R, T, N> {
-    ghost use Rattle.store_compactor.specs.Kept.{IsTended, IsStored, IsKept, IsClosed};
+    ghost use Rattle.store_compactor.specs.Kept.{IsTended, IsStored, IsKept};
 
     type Fault = io::Error;
 
@@ -153,10 +151,8 @@ impl<R: Files<File = File> + Alloc + Clone + Drop, T: Texts, N: Notes + Drop> St
 
     ghost tended = { IsTended };
 
-    ghost closed = { IsClosed };
-
     fn tend<W: Wait>(&mut self, rt: &W, alloc: Global) {
-        if self.closed || self.misplaced(alloc).is_some() {
+        if self.misplaced(alloc).is_some() {
             return;
         }
         self.finish(rt, alloc);
@@ -172,7 +168,7 @@ impl<R: Files<File = File> + Alloc + Clone + Drop, T: Texts, N: Notes + Drop> St
         if group.versions().is_empty() {
             return None;
         }
-        if self.closed || self.writer.log().is_stuck() {
+        if self.writer.log().is_stuck() {
             group.give_up();
             return Some(LogFault::Stuck);
         }
@@ -181,9 +177,5 @@ impl<R: Files<File = File> + Alloc + Clone + Drop, T: Texts, N: Notes + Drop> St
             return Some(LogFault::Disk(fault));
         }
         self.writer.append(rt, alloc, group)
-    }
-
-    fn close(&mut self) {
-        self.closed = true;
     }
 }

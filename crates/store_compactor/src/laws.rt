@@ -1,5 +1,5 @@
 //! Laws of stores that are compacted: each is the contract of a function that does nothing.
-ghost use Rattle.std.specs.Prelude.{◌≡◌, ◌⊎◌, ◌+◌, ◌++◌, ℕ, true, List, Option, length};
+ghost use Rattle.std.specs.Prelude.{◌≡◌, ◌+◌, ◌++◌, ℕ, List, Option, length};
 ghost use Rattle.std.specs.declared.io.Error.{Error as IoError};
 ghost use Rattle.dns_rdata.specs.Record.{Record};
 ghost use Rattle.dns_message.specs.declared.update.Update.{Update};
@@ -20,7 +20,7 @@ ghost use Rattle.recovery.specs.Start.{IsStarted};
 ghost use Rattle.compaction.specs.Trail.{IsTrail, last_in};
 ghost use Rattle.compaction.specs.Writer.{log_of, trail_of, head_of};
 ghost use Rattle.store_compactor.specs.Stands.{StandsFrom};
-ghost use Rattle.store_compactor.specs.Kept.{CompactorState, IsAt, IsKept, IsStored, IsClosed};
+ghost use Rattle.store_compactor.specs.Kept.{CompactorState, IsAt, IsKept, IsStored};
 
 /// Whatever octets a crash leaves behind what is on the disk of a store that stands, a start of it has the last version of the writer's trail, and behind it at most what
 /// was written and isn't known to be on the disk, of which SERVFAIL was told. A start of a store that comes in its place has the same last version, of the same number.
@@ -35,11 +35,10 @@ pub fn tended_stores_have_the_same_start()
         → (start.newest.last.zone ≡ later.newest.last.zone) × (start.newest.last.number ≡ from.n + later.newest.last.number) }
 {}
 
-/// Where the trail ends at the version that is published last, it does so behind each batch, whether this lasts or fails; or nothing more is taken, since another one
-/// has published meanwhile.
+/// Where the trail ends at the version that is published last, it does so after each batch, whether this lasts or fails.
 pub fn batches_end_at_what_is_published()
     ensures { (published later : List Version) (batch : List Asked) (verdicts : List Verdict) (fault : Option (LogFault IoError)) (before after : CompactorState IoError)
-        → IsTold passes tells makes octets_of serial_in IsStored IsKept IsClosed published later batch verdicts fault before after
+        → IsTold passes tells makes octets_of serial_in IsStored IsKept published later batch verdicts fault before after
         → IsTrail (trail_of before.writer) → IsLast published (last_in (trail_of before.writer))
-        → (after.closed ≡ true) ⊎ (IsTrail (trail_of after.writer) × IsLast later (last_in (trail_of after.writer))) }
+        → IsTrail (trail_of after.writer) × IsLast later (last_in (trail_of after.writer)) }
 {}

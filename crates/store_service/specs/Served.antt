@@ -21,9 +21,3 @@ module _ {S L : Type 0} where
   AreTended tended Nowhere after = after ≡ Nowhere
   AreTended tended (Store before) (Store after) = tended before.store after.store
   AreTended tended (Store before) Nowhere = ⊥
-
-  -- the store takes nothing more
-  abbrev pub AreClosed : (S → S → Type 0) → ServedStore S L → ServedStore S L → Type 0
-  AreClosed closed Nowhere after = after ≡ Nowhere
-  AreClosed closed (Store before) (Store after) = closed before.store after.store
-  AreClosed closed (Store before) Nowhere = ⊥

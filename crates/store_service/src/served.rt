@@ -28,7 +28,7 @@ pub enum ServedStore<'a, S, L> {
 }
 
 impl<V: Drop, S: Storing<V>, L: StoreLog> Storing<V> for ServedStore<'_, S, L> {
-    ghost use Rattle.store_service.specs.Served.{AreStored, AreKept, AreTended, AreClosed};
+    ghost use Rattle.store_service.specs.Served.{AreStored, AreKept, AreTended};
 
     type Fault = S::Fault;
 
@@ -37,8 +37,6 @@ impl<V: Drop, S: Storing<V>, L: StoreLog> Storing<V> for ServedStore<'_, S, L> {
     ghost kept = { AreKept S.kept };
 
     ghost tended = { AreTended S.tended };
-
-    ghost closed = { AreClosed S.closed };
 
     fn tend<R: Wait>(&mut self, rt: &R, alloc: Global) {
         match self {
@@ -63,13 +61,6 @@ impl<V: Drop, S: Storing<V>, L: StoreLog> Storing<V> for ServedStore<'_, S, L> {
                 }
                 fault
             }
-        }
-    }
-
-    fn close(&mut self) {
-        match self {
-            ServedStore::Nowhere => {}
-            ServedStore::Store(kept) => kept.store.close(),
         }
     }
 }

@@ -8,7 +8,7 @@ use Rattle.update_group.specs.declared.verdict.Verdict.{Verdict}
 use Rattle.update_group.specs.Verdict.{told_verdict, made_verdict, failed}
 use Rattle.update_group.specs.Group.{newest_of, versions_of, IsGivenUp, IsGroup, Judged, nothing, told, starved, changed}
 use Rattle.update_group.proofs.GroupLemmas.{judged_long}
-use Rattle.update_job.specs.Done.{BeginsWith, first_verdict, IsDone, AreDone}
+use Rattle.update_job.specs.Done.{first_verdict, IsDone, AreDone}
 
 -- where the newest of versions stands that are published behind others
 newest_place : {V : Type 0} (published : List V) (first : V) (made : List V) → IsLast published first
@@ -123,9 +123,9 @@ module _ {V A : Type 0} (passes : V → A → Type 0) (tells : V → A → ℕ �
       (subst (λ (n : ℕ). AreDone passes tells makes serial published n others_told batch) (sym same_begun)
       (subst (λ (cs : List Verdict). AreDone passes tells makes serial published begun cs batch) (sym same_verdicts) are))
 
-  -- so it is of those behind the first, as more is published
+  -- so it is of those after the first
   pub rest_done : (published later : List V) (begun from : ℕ) (verdicts left : List Verdict) (batch : List A) (one : A) (rest : List A) → batch ≡ one ∷ rest → left ≡ drop 1 verdicts
-      → BeginsWith later published → from ≡ begun → AreDone passes tells makes serial published begun verdicts batch → AreDone passes tells makes serial later from left rest
-  rest_done published later begun from verdicts left batch one rest is behind more same are =
+      → later ≡ published → from ≡ begun → AreDone passes tells makes serial published begun verdicts batch → AreDone passes tells makes serial later from left rest
+  rest_done published later begun from verdicts left batch one rest is others same_versions same are =
       let first : AreDone passes tells makes serial published begun verdicts (one ∷ rest) = subst (λ (l : List A). AreDone passes tells makes serial published begun verdicts l) is are in
-      done_same (published ++ more.0) later begun from (drop 1 verdicts) left rest more.1 same behind (all_grow published more.0 begun (drop 1 verdicts) rest first.1)
+      done_same published later begun from (drop 1 verdicts) left rest same_versions same others first.1

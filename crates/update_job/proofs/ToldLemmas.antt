@@ -1,8 +1,8 @@
 -- What becomes of a batch that is judged, brought to a store and published.
-use Rattle.std.proofs.Common.{◌≡◌, refl, ℕ, zero, suc, ◌<◌, ◌≤◌, List, [], ◌∷◌, ◌++◌, take, Option, None, Some, inl, inr, length, ◌⊎◌, sym, ap, ◌∙◌, subst, append-nil, append_assoc, arith}
+use Rattle.std.proofs.Common.{◌≡◌, refl, ℕ, zero, suc, ◌+◌, ◌<◌, ◌≤◌, List, [], ◌∷◌, ◌++◌, take, Option, None, Some, inl, inr, length, ◌⊎◌, sym, ap, ◌∙◌, subst, append-nil, append_assoc, length-append, arith}
 use Rattle.std.specs.Prelude.{replicate, drop, min, MatchOption}
 use Rattle.std.proofs.lemmas.Bool.{cases_lt}
-use Rattle.std.proofs.lemmas.List.{length-replicate, length-take, drop_all}
+use Rattle.std.proofs.lemmas.List.{length-take, drop_all}
 use Rattle.journal_store.specs.declared.log.LogFault.{LogFault}
 use Rattle.update_group.specs.declared.group.Group.{Group}
 use Rattle.update_group.specs.Engine.{IsLast}
@@ -10,17 +10,22 @@ use Rattle.update_group.specs.declared.verdict.Verdict.{Verdict}
 use Rattle.update_group.specs.Verdict.{failed}
 use Rattle.update_group.specs.Group.{versions_of, IsBatch, IsGivenUp, IsGroup, Judged}
 use Rattle.update_group.proofs.GroupLemmas.{judged_long}
-use Rattle.update_job.specs.Done.{BeginsWith, first_verdict, told_of, told_behind}
+use Rattle.update_job.specs.Done.{first_verdict, told_of, told_behind}
 use Rattle.update_job.specs.Turned.{IsTold}
 
--- where a batch isn't on the disk each of it gets SERVFAIL, so that each gets something
-pub gets_long : {X : Type 0} (fault : Option X) (judged verdicts : List Verdict) → MatchOption fault (verdicts ≡ judged) (λ _. verdicts ≡ replicate (length judged) failed)
-    → length verdicts ≡ length judged
-gets_long None judged verdicts gets = ap length gets
-gets_long (Some fault) judged verdicts gets = ap length gets ∙ length-replicate (length judged) failed
+-- a group that isn't given up has as few versions as it had, and one that is has none
+pub kept_few : {V X : Type 0} (fault : Option X) (group done : Group V) (room : ℕ) → MatchOption fault (done ≡ group) (λ _. IsGivenUp group done) → length (versions_of group) ≤ room
+    → length (versions_of done) ≤ room
+kept_few None group done room same few = subst (λ g. length (versions_of g) ≤ room) (sym same) few
+kept_few (Some fault) group done room given_up few = omega (arith, ap length given_up.none)
+
+-- versions that are published use the room for them
+pub room_left : {V : Type 0} (left room was : ℕ) (published later versions : List V) → left + length versions ≡ was → later ≡ published ++ versions → was ≡ room
+    → left + length later ≡ room + length published
+room_left left room was published later versions used are same = omega (arith, used, same, ap length are ∙ length-append published versions)
 
 module _ {V A S F : Type 0} (passes : V → A → Type 0) (tells : V → A → ℕ → Type 0) (makes : V → A → V → Type 0) (octets : A → List ℕ) (serial : V → ℕ)
-    (stores : S → S → List V → List (List ℕ) → Type 0) (keeps closes tends : S → S → Type 0) where
+    (stores : S → S → List V → List (List ℕ) → Type 0) (keeps : S → S → Type 0) where
   -- a group that is brought to a store, and published
   pub told_published : (fault : Option (LogFault F)) (first : V) (published later : List V) (batch : List A) (judged verdicts : List Verdict) (before after : S) (group done : Group V) (room : ℕ)
       → IsLast published first → IsGroup passes tells makes octets serial first batch judged group room
@@ -28,17 +33,17 @@ module _ {V A S F : Type 0} (passes : V → A → Type 0) (tells : V → A → �
       → MatchOption fault (verdicts ≡ judged) (λ _. verdicts ≡ replicate (length judged) failed)
       → MatchOption fault ((updates : List (List ℕ)) → IsBatch group updates → stores before after (versions_of group) updates) (λ _. keeps before after)
       → later ≡ published ++ versions_of done
-      → IsTold passes tells makes octets serial stores keeps closes published later batch verdicts fault before after
-  told_published None first published later batch judged verdicts before after group done room last is same gets stored seen = inl (record {
+      → IsTold passes tells makes octets serial stores keeps published later batch verdicts fault before after
+  told_published None first published later batch judged verdicts before after group done room last is same gets stored are = record {
     first = first;
     versions = versions_of group;
     updates = is.updates;
     last = last;
     judged = subst (λ (vs : List Verdict). Judged passes tells makes octets serial first batch vs (versions_of group) is.updates) (sym gets) is.judged;
-    seen = seen ∙ ap (λ g. published ++ versions_of g) same;
+    later_are = are ∙ ap (λ g. published ++ versions_of g) same;
     stored = stored is.updates is.batch;
-  })
-  told_published (Some fault) first published later batch judged verdicts before after group done room last is given_up gets kept seen = inl (record {
+  }
+  told_published (Some fault) first published later batch judged verdicts before after group done room last is given_up gets kept are = record {
     first = first;
     judged_verdicts = judged;
     versions = versions_of group;
@@ -47,38 +52,19 @@ module _ {V A S F : Type 0} (passes : V → A → Type 0) (tells : V → A → �
     judged = is.judged;
     some = given_up.some;
     told = gets ∙ ap (λ (n : ℕ). replicate n failed) (judged_long passes tells makes octets serial first room is.judged);
-    seen = seen ∙ (ap (λ (vs : List V). published ++ vs) given_up.none ∙ append-nil published);
+    later_are = are ∙ (ap (λ (vs : List V). published ++ vs) given_up.none ∙ append-nil published);
     stored = kept;
-  })
+  }
 
-  -- a group that is brought to a store, where another one has published meanwhile
-  pub told_overtaken : (fault : Option (LogFault F)) (first : V) (published later : List V) (batch : List A) (judged middling verdicts : List Verdict) (before middle after : S) (group : Group V) (room : ℕ)
-      → IsLast published first → IsGroup passes tells makes octets serial first batch judged group room
-      → MatchOption fault (middling ≡ judged) (λ _. middling ≡ replicate (length judged) failed)
-      → MatchOption fault ((updates : List (List ℕ)) → IsBatch group updates → stores before middle (versions_of group) updates) (λ _. keeps before middle)
-      → BeginsWith later published → verdicts ≡ replicate (length middling) failed → closes middle after
-      → IsTold passes tells makes octets serial stores keeps closes published later batch verdicts fault before after
-  told_overtaken fault first published later batch judged middling verdicts before middle after group room last is gets stored seen all_fail closed = inr (record {
-    first = first;
-    judged_verdicts = judged;
-    versions = versions_of group;
-    updates = is.updates;
-    last = last;
-    judged = is.judged;
-    told = all_fail ∙ ap (λ (n : ℕ). replicate n failed) (gets_long fault judged middling gets ∙ judged_long passes tells makes octets serial first room is.judged);
-    seen = seen;
-    middle = middle;
-    brought = brought_or_kept fault stored;
-    closed = closed;
-  })
-    where
-      brought_or_kept : (fault : Option (LogFault F))
-          → MatchOption fault ((updates : List (List ℕ)) → IsBatch group updates → stores before middle (versions_of group) updates) (λ _. keeps before middle)
-          → stores before middle (versions_of group) is.updates ⊎ keeps before middle
-      brought_or_kept None all = inl (all is.updates is.batch)
-      brought_or_kept (Some fault) kept = inr kept
+  -- the same of the same lists of versions
+  pub told_between : {batch : List A} (fault : Option (LogFault F)) (old begun later new : List V) (verdicts : List Verdict) (before after : S) → begun ≡ old → new ≡ later
+      → IsTold passes tells makes octets serial stores keeps begun later batch verdicts fault before after
+      → IsTold passes tells makes octets serial stores keeps old new batch verdicts fault before after
+  told_between {batch} fault old begun later new verdicts before after from to told =
+      subst (λ (vs : List V). IsTold passes tells makes octets serial stores keeps old vs batch verdicts fault before after) (sym to)
+      (subst (λ (vs : List V). IsTold passes tells makes octets serial stores keeps vs later batch verdicts fault before after) from told)
 
--- what is told behind others, and then behind these
+-- what is told after others, and then after these
 pub told_on : {T : Type 0} (old : Option (List T)) (one : T) (more : List T) → told_behind (told_behind old (one ∷ [])) more ≡ told_behind old (one ∷ more)
 told_on None one more = refl
 told_on (Some before) one more = ap Some (append_assoc before (one ∷ []) more)
@@ -86,11 +72,6 @@ told_on (Some before) one more = ap Some (append_assoc before (one ∷ []) more)
 pub told_none : {T : Type 0} (old : Option (List T)) → told_behind old [] ≡ old
 told_none None = refl
 told_none (Some before) = ap Some (append-nil before)
-
--- a list that begins with one that begins with another one
-pub begins_on : {X : Type 0} (longest longer shorter : List X) → BeginsWith longest longer → BeginsWith longer shorter → BeginsWith longest shorter
-begins_on longest longer shorter more some =
-    (some.0 ++ more.0, more.1 ∙ (ap (λ l. l ++ more.0) some.1 ∙ append_assoc shorter some.0 more.0))
 
 -- one more of a batch is told what it gets
 pub told_next : {A : Type 0} (old new : Option (List (A × Verdict))) (one : A) (verdict : Verdict) (verdicts left : List Verdict) (batch rest : List A)

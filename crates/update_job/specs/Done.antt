@@ -17,7 +17,7 @@ abbrev pub told_of : {A : Type 0} → List Verdict → List A → List (A × Ver
 told_of verdicts [] = []
 told_of verdicts (one ∷ batch) = (one, first_verdict verdicts) ∷ told_of (drop 1 verdicts) batch
 
--- these are told behind those that were, where they are kept
+-- these are told after those that were, where they are kept
 abbrev pub told_behind : {T : Type 0} → Option (List T) → List T → Option (List T)
 told_behind old more = option_map (λ before. before ++ more) old
 
@@ -34,7 +34,7 @@ module _ {V A : Type 0} (passes : V → A → Type 0) (tells : V → A → ℕ �
     pub tells_it : tells version one code
     pub told : verdict ≡ told_verdict (serial version) code
 
-  -- or it makes the version behind that one, and is told NOERROR with the serials of the two
+  -- or it makes the version after that one, and is told NOERROR with the serials of the two
   pub record IsMadeIn (one : A) (verdict : Verdict) : Type 0 where
     pub version : V
     pub next : V

@@ -1,7 +1,7 @@
 //! Batches of updates (RFC 2136, 3 and 3.5).
-ghost use Rattle.std.specs.Prelude.{◌≡◌, ◌≤◌, ◌<◌, [], ◌++◌, List, length, vec_capacity, min, max, take, drop, IfOk, IfErr, OnOk, OnErr};
+ghost use Rattle.std.specs.Prelude.{◌≡◌, ◌≤◌, ◌<◌, ◌+◌, [], ◌++◌, List, length, vec_capacity, min, max, take, drop, IfOk, IfErr, OnOk, OnErr};
 ghost use Rattle.update_group.specs.Engine.{IsLast};
-ghost use Rattle.update_job.specs.Done.{BeginsWith, AreDone, first_verdict, told_of, told_behind};
+ghost use Rattle.update_job.specs.Done.{AreDone, first_verdict, told_of, told_behind};
 ghost use Rattle.update_job.specs.Turned.{IsTold, state_of, HasTurned, HasServed};
 
 use crate::faults::Faults;
@@ -10,7 +10,7 @@ use crate::storing::Storing;
 use journal_store::LogFault;
 use std::alloc::Global;
 use std::sync::Wait;
-use update_group::{MOST, Verdict, fail_all, fail_unkept, judge_group};
+use update_group::{MOST, Verdict, fail_unkept, judge_group};
 use update_queue::Queue;
 
 /// How many updates a batch has at most (own).
@@ -102,14 +102,14 @@ where
     }
 
     /// Waits for updates, takes as many as wait, up to [`BATCH`], judges the first of them as one batch, as many as versions are sure to find room, and tells each what
-    /// it gets: why the batch isn't on the disk, if it isn't. The others are of the next batch. In front of the batch and behind it the store is tended: so what was to be
-    /// done for updates to go on is done before they are judged, and nobody waits for what is begun behind them. [`Ended`] where the queue is ended, and nothing waits.
+    /// it gets: why the batch isn't on the disk, if it isn't. The others are of the next batch. Before the batch and after it the store is tended: so what was to be
+    /// done for updates to go on is done before they are judged, and nobody waits for what is begun after them. [`Ended`] where the queue is ended, and nothing waits.
     pub fn turn<R: Wait>(&mut self, rt: &R) -> Result<Option<LogFault<S::Fault>>, Ended>
-        ensures turned { IfOk result (λ fault. HasTurned P.passes P.tells P.makes P.octets P.serial S.stored S.kept S.closed S.Fault S.tended fault
-            (state_of (P.seen self.old.publishing) (P.room self.old.publishing) (P.told self.old.publishing) self.old.store self.old.waiting.items)
-            (state_of (P.seen self.new.publishing) (P.room self.new.publishing) (P.told self.new.publishing) self.new.store self.new.waiting.items)) }
-        ensures ended { OnErr result (state_of (P.seen self.new.publishing) (P.room self.new.publishing) (P.told self.new.publishing) self.new.store self.new.waiting.items
-            ≡ state_of (P.seen self.old.publishing) (P.room self.old.publishing) (P.told self.old.publishing) self.old.store self.old.waiting.items) }
+        ensures turned { IfOk result (λ fault. HasTurned P.passes P.tells P.makes P.octets P.serial S.stored S.kept S.Fault S.tended fault
+            (state_of (P.published self.old.publishing) (P.room self.old.publishing) (P.told self.old.publishing) self.old.store self.old.waiting.items)
+            (state_of (P.published self.new.publishing) (P.room self.new.publishing) (P.told self.new.publishing) self.new.store self.new.waiting.items)) }
+        ensures ended { OnErr result (state_of (P.published self.new.publishing) (P.room self.new.publishing) (P.told self.new.publishing) self.new.store self.new.waiting.items
+            ≡ state_of (P.published self.old.publishing) (P.room self.old.publishing) (P.told self.old.publishing) self.old.store self.old.waiting.items) }
         ensures none { OnErr result (self.new.waiting.items ≡ []) }
     {
         self.fill(rt)?;
@@ -139,9 +139,9 @@ where
 
     /// Judges batches until the queue is ended, and nothing waits. Of each it is noted why it isn't on the disk, or that it is.
     pub fn serve<R: Wait, N: Faults<S::Fault>>(&mut self, rt: &R, faults: &mut N)
-        ensures served { HasServed P.passes P.tells P.makes P.octets P.serial S.stored S.kept S.closed S.Fault S.tended
-            (state_of (P.seen self.old.publishing) (P.room self.old.publishing) (P.told self.old.publishing) self.old.store self.old.waiting.items)
-            (state_of (P.seen self.new.publishing) (P.room self.new.publishing) (P.told self.new.publishing) self.new.store self.new.waiting.items) }
+        ensures served { HasServed P.passes P.tells P.makes P.octets P.serial S.stored S.kept S.Fault S.tended
+            (state_of (P.published self.old.publishing) (P.room self.old.publishing) (P.told self.old.publishing) self.old.store self.old.waiting.items)
+            (state_of (P.published self.new.publishing) (P.room self.new.publishing) (P.told self.new.publishing) self.new.store self.new.waiting.items) }
         ensures none { self.new.waiting.items ≡ [] }
     {
         for _ in rt.forever() {
@@ -174,26 +174,24 @@ fn judge_batch<R: Wait, P: Publishing, S: Storing<P::Version>>(
     batch: &[P::Asked],
     verdicts: &mut Vec<Verdict>,
 ) -> Option<LogFault<S::Fault>>
-    requires last { IsLast (P.seen publishing.old) last.now }
-    requires begun { P.begun publishing.old ≡ length (P.seen publishing.old) }
+    requires last { IsLast (P.published publishing.old) last.now }
+    requires begun { P.begun publishing.old ≡ length (P.published publishing.old) }
+    requires room { P.room publishing.old ≡ room }
     requires verdicts_room { length batch.now ≤ vec_capacity verdicts.old }
-    ensures told { IsTold P.passes P.tells P.makes P.octets P.serial S.stored S.kept S.closed (P.seen publishing.old) (P.seen publishing.new) batch.now verdicts.new.items result store.old store.new }
-    ensures done { AreDone P.passes P.tells P.makes P.serial (P.seen publishing.new) (P.begun publishing.new) verdicts.new.items batch.now }
-    ensures same { (P.told publishing.new ≡ P.told publishing.old) × (P.room publishing.new ≡ P.room publishing.old) }
+    ensures told { IsTold P.passes P.tells P.makes P.octets P.serial S.stored S.kept (P.published publishing.old) (P.published publishing.new) batch.now verdicts.new.items result store.old store.new }
+    ensures done { AreDone P.passes P.tells P.makes P.serial (P.published publishing.new) (P.begun publishing.new) verdicts.new.items batch.now }
+    ensures left { P.room publishing.new + length (P.published publishing.new) ≡ room + length (P.published publishing.old) }
+    ensures same { P.told publishing.new ≡ P.told publishing.old }
     ensures verdicts_room { vec_capacity verdicts.new ≡ vec_capacity verdicts.old }
 {
     let mut group = judge_group(publishing, alloc, last, batch, room.min(MOST), verdicts);
     let fault = store.append(rt, alloc, &mut group);
     fail_unkept(verdicts, &fault);
-    let Err(_) = publishing.publish(rt, group) else {
-        return fault;
-    };
-    store.close();
-    fail_all(verdicts);
+    publishing.publish(rt, group);
     fault
 }
 
-/// Tells each of a batch what it gets, of so many that wait in front; those behind them wait on.
+/// Tells each of the first so many that wait what it gets; those after them wait on.
 fn tell_first<R: Wait, P: Publishing>(
     rt: &R,
     publishing: &mut P,
@@ -204,8 +202,8 @@ fn tell_first<R: Wait, P: Publishing>(
 where
     P::Asked: Drop,
     requires some { count ≤ length waiting.old.items }
-    requires done { AreDone P.passes P.tells P.makes P.serial (P.seen publishing.old) (P.begun publishing.old) verdicts.now (take count waiting.old.items) }
-    ensures grows { BeginsWith (P.seen publishing.new) (P.seen publishing.old) }
+    requires done { AreDone P.passes P.tells P.makes P.serial (P.published publishing.old) (P.begun publishing.old) verdicts.now (take count waiting.old.items) }
+    ensures published { P.published publishing.new ≡ P.published publishing.old }
     ensures told { P.told publishing.new ≡ told_behind (P.told publishing.old) (told_of verdicts.now (take count waiting.old.items)) }
     ensures room { P.room publishing.new ≡ P.room publishing.old }
     ensures rest { waiting.new.items ≡ drop count waiting.old.items }
@@ -213,18 +211,18 @@ where
 {
     let mut left = verdicts;
     for asked in waiting.drain(..count) {
-        let (verdict, behind) = first_verdict(left);
+        let (verdict, rest) = first_verdict(left);
         publishing.tell(rt, asked, verdict);
-        left = behind;
+        left = rest;
     }
 }
 
-/// The first of these verdicts, SERVFAIL where there is none, and those behind it.
+/// The first of these verdicts, SERVFAIL where there is none, and those after it.
 fn first_verdict(verdicts: &[Verdict]) -> (Verdict, &[Verdict])
     ensures { (result.0 ≡ first_verdict verdicts.now) × (result.1.now ≡ drop 1 verdicts.now) }
 {
     match verdicts.split_first() {
-        Some((first, behind)) => (*first, behind),
+        Some((first, rest)) => (*first, rest),
         None => (Verdict::failed(), verdicts),
     }
 }

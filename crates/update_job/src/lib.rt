@@ -2,9 +2,9 @@
 //!
 //! An [`UpdateJob`] takes the updates that wait in a queue (`update_queue`), judges them one upon the other in versions that nobody sees yet, brings those that
 //! change the zone to the disk by one sync (`update_group`), where there is a journal, publishes what they make, and only then tells each what it gets: its code, and its
-//! own serials. What publishes, and what brings a verdict to who asked, a [`Publishing`] says: its lock is had twice for a batch, and for short, so that nobody who takes it waits for
-//! a disk. Where the disk fails each is told SERVFAIL, and nothing is published. Where they are brought a [`Storing`] says, and does between two batches what is to be
-//! done there; a [`Store`] is a journal, or nothing, and does nothing else.
+//! own serials. What publishes, and what brings a verdict to who asked, a [`Publishing`] says. It alone has the right to publish: so a batch that is on the disk is published.
+//! Its lock is had for short, so that nobody who takes it waits for a disk. Where the disk fails each is told SERVFAIL, and nothing is published. Where they are brought a
+//! [`Storing`] says, and does between two batches what is to be done there; a [`Store`] is a journal, or nothing, and does nothing else.
 #![tactic(auto)]
 
 mod faults;

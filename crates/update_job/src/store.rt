@@ -12,13 +12,11 @@ pub enum Store<D: Disk> {
     Nowhere,
     /// To a journal.
     Journal(Log<D>),
-    /// Nowhere any more: each batch that would change the zone fails.
-    Closed,
 }
 
 impl<V: Drop, D: Disk> Storing<V> for Store<D> {
     ghost use Rattle.std.specs.Prelude.{◌≡◌};
-    ghost use Rattle.update_job.specs.Stored.{AreStored, IsKept, IsClosed};
+    ghost use Rattle.update_job.specs.Stored.{AreStored, IsKept};
 
     type Fault = D::Fault;
 
@@ -27,8 +25,6 @@ impl<V: Drop, D: Disk> Storing<V> for Store<D> {
     ghost kept = { IsKept D.written D.synced };
 
     ghost tended = { λ before after. after ≡ before };
-
-    ghost closed = { IsClosed };
 
     fn tend<R: Wait>(&mut self, _rt: &R, _alloc: Global) {}
 
@@ -41,20 +37,6 @@ impl<V: Drop, D: Disk> Storing<V> for Store<D> {
         match self {
             Store::Nowhere => None,
             Store::Journal(log) => group.append(alloc, log),
-            Store::Closed => {
-                if group.versions().is_empty() {
-                    return None;
-                }
-                group.give_up();
-                Some(LogFault::Stuck)
-            }
-        }
-    }
-
-    fn close(&mut self) {
-        match self {
-            Store::Nowhere => {}
-            _ => *self = Store::Closed,
         }
     }
 }

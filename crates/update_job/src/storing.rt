@@ -13,7 +13,7 @@ pub trait Storing<V: Drop>: Drop {
     /// Why a disk has failed.
     type Fault: Drop;
 
-    /// The updates of these versions, one each, are there, as one batch behind those that were.
+    /// The updates of these versions, one each, are there, as one batch after those that were.
     ghost stored: { Self → Self → List V → List (List ℕ) → Type 0 };
 
     /// What was there is, or nothing more is taken.
@@ -21,9 +21,6 @@ pub trait Storing<V: Drop>: Drop {
 
     /// What is done between two batches.
     ghost tended: { Self → Self → Type 0 };
-
-    /// Nothing more is taken.
-    ghost closed: { Self → Self → Type 0 };
 
     /// Does what is to be done between two batches, so that none is brought there meanwhile. It takes memory; what is wanted for it stays undone.
     fn tend<R: Wait>(&mut self, rt: &R, alloc: Global)
@@ -41,8 +38,4 @@ pub trait Storing<V: Drop>: Drop {
         ensures stored { MatchOption result
             ((updates : List (List ℕ)) → IsBatch group.old updates → stored self.old self.new (versions_of group.old) updates)
             (λ _. kept self.old self.new) };
-
-    /// Takes nothing more.
-    fn close(&mut self)
-        ensures { closed self.old self.new };
 }

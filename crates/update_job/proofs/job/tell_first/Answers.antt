@@ -2,7 +2,7 @@
 use Rattle.std.proofs.Common.{◌∙◌}
 use Rattle.std.specs.Vec.Iter.{drain_items}
 use Rattle.update_job.proofs.DoneLemmas.{rest_done}
-use Rattle.update_job.proofs.ToldLemmas.{told_next, begins_on}
+use Rattle.update_job.proofs.ToldLemmas.{told_next}
 use Rattle.update_job.proofs.job.tell_first.Goals as goal
 
 pub loop-asked-preserved : goal.loop-asked-preserved
@@ -11,16 +11,16 @@ loop-asked-preserved g c =
     let old = c.loop-asked.publishing in
     let new = c.tell.new.self in
     let verdicts = c.loop-asked.left.now in
-    let behind = c.first_verdict.result.1.now in
+    let left = c.first_verdict.result.1.now in
     let batch = drain_items c.loop-asked.asked-iterator in
     let rest = drain_items c.next.new.self in
     let next = c.in-Some.ensures.steps.0 in
     record {
-      done = rest_done g.P.Judging.passes g.P.Judging.tells g.P.Judging.makes g.P.Judging.serial (g.P.Publishing.seen old) (g.P.Publishing.seen new) (g.P.Publishing.begun old)
-          (g.P.Publishing.begun new) verdicts behind batch c.in-Some.asked rest next c.first_verdict.ensures.1 c.tell.ensures.grows c.tell.ensures.begun before.done;
-      grows = begins_on (g.P.Publishing.seen new) (g.P.Publishing.seen old) (g.P.Publishing.seen c.args.publishing.now) c.tell.ensures.grows before.grows;
+      done = rest_done g.P.Judging.passes g.P.Judging.tells g.P.Judging.makes g.P.Judging.serial (g.P.Publishing.published old) (g.P.Publishing.published new) (g.P.Publishing.begun old)
+          (g.P.Publishing.begun new) verdicts left batch c.in-Some.asked rest next c.first_verdict.ensures.1 c.tell.ensures.published c.tell.ensures.begun before.done;
+      published = c.tell.ensures.published ∙ before.published;
       room = c.tell.ensures.room ∙ before.room;
-      told = told_next (g.P.Publishing.told old) (g.P.Publishing.told new) c.in-Some.asked c.first_verdict.result.0 verdicts behind batch rest next
+      told = told_next (g.P.Publishing.told old) (g.P.Publishing.told new) c.in-Some.asked c.first_verdict.result.0 verdicts left batch rest next
           c.first_verdict.ensures.0 c.first_verdict.ensures.1 c.tell.ensures.told
           ∙ before.told;
     }

@@ -1,13 +1,14 @@
--- Those that are still to be told have the verdicts that are left, and what is told with them behind what was is all.
+-- Those that are still to be told have the verdicts that are left, and what is told with them after what was is all.
 use Rattle.std.proofs.Common.{◌≡◌, take}
 use Rattle.std.specs.Vec.Iter.{drain_items}
-use Rattle.update_job.specs.Done.{BeginsWith, AreDone, told_of, told_behind}
+use Rattle.update_job.specs.Done.{AreDone, told_of, told_behind}
 use Rattle.update_job.proofs.job.tell_first.Given as goal
 
 abbrev pub invariant-loop-asked : goal.invariant-loop-asked
 invariant-loop-asked g l = record {
-  done : AreDone g.P.Judging.passes g.P.Judging.tells g.P.Judging.makes g.P.Judging.serial (g.P.Publishing.seen l.publishing) (g.P.Publishing.begun l.publishing) l.left (drain_items l.asked-iterator);
-  grows : BeginsWith (g.P.Publishing.seen l.publishing) (g.P.Publishing.seen l.fn.publishing);
+  done : AreDone g.P.Judging.passes g.P.Judging.tells g.P.Judging.makes g.P.Judging.serial (g.P.Publishing.published l.publishing) (g.P.Publishing.begun l.publishing) l.left
+      (drain_items l.asked-iterator);
+  published : g.P.Publishing.published l.publishing ≡ g.P.Publishing.published l.fn.publishing;
   room : g.P.Publishing.room l.publishing ≡ g.P.Publishing.room l.fn.publishing;
   told : told_behind (g.P.Publishing.told l.publishing) (told_of l.left (drain_items l.asked-iterator))
       ≡ told_behind (g.P.Publishing.told l.fn.publishing) (told_of l.fn.verdicts (take l.fn.count l.fn.waiting.items));

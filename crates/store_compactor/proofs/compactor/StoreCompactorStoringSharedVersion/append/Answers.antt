@@ -13,6 +13,6 @@ returns-then-is_empty-clause-stored g c updates batch =
 pub returns-clause-stored : goal.returns-clause-stored
 returns-clause-stored g c =
     let some : 0 < length (versions_of c.args.group.now) = some_there (versions_of c.args.group.now) c.versions.result.now c.versions.ensures c.if-is_empty.ensures in
-    appended c.append.result c.args.group.now c.args.self.now c.self.inside.writer c.append.new.self (g.T.Texts.wanted c.self.inside.texts) c.self.inside.closed
-    c.self.view_is c.if-self.false (ap is_stuck (sym c.log.ensures) ∙ (sym c.is_stuck.ensures ∙ c.if-is_stuck.false)) some
+    appended c.append.result c.args.group.now c.args.self.now c.self.inside.writer c.append.new.self (g.T.Texts.wanted c.self.inside.texts)
+    c.self.view_is (ap is_stuck (sym c.log.ensures) ∙ (sym c.is_stuck.ensures ∙ c.if-is_stuck.false)) some
     c.append.ensures.on_disk c.append.ensures.trail c.append.ensures.compaction c.append.ensures.marked c.append.ensures.head

@@ -1,9 +1,9 @@
--- One turn behind the other.
+-- One turn after the other.
 use Rattle.update_job.specs.Turned.{state_of, HasServed}
 use Rattle.update_job.proofs.job.UpdateJob.serve.Given as goal
 
 abbrev pub invariant-loop : goal.invariant-loop
 invariant-loop g l =
-    HasServed g.P.Judging.passes g.P.Judging.tells g.P.Judging.makes g.P.Judging.octets g.P.Judging.serial g.S.Storing.stored g.S.Storing.kept g.S.Storing.closed g.row.S-Fault.Denot g.S.Storing.tended
-    (state_of (g.P.Publishing.seen l.fn.self.publishing) (g.P.Publishing.room l.fn.self.publishing) (g.P.Publishing.told l.fn.self.publishing) l.fn.self.store l.fn.self.waiting.items)
-    (state_of (g.P.Publishing.seen l.self.publishing) (g.P.Publishing.room l.self.publishing) (g.P.Publishing.told l.self.publishing) l.self.store l.self.waiting.items)
+    HasServed g.P.Judging.passes g.P.Judging.tells g.P.Judging.makes g.P.Judging.octets g.P.Judging.serial g.S.Storing.stored g.S.Storing.kept g.row.S-Fault.Denot g.S.Storing.tended
+    (state_of (g.P.Publishing.published l.fn.self.publishing) (g.P.Publishing.room l.fn.self.publishing) (g.P.Publishing.told l.fn.self.publishing) l.fn.self.store l.fn.self.waiting.items)
+    (state_of (g.P.Publishing.published l.self.publishing) (g.P.Publishing.room l.self.publishing) (g.P.Publishing.told l.self.publishing) l.self.store l.self.waiting.items)
