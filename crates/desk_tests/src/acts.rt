@@ -1,12 +1,12 @@
 //! Acts of those who wait at a desk, and of who tells them.
 use crate::desks::Table;
 use crate::updates::{is_told, servfail, update};
-use dns_engine::{FirstZone, Naming, VersionCell, VersionPublisher, VersionReader};
+use dns_engine::{FirstZone, VersionCell, VersionPublisher, VersionReader};
 use dns_rdata::Rcode;
 use played_zones::{Play, Played};
 use std::alloc::Global;
 use std::sync::Wait;
-use update_desk::{Desk, Fetched};
+use update_desk::{Desk, Fetched, ServerLedgers, ServerName};
 
 /// An act at a desk, with what comes of it.
 #[derive(Clone, Copy)]
@@ -28,7 +28,7 @@ pub(crate) enum Act {
 }
 
 /// Whether of an act at a desk comes what should; None where memory is refused.
-fn goes_as_told<Z: FirstZone, N: Naming>(
+fn goes_as_told<Z: FirstZone, N: ServerName>(
     alloc: Global,
     desk: &mut Desk<'_, Z, N>,
     act: Act,
@@ -56,16 +56,17 @@ fn goes_as_told<Z: FirstZone, N: Naming>(
 pub(crate) struct Acts(pub(crate) &'static [Act]);
 
 impl Play for Acts {
-    fn play<R: Wait, Z: FirstZone, N: Naming>(
+    fn play<R: Wait, Z: FirstZone, N: ServerName>(
         &self,
         rt: &R,
         alloc: Global,
         cell: &VersionCell<Z, N>,
         publisher: VersionPublisher<Z, N>,
         readers: Vec<VersionReader<N>>,
+        ledgers: ServerLedgers,
     ) -> Played<Z, N> {
-        match Table::begin(alloc, cell, publisher, readers) {
-            Ok((mut table, reader)) => {
+        match Table::begin(alloc, cell, publisher, readers, ledgers) {
+            Ok((mut table, _right, reader)) => {
                 let told = self.run(alloc, &mut table.desk);
                 table.end(reader, told)
             }
@@ -76,7 +77,7 @@ impl Play for Acts {
 
 impl Acts {
     /// Whether it goes as it should; None where memory is refused.
-    fn run<Z: FirstZone, N: Naming>(
+    fn run<Z: FirstZone, N: ServerName>(
         &self,
         alloc: Global,
         desk: &mut Desk<'_, Z, N>,

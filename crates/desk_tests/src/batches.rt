@@ -1,5 +1,5 @@
 //! Batches of updates that are judged in the version published last, published, and told.
-ghost use Rattle.std.specs.Prelude.{◌≡◌, ◌≤◌, ℕ, List, IfSome};
+ghost use Rattle.std.specs.Prelude.{◌≡◌, ◌≤◌, ℕ, List, IfSome, length};
 ghost use Rattle.zone_tree.specs.Version.{Version};
 ghost use Rattle.dns_engine.specs.Held.{IsLatest};
 ghost use Rattle.update_group.specs.Group.{versions_of, Judged};
@@ -9,19 +9,56 @@ ghost use Rattle.update_desk.specs.Done.{IsJudgedIn, AreDone};
 use crate::desks::{Table, goes};
 use crate::updates::{Telling, code_of, have_codes, is_told, outside, update};
 use dns_engine::{
-    FirstZone, Naming, SharedVersion, VersionCell, VersionChain, VersionPublisher, VersionReader,
+    FirstZone, SharedVersion, VersionCell, VersionChain, VersionPublisher, VersionReader,
 };
 use dns_rdata::{Rcode, Serial};
-use lasting_engine::Asked;
+use lasting_engine::{Asked, judge_asked, serial_in};
 use played_zones::{Play, Played};
 use std::alloc::Global;
 use std::sync::Wait;
 use std::test::Fail;
 use transfer_core::{ChainView, VersionList};
-use update_desk::{Desk, Done, Fetched, serials_of};
-use update_group::{Group, Verdict, judge_group};
+use update_desk::{Desk, Done, Fetched, PublishRight, ServerLedgers, ServerName, serials_of};
+use update_group::{Group, Judgement, Judging, Verdict, judge_group};
 
-/// A batch of updates that were judged in the version that was published last: its number and serial, and how many more could be published behind it.
+/// What judges updates, by the rules of `dns_engine`.
+#[derive(Drop)]
+struct Rules;
+
+impl Judging for Rules {
+    type Version = SharedVersion;
+
+    type Asked = Asked;
+
+    ghost octets = { octets_of };
+
+    ghost passes = { passes };
+
+    ghost tells = { tells };
+
+    ghost makes = { makes };
+
+    ghost serial = { serial_in };
+
+    fn judge(
+        &self,
+        alloc: Global,
+        version: &SharedVersion,
+        asked: &Asked,
+    ) -> Judgement<SharedVersion> {
+        judge_asked(alloc, version, asked)
+    }
+
+    fn octets_of<'b>(&self, asked: &'b Asked) -> &'b [u8] {
+        asked.octets()
+    }
+
+    fn serial_of(&self, version: &SharedVersion) -> u32 {
+        serial_in(version)
+    }
+}
+
+/// A batch of updates that were judged in the version that was published last: its number and serial, and how many more could be published after it.
 #[derive(Drop)]
 pub(crate) struct Batch {
     pub number: u64,
@@ -31,26 +68,29 @@ pub(crate) struct Batch {
     pub group: Group<SharedVersion>,
 }
 
-/// Judges updates in the version that was published last, which the reader meets, one upon the other: at most so many make a version. None where memory is
-/// refused.
-pub(crate) fn judge<R: Wait, Z: FirstZone, N: Naming>(
+/// Judges updates in the version that was published last, which the reader meets, one upon the other: at most as many make a version as are sure to find room.
+/// None where memory is refused.
+pub(crate) fn judge<R: Wait, Z: FirstZone, N: ServerName>(
     rt: &R,
     alloc: Global,
     desk: &mut Desk<'_, Z, N>,
+    right: &mut PublishRight<N>,
     reader: &mut VersionReader<N>,
     asked: &[Asked],
-    most: usize,
 ) -> Option<Batch>
-    requires { most ≤ 64 }
-    ensures judged_in { IfSome result (λ batch. IsJudgedIn Z.zone reader.new.seen batch.number (versions_of batch.group)) }
+    ensures counted { right.new.published.amount ≡ length reader.new.seen }
+    ensures room { IfSome result (λ batch. length (versions_of batch.group) ≤ right.new.reserved.amount) }
+    ensures judged_in { IfSome result (λ batch. IsJudgedIn Z.zone reader.new.seen (versions_of batch.group)) }
     ensures judged { IfSome result (λ batch. (last : Version) × (updates : List (List ℕ)) × IsLatest Z.zone reader.new.seen last × (last.number ≡ batch.number)
         × Judged passes tells makes octets_of serial_in last asked.now batch.verdicts.items (versions_of batch.group) updates) }
 {
-    let begun = desk.begin(rt, reader);
+    desk.audit(reader, right);
+    let begun = desk.begin(rt, reader, right);
     let Ok(mut verdicts) = Vec::with_capacity(alloc, asked.len()) else {
         return None;
     };
-    let group = judge_group(&*desk, alloc, &begun.last, asked, most, &mut verdicts);
+    let most = begun.room.min(64);
+    let group = judge_group(&Rules, alloc, &begun.last, asked, most, &mut verdicts);
     Some(Batch {
         number: begun.number,
         before: begun.last.get().serial(),
@@ -61,7 +101,7 @@ pub(crate) fn judge<R: Wait, Z: FirstZone, N: Naming>(
 }
 
 /// Tells updates what they get, each at its seat, and the number of the version that they were judged in.
-fn tell_all<Z: FirstZone, N: Naming>(
+fn tell_all<Z: FirstZone, N: ServerName>(
     desk: &mut Desk<'_, Z, N>,
     number: u64,
     seats: &[usize],
@@ -91,23 +131,25 @@ fn tell_all<Z: FirstZone, N: Naming>(
     }
 }
 
-/// Publishes a batch of updates, and tells them what they get, each at its seat: their verdicts. None where it comes back.
-pub(crate) fn publish<Z: FirstZone, N: Naming>(
+/// Publishes a batch of updates, and tells them what they get, each at its seat: their verdicts.
+pub(crate) fn publish<Z: FirstZone, N: ServerName>(
     desk: &mut Desk<'_, Z, N>,
+    right: &mut PublishRight<N>,
     reader: &mut VersionReader<N>,
     batch: Batch,
     asked: Vec<Asked>,
     seats: &[usize],
-) -> Option<Vec<Verdict>>
-    requires judged_in { IsJudgedIn Z.zone reader.old.seen batch.number (versions_of batch.group) }
+) -> Vec<Verdict>
+    requires counted { right.old.published.amount ≡ length reader.old.seen }
+    requires room { length (versions_of batch.group) ≤ right.old.reserved.amount }
+    requires judged_in { IsJudgedIn Z.zone reader.old.seen (versions_of batch.group) }
     requires judged { (last : Version) × (updates : List (List ℕ)) × IsLatest Z.zone reader.old.seen last × (last.number ≡ batch.number)
         × Judged passes tells makes octets_of serial_in last asked.items batch.verdicts.items (versions_of batch.group) updates }
+    ensures { right.new.published.amount ≡ length reader.new.seen }
 {
-    let Ok(()) = desk.publish_batch(reader, batch.number, batch.group) else {
-        return None;
-    };
+    desk.publish_batch(reader, right, batch.group);
     tell_all(desk, batch.number, seats, asked, &batch.verdicts);
-    Some(batch.verdicts)
+    batch.verdicts
 }
 
 /// Updates of which two make a version: the second changes nothing, the third is of a peer that may not update, and the fourth is of another zone.
@@ -131,7 +173,7 @@ const TOLD: [Telling; 5] = [
 ];
 
 /// Whether a reader is told of the versions after that of serial 7, up to the number 2: those of serials 8 and 9, in their order.
-fn has_both<R: Wait, Z: FirstZone, N: Naming>(
+fn has_both<R: Wait, Z: FirstZone, N: ServerName>(
     rt: &R,
     desk: &mut Desk<'_, Z, N>,
     reader: &mut VersionReader<N>,
@@ -146,7 +188,7 @@ fn has_both<R: Wait, Z: FirstZone, N: Naming>(
 }
 
 /// Whether what is told at each of the first seats is this.
-fn are_told<Z: FirstZone, N: Naming>(desk: &mut Desk<'_, Z, N>, told: &[Telling]) -> bool {
+fn are_told<Z: FirstZone, N: ServerName>(desk: &mut Desk<'_, Z, N>, told: &[Telling]) -> bool {
     let mut right = true;
     for (seat, telling) in told.iter().enumerate() {
         right = is_told(&desk.fetch(seat), telling) && right;
@@ -155,7 +197,7 @@ fn are_told<Z: FirstZone, N: Naming>(desk: &mut Desk<'_, Z, N>, told: &[Telling]
 }
 
 /// Whether each of the first seats, so many, has who waits.
-fn all_wait<Z: FirstZone, N: Naming>(desk: &mut Desk<'_, Z, N>, count: usize) -> bool {
+fn all_wait<Z: FirstZone, N: ServerName>(desk: &mut Desk<'_, Z, N>, count: usize) -> bool {
     let mut right = true;
     for seat in 0..count {
         right = matches!(desk.fetch(seat), Fetched::Waits) && right;
@@ -168,17 +210,18 @@ fn all_wait<Z: FirstZone, N: Naming>(desk: &mut Desk<'_, Z, N>, count: usize) ->
 struct InOrder;
 
 impl Play for InOrder {
-    fn play<R: Wait, Z: FirstZone, N: Naming>(
+    fn play<R: Wait, Z: FirstZone, N: ServerName>(
         &self,
         rt: &R,
         alloc: Global,
         cell: &VersionCell<Z, N>,
         publisher: VersionPublisher<Z, N>,
         readers: Vec<VersionReader<N>>,
+        ledgers: ServerLedgers,
     ) -> Played<Z, N> {
-        match Table::begin(alloc, cell, publisher, readers) {
-            Ok((mut table, mut reader)) => {
-                let told = self.run(rt, alloc, &mut table.desk, &mut reader);
+        match Table::begin(alloc, cell, publisher, readers, ledgers) {
+            Ok((mut table, mut right, mut reader)) => {
+                let told = self.run(rt, alloc, &mut table.desk, &mut right, &mut reader);
                 table.end(reader, told)
             }
             Err(played) => played,
@@ -188,29 +231,32 @@ impl Play for InOrder {
 
 impl InOrder {
     /// Whether it goes as it should; None where memory is refused.
-    fn run<R: Wait, Z: FirstZone, N: Naming>(
+    fn run<R: Wait, Z: FirstZone, N: ServerName>(
         &self,
         rt: &R,
         alloc: Global,
         desk: &mut Desk<'_, Z, N>,
+        right: &mut PublishRight<N>,
         reader: &mut VersionReader<N>,
     ) -> Option<bool> {
         let seats = [0, 1, 2, 3, 4];
-        let mut right = true;
+        let mut goes = true;
         for seat in seats {
-            right = desk.open()? == seat && right;
+            goes = desk.open()? == seat && goes;
         }
         let asked = mixed(alloc)?;
-        let batch = judge(rt, alloc, desk, reader, &asked, 64)?;
+        let batch = judge(rt, alloc, desk, right, reader, &asked)?;
         // Of 64 slots the last version has one. Nobody sees what is judged, nor is anything told, before it is published.
-        right = batch.number == 0 && batch.before.0 == 7 && batch.room == 63 && right;
-        right = batch.group.versions().len() == 2 && desk.number() == 0 && right;
-        right = all_wait(desk, 5) && right;
-        let verdicts = publish(desk, reader, batch, asked, &seats)?;
-        right = have_codes(&verdicts, &[0, 0, 5, 10, 0]) && right;
-        right = desk.number() == 2 && desk.serial().0 == 9 && desk.room() == 61 && right;
-        right = desk.last_shared().get().serial().0 == 9 && has_both(rt, desk, reader) && right;
-        Some(are_told(desk, &TOLD) && right)
+        goes = batch.number == 0 && batch.before.0 == 7 && batch.room == 63 && goes;
+        goes = batch.group.versions().len() == 2 && desk.number() == 0 && goes;
+        goes = all_wait(desk, 5) && goes;
+        let verdicts = publish(desk, right, reader, batch, asked, &seats);
+        goes = have_codes(&verdicts, &[0, 0, 5, 10, 0]) && goes;
+        let next = desk.begin(rt, reader, right);
+        goes = next.number == 2 && next.room == 61 && next.last.get().serial().0 == 9 && goes;
+        goes = desk.number() == 2 && desk.serial().0 == 9 && goes;
+        goes = desk.last_shared().get().serial().0 == 9 && has_both(rt, desk, reader) && goes;
+        Some(are_told(desk, &TOLD) && goes)
     }
 }
 

@@ -1,13 +1,14 @@
 //! Desks over which something is done.
 ghost use Rattle.std.specs.Prelude.{◌≡◌};
+ghost use Rattle.update_desk.specs.Right.{AreNamed};
 
-use dns_engine::{Engine, FirstZone, KEPT, Naming, VersionCell, VersionPublisher, VersionReader};
+use dns_engine::{Engine, FirstZone, KEPT, VersionCell, VersionPublisher, VersionReader};
 use dns_name::Name;
 use master_file::read_zone;
 use played_zones::{Play, Played, is_played_by};
 use std::alloc::Global;
 use std::sync::Wait;
-use update_desk::Desk;
+use update_desk::{Desk, PublishRight, ServerLedgers, ServerName};
 
 /// The zone text of the tests, of serial 7.
 const ZONE: &str = "example. 3600 IN SOA ns.example. host.example. 7 1 1 1 1
@@ -15,21 +16,26 @@ example. 3600 IN NS ns.example.
 ";
 
 /// A desk of the tests' zone, whose engine keeps as many versions as one may, with the readers that it leaves.
-pub(crate) struct Table<'a, Z: FirstZone, N: Naming> {
+pub(crate) struct Table<'a, Z: FirstZone, N: ServerName> {
     /// The desk.
     pub desk: Desk<'a, Z, N>,
     readers: Vec<VersionReader<N>>,
 }
 
-impl<'a, Z: FirstZone, N: Naming> Table<'a, Z, N> {
-    /// The desk of a cell, and a reader beside it; what comes back where there is none.
+/// A desk, the right to publish there, and a reader beside it.
+pub(crate) type Begun<'a, Z, N> = (Table<'a, Z, N>, PublishRight<N>, VersionReader<N>);
+
+impl<'a, Z: FirstZone, N: ServerName> Table<'a, Z, N> {
+    /// The desk of a cell, with the right to publish there, and a reader beside it; what comes back where there is none.
     pub fn begin(
         alloc: Global,
         cell: &'a VersionCell<Z, N>,
         publisher: VersionPublisher<Z, N>,
         readers: Vec<VersionReader<N>>,
-    ) -> Result<(Table<'a, Z, N>, VersionReader<N>), Played<Z, N>>
-        requires { publisher.number ≡ 0 }
+        ledgers: ServerLedgers,
+    ) -> Result<Begun<'a, Z, N>, Played<Z, N>>
+        requires first { publisher.number ≡ 0 }
+        requires named { AreNamed N.published N.reserved ledgers }
     {
         let mut readers = readers;
         let Some(own) = readers.pop() else {
@@ -41,8 +47,8 @@ impl<'a, Z: FirstZone, N: Naming> Table<'a, Z, N> {
         };
         match Engine::new(cell, publisher, own, KEPT) {
             Ok(engine) => {
-                let desk = Desk::of(alloc, cell, engine);
-                Ok((Table { desk, readers }, reader))
+                let (desk, right) = Desk::of(alloc, cell, engine, ledgers);
+                Ok((Table { desk, readers }, right, reader))
             }
             Err(refused) => {
                 let _ = readers.push(reader);
@@ -67,7 +73,7 @@ impl<'a, Z: FirstZone, N: Naming> Table<'a, Z, N> {
 }
 
 /// What comes back where there is no desk.
-fn not_played<Z: FirstZone, N: Naming>(
+fn not_played<Z: FirstZone, N: ServerName>(
     publisher: VersionPublisher<Z, N>,
     readers: Vec<VersionReader<N>>,
 ) -> Played<Z, N> {

@@ -10,8 +10,8 @@ mod desks;
 #[cfg(test)]
 mod refused;
 #[cfg(test)]
-mod rows;
+mod rooms;
 #[cfg(test)]
-mod turned_away;
+mod rows;
 #[cfg(test)]
 mod updates;

@@ -1,13 +1,13 @@
 //! Seats whose memory is refused.
 use crate::desks::{Table, goes};
 use crate::updates::{is_told, servfail, update};
-use dns_engine::{FirstZone, Naming, VersionCell, VersionPublisher, VersionReader};
+use dns_engine::{FirstZone, VersionCell, VersionPublisher, VersionReader};
 use dns_rdata::Rcode;
 use lasting_engine::Asked;
 use played_zones::{Play, Played};
 use std::alloc::Global;
 use std::sync::Wait;
-use update_desk::Desk;
+use update_desk::{Desk, ServerLedgers, ServerName};
 
 /// How many seats are opened.
 const SEATS: usize = 100;
@@ -28,7 +28,7 @@ struct Seats {
 
 impl Seats {
     /// A seat, opened anew where there is no memory for it, if it is to be.
-    fn open<Z: FirstZone, N: Naming>(&self, desk: &mut Desk<'_, Z, N>) -> Option<usize> {
+    fn open<Z: FirstZone, N: ServerName>(&self, desk: &mut Desk<'_, Z, N>) -> Option<usize> {
         match desk.open() {
             None if self.anew => desk.open(),
             seat => seat,
@@ -37,16 +37,17 @@ impl Seats {
 }
 
 impl Play for Seats {
-    fn play<R: Wait, Z: FirstZone, N: Naming>(
+    fn play<R: Wait, Z: FirstZone, N: ServerName>(
         &self,
         rt: &R,
         alloc: Global,
         cell: &VersionCell<Z, N>,
         publisher: VersionPublisher<Z, N>,
         readers: Vec<VersionReader<N>>,
+        ledgers: ServerLedgers,
     ) -> Played<Z, N> {
-        match Table::begin(alloc, cell, publisher, readers) {
-            Ok((mut table, reader)) => {
+        match Table::begin(alloc, cell, publisher, readers, ledgers) {
+            Ok((mut table, _right, reader)) => {
                 let told = self.run(alloc, &mut table.desk);
                 table.end(reader, told)
             }
@@ -57,7 +58,7 @@ impl Play for Seats {
 
 impl Seats {
     /// Whether it goes as it should; None where memory is refused.
-    fn run<Z: FirstZone, N: Naming>(
+    fn run<Z: FirstZone, N: ServerName>(
         &self,
         alloc: Global,
         desk: &mut Desk<'_, Z, N>,

@@ -7,9 +7,8 @@ ghost use Rattle.update_desk.specs.Done.{IsDone};
 use dns_engine::FirstZone;
 use dns_rdata::Rcode;
 use lasting_engine::Asked;
-use snapshot_cell::Naming;
 use std::alloc::Global;
-use update_desk::{Desk, Done, Fetched, Serials};
+use update_desk::{Desk, Done, Fetched, Serials, ServerName};
 use update_group::Verdict;
 
 /// An A record of 192.0.2.1 at a.example, added by an update that Python put together (RFC 2136, 2).
@@ -69,7 +68,7 @@ pub(crate) fn have_codes(verdicts: &[Verdict], codes: &[u8]) -> bool {
 }
 
 /// SERVFAIL of an update in the version that was published last, as where memory is wanted for what it makes.
-pub(crate) fn servfail<Z: FirstZone, N: Naming>(desk: &Desk<'_, Z, N>, asked: Asked) -> Done
+pub(crate) fn servfail<Z: FirstZone, N: ServerName>(desk: &Desk<'_, Z, N>, asked: Asked) -> Done
     ensures { IsDone Z.zone desk.now.held.published result }
 {
     let least = desk.number();

@@ -1,16 +1,17 @@
 //! Cells of versions that are played in, and servers over them.
 ghost use Rattle.std.specs.Prelude.{◌≡◌, IfSome, vec_len};
 ghost use Rattle.std.specs.List.{All};
+ghost use Rattle.update_desk.specs.Right.{AreNamed};
 
 use dns_engine::{
-    EngineFault, FirstZone, Naming, NoEngine, SharedVersion, VersionCell, VersionPublisher,
-    VersionReader, ZoneVersions,
+    FirstZone, Naming, NoEngine, SharedVersion, VersionCell, VersionPublisher, VersionReader,
+    ZoneVersions,
 };
 use snapshot_cell::{Cell, NamedCell, NamedPublisher, NamedReader, Parts, Publisher, Reader};
 use std::alloc::Global;
 use std::marker::Brand;
 use std::sync::Wait;
-use zone_service::Server;
+use zone_service::{Server, ServerLedgers, ServerName};
 use zone_tree::{Version, Zone};
 
 /// A cell of versions that a type names, with its publisher and its readers.
@@ -36,16 +37,18 @@ pub struct Played<Z: FirstZone, N: Naming> {
 
 /// What is played in a cell of versions in which a zone's first version alone is published.
 pub trait Play {
-    /// Whether it goes as it should, with the publisher and two readers, which come back.
-    fn play<R: Wait, Z: FirstZone, N: Naming>(
+    /// Whether it goes as it should, with the publisher and two readers, which come back, and the ledgers of a server.
+    fn play<R: Wait, Z: FirstZone, N: ServerName>(
         &self,
         rt: &R,
         alloc: Global,
         cell: &VersionCell<Z, N>,
         publisher: VersionPublisher<Z, N>,
         readers: Vec<VersionReader<N>>,
+        ledgers: ServerLedgers,
     ) -> Played<Z, N>
-        requires { publisher.number ≡ 0 };
+        requires first { publisher.number ≡ 0 }
+        requires named { AreNamed N.published N.reserved ledgers };
 }
 
 // Keeps what can't be ended, and waits for ever.
@@ -156,45 +159,32 @@ pub fn end<R: Wait, Z: FirstZone, N: Naming>(rt: &R, parts: NamedParts<Z, N>) {
     let _last = last_of(rt, parts);
 }
 
-/// The server of a cell, which keeps eight versions. One that should keep nine is refused first; there is none where it isn't.
-pub fn server_of<'a, Z: FirstZone, N: Naming>(
+/// The server of a cell, which keeps eight versions.
+pub fn server_of<'a, Z: FirstZone, N: ServerName>(
     alloc: Global,
     cell: &'a VersionCell<Z, N>,
     publisher: VersionPublisher<Z, N>,
     reader: VersionReader<N>,
+    ledgers: ServerLedgers,
 ) -> Result<Server<'a, Z, N>, NoEngine<Z, N>>
-    requires { publisher.number ≡ 0 }
+    requires first { publisher.number ≡ 0 }
+    requires named { AreNamed N.published N.reserved ledgers }
 {
-    match Server::new(alloc, cell, publisher, reader, 9) {
-        Err(
-            NoEngine {
-                fault: EngineFault::TooGreat,
-                publisher,
-                reader,
-            },
-        ) => Server::new(alloc, cell, publisher, reader, 8),
-        Err(refused) => Err(refused),
-        Ok(server) => {
-            let (publisher, reader) = server.finish();
-            Err(NoEngine {
-                fault: EngineFault::TooGreat,
-                publisher,
-                reader,
-            })
-        }
-    }
+    Server::new(alloc, cell, publisher, reader, 8, ledgers)
 }
 
 /// What is played in a cell, which is then ended.
-fn play_in<R: Wait, Z: FirstZone, N: Naming, P: Play>(
+fn play_in<R: Wait, Z: FirstZone, N: ServerName, P: Play>(
     rt: &R,
     alloc: Global,
     parts: Parts<SharedVersion, ZoneVersions<Z>>,
+    ledgers: ServerLedgers,
     play: &P,
 ) -> Option<bool>
     requires cell { (parts.cell ≡ N.cell) × (parts.publisher.cell ≡ N.cell) }
     requires readers { All (λ r. r.cell ≡ N.cell) parts.readers.items }
     requires first { parts.publisher.number ≡ 0 }
+    requires named { AreNamed N.published N.reserved ledgers }
 {
     let NamedParts {
         cell,
@@ -205,7 +195,7 @@ fn play_in<R: Wait, Z: FirstZone, N: Naming, P: Play>(
         told,
         publisher,
         readers,
-    } = play.play(rt, alloc, &cell, publisher, readers);
+    } = play.play(rt, alloc, &cell, publisher, readers, ledgers);
     end(
         rt,
         NamedParts {
@@ -228,7 +218,8 @@ fn play_from<R: Wait, Z: FirstZone, P: Play>(
     requires { zone ≡ Z.zone }
 {
     let parts = limited_parts_of::<Z>(alloc, zone, 2, grants)?;
-    play_in::<R, Z, Brand, P>(rt, alloc, parts, play)
+    let ledgers = ServerLedgers::new();
+    play_in::<R, Z, Brand, P>(rt, alloc, parts, ledgers, play)
 }
 
 /// Whether what is played in a cell that begins with a zone goes as it should; None where there is no memory for it. The cell is

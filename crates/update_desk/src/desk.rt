@@ -289,7 +289,7 @@ impl<'a, Z: FirstZone, N: ServerName> Desk<'a, Z, N> {
 
     /// Reserves room for as many versions as are sure to find it, whatever else happens ([`Engine::count`]): how many these are.
     fn reserve(&mut self, right: &mut PublishRight<N>) -> usize
-        ensures { self.new ≡ state_for self.old result }
+        ensures state { self.new ≡ state_for self.old result }
         ensures reserved { right.new.reserved.amount ≡ result }
         ensures counted { right.new.published.amount ≡ right.old.published.amount }
     {

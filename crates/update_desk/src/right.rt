@@ -78,7 +78,7 @@ pub struct PublishRight<N: ServerName> {
 impl<N: ServerName> PublishRight<N> {
     /// Gives up what was reserved.
     pub(crate) fn release(&mut self, reserved: &mut Book<Reserved<N>>)
-        ensures { reserved.new.total ≡ 0 }
+        ensures total { reserved.new.total ≡ 0 }
         ensures right { (self.new.reserved.amount ≡ 0) × (self.new.published ≡ self.old.published) }
     {
         reserved.audit(&mut self.reserved);
@@ -89,7 +89,7 @@ impl<N: ServerName> PublishRight<N> {
     /// Reserves room for so many versions, where none is.
     pub(crate) fn reserve(&mut self, reserved: &mut Book<Reserved<N>>, room: u64)
         requires { (self.old.reserved.amount ≡ 0) × (reserved.old.total ≡ 0) }
-        ensures { reserved.new.total ≡ room }
+        ensures total { reserved.new.total ≡ room }
         ensures right { (self.new.reserved.amount ≡ room) × (self.new.published ≡ self.old.published) }
     {
         reserved.add(&mut self.reserved, room);
