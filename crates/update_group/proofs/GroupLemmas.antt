@@ -4,16 +4,10 @@ use Rattle.std.proofs.lemmas.List.{length_push}
 use Rattle.std.proofs.lemmas.List.Concat.{flat_map-append}
 use Rattle.journal.specs.Batch.{counted, batch_of, IsShort}
 use Rattle.journal.proofs.BatchLemmas.{counted_long}
-use Rattle.std.proofs.Common.{Option, None, Some, ◌⊎◌}
-use Rattle.std.specs.Prelude.{MatchOption, replicate}
-use Rattle.journal.specs.declared.heads.Head.{Head}
-use Rattle.journal_store.specs.declared.log.Log.{Log}
-use Rattle.journal_store.specs.Log.{Holds, IsStuck}
-use Rattle.update_group.specs.declared.group.Group.{Group}
 use Rattle.update_group.specs.Engine.{IsLast, AreMade}
 use Rattle.update_group.specs.declared.verdict.Verdict.{Verdict}
 use Rattle.update_group.specs.Verdict.{told_verdict, made_verdict, failed}
-use Rattle.update_group.specs.Group.{newest_of, logged, versions_of, IsBatch, IsGivenUp, Judged, nothing, told, starved, changed, IsGroup, Lasts, Fails}
+use Rattle.update_group.specs.Group.{newest_of, Judged, nothing, told, starved, changed}
 use Rattle.update_group.specs.Private.{SoFar}
 
 -- the newest of versions is the last of them

@@ -1,13 +1,9 @@
 -- Updates that are judged one upon the other, and last together.
-use Rattle.std.specs.Prelude.{◌≡◌, ◌⊎◌, ◌<◌, ◌≤◌, ℕ, List, [], ◌∷◌, ◌++◌, length, replicate}
+use Rattle.std.specs.Prelude.{◌≡◌, ◌<◌, ◌≤◌, ℕ, List, [], ◌∷◌, ◌++◌, length}
 use Rattle.update_group.specs.declared.verdict.Verdict.{Verdict}
 use Rattle.update_group.specs.Verdict.{told_verdict, made_verdict, failed}
-use Rattle.journal.specs.declared.heads.Head.{Head}
 use Rattle.journal.specs.Batch.{batch_of}
-use Rattle.journal_store.specs.declared.log.Log.{Log}
-use Rattle.journal_store.specs.Log.{Holds, IsStuck}
 use Rattle.update_group.specs.declared.group.Group.{Group}
-use Rattle.update_group.specs.Engine.{IsLast}
 
 -- the last of versions that were made from a first one, which is that one where none was
 abbrev pub newest_of : {V : Type 0} → V → List V → V
