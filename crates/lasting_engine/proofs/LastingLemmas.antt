@@ -1,22 +1,15 @@
 -- What is judged is made by the updates that the journal keeps.
-use Rattle.std.proofs.Common.{◌≡◌, ℕ, List, [], ◌∷◌, ◌++◌, Option, None, Some, Result, Ok, Err, sym, subst}
-use Rattle.std.specs.Prelude.{IfOk, MatchOption}
+use Rattle.std.proofs.Common.{◌≡◌, ℕ, List, [], ◌∷◌, ◌++◌}
 use Rattle.dns_message.specs.Request.{reads}
 use Rattle.dns_message.specs.declared.query.Parsed.TheVariants.{Update as Says}
 use Rattle.dns_message.specs.declared.update.Update.{Update}
 use Rattle.zone_tree.specs.Version.{Version}
-use Rattle.journal.specs.declared.heads.Head.{Head}
-use Rattle.journal_store.specs.declared.log.Log.{Log}
-use Rattle.journal_store.specs.Log.{Holds}
 use Rattle.dns_engine.specs.Versions.{Makes}
-use Rattle.dns_engine.specs.Held.{EngineState}
-use Rattle.update_group.specs.Engine.{IsLast}
 use Rattle.update_group.specs.declared.verdict.Verdict.{Verdict}
-use Rattle.update_group.specs.Group.{newest_of, logged, Judged, nothing, told, starved, changed}
+use Rattle.update_group.specs.Group.{newest_of, Judged, nothing, told, starved, changed}
 use Rattle.lasting_engine.specs.declared.asked.Asked.{Asked}
 use Rattle.lasting_engine.specs.Asked.{passes, tells, makes, octets_of, serial_in}
-use Rattle.lasting_engine.specs.Journal.{AreMadeBy, IsJournal, goes_on}
-use Rattle.lasting_engine.specs.Lasting.{IsKept, IsRefused}
+use Rattle.lasting_engine.specs.Journal.{AreMadeBy}
 
 made_more : (first : Version) (versions : List Version) (updates : List (List ℕ)) (octets : List ℕ) (update : Update) (next : Version) → AreMadeBy first versions updates → reads octets ≡ Says update → Makes update (newest_of first versions) next
     → AreMadeBy first (versions ++ next ∷ []) (updates ++ octets ∷ [])

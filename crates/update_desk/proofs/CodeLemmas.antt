@@ -1,6 +1,6 @@
 -- No rule gives an update NOERROR, so that no serials are told with a rule's code.
-use Rattle.std.proofs.Common.{◌≡◌, ◌≢◌, refl, ℕ, Bool, true, false, List, [], ◌∷◌, Option, None, Some, sym, ap, ◌∙◌, subst}
-use Rattle.std.specs.Prelude.{◌&&◌, ◌||◌, not, ◌==◌, length, if◌then◌else◌}
+use Rattle.std.proofs.Common.{◌≡◌, ◌≢◌, refl, ℕ, Bool, true, false, List, [], ◌∷◌, Option, None, Some, ap, ◌∙◌}
+use Rattle.std.specs.Prelude.{◌&&◌, ◌||◌, not, ◌==◌, if◌then◌else◌}
 use Rattle.std.specs.Option.{option_or, is_some}
 use Rattle.dns_name.specs.Name.{is_same, is_under}
 use Rattle.dns_rdata.specs.Numbers.{rcode_number, type_NS, type_SOA, type_ANY, class_IN, class_NONE, class_ANY}
@@ -11,7 +11,7 @@ use Rattle.dns_rdata.specs.declared.numbers.Rcode.TheVariants.{NoError, FormErr,
 use Rattle.dns_message.specs.declared.update.Update.{Update}
 use Rattle.dns_message.specs.declared.update.ZoneEntry.{ZoneEntry}
 use Rattle.zone_tree.specs.Zone.{apex_of, is_wild}
-use Rattle.zone_tree.specs.Version.{Version, zone_serial}
+use Rattle.zone_tree.specs.Version.{Version}
 use Rattle.update_core.specs.Verdict.{is_in_use, has_rrset, is_empty, first_code, zone_section, prerequisite, prerequisites, are_met, permission, is_recognised, has_form, prescan_of, prescan, check, verdict}
 use Rattle.update_core.specs.Act.{act}
 use Rattle.update_core.specs.Applied.{code_of}

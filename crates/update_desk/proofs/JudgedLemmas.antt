@@ -1,5 +1,5 @@
 -- What is told of each update of a batch is about versions that are published once the batch is.
-use Rattle.std.proofs.Common.{◌≡◌, ◌≢◌, refl, ℕ, ◌≤◌, List, [], ◌∷◌, ◌++◌, length, Option, None, Some, inl, inr, sym, ap, ◌∙◌, subst, append-nil, append_assoc, arith}
+use Rattle.std.proofs.Common.{◌≡◌, ◌≢◌, refl, ℕ, ◌≤◌, List, [], ◌∷◌, ◌++◌, Option, None, Some, inl, inr, sym, ap, ◌∙◌, subst, append-nil, append_assoc, arith}
 use Rattle.std.specs.Prelude.{unwrap_or, if◌then◌else◌, Bool}
 use Rattle.std.specs.Option.{option_or, is_some}
 use Rattle.dns_rdata.specs.Numbers.{rcode_number}

@@ -10,9 +10,13 @@ use Rattle.dns_rdata.specs.contracts.raw.RawRecord as raw
 use Rattle.snapshot_cell.proofs.SendLemmas as cell
 use Rattle.snapshot_cell.specs.declared.named.Naming as naming
 use Rattle.std.proofs.Crossing as crossing
+use Rattle.std.proofs.sync.ledger.Book.TheSendSync as book
+use Rattle.std.proofs.sync.ledger.Share.TheSendSync as share
 use Rattle.update_desk.specs.contracts.desk.Desk as desk
 use Rattle.update_desk.specs.contracts.desk.Desk.TheInside as inside
+use Rattle.update_desk.specs.contracts.right.PublishRight as right
 use Rattle.update_desk.specs.contracts.seats.Seats as seats
+use Rattle.update_desk.specs.declared.right.ServerName as names
 
 -- what a seat has, step by step: one search for all of it breaks off
 raw_send : IsSend raw.the_row
@@ -21,12 +25,15 @@ raw_send = search (array_vec.the_send, crossing.crosses, sendable) depth 60 fits
 seats_send : IsSend (seats.the_field).row
 seats_send = search (raw_send, array_vec.the_send, crossing.crosses, sendable) depth 60 fits 20000
 
-module _ (a : NamedLft) (T : RattleType) (g : Ghosts T.Denot) (N : RattleType) (n : naming.Ghosts N.Denot) where
-  inside_send : IsSend (inside.the_row a T N n g)
-  inside_send =
-      recorded_send (inside.the_field a T N n g).row _ _ (inside.the_type a T N n g).to_one
-      (struct_send (shape (inside.the_type a T N n g))
-      (search (engine.shared_send, engine.shared_sync, cell.crosses, crossing.crosses, sendable) depth 60 fits 20000, (engine.engine_send a T g N n, (seats_send, tt))))
+right_send : (N : RattleType) (n : naming.Ghosts N.Denot) (s : names.Ghosts N.Denot) → IsSend (right.the_row N s n)
+right_send N n s = search (share.the_send, crossing.crosses, sendable) depth 60 fits 20000
 
-  pub desk_send : IsSend (desk.the_row a T N n g)
+module _ (a : NamedLft) (T : RattleType) (g : Ghosts T.Denot) (N : RattleType) (n : naming.Ghosts N.Denot) (s : names.Ghosts N.Denot) where
+  inside_send : IsSend (inside.the_row a T N n g s)
+  inside_send =
+      recorded_send (inside.the_field a T N n g s).row _ _ (inside.the_type a T N n g s).to_one
+      (struct_send (shape (inside.the_type a T N n g s))
+      (search (engine.shared_send, engine.shared_sync, cell.crosses, crossing.crosses, sendable) depth 60 fits 20000, (engine.engine_send a T g N n, (seats_send, (book.the_send _ _, (book.the_send _ _, (search (right_send, sendable) depth 60 fits 20000, tt)))))))
+
+  pub desk_send : IsSend (desk.the_row a T N n g s)
   desk_send = search (inside_send, sendable) depth 60 fits 20000

@@ -1,13 +1,11 @@
 //! What the lock of a server keeps: the engine of its cell, and what is told of updates, until it is fetched (own).
-ghost use Rattle.std.specs.Prelude.{◌≡◌, ◌⊎◌, ◌+◌, ◌<◌, ◌≤◌, ◌++◌, [], ◌∷◌, ℕ, List, None, length};
+ghost use Rattle.std.specs.Prelude.{◌≡◌, ◌+◌, ◌<◌, ◌≤◌, ◌++◌, [], ◌∷◌, ℕ, List, length};
 ghost use Rattle.zone_tree.specs.Version.{Version, zone_serial};
 ghost use Rattle.counted_handles.specs.Ruled.{Begins};
 ghost use Rattle.weak_history.specs.Owned.{IsChain};
 ghost use Rattle.dns_engine.specs.Held.{IsLatest, state_for};
 ghost use Rattle.dns_engine.specs.Replayed.{IsReplay};
-ghost use Rattle.dns_rdata.specs.declared.numbers.Rcode.TheVariants.{ServFail};
-ghost use Rattle.update_core.specs.Verdict.{verdict};
-ghost use Rattle.dns_engine.specs.Told.{IsTold, Tells};
+ghost use Rattle.dns_engine.specs.Told.{IsTold};
 ghost use Rattle.dns_engine.specs.Entries.{entries_of};
 ghost use Rattle.update_group.specs.declared.verdict.Verdict.{Verdict};
 ghost use Rattle.update_group.specs.Group.{versions_of, Judged as AreJudged};
@@ -18,7 +16,7 @@ ghost use Rattle.update_desk.specs.Done.{IsDone, IsFetched, IsJudgedIn, AreDone}
 ghost use Rattle.update_desk.specs.Right.{AreNamed};
 
 use crate::done::{Done, Fetched};
-use crate::right::{Published, PublishRight, Reserved, ServerLedgers, ServerName};
+use crate::right::{PublishRight, Published, Reserved, ServerLedgers, ServerName};
 use crate::seats::Seats;
 use dns_engine::{
     Engine, FirstZone, Judged, SharedVersion, ToldChain, VersionCell, VersionReader, judge,
@@ -176,18 +174,44 @@ impl<'a, Z: FirstZone, N: ServerName> Desk<'a, Z, N> {
     pub fn update(&mut self, alloc: Global, update: &Update, may: bool) -> Rcode
         ensures told { IsTold self.old update.now may result self.new }
     {
+        let Some(mut right) = self.right.take() else {
+            return self.code_here(alloc, update, may);
+        };
+        let code = self.update_by(&mut right, alloc, update, may);
+        self.right = Some(right);
+        code
+    }
+
+    /// The code of an update where nothing can be published: SERVFAIL of one that would change the zone.
+    fn code_here(&self, alloc: Global, update: &Update, may: bool) -> Rcode
+        ensures { IsTold self.now update.now may result self.now }
+    {
+        learn_latest(&self.engine);
+        match judge(alloc, self.engine.last_shared(), update, may) {
+            Judged::Told(code) => code,
+            Judged::Made(_) => Rcode::ServFail,
+            Judged::Starved => Rcode::ServFail,
+        }
+    }
+
+    /// Judges an update, and publishes what it makes by the right to publish, as [`Engine::update`].
+    fn update_by(
+        &mut self,
+        right: &mut PublishRight<N>,
+        alloc: Global,
+        update: &Update,
+        may: bool,
+    ) -> Rcode
+        ensures { IsTold self.old update.now may result self.new }
+    {
         let Desk {
             cell,
             engine,
             seats: _,
             published,
             reserved,
-            right,
+            right: _,
         } = self;
-        let Some(right) = right else {
-            learn_latest(engine);
-            return code_in(alloc, engine.last_shared(), update, may);
-        };
         right.release(reserved);
         let before = engine.number();
         let code = engine.update(alloc, cell, update, may);
@@ -364,16 +388,5 @@ impl<'a, Z: FirstZone, N: ServerName> Desk<'a, Z, N> {
         published.add(&mut right.published, 1);
         reserved.sub(&mut right.reserved, 1);
         right.room -= 1;
-    }
-}
-
-/// The code of an update in a version, where nothing can be published: SERVFAIL of one that would change the zone.
-fn code_in(alloc: Global, version: &SharedVersion, update: &Update, may: bool) -> Rcode
-    ensures { Tells version.now update.now may result ⊎ ((verdict version.now.zone update.now may ≡ None) × (result ≡ ServFail)) }
-{
-    match judge(alloc, version, update, may) {
-        Judged::Told(code) => code,
-        Judged::Made(_) => Rcode::ServFail,
-        Judged::Starved => Rcode::ServFail,
     }
 }

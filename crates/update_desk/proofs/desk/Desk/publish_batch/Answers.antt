@@ -1,73 +1,49 @@
 -- What a batch makes is published where the reader has seen all that is.
-use Rattle.std.proofs.Common.{◌≡◌, ◌<◌, List, ◌++◌, length, inl, inr, refl, sym, ap, ◌∙◌, subst, arith}
+use Rattle.std.proofs.Common.{rules, ◌≡◌, List, ◌++◌, length, sym, ap, ◌∙◌, subst, arith}
 use Rattle.zone_tree.specs.Version.{Version}
 use Rattle.snapshot_cell.specs.Tokens.{ReaderState}
-use Rattle.counted_handles.specs.Ruled.{Begins}
-use Rattle.dns_engine.specs.Held.{EngineState, Held}
+use Rattle.dns_engine.specs.Held.{EngineState}
 use Rattle.update_group.specs.Group.{versions_of}
+use Rattle.update_group.specs.Engine.{IsLast, AreMade}
+use Rattle.lasting_engine.specs.Asked.{makes}
 use Rattle.update_desk.specs.Done.{AreDone}
-use Rattle.update_desk.proofs.DeskLemmas.{judged_last, seen_all, met_twice}
-use Rattle.update_desk.proofs.MetLemmas.{met_as}
 use Rattle.update_desk.proofs.JudgedLemmas.{judged_done}
+use Rattle.update_desk.proofs.MetLemmas.{met_twice}
 use Rattle.update_desk.proofs.desk.Desk.publish_batch.Goals as goal
-use Rattle.update_desk.proofs.desk.Desk.publish_batch.Goals.{then-last-number-via-then-last-number, then-last-number-via-else-last-number+then-free-count}
 
-pub publish_group-requires : goal.publish_group-requires
-publish_group-requires g c =
-    let engine = c.room-free.new.self in
-    let held : engine.held ≡ c.args.self.now.held = ap (λ (s : EngineState). s.held) c.room-free.ensures ∙ ap (λ (s : EngineState). s.held) c.meet.ensures.same in
-    let begun : Begins c.args.reader.now.seen engine.held.published = subst (λ (h : Held). Begins c.args.reader.now.seen h.published) (sym held) c.meet.ensures.begun in
-    let number : engine.held.last.number ≡ c.args.number = sym c.number-last.ensures.number ∙ c.if-last-number.false in
-    let free : engine.free ≡ c.room-free.result = ap (λ (s : EngineState). s.free) c.room-free.ensures in
-    let count : length c.versions-count.result.now ≡ length (versions_of c.args.group) = ap length c.versions-count.ensures in
-    record {
-      free = omega (arith, free, count, c.if-free-count.false);
-      made = judged_last g.Z.FirstZone.zone c.args.reader.now.seen engine c.args.number (versions_of c.args.group) begun c.requires c.number-last.ensures.latest number;
-    }
+pub publish_all-requires : goal.publish_all-requires
+publish_all-requires g c =
+    let versions = versions_of c.args.group in
+    let judged = c.requires.judged in
+    let seen = ap (λ (r : ReaderState Version). r.seen) (sym (c.audit.ensures.all c.requires.counted) ∙ c.audit.ensures.met) in
+    let here : c.args.reader.now.seen ≡ c.audit.new.self.held.published = seen ∙ ap (λ (s : EngineState). s.held.published) (sym c.audit.ensures.same) in
+    let count : length c.into_versions.result.items ≡ length versions = ap length c.into_versions.ensures in (
+      search rules,
+      (
+        (judged.0, subst (λ (l : List Version). IsLast l judged.0) here (judged.1.before, judged.1.ends), subst (λ (vs : List Version). AreMade makes judged.0 vs) (sym c.into_versions.ensures) judged.2),
+        omega (arith, count, c.requires.room, c.audit.ensures.right.1),
+      ),
+    )
 
 pub returns : goal.returns
 returns g c =
     let first = g.Z.FirstZone.zone in
-    let seen = c.args.reader.now.seen in
+    let reader = c.args.reader.now in
     let versions = versions_of c.args.group in
-    let engine = c.room-free.new.self in
-    let held : engine.held ≡ c.args.self.now.held = ap (λ (s : EngineState). s.held) c.room-free.ensures ∙ ap (λ (s : EngineState). s.held) c.meet.ensures.same in
-    let begun : Begins seen engine.held.published = subst (λ (h : Held). Begins seen h.published) (sym held) c.meet.ensures.begun in
-    let number : engine.held.last.number ≡ c.args.number = sym c.number-last.ensures.number ∙ c.if-last-number.false in
-    let all : engine.held.published ≡ seen = seen_all first seen engine c.requires.0 begun c.requires.1 c.number-last.ensures.latest (number ∙ sym c.requires.2) in
-    let made = c.publish_group.new.engine in
-    let met : c.meet-2.new.reader ≡ record { cell = c.args.reader.now.cell; seen = made.held.published; left = c.args.reader.now.left; gone = c.args.reader.now.gone } =
-    met_twice c.args.reader.now c.meet.new.reader c.meet-2.new.reader c.args.self.now.held.published made.held.published c.meet.ensures.met c.meet-2.ensures.met in
-    let same : c.meet-2.new.self ≡ made = c.meet-2.ensures.same in
-    let published : made.held.published ≡ seen ++ versions = c.publish_group.ensures.published ∙ ap (λ (l : List Version). l ++ versions) all in
-    let later : c.meet-2.new.self.held.published ≡ seen ++ versions = ap (λ (s : EngineState). s.held.published) same ∙ published in
-    let sees : c.meet-2.new.reader.seen ≡ seen ++ versions = ap (λ (r : ReaderState Version). r.seen) met ∙ published in
+    let seen = ap (λ (r : ReaderState Version). r.seen) (sym (c.audit.ensures.all c.requires.counted) ∙ c.audit.ensures.met) in
+    let here : reader.seen ≡ c.audit.new.self.held.published = seen ∙ ap (λ (s : EngineState). s.held.published) (sym c.audit.ensures.same) in
+    let made = c.publish_all.new.self in
+    let published : made.held.published ≡ reader.seen ++ versions =
+    c.publish_all.ensures.published ∙ (ap (λ (l : List Version). l ++ c.into_versions.result.items) (sym here) ∙ ap (λ (vs : List Version). reader.seen ++ vs) c.into_versions.ensures) in
+    let later : c.audit-2.new.self.held.published ≡ reader.seen ++ versions = ap (λ (s : EngineState). s.held.published) c.audit-2.ensures.same ∙ published in
+    let met = met_twice reader c.audit.new.reader c.audit-2.new.reader c.args.self.now.held.published made.held.published (reader.seen ++ versions) c.audit.ensures.met c.audit-2.ensures.met published in
+    let count : length c.into_versions.result.items ≡ length versions = ap length c.into_versions.ensures in
     record {
-      met = met_as c.args.reader.now c.meet-2.new.reader made.held.published c.meet-2.new.self.held.published met (ap (λ (s : EngineState). s.held.published) (sym same));
-      begun = (versions, sym later);
+      met = met;
       published = later;
+      counted = c.audit-2.ensures.counted ∙ ap length published;
+      reserved = omega (arith, count, c.publish_all.ensures.reserved, c.audit.ensures.right.1, c.audit-2.ensures.right.1);
       done = λ asked verdicts updates last latest judged.
-          subst (λ (l : List Version). AreDone first l last.number asked verdicts) (sym sees)
-          (judged_done first seen last latest asked verdicts versions updates judged);
-      kept = tt;
-      refused = tt;
-    }
-
--- where the group comes back
-pub returns-then-last-number : goal.returns-then-last-number
-returns-then-last-number g c =
-    let engine = c.room-free.new.self in
-    let held : engine.held ≡ c.args.self.now.held = ap (λ (s : EngineState). s.held) c.room-free.ensures ∙ ap (λ (s : EngineState). s.held) c.meet.ensures.same in
-    let free : engine.free ≡ c.room-free.result = ap (λ (s : EngineState). s.free) c.room-free.ensures in
-    let count : length c.versions-count.result.now ≡ length (versions_of c.args.group) = ap length c.versions-count.ensures in
-    record {
-      met = met_as c.args.reader.now c.meet.new.reader c.args.self.now.held.published engine.held.published c.meet.ensures.met (ap (λ (h : Held). h.published) (sym held));
-      begun = subst (λ (h : Held). Begins c.args.reader.now.seen h.published) (sym held) c.meet.ensures.begun;
-      published = tt;
-      done = tt;
-      kept = (refl, held);
-      refused = elim c.then-last-number.branch [
-        | then-last-number-via-then-last-number w ↦ inl (λ same. w.if-last-number.true (c.number-last.ensures.number ∙ same))
-        | then-last-number-via-else-last-number+then-free-count w ↦ (let few : engine.free < length (versions_of c.args.group) = omega (arith, free, count, w.if-free-count.true) in inr few)
-      ];
+          subst (λ (l : List Version). AreDone first l last.number asked verdicts) (sym (ap (λ (r : ReaderState Version). r.seen) met))
+          (judged_done first reader.seen last latest asked verdicts versions updates judged);
     }

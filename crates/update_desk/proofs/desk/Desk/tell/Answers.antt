@@ -8,6 +8,8 @@ use Rattle.update_desk.proofs.desk.Desk.tell.Goals as goal
 
 pub invariant_of-self : goal.invariant_of-self
 invariant_of-self g c =
-    let seats = c.self.inside.seats.seats.items in
-    (told_at g.Z.FirstZone.zone c.self.inside.engine.held.published (slice_get seats c.args.seat) seats c.args.seat c.args.done c.tell.new.self.seats.items c.tell.ensures
-    (subst (λ (s : EngineState). IsDone g.Z.FirstZone.zone s.held.published c.args.done) (sym c.self.view_is) c.requires) c.self.invariant.0, c.self.invariant.1)
+    let seats = c.self.inside.seats.seats.items in (
+      told_at g.Z.FirstZone.zone c.self.inside.engine.held.published (slice_get seats c.args.seat) seats c.args.seat c.args.done c.tell.new.self.seats.items c.tell.ensures
+          (subst (λ (s : EngineState). IsDone g.Z.FirstZone.zone s.held.published c.args.done) (sym c.self.view_is) c.requires) c.self.invariant.0,
+      c.self.invariant.1,
+    )
