@@ -57,10 +57,10 @@ module _ {V A S F : Type 0} (passes : V → A → Type 0) (tells : V → A → �
   }
 
   -- the same of the same lists of versions
-  pub told_between : {batch : List A} (fault : Option (LogFault F)) (old begun later new : List V) (verdicts : List Verdict) (before after : S) → begun ≡ old → new ≡ later
+  pub told_between : (fault : Option (LogFault F)) (old begun later new : List V) (batch : List A) (verdicts : List Verdict) (before after : S) → begun ≡ old → new ≡ later
       → IsTold passes tells makes octets serial stores keeps begun later batch verdicts fault before after
       → IsTold passes tells makes octets serial stores keeps old new batch verdicts fault before after
-  told_between {batch} fault old begun later new verdicts before after from to told =
+  told_between fault old begun later new batch verdicts before after from to told =
       subst (λ (vs : List V). IsTold passes tells makes octets serial stores keeps old vs batch verdicts fault before after) (sym to)
       (subst (λ (vs : List V). IsTold passes tells makes octets serial stores keeps vs later batch verdicts fault before after) from told)
 

@@ -1,14 +1,13 @@
 -- A batch is judged in the version published last, brought to the store, and published.
-use Rattle.std.proofs.Common.{◌≡◌, ◌≤◌, ◌∙◌, refl, ◌++◌, length, arith}
-use Rattle.std.specs.Prelude.{min}
+use Rattle.std.proofs.Common.{◌≤◌, ◌∙◌, refl, ◌++◌, length, arith}
 use Rattle.update_group.specs.Group.{versions_of}
 use Rattle.update_group.proofs.GroupLemmas.{judged_made, made_still}
 use Rattle.update_job.proofs.DoneLemmas.{published_done, done_same}
 use Rattle.update_job.proofs.ToldLemmas.{kept_few, told_published, room_left}
 use Rattle.update_job.proofs.job.judge_batch.Goals as goal
 
-pub publish-requires-made : goal.publish-requires-made
-publish-requires-made g c =
+pub publish-requires-clause-made : goal.publish-requires-clause-made
+publish-requires-clause-made g c =
     let last = c.args.last.now in
     let made = judged_made g.P.Judging.passes g.P.Judging.tells g.P.Judging.makes g.P.Judging.octets g.P.Judging.serial last c.min.result c.judge_group-group.ensures.judged.judged in (
       last,
@@ -16,8 +15,8 @@ publish-requires-made g c =
       made_still g.P.Judging.makes c.append-fault.result last c.judge_group-group.result c.append-fault.new.group c.append-fault.ensures.told made,
     )
 
-pub publish-requires-room : goal.publish-requires-room
-publish-requires-room g c =
+pub publish-requires-clause-room : goal.publish-requires-clause-room
+publish-requires-clause-room g c =
     let few : length (versions_of c.append-fault.new.group) ≤ c.min.result =
     kept_few c.append-fault.result c.judge_group-group.result c.append-fault.new.group c.min.result c.append-fault.ensures.told c.judge_group-group.ensures.judged.few in
     omega (arith, few, c.min.ensures, c.requires.room)

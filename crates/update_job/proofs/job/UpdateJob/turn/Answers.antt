@@ -39,7 +39,7 @@ returns-clause-turned g c =
       stored = c.judge_batch-fault.new.store;
       tended = subst (λ s. g.S.Storing.tended s c.tend.new.self) same.1 c.tend.ensures;
       told = told_between g.P.Judging.passes g.P.Judging.tells g.P.Judging.makes g.P.Judging.octets g.P.Judging.serial g.S.Storing.stored g.S.Storing.kept c.judge_batch-fault.result
-          old begun later new verdicts c.tend.new.self c.judge_batch-fault.new.store from c.tell_first.ensures.published
+          old begun later new batch verdicts c.tend.new.self c.judge_batch-fault.new.store from c.tell_first.ensures.published
           (subst (λ l. IsTold g.P.Judging.passes g.P.Judging.tells g.P.Judging.makes g.P.Judging.octets g.P.Judging.serial g.S.Storing.stored g.S.Storing.kept begun
           later (take count l) verdicts c.judge_batch-fault.result c.tend.new.self c.judge_batch-fault.new.store) c.deref.ensures.value judged.told);
       sent = c.tell_first.ensures.told
