@@ -5,7 +5,7 @@ ghost use Rattle.dns_engine.specs.Versions.{IsFirst, AreNext};
 
 use crate::streams::{self, Row, TRANSFER};
 use conversation::OpenGate;
-use dns_engine::{FirstZone, KEPT, Naming, SharedVersion, VersionReader, ZoneVersions};
+use dns_engine::{FirstZone, KEPT, SharedVersion, VersionReader, ZoneVersions};
 use played_zones::{NamedParts, last_of, named_parts, octets_of};
 use recovery::{Start, recover_zone};
 use snapshot_cell::{Cell, Parts};
@@ -13,7 +13,7 @@ use std::alloc::Global;
 use std::marker::Brand;
 use std::process::Abort;
 use std::sync::Wait;
-use zone_service::{NoLog, Server};
+use zone_service::{NoLog, Server, ServerLedgers, ServerName};
 use zone_tree::Version;
 
 /// A zone text, of serial 1.
@@ -93,7 +93,7 @@ fn journal_of(alloc: Global, parts: &[&str]) -> Option<Vec<u8>> {
 }
 
 /// What is written on the stream of IXFRs, by a server that one of these readers asks, which comes back to them.
-fn written<R: Wait, Z: FirstZone, N: Naming>(
+fn written<R: Wait, Z: FirstZone, N: ServerName>(
     rt: &R,
     alloc: Global,
     server: &Server<'_, Z, N>,
@@ -116,7 +116,7 @@ struct Ran {
 
 /// What a server does with the updates of a row and with the IXFRs, that keeps as many versions as it may, over a cell in which these are first
 /// published after the first one.
-fn written_in<R: Wait + Abort, Z: FirstZone, N: Naming>(
+fn written_in<R: Wait + Abort, Z: FirstZone, N: ServerName>(
     rt: &R,
     alloc: Global,
     parts: Parts<SharedVersion, ZoneVersions<Z>>,
