@@ -1,6 +1,6 @@
 //! A transfer of several messages that goes on from a place, beside the messages of the same one that are made at once.
 use conversation::OpenGate;
-use dns_engine::{FirstZone, Naming, VersionCell, VersionChain, VersionPublisher, VersionReader};
+use dns_engine::{FirstZone, VersionCell, VersionChain, VersionPublisher, VersionReader};
 use dns_message::{Parsed, is_update, parse_other, take_frame};
 use dns_name::Name;
 use dns_rdata::{RData, RRset, RType, Ttl};
@@ -10,7 +10,7 @@ use std::alloc::Global;
 use std::sync::Wait;
 use told_streams::{Tape, answer_tape};
 use zone_replies::Replies;
-use zone_service::Server;
+use zone_service::{Server, ServerLedgers, ServerName};
 use zone_tree::{Version, Zone};
 
 /// The set of an owner in full or below `example.test.`, of one record.
@@ -108,7 +108,7 @@ fn at_once(alloc: Global, version: &Version, peer: Peer) -> Option<Vec<u8>> {
 }
 
 /// What a connection writes, by a reader that comes back.
-fn by_places<R: Wait, Z: FirstZone, N: Naming>(
+fn by_places<R: Wait, Z: FirstZone, N: ServerName>(
     rt: &R,
     alloc: Global,
     server: &Server<'_, Z, N>,
@@ -134,7 +134,7 @@ fn by_places<R: Wait, Z: FirstZone, N: Naming>(
 }
 
 /// Whether a connection writes the messages that are made at once, and more than two zones.
-fn is_same<R: Wait, Z: FirstZone, N: Naming>(
+fn is_same<R: Wait, Z: FirstZone, N: ServerName>(
     rt: &R,
     alloc: Global,
     server: &Server<'_, Z, N>,
@@ -155,13 +155,14 @@ fn is_same<R: Wait, Z: FirstZone, N: Naming>(
 struct BothWays;
 
 impl Play for BothWays {
-    fn play<R: Wait, Z: FirstZone, N: Naming>(
+    fn play<R: Wait, Z: FirstZone, N: ServerName>(
         &self,
         rt: &R,
         alloc: Global,
         cell: &VersionCell<Z, N>,
         publisher: VersionPublisher<Z, N>,
         mut readers: Vec<VersionReader<N>>,
+        ledgers: ServerLedgers,
     ) -> Played<Z, N> {
         let Some(reader) = readers.pop() else {
             return Played {
@@ -170,7 +171,7 @@ impl Play for BothWays {
                 readers,
             };
         };
-        let (told, publisher, reader) = match server_of(alloc, cell, publisher, reader) {
+        let (told, publisher, reader) = match server_of(alloc, cell, publisher, reader, ledgers) {
             Ok(server) => {
                 let told = is_same(rt, alloc, &server, &mut readers);
                 let (publisher, reader) = server.finish();

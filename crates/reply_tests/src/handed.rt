@@ -1,14 +1,14 @@
 //! Updates that are handed to who judges them: one that waits is handed once, what another asker has under the same key is another one, and what would be too many
 //! octets beside those that wait is told at once.
 use connections::{Answering, Reply, Unmade};
-use dns_engine::{FirstZone, Naming, VersionCell, VersionPublisher, VersionReader};
+use dns_engine::{FirstZone, VersionCell, VersionPublisher, VersionReader};
 use played_zones::{Kept, Play, Played, asker, is_played, octets_of, server_of, zone};
 use serve_core::{Peer, Transport};
 use std::alloc::Global;
 use std::sync::Wait;
 use update_queue::{Most, Queue};
 use zone_replies::Replies;
-use zone_service::{Hand, Server, Waiting, Way};
+use zone_service::{Hand, Server, ServerLedgers, ServerName, Waiting, Way};
 
 /// An update that adds an address at `new` (RFC 2136, 2).
 const UPDATE: &str =
@@ -33,7 +33,7 @@ fn updater() -> Peer {
 }
 
 /// Whether the reply to a request is made later, which a port's peer asks for on the connection under a key.
-fn is_later<R: Wait, Z: FirstZone, N: Naming>(
+fn is_later<R: Wait, Z: FirstZone, N: ServerName>(
     rt: &R,
     replies: &mut Replies<'_, '_, Z, N, Kept>,
     port: u16,
@@ -63,7 +63,7 @@ fn one_key<R: Wait>(rt: &R, queue: &Queue<Waiting>) -> Option<usize> {
 
 /// Whether an update is handed once while it waits, and anew for another asker, on another connection, and behind a query; and where one waits that leaves no room, not until
 /// that is taken.
-fn is_handed_once<R: Wait, Z: FirstZone, N: Naming>(
+fn is_handed_once<R: Wait, Z: FirstZone, N: ServerName>(
     rt: &R,
     alloc: Global,
     queue: &Queue<Waiting>,
@@ -84,7 +84,7 @@ fn is_handed_once<R: Wait, Z: FirstZone, N: Naming>(
 }
 
 /// The same, by a reader that comes back.
-fn is_handed<R: Wait, Z: FirstZone, N: Naming>(
+fn is_handed<R: Wait, Z: FirstZone, N: ServerName>(
     rt: &R,
     alloc: Global,
     server: &Server<'_, Z, N>,
@@ -106,13 +106,14 @@ fn is_handed<R: Wait, Z: FirstZone, N: Naming>(
 struct Handing;
 
 impl Play for Handing {
-    fn play<R: Wait, Z: FirstZone, N: Naming>(
+    fn play<R: Wait, Z: FirstZone, N: ServerName>(
         &self,
         rt: &R,
         alloc: Global,
         cell: &VersionCell<Z, N>,
         publisher: VersionPublisher<Z, N>,
         mut readers: Vec<VersionReader<N>>,
+        ledgers: ServerLedgers,
     ) -> Played<Z, N> {
         let Some(reader) = readers.pop() else {
             return Played {
@@ -121,7 +122,7 @@ impl Play for Handing {
                 readers,
             };
         };
-        let (told, publisher, reader) = match server_of(alloc, cell, publisher, reader) {
+        let (told, publisher, reader) = match server_of(alloc, cell, publisher, reader, ledgers) {
             Ok(server) => {
                 let told = is_handed(rt, alloc, &server, &mut readers);
                 let (publisher, reader) = server.finish();

@@ -1,10 +1,10 @@
 //! What a running server tells of versions that are there, and in whole of one that has gone (RFC 1995, 4; own).
 use crate::served::{Course, told};
 use crate::streams::{self, ALL, Row, TRANSFER};
-use dns_engine::{FirstZone, Naming, VersionReader};
+use dns_engine::{FirstZone, VersionReader};
 use std::alloc::Global;
 use std::sync::Wait;
-use zone_service::Server;
+use zone_service::{Server, ServerName};
 
 /// An update that adds an address at `new`, and NOERROR.
 const FIRST_UPDATE: Row = Row {
@@ -46,7 +46,7 @@ c00c0006000100000e100018c02ac0300000000300001c2000000384001275000000012c",
 };
 
 /// Streams while the version between two updates is owned and once it isn't.
-pub(crate) fn go<R: Wait, Z: FirstZone, N: Naming>(
+pub(crate) fn go<R: Wait, Z: FirstZone, N: ServerName>(
     rt: &R,
     alloc: Global,
     server: &Server<'_, Z, N>,

@@ -3,11 +3,11 @@ use crate::served::{Course, told};
 use crate::streams::{self, ALL, TRANSFER};
 use crate::trays::{self, TWO_UPDATES};
 use conversation::Gate;
-use dns_engine::{FirstZone, Naming, VersionReader};
+use dns_engine::{FirstZone, VersionReader};
 use std::alloc::Global;
 use std::sync::Wait;
 use std::sync::atomic::{AtomicU64, Ordering};
-use zone_service::{Event, Server, ServiceLog};
+use zone_service::{Event, Server, ServerName, ServiceLog};
 
 /// The calls so far, in their order, each a digit: 1 where the gate is entered, 2 where the log is told of an update, which is answered then, 3 where the
 /// gate is left.
@@ -50,7 +50,7 @@ const ON_A_STREAM: streams::Row = streams::Row {
 };
 
 /// Two updates on a stream, and two by datagrams.
-pub(crate) fn go<R: Wait, Z: FirstZone, N: Naming>(
+pub(crate) fn go<R: Wait, Z: FirstZone, N: ServerName>(
     rt: &R,
     alloc: Global,
     server: &Server<'_, Z, N>,

@@ -3,13 +3,13 @@
 use crate::served::{Course, told};
 use crate::slots::update_of;
 use crate::streams::ALL;
-use dns_engine::{FirstZone, Naming, VersionChain, VersionReader};
+use dns_engine::{FirstZone, VersionChain, VersionReader};
 use dns_rdata::{Rcode, Serial};
 use serve_core::{Peer, Transport};
 use std::alloc::Global;
 use std::sync::Wait;
 use transfer_core::{ChainView, VersionList};
-use zone_service::{Now, Server, answer_now};
+use zone_service::{Now, Server, ServerName, answer_now};
 use zone_tree::ZoneRead;
 
 /// The query for www.example.test., type A, and its reply: the alias and the address of its target (RFC 1035, 4.1).
@@ -20,7 +20,7 @@ const REPLY: &[u8] =
     b"\x12\x34\x85\x00\x00\x01\x00\x02\x00\x00\x00\x00\x03www\x07example\x04test\x00\x00\x01\x00\x01\xc0\x0c\x00\x05\x00\x01\x00\x00\x0e\x10\x00\x06\x03web\xc0\x10\xc0\x2e\x00\x01\x00\x01\x00\x00\x0e\x10\x00\x04\xc0\x00\x02\x0a";
 
 /// Whether the query is answered at once.
-fn is_answered<Z: FirstZone, N: Naming>(
+fn is_answered<Z: FirstZone, N: ServerName>(
     server: &Server<'_, Z, N>,
     reader: &mut VersionReader<N>,
 ) -> bool {
@@ -33,7 +33,7 @@ fn is_answered<Z: FirstZone, N: Naming>(
 }
 
 /// Two queries.
-pub(crate) fn ask_twice<Z: FirstZone, N: Naming>(
+pub(crate) fn ask_twice<Z: FirstZone, N: ServerName>(
     server: &Server<'_, Z, N>,
     readers: &mut Vec<VersionReader<N>>,
 ) -> Option<bool> {
@@ -45,7 +45,7 @@ pub(crate) fn ask_twice<Z: FirstZone, N: Naming>(
 }
 
 /// Whether the first version is still the last one: its number, its serial and its five sets, and its answer to the query.
-fn has_first<Z: FirstZone, N: Naming>(
+fn has_first<Z: FirstZone, N: ServerName>(
     server: &Server<'_, Z, N>,
     reader: &mut VersionReader<N>,
 ) -> bool {
@@ -63,7 +63,7 @@ fn has_first<Z: FirstZone, N: Naming>(
 }
 
 /// The code of an update, or, where it is SERVFAIL and all is as it was, that of the same update sent anew; None where there is no memory for it.
-fn sent_anew<R: Wait, Z: FirstZone, N: Naming>(
+fn sent_anew<R: Wait, Z: FirstZone, N: ServerName>(
     rt: &R,
     alloc: Global,
     server: &Server<'_, Z, N>,
@@ -79,7 +79,7 @@ fn sent_anew<R: Wait, Z: FirstZone, N: Naming>(
 }
 
 /// An update, sent anew where memory is refused, which is then published, and told of as what changed since the first version.
-pub(crate) fn update_anew<R: Wait, Z: FirstZone, N: Naming>(
+pub(crate) fn update_anew<R: Wait, Z: FirstZone, N: ServerName>(
     rt: &R,
     alloc: Global,
     server: &Server<'_, Z, N>,

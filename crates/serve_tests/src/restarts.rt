@@ -2,10 +2,15 @@
 ghost use Rattle.std.specs.Prelude.{◌≡◌};
 ghost use Rattle.std.specs.List.{All};
 ghost use Rattle.dns_engine.specs.Versions.{IsFirst, AreNext};
+ghost use Rattle.update_desk.specs.Right.{AreNamed};
 
+use crate::slots::update_of;
 use crate::streams::{self, Row, TRANSFER};
 use conversation::OpenGate;
-use dns_engine::{FirstZone, KEPT, Naming, SharedVersion, VersionReader, ZoneVersions};
+use dns_engine::{
+    FirstZone, KEPT, SharedVersion, VersionCell, VersionPublisher, VersionReader, ZoneVersions,
+};
+use dns_rdata::Rcode;
 use played_zones::{NamedParts, last_of, named_parts, octets_of};
 use recovery::{Start, recover_zone};
 use snapshot_cell::{Cell, Parts};
@@ -13,7 +18,7 @@ use std::alloc::Global;
 use std::marker::Brand;
 use std::process::Abort;
 use std::sync::Wait;
-use zone_service::{NoLog, Server};
+use zone_service::{NoLog, Server, ServerLedgers, ServerName};
 use zone_tree::Version;
 
 /// A zone text, of serial 1.
@@ -93,7 +98,7 @@ fn journal_of(alloc: Global, parts: &[&str]) -> Option<Vec<u8>> {
 }
 
 /// What is written on the stream of IXFRs, by a server that one of these readers asks, which comes back to them.
-fn written<R: Wait, Z: FirstZone, N: Naming>(
+fn written<R: Wait, Z: FirstZone, N: ServerName>(
     rt: &R,
     alloc: Global,
     server: &Server<'_, Z, N>,
@@ -103,6 +108,26 @@ fn written<R: Wait, Z: FirstZone, N: Naming>(
     tape.written().to_vec(alloc).ok()
 }
 
+/// The codes of updates.
+type Codes = (Rcode, Rcode, Rcode);
+
+/// The codes of three updates, which a server is asked for by one of these readers, which comes back to them: one that adds an address, one that adds one that is there, and
+/// one of a peer that may not update.
+fn codes<R: Wait, Z: FirstZone, N: ServerName>(
+    rt: &R,
+    alloc: Global,
+    server: &Server<'_, Z, N>,
+    readers: &mut Vec<VersionReader<N>>,
+) -> Option<Codes> {
+    let (further, again) = (update_of(alloc, 77)?, update_of(alloc, 11)?);
+    let mut reader = readers.pop()?;
+    let (first, _) = server.update(rt, alloc, &mut reader, &further, true);
+    let (second, _) = server.update(rt, alloc, &mut reader, &again, true);
+    let (third, _) = server.update(rt, alloc, &mut reader, &further, false);
+    readers.push(reader).ok()?;
+    Some((first, second, third))
+}
+
 /// What a server does.
 #[derive(Drop)]
 struct Ran {
@@ -110,22 +135,49 @@ struct Ran {
     is_taken: bool,
     /// What is written on the second one.
     changes: Vec<u8>,
+    /// What three updates more get.
+    codes: Option<Codes>,
     /// The number and the serial of the version with which the server's cell ends.
     last: (u64, u32),
 }
 
+/// The server of a cell, which keeps as many versions as it may: it publishes what updates make, where none is to be published before that; else these are published, and
+/// the right to publish more is given up.
+fn server_after<'a, Z: FirstZone, N: ServerName>(
+    alloc: Global,
+    cell: &'a VersionCell<Z, N>,
+    publisher: VersionPublisher<Z, N>,
+    reader: VersionReader<N>,
+    later: Vec<SharedVersion>,
+    ledgers: ServerLedgers,
+) -> Option<Server<'a, Z, N>>
+    requires first { publisher.number ≡ 0 }
+    requires named { AreNamed N.published N.reserved ledgers }
+    requires follow { AreNext publisher.value later.items }
+{
+    if later.is_empty() {
+        return Server::new(alloc, cell, publisher, reader, KEPT, ledgers).ok();
+    }
+    match Server::resume(alloc, cell, publisher, reader, KEPT, later, ledgers) {
+        Ok((server, _right)) => Some(server),
+        Err(_) => None,
+    }
+}
+
 /// What a server does with the updates of a row and with the IXFRs, that keeps as many versions as it may, over a cell in which these are first
 /// published after the first one.
-fn written_in<R: Wait + Abort, Z: FirstZone, N: Naming>(
+fn written_in<R: Wait + Abort, Z: FirstZone, N: ServerName>(
     rt: &R,
     alloc: Global,
     parts: Parts<SharedVersion, ZoneVersions<Z>>,
     later: Vec<SharedVersion>,
+    ledgers: ServerLedgers,
     updates: &Row,
 ) -> Ran
     requires cell { (parts.cell ≡ N.cell) × (parts.publisher.cell ≡ N.cell) }
     requires readers { All (λ r. r.cell ≡ N.cell) parts.readers.items }
     requires first { parts.publisher.number ≡ 0 }
+    requires named { AreNamed N.published N.reserved ledgers }
     requires follow { AreNext parts.publisher.value later.items }
 {
     let Some(
@@ -139,11 +191,11 @@ fn written_in<R: Wait + Abort, Z: FirstZone, N: Naming>(
         panic!(rt; "there is no memory");
     };
     let reader = readers.pop().expect(rt, "a reader");
-    let Ok(server) = Server::resume(alloc, &cell, publisher, reader, KEPT, later) else {
-        panic!(rt; "there is no server");
-    };
+    let server = server_after(alloc, &cell, publisher, reader, later, ledgers);
+    let server = server.expect(rt, "a server");
     let is_taken = streams::go(rt, alloc, &server, &mut readers, updates) == Some(true);
     let changes = written(rt, alloc, &server, &mut readers).unwrap_or(Vec::new(alloc));
+    let codes = codes(rt, alloc, &server, &mut readers);
     let (publisher, reader) = server.finish();
     readers.push(reader).ok().expect(rt, "memory");
     let last = last_of(
@@ -157,6 +209,7 @@ fn written_in<R: Wait + Abort, Z: FirstZone, N: Naming>(
     Ran {
         is_taken,
         changes,
+        codes,
         last: (last.get().number(), last.get().serial().0),
     }
 }
@@ -178,10 +231,11 @@ fn written_from<R: Wait + Abort, Z: FirstZone>(
     let Some(first) = SharedVersion::new(alloc, first) else {
         panic!(rt; "there is no memory");
     };
-    match Cell::<SharedVersion, ZoneVersions<Z>>::new(alloc, 2, first) {
-        Ok(parts) => written_in::<R, Z, Brand>(rt, alloc, parts, later, updates),
-        Err(_) => panic!(rt; "there is no cell"),
-    }
+    let Ok(parts) = Cell::<SharedVersion, ZoneVersions<Z>>::new(alloc, 2, first) else {
+        panic!(rt; "there is no cell");
+    };
+    let ledgers = ServerLedgers::new();
+    written_in::<R, Z, Brand>(rt, alloc, parts, later, ledgers, updates)
 }
 
 /// The same over a cell that begins with what a start has of a journal over the zone text.
@@ -213,5 +267,9 @@ fn what_changed_is_told_after_a_restart(rt: HostRuntime) {
     assert!(rt; counts == (Some(&[0, 26]), Some(&[0, 14]), Some(&[0, 29])));
     // The last version is left; the next server's are numbered from the oldest that is kept.
     let ends = (before.is_taken, before.last, after.is_taken, after.last);
-    assert_eq!(rt; ends, (true, (10, 11), true, (8, 11)));
+    assert_eq!(rt; ends, (true, (11, 12), true, (8, 11)));
+    // The first server makes one version more, of an address that is added. Where the right to publish is given up, an update that would make one gets SERVFAIL.
+    let taken = (Rcode::NoError, Rcode::NoError, Rcode::Refused);
+    let turned_away = (Rcode::ServFail, Rcode::NoError, Rcode::Refused);
+    assert!(rt; (before.codes, after.codes) == (Some(taken), Some(turned_away)));
 }

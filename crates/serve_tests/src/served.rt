@@ -1,10 +1,10 @@
 //! What is done over a running server, whose cell begins with the zone of five sets.
 use crate::{gone_versions, orders, refused_updates, slots, streams, trays};
-use dns_engine::{FirstZone, KEPT, Naming, VersionCell, VersionPublisher, VersionReader};
+use dns_engine::{FirstZone, KEPT, VersionCell, VersionPublisher, VersionReader};
 use played_zones::{Play, Played, is_played_by, zone};
 use std::alloc::Global;
 use std::sync::Wait;
-use zone_service::Server;
+use zone_service::{Server, ServerLedgers, ServerName};
 
 /// What is done over a server, by readers of its cell.
 #[derive(Clone, Copy)]
@@ -24,7 +24,7 @@ pub(crate) enum Course {
 
 impl Course {
     /// Whether it goes as it should, by readers of the server's cell, which come back; None where there is no memory for it.
-    fn go<R: Wait, Z: FirstZone, N: Naming>(
+    fn go<R: Wait, Z: FirstZone, N: ServerName>(
         &self,
         rt: &R,
         alloc: Global,
@@ -51,13 +51,14 @@ struct Served {
 }
 
 impl Play for Served {
-    fn play<R: Wait, Z: FirstZone, N: Naming>(
+    fn play<R: Wait, Z: FirstZone, N: ServerName>(
         &self,
         rt: &R,
         alloc: Global,
         cell: &VersionCell<Z, N>,
         publisher: VersionPublisher<Z, N>,
         mut readers: Vec<VersionReader<N>>,
+        ledgers: ServerLedgers,
     ) -> Played<Z, N> {
         let Some(reader) = readers.pop() else {
             return Played {
@@ -67,7 +68,7 @@ impl Play for Served {
             };
         };
         let (told, publisher, reader) = match Server::new(
-            alloc, cell, publisher, reader, self.keep,
+            alloc, cell, publisher, reader, self.keep, ledgers,
         ) {
             Ok(server) => {
                 let told = self.course.go(rt, alloc, &server, &mut readers);

@@ -1,14 +1,14 @@
 //! Slots that are used up: what is told then, and that what was published stays.
 use crate::served::{Course, told};
 use crate::streams::ALL;
-use dns_engine::{FirstZone, Naming, VersionOwner, VersionReader};
+use dns_engine::{FirstZone, VersionOwner, VersionReader};
 use dns_message::{Parsed, Update, parse};
 use dns_rdata::Rcode;
 use played_zones::octets_of;
 use std::alloc::Global;
 use std::collections::VecDeque;
 use std::sync::Wait;
-use zone_service::Server;
+use zone_service::{Server, ServerName};
 
 /// An update of `example.test.` (RFC 2136, 2) that adds an address of 192.0.2.0/24 at `new`, but for the address's last octet.
 const UPDATE: &str =
@@ -25,7 +25,7 @@ pub(crate) fn update_of(alloc: Global, last: u8) -> Option<Update> {
 }
 
 /// The code of the update that adds the address of this last octet, and the serial after it; None where memory is refused.
-fn told_of<R: Wait, Z: FirstZone, N: Naming>(
+fn told_of<R: Wait, Z: FirstZone, N: ServerName>(
     rt: &R,
     alloc: Global,
     server: &Server<'_, Z, N>,
@@ -41,7 +41,7 @@ fn told_of<R: Wait, Z: FirstZone, N: Naming>(
 type Owners<'a, Z, N> = VecDeque<VersionOwner<'a, Z, N>>;
 
 /// Owners of the first version and of 63 more, which updates make; None where one of them isn't made.
-fn hold_all<'a, R: Wait, Z: FirstZone, N: Naming>(
+fn hold_all<'a, R: Wait, Z: FirstZone, N: ServerName>(
     rt: &R,
     alloc: Global,
     server: &Server<'a, Z, N>,
@@ -61,12 +61,12 @@ fn hold_all<'a, R: Wait, Z: FirstZone, N: Naming>(
 }
 
 /// The number of the version that an owner's release buries.
-fn buried<Z: FirstZone, N: Naming>(owner: Option<VersionOwner<'_, Z, N>>) -> Option<u64> {
+fn buried<Z: FirstZone, N: ServerName>(owner: Option<VersionOwner<'_, Z, N>>) -> Option<u64> {
     owner?.release().buried()
 }
 
 /// Each slot has a version: of owners of all versions that of the 60th is let go, and then that of the first; only then one more update is taken.
-pub(crate) fn go<R: Wait, Z: FirstZone, N: Naming>(
+pub(crate) fn go<R: Wait, Z: FirstZone, N: ServerName>(
     rt: &R,
     alloc: Global,
     server: &Server<'_, Z, N>,
@@ -83,7 +83,7 @@ pub(crate) fn go<R: Wait, Z: FirstZone, N: Naming>(
 }
 
 /// What one more update is told while all versions are owned, and after each release; and whether that is right.
-fn goes_on<R: Wait, Z: FirstZone, N: Naming>(
+fn goes_on<R: Wait, Z: FirstZone, N: ServerName>(
     rt: &R,
     alloc: Global,
     server: &Server<'_, Z, N>,

@@ -2,14 +2,14 @@
 //! hand.
 use crate::served::{Course, first_wrong};
 use conversation::{Gate, OpenGate, StreamEnd};
-use dns_engine::{FirstZone, Naming, VersionReader};
+use dns_engine::{FirstZone, VersionReader};
 use played_zones::{Kept, asker, octets_of};
 use serve_core::{Peer, Transport};
 use std::alloc::Global;
 use std::sync::Wait;
 use told_streams::{Tape, answer_tape};
 use zone_replies::Replies;
-use zone_service::{Server, ServiceLog};
+use zone_service::{Server, ServerName, ServiceLog};
 
 /// All reads and writes, or grants.
 pub(crate) const ALL: u64 = u64::MAX;
@@ -221,7 +221,7 @@ fn tape_of(alloc: Global, row: &Row) -> Option<Tape> {
 
 /// How a row's stream ends, and its tape, where a server is asked by one of these readers, which comes back to them. None where there is no memory for
 /// it, or no reader.
-pub(crate) fn serve<R: Wait, Z: FirstZone, N: Naming, L: ServiceLog, G: Gate>(
+pub(crate) fn serve<R: Wait, Z: FirstZone, N: ServerName, L: ServiceLog, G: Gate>(
     rt: &R,
     alloc: Global,
     server: &Server<'_, Z, N>,
@@ -246,7 +246,7 @@ pub(crate) fn serve<R: Wait, Z: FirstZone, N: Naming, L: ServiceLog, G: Gate>(
 }
 
 /// Whether a row's stream goes as the row says.
-pub(crate) fn go<R: Wait, Z: FirstZone, N: Naming>(
+pub(crate) fn go<R: Wait, Z: FirstZone, N: ServerName>(
     rt: &R,
     alloc: Global,
     server: &Server<'_, Z, N>,

@@ -2,14 +2,14 @@
 use crate::served::{Course, first_wrong};
 use crate::streams::ALL;
 use conversation::{Allowed, Datagrams, DatagramsEnd, Gate, OpenGate};
-use dns_engine::{FirstZone, Naming, VersionReader};
+use dns_engine::{FirstZone, VersionReader};
 use played_zones::{asker, octets_of};
 use serve_core::{Peer, Transport};
 use std::alloc::Global;
 use std::net::IpAddr;
 use std::sync::Wait;
 use told_streams::{Datagram, Tray, answer_tray};
-use zone_service::{Asked, NoLog, Server, ServiceLog};
+use zone_service::{Asked, NoLog, Server, ServerName, ServiceLog};
 
 /// A query for an alias, and its reply: the alias and the address of its target (RFC 1035, 4.1).
 const WWW: &str = "12340100000100000000000003777777076578616d706c6504746573740000010001";
@@ -240,7 +240,7 @@ fn is_sent(alloc: Global, sent: &[Datagram], right: &[(u16, &str)]) -> Option<bo
 
 /// How a row's datagrams end, and their tray, where a server is asked by one of these readers, which comes back to them. None where there is no memory for
 /// it, or no reader.
-pub(crate) fn serve<R: Wait, Z: FirstZone, N: Naming, L: ServiceLog, G: Gate>(
+pub(crate) fn serve<R: Wait, Z: FirstZone, N: ServerName, L: ServiceLog, G: Gate>(
     rt: &R,
     alloc: Global,
     server: &Server<'_, Z, N>,
@@ -272,7 +272,7 @@ pub(crate) fn serve<R: Wait, Z: FirstZone, N: Naming, L: ServiceLog, G: Gate>(
 }
 
 /// Whether a row's datagrams go as the row says.
-pub(crate) fn go<R: Wait, Z: FirstZone, N: Naming>(
+pub(crate) fn go<R: Wait, Z: FirstZone, N: ServerName>(
     rt: &R,
     alloc: Global,
     server: &Server<'_, Z, N>,

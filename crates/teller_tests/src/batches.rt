@@ -2,7 +2,7 @@
 use crate::bag::Bag;
 use crate::servers::{goes, not_played};
 use crate::updates::{REFUSED, TAKEN, is_second, is_spelt, put_all};
-use dns_engine::{FirstZone, KEPT, Naming, VersionCell, VersionPublisher, VersionReader};
+use dns_engine::{FirstZone, KEPT, VersionCell, VersionPublisher, VersionReader};
 use dns_rdata::{Rcode, Serial};
 use played_zones::{Kept, Play, Played, asker};
 use std::alloc::Global;
@@ -13,7 +13,7 @@ use update_desk::{Fetched, Serials};
 use update_job::{Store, UpdateJob};
 use update_queue::{Most, Queue};
 use update_teller::Teller;
-use zone_service::{Server, Waiting, Way};
+use zone_service::{PublishRight, Server, ServerLedgers, ServerName, Waiting, Way};
 
 /// A batch of three updates: the first came by a datagram, the second on a connection, the third by a datagram, and is refused.
 #[derive(Drop)]
@@ -88,11 +88,12 @@ fn is_right<R: Wait>(rt: &R, alloc: Global, outcome: &Outcome, log: &Kept) -> Op
 }
 
 /// Whether the batch is told as it should be, and the reader; None where memory is refused.
-fn tell_three<R: Wait, Z: FirstZone, N: Naming>(
+fn tell_three<R: Wait, Z: FirstZone, N: ServerName>(
     rt: &R,
     alloc: Global,
     server: &Server<'_, Z, N>,
     reader: VersionReader<N>,
+    right: PublishRight<N>,
 ) -> (Option<bool>, Option<VersionReader<N>>) {
     let mut reader = reader;
     let log = Kept::new(alloc);
@@ -109,7 +110,7 @@ fn tell_three<R: Wait, Z: FirstZone, N: Naming>(
     if put_all(rt, alloc, &queue, ways(seat)).is_none() {
         return (None, Some(reader));
     }
-    let teller = Teller::new(rt, server, reader, &log, Bag::new(alloc));
+    let teller = Teller::new(rt, server, reader, right, &log, Bag::new(alloc));
     let mut job = match UpdateJob::new(alloc, teller, Store::<ToldDisk>::Nowhere, &queue) {
         Ok(job) => job,
         Err((teller, _)) => return (None, Some(teller.into_parts().0)),
@@ -129,13 +130,14 @@ fn tell_three<R: Wait, Z: FirstZone, N: Naming>(
 }
 
 impl Play for Three {
-    fn play<R: Wait, Z: FirstZone, N: Naming>(
+    fn play<R: Wait, Z: FirstZone, N: ServerName>(
         &self,
         rt: &R,
         alloc: Global,
         cell: &VersionCell<Z, N>,
         publisher: VersionPublisher<Z, N>,
         readers: Vec<VersionReader<N>>,
+        ledgers: ServerLedgers,
     ) -> Played<Z, N> {
         let mut readers = readers;
         let Some(own) = readers.pop() else {
@@ -145,9 +147,10 @@ impl Play for Three {
             let _ = readers.push(own);
             return not_played(publisher, readers);
         };
-        match Server::new(alloc, cell, publisher, own, KEPT) {
-            Ok(server) => {
-                let (told, reader) = tell_three(rt, alloc, &server, reader);
+        let later = Vec::new(alloc);
+        match Server::resume(alloc, cell, publisher, own, KEPT, later, ledgers) {
+            Ok((server, right)) => {
+                let (told, reader) = tell_three(rt, alloc, &server, reader, right);
                 if let Some(reader) = reader {
                     let _ = readers.push(reader);
                 }

@@ -1,10 +1,11 @@
 //! Two workers, of which one waits in the gate for the other: each first on a datagram, then on a stream that gives and takes an octet at a time.
 ghost use Rattle.std.specs.Prelude.{◌≡◌};
 ghost use Rattle.std.specs.List.{All};
+ghost use Rattle.update_desk.specs.Right.{AreNamed};
 
 use crate::frames::{QUERY, REPLY, frame_of};
 use conversation::{Allowed, Answering, Gate};
-use dns_engine::{FirstZone, Naming, SharedVersion, VersionReader, ZoneVersions};
+use dns_engine::{FirstZone, SharedVersion, VersionReader, ZoneVersions};
 use played_zones::{NamedParts, asker, end, named_parts, parts_of, server_of, zone};
 use serve_core::{Peer, Transport};
 use snapshot_cell::Parts;
@@ -17,7 +18,7 @@ use std::thread::{self, Threads};
 use told_streams::{Datagram, Tape, Tray, answer_tape, answer_tray};
 use worker_jobs::{Job, run_workers};
 use zone_replies::Replies;
-use zone_service::{NoLog, Server, ServiceLog};
+use zone_service::{NoLog, Server, ServerLedgers, ServerName, ServiceLog};
 use zone_tree::Zone;
 
 /// After how many turns a call that is held gives up.
@@ -70,7 +71,7 @@ impl<G: Gate> Gate for Entrance<'_, G> {
 
 /// The job of a worker, by its number: one datagram, then one stream, which is answered by a reader of its own.
 #[derive(Drop)]
-struct BothJob<'g, 's, Z: FirstZone, N: Naming> {
+struct BothJob<'g, 's, Z: FirstZone, N: ServerName> {
     number: u16,
     alloc: Global,
     server: &'g Server<'s, Z, N>,
@@ -79,7 +80,8 @@ struct BothJob<'g, 's, Z: FirstZone, N: Naming> {
     tray: Option<Tray>,
 }
 
-impl<'g, 's, Z: FirstZone + Send + Sync, N: Naming + Send + Sync> Job for BothJob<'g, 's, Z, N> {
+impl<'g, 's, Z: FirstZone + Send + Sync, N: ServerName + Send + Sync> Job
+    for BothJob<'g, 's, Z, N> {
     ghost number = { λ job. job.number };
 
     ghost is_done = { λ _. Unit {0} };
@@ -136,7 +138,7 @@ impl<'g, 's, Z: FirstZone + Send + Sync, N: Naming + Send + Sync> Job for BothJo
     }
 }
 
-impl<Z: FirstZone, N: Naming> BothJob<'_, '_, Z, N> {
+impl<Z: FirstZone, N: ServerName> BothJob<'_, '_, Z, N> {
     /// Whether the datagram, which went to who asked, and the stream have the message of a frame, and no more.
     fn has(&self, frame: &[u8]) -> bool {
         let (Some(tray), Some(tape)) = (&self.tray, &self.tape) else {
@@ -163,7 +165,7 @@ fn tray_of(alloc: Global, frame: &[u8]) -> Option<Tray> {
 }
 
 /// The jobs of workers 1 and 2 with a reader each, on a datagram and a stream of the query with the worker's number as its ID, which take a reader each too.
-fn pairs_of<'g, 's, Z: FirstZone, N: Naming>(
+fn pairs_of<'g, 's, Z: FirstZone, N: ServerName>(
     alloc: Global,
     server: &'g Server<'s, Z, N>,
     mut readers: Vec<VersionReader<N>>,
@@ -188,7 +190,7 @@ fn pairs_of<'g, 's, Z: FirstZone, N: Naming>(
 }
 
 /// Whether all was answered by jobs 1 and 2, in this order, each by its own reply.
-fn are_replied<Z: FirstZone, N: Naming>(
+fn are_replied<Z: FirstZone, N: ServerName>(
     alloc: Global,
     pairs: &[(VersionReader<N>, BothJob<'_, '_, Z, N>)],
 ) -> Option<bool> {
@@ -204,7 +206,7 @@ fn are_replied<Z: FirstZone, N: Naming>(
 }
 
 /// The readers of jobs that are done.
-fn readers_of<Z: FirstZone, N: Naming>(
+fn readers_of<Z: FirstZone, N: ServerName>(
     alloc: Global,
     pairs: Vec<(VersionReader<N>, BothJob<'_, '_, Z, N>)>,
 ) -> Option<Vec<VersionReader<N>>> {
@@ -218,7 +220,7 @@ fn readers_of<Z: FirstZone, N: Naming>(
 }
 
 /// All is answered by two workers, of which the first to be asked waits for the other: their readers.
-fn serve<R: Wait + Threads + Sync + Abort, Z: FirstZone + Send + Sync, N: Naming + Send + Sync>(
+fn serve<R: Wait + Threads + Sync + Abort, Z: FirstZone + Send + Sync, N: ServerName + Send + Sync>(
     rt: &R,
     alloc: Global,
     server: &Server<'_, Z, N>,
@@ -239,14 +241,15 @@ fn serve<R: Wait + Threads + Sync + Abort, Z: FirstZone + Send + Sync, N: Naming
 }
 
 /// It is answered over a cell in which a zone's first version alone is published, which is then ended.
-fn serve_in<R: Wait + Threads + Sync + Abort, Z: FirstZone + Send + Sync, N: Naming + Send + Sync>(
-    rt: &R,
-    alloc: Global,
-    parts: Parts<SharedVersion, ZoneVersions<Z>>,
-)
+fn serve_in<
+    R: Wait + Threads + Sync + Abort,
+    Z: FirstZone + Send + Sync,
+    N: ServerName + Send + Sync,
+>(rt: &R, alloc: Global, parts: Parts<SharedVersion, ZoneVersions<Z>>, ledgers: ServerLedgers)
     requires cell { (parts.cell ≡ N.cell) × (parts.publisher.cell ≡ N.cell) }
     requires readers { All (λ r. r.cell ≡ N.cell) parts.readers.items }
     requires first { parts.publisher.number ≡ 0 }
+    requires named { AreNamed N.published N.reserved ledgers }
 {
     let Some(
         NamedParts {
@@ -259,7 +262,7 @@ fn serve_in<R: Wait + Threads + Sync + Abort, Z: FirstZone + Send + Sync, N: Nam
         panic!(rt; "there is no memory");
     };
     let reader = readers.pop().expect(rt, "a reader");
-    let Ok(server) = server_of(alloc, &cell, publisher, reader) else {
+    let Ok(server) = server_of(alloc, &cell, publisher, reader, ledgers) else {
         panic!(rt; "there is no server");
     };
     let mut readers = serve(rt, alloc, &server, readers);
@@ -283,10 +286,11 @@ fn serve_from<R: Wait + Threads + Sync + Abort, Z: FirstZone + Send + Sync>(
 )
     requires { zone ≡ Z.zone }
 {
-    match parts_of::<Z>(alloc, zone, 5) {
-        Some(parts) => serve_in::<R, Z, Brand>(rt, alloc, parts),
-        None => panic!(rt; "there is no memory"),
-    }
+    let Some(parts) = parts_of::<Z>(alloc, zone, 5) else {
+        panic!(rt; "there is no memory");
+    };
+    let ledgers = ServerLedgers::new();
+    serve_in::<R, Z, Brand>(rt, alloc, parts, ledgers);
 }
 
 // The first datagram's query waits in the gate until the other one has been answered, and the first stream's until the other one's reply is written: each worker has a

@@ -1,5 +1,5 @@
 -- What the batch makes is judged in the version that was published last.
-use Rattle.std.proofs.Common.{List, sym, ap, subst}
+use Rattle.std.proofs.Common.{List, ◌∙◌, sym, ap, subst}
 use Rattle.zone_tree.specs.Version.{Version}
 use Rattle.snapshot_cell.specs.Tokens.{ReaderState}
 use Rattle.dns_engine.specs.Held.{IsLatest}
@@ -11,10 +11,10 @@ use Rattle.desk_tests.proofs.batches.judge.Goals as goal
 
 pub returns-clause-judged_in : goal.returns-clause-judged_in
 returns-clause-judged_in g c =
-    let last = c.args.desk.now.held.last in (
+    let last = c.audit.new.self.held.last in (
       last,
-      subst (λ (l : List Version). IsLatest g.Z.FirstZone.zone l last) (sym (ap (λ (r : ReaderState Version). r.seen) c.begin-begun.ensures.met)) c.begin-begun.ensures.latest,
-      sym c.begin-begun.ensures.number,
+      subst (λ (l : List Version). IsLatest g.Z.FirstZone.zone l last) (c.begin-begun.ensures.published ∙ sym (ap (λ (r : ReaderState Version). r.seen) c.begin-begun.ensures.same))
+          c.begin-begun.ensures.latest,
       subst (λ (v : Version). AreMade makes v (versions_of c.judge_group-group.result)) c.begin-begun.ensures.last
-          (judged_made passes tells makes octets_of serial_in c.begin-begun.result.last c.args.most c.judge_group-group.ensures.judged.judged),
+          (judged_made passes tells makes octets_of serial_in c.begin-begun.result.last c.min-most.result c.judge_group-group.ensures.judged.judged),
     )
