@@ -9,17 +9,18 @@ use Rattle.snapshot_cell.proofs.SendLemmas as cell
 use Rattle.snapshot_cell.specs.declared.named.Naming as naming
 use Rattle.dns_engine.proofs.SendLemmas as engine
 use Rattle.update_desk.proofs.SendLemmas as desk
+use Rattle.update_desk.specs.declared.right.ServerName as names
 use Rattle.dns_engine.specs.declared.versions.FirstZone.{Ghosts}
 use Rattle.update_queue.proofs.queue.Queue.TheSendSync as queue
 use Rattle.zone_service.specs.contracts.handing.Hand as hand
 use Rattle.zone_service.specs.contracts.handing.Waiting as waiting
 use Rattle.zone_service.specs.contracts.server.Server as server
 
-pub server_sync : (a : NamedLft) (T N : RattleType) (g : Ghosts T.Denot) (n : naming.Ghosts N.Denot) → IsSync (server.the_row a T N n g)
-server_sync a T N g n =
-    recorded_sync (server.the_field a T N n g).row _ _ (server.the_type a T N n g).to_one
-    (struct_sync (shape (server.the_type a T N n g))
-    (search (engine.shared_send, engine.shared_sync, cell.crosses, crossing.crosses, sendable) depth 60 fits 20000, (mutex.the_sync _ (desk.desk_send a T g N n), tt)))
+pub server_sync : (a : NamedLft) (T N : RattleType) (g : Ghosts T.Denot) (n : naming.Ghosts N.Denot) (s : names.Ghosts N.Denot) → IsSync (server.the_row a T N n g s)
+server_sync a T N g n s =
+    recorded_sync (server.the_field a T N n g s).row _ _ (server.the_type a T N n g s).to_one
+    (struct_sync (shape (server.the_type a T N n g s))
+    (search (engine.shared_send, engine.shared_sync, cell.crosses, crossing.crosses, sendable) depth 60 fits 20000, (mutex.the_sync _ (desk.desk_send a T g N n s), tt)))
 
 waiting_send : IsSend waiting.the_row
 waiting_send = search (crossing.crosses, sendable) depth 60 fits 20000

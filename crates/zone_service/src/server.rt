@@ -23,9 +23,7 @@ use dns_message::Update;
 use dns_rdata::{Rcode, Serial};
 use std::alloc::Global;
 use std::sync::{Mutex, Wait};
-use update_desk::{
-    Begun, Desk, Done, Fetched, PublishRight, Serials, ServerLedgers, ServerName,
-};
+use update_desk::{Begun, Desk, Done, Fetched, PublishRight, Serials, ServerLedgers, ServerName};
 use update_group::Group;
 
 /// A cell of versions, with the engine that publishes in it behind a lock, and what is told of updates that wait for their replies. Queries take no lock.

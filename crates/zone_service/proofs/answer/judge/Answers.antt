@@ -1,5 +1,5 @@
 -- A stranger's update is judged in the version that is loaded, any other by the engine.
-use Rattle.std.proofs.Common.{◌≡◌, true, false, Some, refl, inl, inr, sym, ap, ◌∙◌, subst, rules}
+use Rattle.std.proofs.Common.{◌≡◌, true, false, Some, inl, inr, sym, ap, ◌∙◌, subst, rules}
 use Rattle.snapshot_cell.specs.Tokens.{ReaderState}
 use Rattle.zone_tree.specs.Version.{Version}
 use Rattle.dns_rdata.specs.declared.numbers.Rcode.{Rcode}

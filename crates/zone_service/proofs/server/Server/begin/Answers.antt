@@ -1,6 +1,5 @@
 -- The batch is begun in the last version that the reader has met.
 use Rattle.std.proofs.Common.{◌≡◌, [], ap, ◌∙◌, sym, subst, append-nil}
-use Rattle.counted_handles.specs.Ruled.{Begins}
 use Rattle.dns_engine.specs.Held.{Held, IsLatest}
 use Rattle.dns_engine.specs.Replayed.{IsReplay}
 use Rattle.zone_service.proofs.server.Server.begin.Goals as goal

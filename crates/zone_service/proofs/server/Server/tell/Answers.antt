@@ -11,7 +11,7 @@ tell-requires g c =
     let desk = c.deref_mut-2.ensures.value ∙ c.audit.ensures.same in
     let seen = ap (λ (r : ReaderState Version). r.seen) (sym (c.audit.ensures.all c.requires.counted) ∙ c.audit.ensures.met) in
     let here = seen ∙ ap (λ (s : EngineState). s.held.published) (sym desk) in
-    subst (λ (l : List Version). IsDone g.Z.FirstZone.zone l c.args.done) here c.requires.done
+    (lit< tt, subst (λ (l : List Version). IsDone g.Z.FirstZone.zone l c.args.done) here c.requires.done)
 
 pub returns : goal.returns
 returns g c = record { same = c.audit.ensures.all c.requires.counted; right = c.audit.ensures.right }
