@@ -7,6 +7,7 @@ use denote.Enum.Declared as enum
 use Rattle.std.proofs.Crossing as crossing
 use Rattle.snapshot_cell.specs.declared.named.Naming as naming
 use Rattle.dns_engine.specs.declared.versions.FirstZone.{Ghosts}
+use Rattle.update_desk.specs.declared.right.ServerName as server_names
 use Rattle.update_queue.proofs.queue.Queue.TheSendSync as queue
 use Rattle.zone_service.specs.contracts.handing.Waiting as waiting
 use Rattle.zone_replies.proofs.SendLemmas.{replies_send}
@@ -26,21 +27,21 @@ updates_sync =
     recorded_sync (updates.the_field).row _ _ (updates.the_type).to_one
     (struct_sync (shape (updates.the_type)) (search (queue.the_field_sync, queue.the_sync, waiting_send, crossing.crosses, sendable) depth 60 fits 20000, (search (crossing.crosses, sendable) depth 60 fits 20000, (search (told_sync, crossing.crosses, sendable) depth 60 fits 20000, tt))))
 
-datagrams_seat_send : (a b : NamedLft) (T N L : RattleType) (g : Ghosts T.Denot) (n : naming.Ghosts N.Denot) → IsSync L → IsSend (datagrams_seat.the_field a b T N L n g).row
-datagrams_seat_send a b T N L g n hears =
-    struct_send (shape (datagrams_seat.the_type a b T N L n g)) (asked_send a b T N L g n hears, (search (crossing.crosses, sendable) depth 60 fits 20000, tt))
+datagrams_seat_send : (a b : NamedLft) (T N L : RattleType) (g : Ghosts T.Denot) (n : naming.Ghosts N.Denot) (s : server_names.Ghosts N.Denot) → IsSync L → IsSend (datagrams_seat.the_field a b T N L n g s).row
+datagrams_seat_send a b T N L g n s hears =
+    struct_send (shape (datagrams_seat.the_type a b T N L n g s)) (asked_send a b T N L g n s hears, (search (crossing.crosses, sendable) depth 60 fits 20000, tt))
 
-connections_seat_send : (a b : NamedLft) (T N L C : RattleType) (g : Ghosts T.Denot) (n : naming.Ghosts N.Denot) → IsSync L → IsSync C → IsSend (connections_seat.the_field a b T N L C g n).row
-connections_seat_send a b T N L C g n hears ticks = struct_send (shape (connections_seat.the_type a b T N L C g n)) (replies_send a b T N L g n hears, (tcp_send a C ticks, tt))
+connections_seat_send : (a b : NamedLft) (T N L C : RattleType) (g : Ghosts T.Denot) (n : naming.Ghosts N.Denot) (s : server_names.Ghosts N.Denot) → IsSync L → IsSync C → IsSend (connections_seat.the_field a b T N L C g n s).row
+connections_seat_send a b T N L C g n s hears ticks = struct_send (shape (connections_seat.the_type a b T N L C g n s)) (replies_send a b T N L g n s hears, (tcp_send a C ticks, tt))
 
-secondaries_seat_send : (a b : NamedLft) (T N L C : RattleType) (g : Ghosts T.Denot) (n : naming.Ghosts N.Denot) → IsSync L → IsSync C → IsSend (secondaries_seat.the_field a b T N L C n g).row
-secondaries_seat_send a b T N L C g n hears ticks = struct_send (shape (secondaries_seat.the_type a b T N L C n g)) (asked_send a b T N L g n hears, (telling_send a C ticks, tt))
+secondaries_seat_send : (a b : NamedLft) (T N L C : RattleType) (g : Ghosts T.Denot) (n : naming.Ghosts N.Denot) (s : server_names.Ghosts N.Denot) → IsSync L → IsSync C → IsSend (secondaries_seat.the_field a b T N L C n g s).row
+secondaries_seat_send a b T N L C g n s hears ticks = struct_send (shape (secondaries_seat.the_type a b T N L C n g s)) (asked_send a b T N L g n s hears, (telling_send a C ticks, tt))
 
-seat_send : (a b : NamedLft) (T N L C : RattleType) (g : Ghosts T.Denot) (n : naming.Ghosts N.Denot) → IsSync L → IsSync C → IsSend (seat.the_field a b T N L C n g).row
-seat_send a b T N L C g n hears ticks =
-    enum_send (enum.shape (seat.the_type a b T N L C n g)) ((datagrams_seat_send a b T N L g n hears, tt), ((connections_seat_send a b T N L C g n hears ticks, tt), ((secondaries_seat_send a b T N L C g n hears ticks, tt), tt)))
+seat_send : (a b : NamedLft) (T N L C : RattleType) (g : Ghosts T.Denot) (n : naming.Ghosts N.Denot) (s : server_names.Ghosts N.Denot) → IsSync L → IsSync C → IsSend (seat.the_field a b T N L C n g s).row
+seat_send a b T N L C g n s hears ticks =
+    enum_send (enum.shape (seat.the_type a b T N L C n g s)) ((datagrams_seat_send a b T N L g n s hears, tt), ((connections_seat_send a b T N L C g n s hears ticks, tt), ((secondaries_seat_send a b T N L C g n s hears ticks, tt), tt)))
 
-pub thread_send : (a b : NamedLft) (T N L C : RattleType) (g : Ghosts T.Denot) (n : naming.Ghosts N.Denot) → IsSync L → IsSync C → IsSend (thread.the_row a b T N L C n g)
-thread_send a b T N L C g n hears ticks =
-    recorded_send (thread.the_field a b T N L C n g).row _ _ (thread.the_type a b T N L C n g).to_one
-    (struct_send (shape (thread.the_type a b T N L C n g)) (seat_send a b T N L C g n hears ticks, (search (crossing.crosses, sendable) depth 60 fits 20000, (search sendable depth 60 fits 20000, (search (updates_sync, crossing.crosses, sendable) depth 60 fits 20000, tt)))))
+pub thread_send : (a b : NamedLft) (T N L C : RattleType) (g : Ghosts T.Denot) (n : naming.Ghosts N.Denot) (s : server_names.Ghosts N.Denot) → IsSync L → IsSync C → IsSend (thread.the_row a b T N L C n g s)
+thread_send a b T N L C g n s hears ticks =
+    recorded_send (thread.the_field a b T N L C n g s).row _ _ (thread.the_type a b T N L C n g s).to_one
+    (struct_send (shape (thread.the_type a b T N L C n g s)) (seat_send a b T N L C g n s hears ticks, (search (crossing.crosses, sendable) depth 60 fits 20000, (search sendable depth 60 fits 20000, (search (updates_sync, crossing.crosses, sendable) depth 60 fits 20000, tt)))))

@@ -25,7 +25,7 @@ raw_send = search (array_vec.the_send, crossing.crosses, sendable) depth 60 fits
 seats_send : IsSend (seats.the_field).row
 seats_send = search (raw_send, array_vec.the_send, crossing.crosses, sendable) depth 60 fits 20000
 
-right_send : (N : RattleType) (n : naming.Ghosts N.Denot) (s : names.Ghosts N.Denot) → IsSend (right.the_row N s n)
+pub right_send : (N : RattleType) (n : naming.Ghosts N.Denot) (s : names.Ghosts N.Denot) → IsSend (right.the_row N s n)
 right_send N n s = search (share.the_send, crossing.crosses, sendable) depth 60 fits 20000
 
 module _ (a : NamedLft) (T : RattleType) (g : Ghosts T.Denot) (N : RattleType) (n : naming.Ghosts N.Denot) (s : names.Ghosts N.Denot) where

@@ -18,6 +18,7 @@ use Rattle.ready_sockets.specs.contracts.peer.TcpPeer as peer
 use Rattle.ready_sockets.specs.contracts.place.TcpPlace as place
 use Rattle.ready_sockets.specs.contracts.watch.Watch as watch
 use Rattle.wire_names.specs.contracts.write.NameWriter as names
+use Rattle.update_desk.specs.declared.right.ServerName as server_names
 use Rattle.zone_service.proofs.SendLemmas.{server_sync, hand_send}
 use Rattle.zone_service.specs.contracts.asked.Asked as asked
 use Rattle.zone_replies.specs.contracts.transfer.Transfer as transfer
@@ -66,12 +67,12 @@ tcp_send a C ticks = connections_send a peer.the_row (watch.the_row a C) place.t
 pub telling_send : (a : NamedLft) (C : RattleType) → IsSync C → IsSend (telling.the_field a C).row
 telling_send a C ticks = search (global.the_field_send, crossing.crosses, sendable) depth 60 fits 20000
 
-pub asked_send : (a b : NamedLft) (T N L : RattleType) (g : Ghosts T.Denot) (n : naming.Ghosts N.Denot) → IsSync L → IsSend (asked.the_field a b T N L n g).row
-asked_send a b T N L g n hears =
-    struct_send (shape (asked.the_type a b T N L n g))
-    (shr_send _ _ _ (server_sync b T N g n), (search (cell.crosses, crossing.crosses, sendable) depth 60 fits 20000, (search (crossing.crosses, sendable) depth 60 fits 20000, (search (global.the_field_send, sendable) depth 60 fits 20000, (search (crossing.crosses, sendable) depth 60 fits 20000, (search (crossing.crosses, sendable) depth 60 fits 20000, (search (query_send, sendable) depth 60 fits 20000, (search (names_send, sendable) depth 60 fits 20000, (search (hand_send, option.the_field_send, option.the_send, crossing.crosses, sendable) depth 60 fits 20000, tt)))))))))
+pub asked_send : (a b : NamedLft) (T N L : RattleType) (g : Ghosts T.Denot) (n : naming.Ghosts N.Denot) (s : server_names.Ghosts N.Denot) → IsSync L → IsSend (asked.the_field a b T N L n g s).row
+asked_send a b T N L g n s hears =
+    struct_send (shape (asked.the_type a b T N L n g s))
+    (shr_send _ _ _ (server_sync b T N g n s), (search (cell.crosses, crossing.crosses, sendable) depth 60 fits 20000, (search (crossing.crosses, sendable) depth 60 fits 20000, (search (global.the_field_send, sendable) depth 60 fits 20000, (search (crossing.crosses, sendable) depth 60 fits 20000, (search (crossing.crosses, sendable) depth 60 fits 20000, (search (query_send, sendable) depth 60 fits 20000, (search (names_send, sendable) depth 60 fits 20000, (search (hand_send, option.the_field_send, option.the_send, crossing.crosses, sendable) depth 60 fits 20000, tt)))))))))
 
-pub worker_send : (a b : NamedLft) (T N J G L : RattleType) (g : Ghosts T.Denot) (n : naming.Ghosts N.Denot) → IsSend J → IsSync G → IsSync L → IsSend (worker.the_row a b T N J G L n g)
-worker_send a b T N J G L g n sends shares hears =
-    recorded_send (worker.the_field a b T N J G L n g).row _ _ (worker.the_type a b T N J G L n g).to_one
-    (struct_send (shape (worker.the_type a b T N J G L n g)) (asked_send a b T N L g n hears, (sends, (search (crossing.crosses, sendable) depth 60 fits 20000, (search (crossing.crosses, sendable) depth 60 fits 20000, tt)))))
+pub worker_send : (a b : NamedLft) (T N J G L : RattleType) (g : Ghosts T.Denot) (n : naming.Ghosts N.Denot) (s : server_names.Ghosts N.Denot) → IsSend J → IsSync G → IsSync L → IsSend (worker.the_row a b T N J G L n g s)
+worker_send a b T N J G L g n s sends shares hears =
+    recorded_send (worker.the_field a b T N J G L n g s).row _ _ (worker.the_type a b T N J G L n g s).to_one
+    (struct_send (shape (worker.the_type a b T N J G L n g s)) (asked_send a b T N L g n s hears, (sends, (search (crossing.crosses, sendable) depth 60 fits 20000, (search (crossing.crosses, sendable) depth 60 fits 20000, tt)))))
