@@ -5,13 +5,19 @@ use Rattle.std.proofs.lemmas.Bool.{cases_lt}
 use Rattle.std.proofs.lemmas.List.{length-take, drop_all}
 use Rattle.journal_store.specs.declared.log.LogFault.{LogFault}
 use Rattle.update_group.specs.declared.group.Group.{Group}
-use Rattle.update_group.specs.Engine.{IsLast}
+use Rattle.update_group.specs.Engine.{IsLast, AreMade}
 use Rattle.update_group.specs.declared.verdict.Verdict.{Verdict}
 use Rattle.update_group.specs.Verdict.{failed}
 use Rattle.update_group.specs.Group.{versions_of, IsBatch, IsGivenUp, IsGroup, Judged}
 use Rattle.update_group.proofs.GroupLemmas.{judged_long}
 use Rattle.update_job.specs.Done.{first_verdict, told_of, told_behind}
 use Rattle.update_job.specs.Turned.{IsTold}
+
+-- whether a group's batch got to the store or not, what it publishes is made from the same version
+pub made_still : {V A X : Type 0} (makes : V → A → V → Type 0) (fault : Option X) (first : V) (group done : Group V) → MatchOption fault (done ≡ group) (λ _. IsGivenUp group done)
+    → AreMade makes first (versions_of group) → AreMade makes first (versions_of done)
+made_still makes None first group done same made = subst (λ g. AreMade makes first (versions_of g)) (sym same) made
+made_still makes (Some fault) first group done given_up made = subst (λ vs. AreMade makes first vs) (sym given_up.none) tt
 
 -- a group that isn't given up has as few versions as it had, and one that is has none
 pub kept_few : {V X : Type 0} (fault : Option X) (group done : Group V) (room : ℕ) → MatchOption fault (done ≡ group) (λ _. IsGivenUp group done) → length (versions_of group) ≤ room

@@ -23,7 +23,8 @@ use update_group::{Group, Judgement, Judging, Verdict};
 use update_job::Publishing;
 use wire_names::NameWriter;
 use zone_service::{
-    Event, PublishRight, Server, ServerName, ServiceLog, Told, Waiting, Way, tell_update, write_done,
+    Event, PublishRight, Server, ServerName, ServiceLog, Told, Waiting, Way, tell_update,
+    write_done,
 };
 use zone_tree::Version;
 
@@ -79,7 +80,8 @@ pub struct Teller<'a, 's, Z: FirstZone, N: ServerName, L, P: Replying + Drop> {
     first: Option<SharedVersion>,
 }
 
-impl<'a, 's, Z: FirstZone, N: ServerName, L, P: Replying + Drop> Model for Teller<'a, 's, Z, N, L, P> {
+impl<'a, 's, Z: FirstZone, N: ServerName, L, P: Replying + Drop> Model
+    for Teller<'a, 's, Z, N, L, P> {
     ghost use Rattle.std.specs.Prelude.{◌≡◌, ◌+◌, length};
     ghost use Rattle.update_teller.specs.Met.{TellerState, HasMetLast};
 

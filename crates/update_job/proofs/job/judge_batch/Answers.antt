@@ -1,9 +1,9 @@
 -- A batch is judged in the version published last, brought to the store, and published.
 use Rattle.std.proofs.Common.{◌≤◌, ◌∙◌, refl, ◌++◌, length, arith}
 use Rattle.update_group.specs.Group.{versions_of}
-use Rattle.update_group.proofs.GroupLemmas.{judged_made, made_still}
+use Rattle.update_group.proofs.GroupLemmas.{judged_made}
 use Rattle.update_job.proofs.DoneLemmas.{published_done, done_same}
-use Rattle.update_job.proofs.ToldLemmas.{kept_few, told_published, room_left}
+use Rattle.update_job.proofs.ToldLemmas.{made_still, kept_few, told_published, room_left}
 use Rattle.update_job.proofs.job.judge_batch.Goals as goal
 
 pub publish-requires-clause-made : goal.publish-requires-clause-made
