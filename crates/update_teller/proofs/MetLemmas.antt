@@ -1,5 +1,5 @@
 -- What is known to be published once a reader has met more.
-use Rattle.std.proofs.Common.{◌≡◌, ◌≢◌, ◌⊎◌, ◌<◌, ℕ, ◌+◌, List, [], ◌∷◌, length, Option, Result, Err, IfErr, inl, inr, sym, ap, ◌∙◌, subst, arith}
+use Rattle.std.proofs.Common.{◌≡◌, ℕ, ◌+◌, List, [], ◌∷◌, ◌++◌, length, Option, sym, ap, ◌∙◌, subst, append_assoc}
 use Rattle.std.proofs.lemmas.List.{length_push}
 use Rattle.dns_rdata.specs.Record.{Record}
 use Rattle.zone_tree.specs.Version.{Version}
@@ -11,10 +11,11 @@ use Rattle.update_group.proofs.GroupLemmas.{last_once}
 use Rattle.lasting_engine.specs.Asked.{makes}
 use Rattle.update_desk.specs.Done.{IsJudgedIn}
 use Rattle.update_desk.specs.declared.desk.Begun.{Begun}
-use Rattle.zone_service.specs.Waiting.{IsBegun}
+use Rattle.zone_service.specs.Waiting.{IsBegun, MeetsAt}
+use Rattle.update_job.specs.Done.{BeginsWith}
 use Rattle.update_teller.specs.Waits.{makes_waiting}
 use Rattle.update_teller.specs.Brought.{Brought}
-use Rattle.update_teller.specs.Met.{HasBegun, HasMetLast}
+use Rattle.update_teller.specs.Met.{HasBegun, HasMetLast, TellerState}
 
 latest_long : (first : List Record) (published : List Version) (version : Version) → IsLatest first published version → length published ≡ version.number + 1
 latest_long first published version latest = ap length latest.ends ∙ length_push latest.before version ∙ ap (λ n. n + 1) latest.number
@@ -47,3 +48,19 @@ pub judged_waiting : (first : List Record) (seen : List Version) (last begun : �
 judged_waiting first seen last begun versions version had is made =
     let same : version ≡ had.version = last_once seen version had.version is (had.latest.before, had.latest.ends) in
     (had.version, had.latest, subst (λ (v : Version). AreMade makes v versions) same (made_of version versions made))
+
+-- a batch that is begun once more is known
+pub begun_from : (first : List Record) (known middle : List Version) (after : TellerState) (last : Version) → BeginsWith middle known → HasBegun first middle after last → HasBegun first known after last
+begun_from first known middle after last before is = record {
+  latest = is.latest;
+  replayed = is.replayed;
+  begun = is.begun;
+  engine = is.engine;
+  published = is.published;
+  room = is.room;
+  grows = (before.0 ++ is.grows.0, is.grows.1 ∙ (ap (λ (l : List Version). l ++ is.grows.0) before.1 ∙ append_assoc known before.0 is.grows.0));
+}
+
+-- a reader that has met what is published knows what it had known
+pub met_more : (first : List Record) (before after : ReaderState Version) (number : ℕ) → MeetsAt first before after number → BeginsWith after.seen before.seen
+met_more first before after number meets = (meets.1.begun.0, ap (λ (r : ReaderState Version). r.seen) meets.1.seen ∙ sym meets.1.begun.1)

@@ -40,6 +40,14 @@ fn passed_in(first: &SharedVersion, versions: &[SharedVersion]) -> Option<Large>
     None
 }
 
+/// The same, where the first is known.
+fn large_in(first: &Option<SharedVersion>, versions: &[SharedVersion]) -> Option<Large> {
+    match first {
+        Some(first) => passed_in(first, versions),
+        None => None,
+    }
+}
+
 /// The version before the one at a place, which is the first one where none of these is before it.
 fn before_at<'a>(
     first: &'a SharedVersion,
@@ -229,21 +237,20 @@ impl<'a, 's, Z: FirstZone, N: ServerName, L: ServiceLog, P: Replying + Drop> Pub
         ensures room { self.new.room + length (versions_of group) ≡ self.old.room }
         ensures brought { self.new.brought ≡ self.old.brought }
     {
-        let large = match &self.first {
-            Some(first) => passed_in(first, group.versions()),
-            None => None,
-        };
-        self.first = None;
         let Teller {
             server,
             reader,
             right,
+            log,
             last,
+            first,
             ..
         } = self;
+        let large = large_in(first, group.versions());
+        *first = None;
         *last = server.publish(rt, reader, right, group);
         if let Some(large) = large {
-            self.log.tell(rt, Event::Large(large));
+            log.tell(rt, Event::Large(large));
         }
     }
 

@@ -1,5 +1,5 @@
 -- A batch that is begun in the last version that is published is published after it.
-use Rattle.std.proofs.Common.{sym, subst}
+use Rattle.std.proofs.Common.{rules, ◌≤◌, length, sym, subst}
 use Rattle.update_group.specs.Engine.{IsLast}
 use Rattle.update_group.specs.Group.{versions_of}
 use Rattle.update_teller.specs.Met.{TellerState}
@@ -9,10 +9,14 @@ use Rattle.update_teller.proofs.teller.TellerPublishing.publish.Goals as goal
 pub publish-requires : goal.publish-requires
 publish-requires g c =
     let t = c.self.inside in
-    let made = c.requires.made in
-    record {
-      counted = c.self.invariant.1;
-      judged = judged_waiting g.Z.FirstZone.zone t.reader.seen t.last t.begun (versions_of c.args.group) made.0 c.self.invariant.0
-          (subst (λ (s : TellerState). IsLast s.seen made.0) (sym c.self.view_is) made.1) made.2;
-      room = search;
-    }
+    let made = c.requires.made in (
+      search rules,
+      (
+        c.self.invariant.1,
+        (
+          judged_waiting g.Z.FirstZone.zone t.reader.seen t.last t.begun (versions_of c.args.group) made.0 c.self.invariant.0
+              (subst (λ (s : TellerState). IsLast s.seen made.0) (sym c.self.view_is) made.1) made.2,
+          subst (λ (s : TellerState). length (versions_of c.args.group) ≤ s.room) (sym c.self.view_is) c.requires.room,
+        ),
+      ),
+    )

@@ -1,5 +1,5 @@
 -- What is told of an update is so by the versions that are known to be published.
-use Rattle.std.proofs.Common.{◌≡◌, ◌≤◌, ◌∷◌, [], Option, None, refl, ap, ◌∙◌, sym, subst, append-nil, lit<, arith}
+use Rattle.std.proofs.Common.{◌≡◌, ◌≤◌, ◌∷◌, [], Option, None, refl, ap, ◌∙◌, sym, subst, lit<, arith}
 use Rattle.std.specs.Prelude.{take}
 use Rattle.dns_message.specs.Octets.{fit}
 use Rattle.serve_core.specs.declared.transport.Transport.{Transport}
@@ -17,31 +17,31 @@ use Rattle.update_teller.specs.Waits.{passes_waiting, tells_waiting, makes_waiti
 use Rattle.update_teller.proofs.DoneLemmas.{waiting_done, reply_told}
 use Rattle.update_teller.proofs.teller.TellerPublishing.tell.Goals as goal
 
-pub tell-self-inside-requires : goal.tell-self-inside-requires
-tell-self-inside-requires g c =
+pub tell-requires : goal.tell-requires
+tell-requires g c =
     let t = c.self.inside in
-    let had = c.self.invariant in
+    let had = c.self.invariant.0 in
     let least : t.begun ≤ had.version.number = omega (arith, had.begun_before, had.number) in
     let is = subst (λ (s : TellerState). IsDone passes_waiting tells_waiting makes_waiting serial_in s.seen s.begun c.args.waiting c.args.verdict) (sym c.self.view_is) c.requires in (
       lit< tt,
-      subst (λ (o : Option Serials). IsDoneBy g.Z.FirstZone.zone t.reader.seen c.args.waiting.asked t.begun c.code_of.result o) (sym c.serials_of.ensures)
-          (waiting_done g.Z.FirstZone.zone t.reader.seen had.version had.latest t.begun least c.args.waiting c.args.verdict c.code_of.result is c.code_of.ensures.named).1,
+      (
+        c.self.invariant.1,
+        subst (λ (o : Option Serials). IsDoneBy g.Z.FirstZone.zone t.reader.seen c.args.waiting.asked t.begun c.code_of.result o) (sym c.serials_of.ensures)
+            (waiting_done g.Z.FirstZone.zone t.reader.seen had.version had.latest t.begun least c.args.waiting c.args.verdict c.code_of.result is c.code_of.ensures.named).1,
+      ),
     )
 
 pub returns-in-Connection-clause-brought : goal.returns-in-Connection-clause-brought
 returns-in-Connection-clause-brought g c = (
   key_to c.in-Connection.worker c.in-Connection.key,
   subst (λ (w : Way). IsBroughtBy w g.Z.FirstZone.zone c.args.self.now.seen c.args.self.now.begun c.args.waiting.asked c.args.verdict.code (key_to c.in-Connection.worker c.in-Connection.key)) (sym c.in-Connection.is) refl,
-  c.tell.ensures ∙ ap (λ (s : TellerState). told_behind s.brought (key_to c.in-Connection.worker c.in-Connection.key ∷ [])) c.self.view_is,
+  c.tell-in-Connection.ensures ∙ ap (λ (s : TellerState). told_behind s.brought (key_to c.in-Connection.worker c.in-Connection.key ∷ [])) c.self.view_is,
 )
-
-pub returns-in-Datagram-clause-grows : goal.returns-in-Datagram-clause-grows
-returns-in-Datagram-clause-grows g c = ([], ap (λ (s : TellerState). s.seen) c.self.view_is ∙ sym (append-nil c.args.self.now.seen))
 
 pub returns-in-Datagram-clause-brought : goal.returns-in-Datagram-clause-brought
 returns-in-Datagram-clause-brought g c =
     let t = c.self.inside in
-    let had = c.self.invariant in
+    let had = c.self.invariant.0 in
     let least : t.begun ≤ had.version.number = omega (arith, had.begun_before, had.number) in
     let asked = c.args.waiting.asked in
     let code = c.code_of.result in
