@@ -168,9 +168,7 @@ pub fn serve_zone<
         Err(NewFault::NoMemory) => return Err(ServeFault::NoMemory),
     };
     let ledgers = ServerLedgers::new();
-    serve_parts::<R, Z, Brand, L, S, F>(
-        rt, alloc, parts, later, ledgers, jobs, plan, judging, log,
-    )
+    serve_parts::<R, Z, Brand, L, S, F>(rt, alloc, parts, later, ledgers, jobs, plan, judging, log)
 }
 
 /// Serves the versions of a cell in which the first one alone is published, and these are to be published behind it, by jobs, with a reader for

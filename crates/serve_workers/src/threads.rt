@@ -59,7 +59,14 @@ struct ConnectionsSeat<'g, 's, Z: FirstZone, N: ServerName, L, C> {
     job: TcpJob<'g, C>,
 }
 
-impl<'g, 's, Z: FirstZone, N: ServerName, L: ServiceLog, C: Clock> ConnectionsSeat<'g, 's, Z, N, L, C> {
+impl<'g, 's, Z: FirstZone, N: ServerName, L: ServiceLog, C: Clock> ConnectionsSeat<
+    'g,
+    's,
+    Z,
+    N,
+    L,
+    C,
+> {
     /// Does its job, and gives how that has ended.
     fn serve<R: Wait>(&mut self, rt: &R, log: &L) -> JobEnd
         ensures number { self.new.job.number ≡ self.old.job.number }
@@ -77,7 +84,14 @@ struct SecondariesSeat<'g, 's, Z: FirstZone, N: ServerName, L, C> {
     job: NotifyJob<'g, C>,
 }
 
-impl<'g, 's, Z: FirstZone, N: ServerName, L: ServiceLog, C: Clock> SecondariesSeat<'g, 's, Z, N, L, C> {
+impl<'g, 's, Z: FirstZone, N: ServerName, L: ServiceLog, C: Clock> SecondariesSeat<
+    'g,
+    's,
+    Z,
+    N,
+    L,
+    C,
+> {
     /// Does its job, and gives how that has ended.
     fn serve<R: Wait>(&mut self, rt: &R, log: &L) -> JobEnd
         ensures number { self.new.job.number ≡ self.old.job.number }
