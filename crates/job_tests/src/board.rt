@@ -1,12 +1,12 @@
 //! A board on which versions are published, and which keeps what is told. A version is a number, and an update the octet that is added to it.
-ghost use Rattle.std.specs.Prelude.{◌≡◌, ◌≤◌, ◌++◌, ◌∷◌, [], ◌-◌, ◌%◌, vec_len, vec_capacity, length, ◌<◌, ◌^◌};
+ghost use Rattle.std.specs.Prelude.{◌≡◌, ◌+◌, ◌≤◌, ◌++◌, ◌∷◌, [], ◌-◌, ◌%◌, vec_len, vec_capacity, length, ◌<◌, ◌^◌};
 
 use journal_store::LogFault;
 use std::alloc::{AllocError, Global};
 use std::mem;
 use std::sync::Wait;
 use told_disks::DiskFault;
-use update_group::{Engine, Group, Judgement, Judging, Verdict, publish_group};
+use update_group::{Group, Judgement, Judging, Verdict};
 use update_job::{Faults, Publishing};
 
 /// How many versions the board has room for.
@@ -70,6 +70,30 @@ impl Board {
     pub fn published(&self) -> usize {
         self.before.len().saturating_add(1)
     }
+
+    /// Publishes one more version.
+    fn put(&mut self, version: Sum)
+        requires { 0 < self.old.room }
+        ensures published { self.new.before.items ++ self.new.last ∷ [] ≡ (self.old.before.items ++ self.old.last ∷ []) ++ version ∷ [] }
+        ensures begun { self.new.begun ≡ self.old.begun }
+        ensures room { self.new.room + 1 ≡ self.old.room }
+    {
+        self.room -= 1;
+        let before = mem::replace(&mut self.last, version);
+        self.before.push_reserved(before);
+    }
+
+    /// Publishes versions in their order.
+    fn put_all(&mut self, versions: Vec<Sum>)
+        requires { length versions.items ≤ self.old.room }
+        ensures published { self.new.before.items ++ self.new.last ∷ [] ≡ (self.old.before.items ++ self.old.last ∷ []) ++ versions.items }
+        ensures begun { self.new.begun ≡ self.old.begun }
+        ensures room { self.new.room + length versions.items ≡ self.old.room }
+    {
+        for version in versions {
+            self.put(version);
+        }
+    }
 }
 
 impl Judging for Board {
@@ -106,26 +130,6 @@ impl Judging for Board {
     }
 }
 
-impl Engine for Board {
-    ghost published = { λ board. board.before.items ++ board.last ∷ [] };
-
-    ghost free = { λ board. vec_capacity board.before - vec_len board.before };
-
-    fn last(&self) -> &Sum {
-        &self.last
-    }
-
-    fn count(&mut self) -> usize {
-        self.before.capacity() - self.before.len()
-    }
-
-    fn publish(&mut self, version: Sum) {
-        let before = mem::replace(&mut self.last, version);
-        self.before.push_reserved(before);
-        self.room = 0;
-    }
-}
-
 impl Publishing for Board {
     ghost use Rattle.std.specs.Prelude.{◌≡◌, ◌+◌, ◌≤◌, List, Option, ◌++◌, ◌∷◌, [], None, length};
     ghost use Rattle.update_group.specs.Engine.{IsLast, AreMade};
@@ -156,10 +160,7 @@ impl Publishing for Board {
         ensures room { self.new.room + length (versions_of group) ≡ self.old.room }
         ensures told { let told : Option (List (Added × Verdict)) = None in told ≡ told }
     {
-        let (begun, left) = (self.begun, self.room - group.versions().len());
-        publish_group(self, group);
-        self.begun = begun;
-        self.room = left;
+        self.put_all(group.into_versions());
     }
 
     fn tell<R: Wait>(&mut self, _rt: &R, asked: Added, verdict: Verdict) {
