@@ -31,8 +31,8 @@ datagrams_seat_send : (a b : NamedLft) (T N L : RattleType) (g : Ghosts T.Denot)
 datagrams_seat_send a b T N L g n s hears =
     struct_send (shape (datagrams_seat.the_type a b T N L n g s)) (asked_send a b T N L g n s hears, (search (crossing.crosses, sendable) depth 60 fits 20000, tt))
 
-connections_seat_send : (a b : NamedLft) (T N L C : RattleType) (g : Ghosts T.Denot) (n : naming.Ghosts N.Denot) (s : server_names.Ghosts N.Denot) → IsSync L → IsSync C → IsSend (connections_seat.the_field a b T N L C g n s).row
-connections_seat_send a b T N L C g n s hears ticks = struct_send (shape (connections_seat.the_type a b T N L C g n s)) (replies_send a b T N L g n s hears, (tcp_send a C ticks, tt))
+connections_seat_send : (a b : NamedLft) (T N L C : RattleType) (g : Ghosts T.Denot) (n : naming.Ghosts N.Denot) (s : server_names.Ghosts N.Denot) → IsSync L → IsSync C → IsSend (connections_seat.the_field a b T N L C g s n).row
+connections_seat_send a b T N L C g n s hears ticks = struct_send (shape (connections_seat.the_type a b T N L C g s n)) (replies_send a b T N L g n s hears, (tcp_send a C ticks, tt))
 
 secondaries_seat_send : (a b : NamedLft) (T N L C : RattleType) (g : Ghosts T.Denot) (n : naming.Ghosts N.Denot) (s : server_names.Ghosts N.Denot) → IsSync L → IsSync C → IsSend (secondaries_seat.the_field a b T N L C n g s).row
 secondaries_seat_send a b T N L C g n s hears ticks = struct_send (shape (secondaries_seat.the_type a b T N L C n g s)) (asked_send a b T N L g n s hears, (telling_send a C ticks, tt))

@@ -191,7 +191,8 @@ fn serve_parts<
     judging: Judging<'_, S, F>,
     log: &L,
 ) -> Result<(), ServeFault>
-    requires named { (parts.cell ≡ N.cell) × AreNamed N.published N.reserved ledgers }
+    requires named { parts.cell ≡ N.cell }
+    requires ledgers { AreNamed N.published N.reserved ledgers }
     requires publisher { (parts.publisher.cell ≡ parts.cell) × (parts.publisher.number ≡ 0) }
     requires notes { parts.publisher.noted ≡ 0 }
     requires readers { All (λ r. (r.cell ≡ parts.cell) × (0 < r.left)) parts.readers.items }
