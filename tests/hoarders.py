@@ -211,7 +211,8 @@ try:
         print(f"{'ok    ' if good else 'FAILED'} {what}", flush=True)
     for what, is_right, options in (
         ("a transfer that is read at a KiB a second is ended", lambda ended: ended is not None, ()),
-        ("with --transfer-rate 0 it goes on", lambda ended: ended is None, ("--transfer-rate", "0")),
+        # (its end may fit into the kernel's buffers, and the connection then waits for the next request)
+        ("with --transfer-rate 0 it goes on", lambda ended: ended is None, ("--transfer-rate", "0", "--idle", "1h")),
     ):
         ended, is_whole = reads_slowly(zone, 60, "--reply", "1h", *options)
         good = is_right(ended) and is_whole
