@@ -178,7 +178,7 @@ def try_signed():
 
 
 def mixed():
-    """Sixty updates, of which each third is refused, and each sixth changes nothing; and what each gets by itself, behind those before it: its code, and how many serials on."""
+    """Sixty updates, of which each third is refused, and each sixth changes nothing; and what each gets by itself, after those before it: its code, and how many serials on."""
     updates, right = [], []
     for number in range(1, 61):
         if number % 3 == 0:

@@ -1,5 +1,5 @@
 #!/usr/bin/env python3
-"""Puts octets of many kinds behind the last batch of a journal, up to 64 MB of them, and asks that `dnsd zone` and a start of `dnsd serve --store` tell a torn end from
+"""Puts octets of many kinds after the last batch of a journal, up to 64 MB of them, and asks that `dnsd zone` and a start of `dnsd serve --store` tell a torn end from
 damage as docs/FORMATS.md says, and that each takes a time that grows with the octets alone, whatever they are: a second of the processor for 64 MB, or, where a machine
 is slow or loaded, three times what a start takes that digests each octet once. What is right is told by a reading of the octets of its own, with the sums of Python's
 hashlib.
@@ -41,7 +41,7 @@ def is_frame(salt, rest, at, size):
 
 
 def told_of(salt, number, rest):
-    """What is to be told of octets behind the last whole frame, where the next one has this number: blank, torn, or the place of damage in them."""
+    """What is to be told of octets after the last whole frame, where the next one has this number: blank, torn, or the place of damage in them."""
     if not rest.strip(b"\0"):
         return "blank"
     mark, at = salt[:MARK], -1
@@ -57,7 +57,7 @@ def told_of(salt, number, rest):
 
 
 def spaced(salt, many, space, number_of, length_of):
-    """A mark each so many octets, with a length and a number behind it, and zeros up to the next mark."""
+    """A mark each so many octets, with a length and a number after it, and zeros up to the next mark."""
     out = bytearray(many)
     for at in range(0, many - space + 1, space):
         struct.pack_into(">8sIQ", out, at, salt[:MARK], length_of(at), number_of(at))
@@ -74,7 +74,7 @@ def one_frame(salt, number, many):
 
 
 def ends(salt, number, first, many):
-    """Each kind of octets behind the last frame, where the next one has this number; `first` is the journal's own first frame."""
+    """Each kind of octets after the last frame, where the next one has this number; `first` is the journal's own first frame."""
     other = hashlib.sha256(b"another journal").digest()
     chance = random.Random(1)
     wide = 1_048_576
@@ -95,7 +95,7 @@ def ends(salt, number, first, many):
     yield "later frames of no body and another sum", spaced(salt, many, FRAME, lambda at: number + 1 + at, lambda at: 0)
     yield "later frames of 1,024 octets and another sum", spaced(salt, many, 1_024, lambda at: number + 1 + at, lambda at: 1_024 - FRAME)
     yield "later frames of a megabyte and another sum", spaced(salt, many, wide, lambda at: number + 1 + at, lambda at: wide - FRAME)
-    # the next frame is as long as all, and behind its lead later ones stand: each octet is digested twice
+    # the next frame is as long as all, and after its lead later ones stand: each octet is digested twice
     lead = struct.pack(">8sIQ", salt[:MARK], many - FRAME, number)
     yield "the next frame, later ones within it, and other sums", lead + spaced(salt, many - len(lead), wide, lambda at: number + 1 + at, lambda at: wide - FRAME)
     whole = frame(salt, number + 2, batch(number + 3))
@@ -122,7 +122,7 @@ class Store:
             sys.exit("spoiled_end: the journal isn't as docs/FORMATS.md says")
 
     def with_end(self, octets):
-        """A folder anew with these octets behind the last batch."""
+        """A folder anew with these octets after the last batch."""
         folder = f"{self.room}/tried"
         shutil.rmtree(folder, ignore_errors=True)
         shutil.copytree(f"{self.room}/store", folder)
