@@ -7,7 +7,7 @@ use std::mem;
 use std::sync::Wait;
 use told_disks::DiskFault;
 use update_group::{Group, Judgement, Judging, Verdict};
-use update_job::{Faults, Publishing};
+use update_job::{Faults, Publishing, ReplyList};
 
 /// How many versions the board has room for.
 const ROOM: usize = 16;
@@ -49,6 +49,7 @@ pub(crate) struct Board {
     pub(crate) told: Vec<(Option<u8>, u8, Option<(u32, u32)>)>,
     /// How many versions of a batch find room at most.
     pub(crate) most: usize,
+    replied: ReplyList,
     ghost held: { 16 ≤ vec_capacity before },
     ghost fits: { room ≤ 16 - vec_len before },
 }
@@ -63,6 +64,7 @@ impl Board {
             room: 0,
             told: Vec::with_capacity(alloc, ROOM)?,
             most: ROOM,
+            replied: ReplyList::new(),
         })
     }
 
@@ -77,6 +79,7 @@ impl Board {
         ensures published { self.new.before.items ++ self.new.last ∷ [] ≡ (self.old.before.items ++ self.old.last ∷ []) ++ version ∷ [] }
         ensures begun { self.new.begun ≡ self.old.begun }
         ensures room { self.new.room + 1 ≡ self.old.room }
+        ensures replied { self.new.replied.replies ≡ self.old.replied.replies }
     {
         self.room -= 1;
         let before = mem::replace(&mut self.last, version);
@@ -89,6 +92,7 @@ impl Board {
         ensures published { self.new.before.items ++ self.new.last ∷ [] ≡ (self.old.before.items ++ self.old.last ∷ []) ++ versions.items }
         ensures begun { self.new.begun ≡ self.old.begun }
         ensures room { self.new.room + length versions.items ≡ self.old.room }
+        ensures replied { self.new.replied.replies ≡ self.old.replied.replies }
     {
         for version in versions {
             self.put(version);
@@ -131,9 +135,8 @@ impl Judging for Board {
 }
 
 impl Publishing for Board {
-    ghost use Rattle.std.specs.Prelude.{◌≡◌, ◌+◌, ◌≤◌, List, Option, ◌++◌, ◌∷◌, [], None, length};
+    ghost use Rattle.std.specs.Prelude.{◌≡◌, ◌+◌, ◌≤◌, ◌++◌, ◌∷◌, [], length};
     ghost use Rattle.update_group.specs.Engine.{IsLast, AreMade};
-    ghost use Rattle.update_group.specs.declared.verdict.Verdict.{Verdict};
     ghost use Rattle.update_group.specs.Group.{versions_of};
     ghost use Rattle.job_tests.specs.declared.board.Added.{Added};
     ghost use Rattle.job_tests.specs.declared.board.Sum.{Sum};
@@ -144,7 +147,7 @@ impl Publishing for Board {
 
     ghost room = { λ board. board.room };
 
-    ghost told = { λ _. None };
+    ghost replied = { λ board. board.replied.replies };
 
     fn begin<R: Wait>(&mut self, _rt: &R) -> (Sum, usize) {
         self.begun = self.before.len() + 1;
@@ -158,12 +161,14 @@ impl Publishing for Board {
         ensures published { self.new.before.items ++ self.new.last ∷ [] ≡ (self.old.before.items ++ self.old.last ∷ []) ++ versions_of group }
         ensures begun { self.new.begun ≡ self.old.begun }
         ensures room { self.new.room + length (versions_of group) ≡ self.old.room }
-        ensures told { let told : Option (List (Added × Verdict)) = None in told ≡ told }
+        ensures replied { self.new.replied.replies ≡ self.old.replied.replies }
     {
         self.put_all(group.into_versions());
     }
 
     fn tell<R: Wait>(&mut self, _rt: &R, asked: Added, verdict: Verdict) {
+        self.replied
+            .note(&[u64::from(verdict.code)], &asked.octets);
         if self.told.len() < self.told.capacity() {
             let octet = asked.octets.first().copied();
             self.told

@@ -1,12 +1,13 @@
 //! Batches that last, and that fail.
 use crate::board::{Added, Board, Noted};
+use crate::store::Store;
 use journal::{Head, TextSum, recover};
 use journal_store::{Log, LogFault};
 use std::alloc::{AllocError, Global};
 use std::sync::Wait;
 use std::test::Fail;
 use told_disks::{DiskFault, ToldDisk};
-use update_job::{Ended, Store, UpdateJob};
+use update_job::{Ended, UpdateJob};
 use update_queue::{Most, Queue};
 
 /// How much waits at most.

@@ -6,3 +6,5 @@
 mod board;
 #[cfg(test)]
 mod jobs;
+#[cfg(test)]
+mod store;

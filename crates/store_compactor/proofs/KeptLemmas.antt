@@ -28,6 +28,7 @@ use Rattle.compaction.specs.Marked.{number_of, IsMarked}
 use Rattle.compaction.specs.Writer.{log_of, trail_of, head_of, under_way_of, AreSteps, Adds, Begins}
 use Rattle.compaction.proofs.TrailLemmas.{followed_is}
 use Rattle.compaction.proofs.EndLemmas.{end_more}
+use Rattle.compaction.proofs.MarkedLemmas.{one_more}
 use Rattle.store_files.specs.declared.pair.PairFault.{PairFault}
 use Rattle.store_files.specs.declared.pair.PairFault.TheVariants.{Before, Unknown}
 use Rattle.compaction_files.specs.Files.{GoesOn, Stops}
@@ -66,7 +67,7 @@ module _ {F : Type 0} where
     more = [];
     k = k;
     stands = subst (λ (us : List Update). IsAt text batches zone us k after) (sym (append-nil updates)) at;
-    bodies = refl;
+    all_are = sym (append-nil (updates_in batches));
     on_disk = inl refl;
   }
   more_none text batches zone updates k (one ∷ octets) after none at = absurd (omega (arith, none))
@@ -120,7 +121,7 @@ module _ {F : Type 0} where
                 marked = marks next.first batches was.0 compaction was.1 way next.marked (omega (arith, next.older, at.end.within, long));
               };
         };
-        bodies = bodies;
+        all_are = one_more batches octets;
         on_disk = inr here;
       }
 

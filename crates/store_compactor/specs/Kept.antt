@@ -4,10 +4,11 @@ use Rattle.dns_rdata.specs.Record.{Record}
 use Rattle.dns_message.specs.declared.update.Update.{Update}
 use Rattle.zone_tree.specs.Version.{Version}
 use Rattle.journal.specs.Batch.{batch_of, IsShort}
+use Rattle.journal.specs.Recovered.{updates_in}
 use Rattle.journal_store.specs.Log.{Holds}
 use Rattle.file_disks.specs.declared.file.FileDisk.{FileDisk}
 use Rattle.file_disks.specs.File.{written, synced}
-use Rattle.update_group.specs.Group.{newest_of, logged}
+use Rattle.update_group.specs.Group.{newest_of}
 use Rattle.lasting_engine.specs.Journal.{AreMadeBy}
 use Rattle.compaction.specs.declared.writer.StoreWriter.{StoreWriter}
 use Rattle.compaction.specs.Trail.{IsTrail, last_in}
@@ -44,7 +45,7 @@ module _ {F : Type 0} where
     pub more : List Update
     pub k : ℕ
     pub stands : IsAt text all zone (updates ++ more) k after
-    pub bodies : map batch_of all ≡ logged (map batch_of batches) octets
+    pub all_are : updates_in all ≡ updates_in batches ++ octets
     pub on_disk : (length octets ≡ 0) ⊎ Holds written synced (head_of after.writer) (log_of after.writer) (map batch_of all)
 
   -- the updates of these versions, which they make one from the other, are after those of the store that stands, as one batch on the disk

@@ -1,4 +1,5 @@
 pub mod Texts
 pub mod Stands
 pub mod Kept
+pub mod Has
 pub mod Threads

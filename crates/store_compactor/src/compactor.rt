@@ -141,15 +141,13 @@ impl<R: Files<File = File> + Alloc + Clone + Drop, T: Texts, N: Notes + Drop> St
 
 impl<R: Files<File = File> + Alloc + Clone + Drop, T: Texts, N: Notes + Drop> Storing<SharedVersion>
     for StoreCompactor<R, T, N> {
-    ghost use Rattle.store_compactor.specs.Kept.{IsTended, IsStored, IsKept};
+    ghost use Rattle.store_compactor.specs.Has.{IsWrittenBy, HasUpdates};
 
     type Fault = io::Error;
 
-    ghost stored = { IsStored };
+    ghost writes = { IsWrittenBy };
 
-    ghost kept = { IsKept };
-
-    ghost tended = { IsTended };
+    ghost has = { HasUpdates };
 
     fn tend<W: Wait>(&mut self, rt: &W, alloc: Global) {
         if self.misplaced(alloc).is_some() {

@@ -16,6 +16,6 @@ mod thread;
 
 pub use compactor::StoreCompactor;
 pub use event::{CompactionEvent, Notes};
-pub use laws::{batches_end_at_what_is_published, tended_stores_have_the_same_start};
+pub use laws::{tended_stores_have_the_same_start, what_is_accepted_is_recovered};
 pub use texts::Texts;
 pub use thread::ThreadTexts;

@@ -28,15 +28,13 @@ pub enum ServedStore<'a, S, L> {
 }
 
 impl<V: Drop, S: Storing<V>, L: StoreLog> Storing<V> for ServedStore<'_, S, L> {
-    ghost use Rattle.store_service.specs.Served.{AreStored, AreKept, AreTended};
+    ghost use Rattle.store_service.specs.Served.{HasIn};
 
     type Fault = S::Fault;
 
-    ghost stored = { AreStored S.stored };
+    ghost writes = { S.writes };
 
-    ghost kept = { AreKept S.kept };
-
-    ghost tended = { AreTended S.tended };
+    ghost has = { HasIn S.has };
 
     fn tend<R: Wait>(&mut self, rt: &R, alloc: Global) {
         match self {

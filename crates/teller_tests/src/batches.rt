@@ -1,5 +1,6 @@
 //! Batches of updates that are published, and told.
 use crate::bag::Bag;
+use crate::nowhere::Nowhere;
 use crate::servers::{goes, not_played};
 use crate::updates::{REFUSED, TAKEN, is_second, is_spelt, put_all};
 use dns_engine::{FirstZone, KEPT, VersionCell, VersionPublisher, VersionReader};
@@ -8,9 +9,8 @@ use played_zones::{Kept, Play, Played, asker};
 use std::alloc::Global;
 use std::sync::Wait;
 use std::test::Fail;
-use told_disks::ToldDisk;
 use update_desk::{Fetched, Serials};
-use update_job::{Store, UpdateJob};
+use update_job::UpdateJob;
 use update_queue::{Most, Queue};
 use update_teller::Teller;
 use zone_service::{PublishRight, Server, ServerLedgers, ServerName, Waiting, Way};
@@ -111,7 +111,7 @@ fn tell_three<R: Wait, Z: FirstZone, N: ServerName>(
         return (None, Some(reader));
     }
     let teller = Teller::new(rt, server, reader, right, &log, Bag::new(alloc));
-    let mut job = match UpdateJob::new(alloc, teller, Store::<ToldDisk>::Nowhere, &queue) {
+    let mut job = match UpdateJob::new(alloc, teller, Nowhere, &queue) {
         Ok(job) => job,
         Err((teller, _)) => return (None, Some(teller.into_parts().0)),
     };

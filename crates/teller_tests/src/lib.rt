@@ -6,6 +6,8 @@ mod bag;
 #[cfg(test)]
 mod batches;
 #[cfg(test)]
+mod nowhere;
+#[cfg(test)]
 mod servers;
 #[cfg(test)]
 mod updates;

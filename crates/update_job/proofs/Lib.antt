@@ -1,3 +1,3 @@
 mod DoneLemmas
+mod ServedLemmas
 mod ToldLemmas
-mod StoreLemmas

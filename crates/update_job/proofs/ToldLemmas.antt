@@ -3,15 +3,18 @@ use Rattle.std.proofs.Common.{◌≡◌, refl, ℕ, zero, suc, ◌+◌, ◌<◌,
 use Rattle.std.specs.Prelude.{replicate, drop, min, MatchOption}
 use Rattle.std.proofs.lemmas.Bool.{cases_lt}
 use Rattle.std.proofs.lemmas.List.{length-take, drop_all}
+use Rattle.dns_rdata.specs.Record.{Record}
 use Rattle.journal_store.specs.declared.log.LogFault.{LogFault}
 use Rattle.update_group.specs.declared.group.Group.{Group}
 use Rattle.update_group.specs.Engine.{IsLast, AreMade}
 use Rattle.update_group.specs.declared.verdict.Verdict.{Verdict}
 use Rattle.update_group.specs.Verdict.{failed}
-use Rattle.update_group.specs.Group.{versions_of, IsBatch, IsGivenUp, IsGroup, Judged}
+use Rattle.update_group.specs.Group.{newest_of, versions_of, IsBatch, IsGivenUp, IsGroup, Judged, nothing, told, starved, changed}
 use Rattle.update_group.proofs.GroupLemmas.{judged_long}
-use Rattle.update_job.specs.Done.{first_verdict, told_of, told_behind}
-use Rattle.update_job.specs.Turned.{IsTold}
+use Rattle.update_job.specs.Done.{first_verdict, reply_to, replies_to}
+use Rattle.update_job.specs.Replies.{Reply}
+use Rattle.update_job.specs.Stored.{AreWritten}
+use Rattle.update_job.specs.Turned.{AreRead, IsTold}
 
 -- whether a group's batch got to the store or not, what it publishes is made from the same version
 pub made_still : {V A X : Type 0} (makes : V → A → V → Type 0) (fault : Option X) (first : V) (group done : Group V) → MatchOption fault (done ≡ group) (λ _. IsGivenUp group done)
@@ -30,65 +33,110 @@ pub room_left : {V : Type 0} (left room was : ℕ) (published later versions : L
     → left + length later ≡ room + length published
 room_left left room was published later versions used are same = omega (arith, used, same, ap length are ∙ length-append published versions)
 
-module _ {V A S F : Type 0} (passes : V → A → Type 0) (tells : V → A → ℕ → Type 0) (makes : V → A → V → Type 0) (octets : A → List ℕ) (serial : V → ℕ)
-    (stores : S → S → List V → List (List ℕ) → Type 0) (keeps : S → S → Type 0) where
-  -- a group that is brought to a store, and published
-  pub told_published : (fault : Option (LogFault F)) (first : V) (published later : List V) (batch : List A) (judged verdicts : List Verdict) (before after : S) (group done : Group V) (room : ℕ)
-      → IsLast published first → IsGroup passes tells makes octets serial first batch judged group room
-      → MatchOption fault (done ≡ group) (λ _. IsGivenUp group done)
-      → MatchOption fault (verdicts ≡ judged) (λ _. verdicts ≡ replicate (length judged) failed)
-      → MatchOption fault ((updates : List (List ℕ)) → IsBatch group updates → stores before after (versions_of group) updates) (λ _. keeps before after)
-      → later ≡ published ++ versions_of done
-      → IsTold passes tells makes octets serial stores keeps published later batch verdicts fault before after
-  told_published None first published later batch judged verdicts before after group done room last is same gets stored are = record {
-    first = first;
-    versions = versions_of group;
-    updates = is.updates;
-    last = last;
-    judged = subst (λ (vs : List Verdict). Judged passes tells makes octets serial first batch vs (versions_of group) is.updates) (sym gets) is.judged;
-    later_are = are ∙ ap (λ g. published ++ versions_of g) same;
-    stored = stored is.updates is.batch;
-  }
-  told_published (Some fault) first published later batch judged verdicts before after group done room last is given_up gets kept are = record {
-    first = first;
-    judged_verdicts = judged;
-    versions = versions_of group;
-    updates = is.updates;
-    last = last;
-    judged = is.judged;
-    some = given_up.some;
-    told = gets ∙ ap (λ (n : ℕ). replicate n failed) (judged_long passes tells makes octets serial first room is.judged);
-    later_are = are ∙ (ap (λ (vs : List V). published ++ vs) given_up.none ∙ append-nil published);
-    stored = kept;
-  }
+-- one version more is written
+written_more : {V : Type 0} (writes : V → List ℕ → V → Type 0) (first : V) (versions : List V) (updates : List (List ℕ)) (next : V) (octets : List ℕ) → AreWritten writes first versions updates
+    → writes (newest_of first versions) octets next → AreWritten writes first (versions ++ next ∷ []) (updates ++ octets ∷ [])
+written_more writes first [] [] next octets are is = (is, tt)
+written_more writes first [] (other ∷ updates) next octets are is = absurd are
+written_more writes first (version ∷ versions) [] next octets are is = absurd are
+written_more writes first (version ∷ versions) (other ∷ updates) next octets are is = (are.0, written_more writes version versions updates next octets are.1 is)
 
-  -- the same of the same lists of versions
-  pub told_between : (fault : Option (LogFault F)) (old begun later new : List V) (batch : List A) (verdicts : List Verdict) (before after : S) → begun ≡ old → new ≡ later
-      → IsTold passes tells makes octets serial stores keeps begun later batch verdicts fault before after
-      → IsTold passes tells makes octets serial stores keeps old new batch verdicts fault before after
-  told_between fault old begun later new batch verdicts before after from to told =
-      subst (λ (vs : List V). IsTold passes tells makes octets serial stores keeps old vs batch verdicts fault before after) (sym to)
-      (subst (λ (vs : List V). IsTold passes tells makes octets serial stores keeps vs later batch verdicts fault before after) from told)
+module _ {V A S : Type 0} (passes : V → A → Type 0) (tells : V → A → ℕ → Type 0) (makes : V → A → V → Type 0) (octets : A → List ℕ) (serial : V → ℕ)
+    (writes : V → List ℕ → V → Type 0) (has : List Record → S → List V → List (List ℕ) → Type 0) where
+  -- what is judged is written by its octets
+  pub judged_written : {first : V} {asked : List A} {verdicts : List Verdict} {made : List V} {updates : List (List ℕ)} → AreRead {S = S} passes tells makes octets serial writes has
+      → Judged passes tells makes octets serial first asked verdicts made updates → AreWritten writes first made updates
+  judged_written read nothing = tt
+  judged_written read (told one code judged is) = judged_written read judged
+  judged_written read (starved one judged is) = judged_written read judged
+  judged_written {first} read (changed {asked} {verdicts} {made} {updates} one next judged lets is) =
+      written_more writes first made updates next (octets one) (judged_written read judged) (read (newest_of first made) one next lets is)
 
--- what is told after others, and then after these
-pub told_on : {T : Type 0} (old : Option (List T)) (one : T) (more : List T) → told_behind (told_behind old (one ∷ [])) more ≡ told_behind old (one ∷ more)
-told_on None one more = refl
-told_on (Some before) one more = ap Some (append_assoc before (one ∷ []) more)
+  module _ {F : Type 0} where
+    -- a group that is brought to a store, and published
+    pub told_published : (fault : Option (LogFault F)) (first : V) (published later : List V) (batch : List A) (judged verdicts : List Verdict) (before after : S) (group done : Group V) (room : ℕ)
+        → IsLast published first → IsGroup passes tells makes octets serial first batch judged group room
+        → MatchOption fault (done ≡ group) (λ _. IsGivenUp group done)
+        → MatchOption fault (verdicts ≡ judged) (λ _. verdicts ≡ replicate (length judged) failed)
+        → MatchOption fault
+        ((updates : List (List ℕ)) → IsBatch group updates → (zone : List Record) (versions : List V) (stood : List (List ℕ)) (last : V) → has zone before versions stood → IsLast versions last
+        → AreWritten writes last (versions_of group) updates → has zone after (versions ++ versions_of group) (stood ++ updates))
+        (λ _. (zone : List Record) (versions : List V) (stood : List (List ℕ)) → has zone before versions stood → has zone after versions stood)
+        → later ≡ published ++ versions_of done
+        → IsTold passes tells makes octets serial writes has published later batch verdicts fault before after
+    told_published None first published later batch judged verdicts before after group done room last is same gets stored are =
+        let later_are : later ≡ published ++ versions_of group = are ∙ ap (λ (g : Group V). published ++ versions_of g) same in
+        record {
+          first = first;
+          versions = versions_of group;
+          updates = is.updates;
+          last = last;
+          judged = subst (λ (vs : List Verdict). Judged passes tells makes octets serial first batch vs (versions_of group) is.updates) (sym gets) is.judged;
+          later_are = later_are;
+          stored = λ read zone stood had. subst (λ (vs : List V). has zone after vs (stood ++ is.updates)) (sym later_are)
+              (stored is.updates is.batch zone published stood first had last (judged_written read is.judged));
+        }
+    told_published (Some fault) first published later batch judged verdicts before after group done room last is given_up gets kept are =
+        let later_are : later ≡ published = are ∙ (ap (λ (vs : List V). published ++ vs) given_up.none ∙ append-nil published) in
+        record {
+          first = first;
+          judged_verdicts = judged;
+          versions = versions_of group;
+          updates = is.updates;
+          last = last;
+          judged = is.judged;
+          some = given_up.some;
+          told = gets ∙ ap (λ (n : ℕ). replicate n failed) (judged_long passes tells makes octets serial first room is.judged);
+          later_are = later_are;
+          stored = λ zone stood had. subst (λ (vs : List V). has zone after vs stood) (sym later_are) (kept zone published stood had);
+        }
 
-pub told_none : {T : Type 0} (old : Option (List T)) → told_behind old [] ≡ old
-told_none None = refl
-told_none (Some before) = ap Some (append-nil before)
+    -- a batch of a store that is tended before it and after it
+    pub told_tended : (fault : Option (LogFault F)) (published later : List V) (batch : List A) (verdicts : List Verdict) (old before after new : S)
+        → ((zone : List Record) (versions : List V) (updates : List (List ℕ)) → has zone old versions updates → has zone before versions updates)
+        → ((zone : List Record) (versions : List V) (updates : List (List ℕ)) → has zone after versions updates → has zone new versions updates)
+        → IsTold passes tells makes octets serial writes has published later batch verdicts fault before after
+        → IsTold passes tells makes octets serial writes has published later batch verdicts fault old new
+    told_tended None published later batch verdicts old before after new first then lasts = record {
+      first = lasts.first;
+      versions = lasts.versions;
+      updates = lasts.updates;
+      last = lasts.last;
+      judged = lasts.judged;
+      later_are = lasts.later_are;
+      stored = λ read zone stood had. then zone later (stood ++ lasts.updates) (lasts.stored read zone stood (first zone published stood had));
+    }
+    told_tended (Some fault) published later batch verdicts old before after new first then fails = record {
+      first = fails.first;
+      judged_verdicts = fails.judged_verdicts;
+      versions = fails.versions;
+      updates = fails.updates;
+      last = fails.last;
+      judged = fails.judged;
+      some = fails.some;
+      told = fails.told;
+      later_are = fails.later_are;
+      stored = λ zone stood had. then zone later stood (fails.stored zone stood (first zone published stood had));
+    }
 
--- one more of a batch is told what it gets
-pub told_next : {A : Type 0} (old new : Option (List (A × Verdict))) (one : A) (verdict : Verdict) (verdicts left : List Verdict) (batch rest : List A)
-    → batch ≡ one ∷ rest → verdict ≡ first_verdict verdicts → left ≡ drop 1 verdicts → new ≡ told_behind old ((one, verdict) ∷ [])
-    → told_behind new (told_of left rest) ≡ told_behind old (told_of verdicts batch)
-told_next {A} old new one verdict verdicts left batch rest is gets behind told =
-    ap (λ (o : Option (List (A × Verdict))). told_behind o (told_of left rest)) told
-    ∙ (told_on old (one, verdict) (told_of left rest)
-    ∙ (ap (λ (v : Verdict). told_behind old ((one, v) ∷ told_of left rest)) gets
-    ∙ (ap (λ (vs : List Verdict). told_behind old ((one, first_verdict verdicts) ∷ told_of vs rest)) behind
-    ∙ ap (λ (l : List A). told_behind old (told_of verdicts l)) (sym is))))
+    -- the same of the same lists of versions
+    pub told_between : (fault : Option (LogFault F)) (old begun later new : List V) (batch : List A) (verdicts : List Verdict) (before after : S) → begun ≡ old → new ≡ later
+        → IsTold passes tells makes octets serial writes has begun later batch verdicts fault before after
+        → IsTold passes tells makes octets serial writes has old new batch verdicts fault before after
+    told_between fault old begun later new batch verdicts before after from to told =
+        subst (λ (vs : List V). IsTold passes tells makes octets serial writes has old vs batch verdicts fault before after) (sym to)
+        (subst (λ (vs : List V). IsTold passes tells makes octets serial writes has vs later batch verdicts fault before after) from told)
+
+-- one more of a batch gets its reply
+pub replied_next : {A : Type 0} (octets : A → List ℕ) (old new : List Reply) (one : A) (verdict : Verdict) (verdicts left : List Verdict) (batch rest : List A)
+    → batch ≡ one ∷ rest → verdict ≡ first_verdict verdicts → left ≡ drop 1 verdicts → new ≡ old ++ reply_to (octets one) verdict ∷ []
+    → new ++ replies_to octets left rest ≡ old ++ replies_to octets verdicts batch
+replied_next octets old new one verdict verdicts left batch rest is gets behind replied =
+    ap (λ (rs : List Reply). rs ++ replies_to octets left rest) replied
+    ∙ (append_assoc old (reply_to (octets one) verdict ∷ []) (replies_to octets left rest)
+    ∙ (ap (λ (v : Verdict). old ++ reply_to (octets one) v ∷ replies_to octets left rest) gets
+    ∙ (ap (λ (vs : List Verdict). old ++ reply_to (octets one) (first_verdict verdicts) ∷ replies_to octets vs rest) behind
+    ∙ ap (λ l. old ++ replies_to octets verdicts l) (sym is))))
 
 -- some are taken of some
 pub take_some : {X : Type 0} (n : ℕ) (l : List X) → 0 < n → 0 < length l → 0 < length (take n l)

@@ -1,25 +1,22 @@
 -- What updates get that waited (RFC 2136, 3).
-use Rattle.std.specs.Prelude.{◌≡◌, ◌⊎◌, ◌+◌, ◌≤◌, ℕ, List, [], ◌∷◌, ◌++◌, length, drop, Option, option_map}
+use Rattle.std.specs.Prelude.{◌≡◌, ◌⊎◌, ◌+◌, ◌≤◌, ℕ, List, [], ◌∷◌, ◌++◌, length, drop}
 use Rattle.update_group.specs.declared.verdict.Verdict.{Verdict}
 use Rattle.update_group.specs.Verdict.{told_verdict, made_verdict, failed}
-
--- a list begins with another one
-abbrev pub BeginsWith : {X : Type 0} → List X → List X → Type 0
-BeginsWith {X} longer shorter = (more : List X) × (longer ≡ shorter ++ more)
+use Rattle.update_job.specs.Replies.{Reply}
 
 -- the first of these verdicts, SERVFAIL where there is none (RFC 2136, 2.2)
 abbrev pub first_verdict : List Verdict → Verdict
 first_verdict [] = failed
 first_verdict (verdict ∷ verdicts) = verdict
 
--- each update of a batch with its verdict, SERVFAIL where there are too few
-abbrev pub told_of : {A : Type 0} → List Verdict → List A → List (A × Verdict)
-told_of verdicts [] = []
-told_of verdicts (one ∷ batch) = (one, first_verdict verdicts) ∷ told_of (drop 1 verdicts) batch
+-- the reply to a request of these octets that gets this verdict
+abbrev pub reply_to : List ℕ → Verdict → Reply
+reply_to octets verdict = record { request = octets; code = verdict.code }
 
--- these are told after those that were, where they are kept
-abbrev pub told_behind : {T : Type 0} → Option (List T) → List T → Option (List T)
-told_behind old more = option_map (λ before. before ++ more) old
+-- the replies to a batch, each request of it with its verdict, SERVFAIL where there are too few
+abbrev pub replies_to : {A : Type 0} → (A → List ℕ) → List Verdict → List A → List Reply
+replies_to octets verdicts [] = []
+replies_to octets verdicts (one ∷ batch) = reply_to (octets one) (first_verdict verdicts) ∷ replies_to octets (drop 1 verdicts) batch
 
 module _ {V A : Type 0} (passes : V → A → Type 0) (tells : V → A → ℕ → Type 0) (makes : V → A → V → Type 0) (serial : V → ℕ) (published : List V) (begun : ℕ) where
   -- an update gets a code in one of the versions that are published, which isn't older than the last of the first so many, and makes none of it: it is told with that

@@ -1,3 +1,4 @@
 pub mod Done
+pub mod Replies
 pub mod Stored
 pub mod Turned

@@ -7,11 +7,3 @@ pub trait Faults<F> {
     /// Notes why a batch isn't on the disk; none where it is, or where nothing of it changes the zone.
     fn note<R: Wait>(&mut self, rt: &R, fault: Option<LogFault<F>>);
 }
-
-/// Who notes nothing, of batches that are brought nowhere.
-#[derive(Clone, Copy)]
-pub struct NoFaults;
-
-impl<F: Drop> Faults<F> for NoFaults {
-    fn note<R: Wait>(&mut self, _rt: &R, _fault: Option<LogFault<F>>) {}
-}

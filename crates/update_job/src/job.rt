@@ -1,7 +1,7 @@
 //! Batches of updates (RFC 2136, 3 and 3.5).
 ghost use Rattle.std.specs.Prelude.{◌≡◌, ◌≤◌, ◌<◌, ◌+◌, [], ◌++◌, List, length, vec_capacity, min, max, take, drop, IfOk, IfErr, OnOk, OnErr};
 ghost use Rattle.update_group.specs.Engine.{IsLast};
-ghost use Rattle.update_job.specs.Done.{AreDone, first_verdict, told_of, told_behind};
+ghost use Rattle.update_job.specs.Done.{AreDone, first_verdict, replies_to};
 ghost use Rattle.update_job.specs.Turned.{IsTold, state_of, HasTurned, HasServed};
 
 use crate::faults::Faults;
@@ -105,11 +105,11 @@ where
     /// it gets: why the batch isn't on the disk, if it isn't. The others are of the next batch. Before the batch and after it the store is tended: so what was to be
     /// done for updates to go on is done before they are judged, and nobody waits for what is begun after them. [`Ended`] where the queue is ended, and nothing waits.
     pub fn turn<R: Wait>(&mut self, rt: &R) -> Result<Option<LogFault<S::Fault>>, Ended>
-        ensures turned { IfOk result (λ fault. HasTurned P.passes P.tells P.makes P.octets P.serial S.stored S.kept S.Fault S.tended fault
-            (state_of (P.published self.old.publishing) (P.room self.old.publishing) (P.told self.old.publishing) self.old.store self.old.waiting.items)
-            (state_of (P.published self.new.publishing) (P.room self.new.publishing) (P.told self.new.publishing) self.new.store self.new.waiting.items)) }
-        ensures ended { OnErr result (state_of (P.published self.new.publishing) (P.room self.new.publishing) (P.told self.new.publishing) self.new.store self.new.waiting.items
-            ≡ state_of (P.published self.old.publishing) (P.room self.old.publishing) (P.told self.old.publishing) self.old.store self.old.waiting.items) }
+        ensures turned { IfOk result (λ fault. HasTurned P.passes P.tells P.makes P.octets P.serial S.writes S.has fault
+            (state_of (P.published self.old.publishing) (P.room self.old.publishing) (P.replied self.old.publishing) self.old.store self.old.waiting.items)
+            (state_of (P.published self.new.publishing) (P.room self.new.publishing) (P.replied self.new.publishing) self.new.store self.new.waiting.items)) }
+        ensures ended { OnErr result (state_of (P.published self.new.publishing) (P.room self.new.publishing) (P.replied self.new.publishing) self.new.store self.new.waiting.items
+            ≡ state_of (P.published self.old.publishing) (P.room self.old.publishing) (P.replied self.old.publishing) self.old.store self.old.waiting.items) }
         ensures none { OnErr result (self.new.waiting.items ≡ []) }
     {
         self.fill(rt)?;
@@ -139,9 +139,9 @@ where
 
     /// Judges batches until the queue is ended, and nothing waits. Of each it is noted why it isn't on the disk, or that it is.
     pub fn serve<R: Wait, N: Faults<S::Fault>>(&mut self, rt: &R, faults: &mut N)
-        ensures served { HasServed P.passes P.tells P.makes P.octets P.serial S.stored S.kept S.Fault S.tended
-            (state_of (P.published self.old.publishing) (P.room self.old.publishing) (P.told self.old.publishing) self.old.store self.old.waiting.items)
-            (state_of (P.published self.new.publishing) (P.room self.new.publishing) (P.told self.new.publishing) self.new.store self.new.waiting.items) }
+        ensures served { HasServed P.passes P.tells P.makes P.octets P.serial S.writes S.has
+            (state_of (P.published self.old.publishing) (P.room self.old.publishing) (P.replied self.old.publishing) self.old.store self.old.waiting.items)
+            (state_of (P.published self.new.publishing) (P.room self.new.publishing) (P.replied self.new.publishing) self.new.store self.new.waiting.items) }
         ensures none { self.new.waiting.items ≡ [] }
     {
         for _ in rt.forever() {
@@ -178,10 +178,10 @@ fn judge_batch<R: Wait, P: Publishing, S: Storing<P::Version>>(
     requires begun { P.begun publishing.old ≡ length (P.published publishing.old) }
     requires room { P.room publishing.old ≡ room }
     requires verdicts_room { length batch.now ≤ vec_capacity verdicts.old }
-    ensures told { IsTold P.passes P.tells P.makes P.octets P.serial S.stored S.kept (P.published publishing.old) (P.published publishing.new) batch.now verdicts.new.items result store.old store.new }
+    ensures told { IsTold P.passes P.tells P.makes P.octets P.serial S.writes S.has (P.published publishing.old) (P.published publishing.new) batch.now verdicts.new.items result store.old store.new }
     ensures done { AreDone P.passes P.tells P.makes P.serial (P.published publishing.new) (P.begun publishing.new) verdicts.new.items batch.now }
     ensures left { P.room publishing.new + length (P.published publishing.new) ≡ room + length (P.published publishing.old) }
-    ensures same { P.told publishing.new ≡ P.told publishing.old }
+    ensures same { P.replied publishing.new ≡ P.replied publishing.old }
     ensures verdicts_room { vec_capacity verdicts.new ≡ vec_capacity verdicts.old }
 {
     let mut group = judge_group(publishing, alloc, last, batch, room.min(MOST), verdicts);
@@ -204,7 +204,7 @@ where
     requires some { count ≤ length waiting.old.items }
     requires done { AreDone P.passes P.tells P.makes P.serial (P.published publishing.old) (P.begun publishing.old) verdicts.now (take count waiting.old.items) }
     ensures published { P.published publishing.new ≡ P.published publishing.old }
-    ensures told { P.told publishing.new ≡ told_behind (P.told publishing.old) (told_of verdicts.now (take count waiting.old.items)) }
+    ensures replied { P.replied publishing.new ≡ P.replied publishing.old ++ replies_to P.octets verdicts.now (take count waiting.old.items) }
     ensures room { P.room publishing.new ≡ P.room publishing.old }
     ensures rest { waiting.new.items ≡ drop count waiting.old.items }
     ensures waiting_room { vec_capacity waiting.new ≡ vec_capacity waiting.old }

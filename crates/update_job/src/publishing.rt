@@ -1,9 +1,9 @@
 //! What publishes the versions of batches, and tells updates what they get (own).
-ghost use Rattle.std.specs.Prelude.{◌≡◌, ◌+◌, ◌≤◌, ℕ, List, [], ◌∷◌, ◌++◌, Option, length};
-ghost use Rattle.update_group.specs.declared.verdict.Verdict.{Verdict as VerdictOf};
+ghost use Rattle.std.specs.Prelude.{◌≡◌, ◌+◌, ◌≤◌, ℕ, List, [], ◌∷◌, ◌++◌, length};
 ghost use Rattle.update_group.specs.Engine.{IsLast, AreMade};
 ghost use Rattle.update_group.specs.Group.{versions_of};
-ghost use Rattle.update_job.specs.Done.{IsDone, told_behind};
+ghost use Rattle.update_job.specs.Done.{IsDone, reply_to};
+ghost use Rattle.update_job.specs.Replies.{Reply};
 
 use std::sync::Wait;
 use update_group::{Group, Judging, Verdict};
@@ -20,8 +20,8 @@ pub trait Publishing: Judging + Drop {
     /// How many more versions are sure to find room.
     ghost room: { Self → ℕ };
 
-    /// What was told, each update with what it got, the first one first, where it is kept.
-    ghost told: { Self → Option (List (Self.Asked × VerdictOf)) };
+    /// What requests were replied, the first one first.
+    ghost replied: { Self → List Reply };
 
     /// Begins a batch: the version that is published last, in which it is to be judged, and how many more are sure to find room after it.
     fn begin<R: Wait>(&mut self, rt: &R) -> (Self::Version, usize)
@@ -29,7 +29,7 @@ pub trait Publishing: Judging + Drop {
         ensures published { published self.new ≡ published self.old }
         ensures begun { begun self.new ≡ length (published self.new) }
         ensures room { room self.new ≡ result.1 }
-        ensures told { told self.new ≡ told self.old };
+        ensures replied { replied self.new ≡ replied self.old };
 
     /// Publishes the versions of a batch, for which there is room, after those that are published.
     fn publish<R: Wait>(&mut self, rt: &R, group: Group<Self::Version>)
@@ -38,7 +38,7 @@ pub trait Publishing: Judging + Drop {
         ensures published { published self.new ≡ published self.old ++ versions_of group }
         ensures begun { begun self.new ≡ begun self.old }
         ensures room { room self.new + length (versions_of group) ≡ room self.old }
-        ensures told { told self.new ≡ told self.old };
+        ensures replied { replied self.new ≡ replied self.old };
 
     /// Tells an update what it gets, which is so by the versions that are published.
     fn tell<R: Wait>(&mut self, rt: &R, asked: Self::Asked, verdict: Verdict)
@@ -46,5 +46,5 @@ pub trait Publishing: Judging + Drop {
         ensures published { published self.new ≡ published self.old }
         ensures begun { begun self.new ≡ begun self.old }
         ensures room { room self.new ≡ room self.old }
-        ensures told { told self.new ≡ told_behind (told self.old) ((asked, verdict) ∷ []) };
+        ensures replied { replied self.new ≡ replied self.old ++ reply_to (octets asked) verdict ∷ [] };
 }

@@ -12,18 +12,18 @@ use Rattle.lasting_engine.specs.Asked.{makes}
 use Rattle.update_desk.specs.Done.{IsJudgedIn}
 use Rattle.update_desk.specs.declared.desk.Begun.{Begun}
 use Rattle.zone_service.specs.Waiting.{IsBegun, MeetsAt}
-use Rattle.update_job.specs.Done.{BeginsWith}
+use Rattle.update_job.specs.Replies.{Reply}
 use Rattle.update_teller.specs.Waits.{makes_waiting}
 use Rattle.update_teller.specs.Brought.{Brought}
-use Rattle.update_teller.specs.Met.{HasBegun, HasMetLast, TellerState}
+use Rattle.update_teller.specs.Met.{BeginsWith, HasBegun, HasMetLast, TellerState}
 
 latest_long : (first : List Record) (published : List Version) (version : Version) → IsLatest first published version → length published ≡ version.number + 1
 latest_long first published version latest = ap length latest.ends ∙ length_push latest.before version ∙ ap (λ n. n + 1) latest.number
 
 -- a batch is begun where a reader has met what is published
-pub has_begun : (first : List Record) (before after : ReaderState Version) (begun : Begun) (brought : Option (List Brought)) → IsBegun first before after begun
-    → HasBegun first before.seen (record { seen = after.seen; begun = begun.number + 1; room = begun.room; brought = brought }) begun.last
-has_begun first before after begun brought meets =
+pub has_begun : (first : List Record) (before after : ReaderState Version) (begun : Begun) (replied : List Reply) (brought : Option (List Brought)) → IsBegun first before after begun
+    → HasBegun first before.seen (record { seen = after.seen; begun = begun.number + 1; room = begun.room; replied = replied; brought = brought }) begun.last
+has_begun first before after begun replied brought meets =
     let engine = meets.0 in
     let seen : after.seen ≡ engine.held.published = ap (λ (r : ReaderState Version). r.seen) meets.1.seen in
     let latest = subst (λ (l : List Version). IsLatest first l engine.held.last) (sym seen) meets.1.latest in

@@ -1,5 +1,5 @@
 -- What is brought to those whose updates waited (RFC 2136, 3.8).
-use Rattle.std.specs.Prelude.{◌≡◌, ◌≤◌, ℕ, true, List, [], ◌∷◌, length, None}
+use Rattle.std.specs.Prelude.{◌≡◌, ◌≤◌, ℕ, true, List, [], ◌∷◌, ◌++◌, length, Option, None, option_map}
 use Rattle.std.specs.declared.net.socket_addr.SocketAddr.{SocketAddr}
 use Rattle.dns_rdata.specs.Numbers.{rcode_number}
 use Rattle.dns_rdata.specs.Record.{Record}
@@ -16,6 +16,10 @@ use Rattle.zone_service.specs.Replied.{IsReplied}
 use Rattle.zone_service.specs.declared.handing.Waiting.{Waiting}
 use Rattle.zone_service.specs.declared.handing.Way.{Way}
 use Rattle.zone_service.specs.declared.handing.Way.TheVariants.{Connection, Datagram}
+
+-- these are brought after those that were, where they are kept
+abbrev pub brought_after : {T : Type 0} → Option (List T) → List T → Option (List T)
+brought_after old more = option_map (λ before. before ++ more) old
 
 -- a worker is told the key of a connection; or a datagram is sent by a worker's socket
 pub data Brought : Type 0 where

@@ -1,18 +1,23 @@
 -- What is known to be published by who tells those whose updates waited (own).
-use Rattle.std.specs.Prelude.{◌≡◌, ◌≢◌, ◌⊎◌, ◌<◌, ◌≤◌, ℕ, List, Option, length}
+use Rattle.std.specs.Prelude.{◌≡◌, ◌≢◌, ◌⊎◌, ◌<◌, ◌≤◌, ℕ, List, ◌++◌, Option, length}
 use Rattle.dns_rdata.specs.Record.{Record}
 use Rattle.zone_tree.specs.Version.{Version}
 use Rattle.dns_engine.specs.Held.{EngineState, IsLatest}
 use Rattle.dns_engine.specs.Replayed.{IsReplay}
-use Rattle.update_job.specs.Done.{BeginsWith}
+use Rattle.update_job.specs.Replies.{Reply}
 use Rattle.update_teller.specs.Brought.{Brought}
 
--- the versions that are known to be published, the first one first, how many were when the last batch was begun, how many more were sure to find room then, and what
--- was brought, where it is kept
+-- a list begins with another one
+abbrev pub BeginsWith : {X : Type 0} → List X → List X → Type 0
+BeginsWith {X} longer shorter = (more : List X) × (longer ≡ shorter ++ more)
+
+-- the versions that are known to be published, the first one first, how many were when the last batch was begun, how many more were sure to find room then, what
+-- was replied, and what was brought, where it is kept
 pub record TellerState : Type 0 where
   pub seen : List Version
   pub begun : ℕ
   pub room : ℕ
+  pub replied : List Reply
   pub brought : Option (List Brought)
 
 -- the last of those that are known to be published has this number, and isn't older than the one that the last batch was begun with

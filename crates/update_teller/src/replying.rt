@@ -1,7 +1,6 @@
 //! How replies get to those whose updates waited.
 ghost use Rattle.std.specs.Prelude.{◌≡◌, List, [], ◌∷◌, Option};
-ghost use Rattle.update_job.specs.Done.{told_behind};
-ghost use Rattle.update_teller.specs.Brought.{Brought, key_to, sent_by};
+ghost use Rattle.update_teller.specs.Brought.{Brought, brought_after, key_to, sent_by};
 
 use std::net::SocketAddr;
 use std::sync::Wait;
@@ -13,9 +12,9 @@ pub trait Replying {
 
     /// Tells a worker the key of a connection whose reply can be had, and ends its wait.
     fn tell<R: Wait>(&mut self, rt: &R, worker: usize, key: usize)
-        ensures { brought self.new ≡ told_behind (brought self.old) (key_to worker key ∷ []) };
+        ensures { brought self.new ≡ brought_after (brought self.old) (key_to worker key ∷ []) };
 
     /// Sends a datagram by a worker's socket. What can't be sent is lost, as datagrams are.
     fn send(&mut self, worker: usize, to: SocketAddr, octets: &[u8])
-        ensures { brought self.new ≡ told_behind (brought self.old) (sent_by worker to octets.now ∷ []) };
+        ensures { brought self.new ≡ brought_after (brought self.old) (sent_by worker to octets.now ∷ []) };
 }

@@ -4,8 +4,8 @@ ghost use Rattle.zone_tree.specs.Version.{Version as VersionOf};
 ghost use Rattle.update_group.specs.Engine.{IsLast, AreMade};
 ghost use Rattle.update_group.specs.Group.{versions_of};
 ghost use Rattle.lasting_engine.specs.Asked.{serial_in};
-ghost use Rattle.update_job.specs.Done.{IsDone, told_behind};
-ghost use Rattle.update_teller.specs.Brought.{Brought as BroughtOne, IsBrought};
+ghost use Rattle.update_job.specs.Done.{IsDone, reply_to};
+ghost use Rattle.update_teller.specs.Brought.{Brought as BroughtOne, IsBrought, brought_after};
 ghost use Rattle.update_teller.specs.Met.{HasBegun};
 ghost use Rattle.update_teller.specs.Waits.{passes_waiting, tells_waiting, makes_waiting, octets_of_waiting};
 
@@ -20,7 +20,7 @@ use std::marker::Model;
 use std::sync::Wait;
 use update_desk::{Done, serials_of};
 use update_group::{Group, Judgement, Judging, Verdict};
-use update_job::Publishing;
+use update_job::{Publishing, ReplyList};
 use wire_names::NameWriter;
 use zone_service::{
     Event, PublishRight, Server, ServerName, ServiceLog, Told, Waiting, Way, tell_update,
@@ -86,6 +86,8 @@ pub struct Teller<'a, 's, Z: FirstZone, N: ServerName, L, P: Replying + Drop> {
     begun: u64,
     /// That version, until the batch is published.
     first: Option<SharedVersion>,
+    /// What was replied, for clauses alone.
+    replied: ReplyList,
 }
 
 impl<'a, 's, Z: FirstZone, N: ServerName, L, P: Replying + Drop> Model
@@ -95,7 +97,7 @@ impl<'a, 's, Z: FirstZone, N: ServerName, L, P: Replying + Drop> Model
 
     ghost Value = { TellerState };
 
-    ghost view = { λ t. record { seen = t.reader.seen; begun = t.begun + 1; room = t.right.reserved.amount; brought = P.brought t.replying } };
+    ghost view = { λ t. record { seen = t.reader.seen; begun = t.begun + 1; room = t.right.reserved.amount; replied = t.replied.replies; brought = P.brought t.replying } };
 
     ghost invariant = { λ t. HasMetLast Z.zone t.reader.seen t.last t.begun × (t.right.published.amount ≡ length t.reader.seen) };
 }
@@ -121,6 +123,7 @@ impl<'a, 's, Z: FirstZone, N: ServerName, L: ServiceLog, P: Replying + Drop> Tel
         ensures begun { (last : VersionOf) × HasBegun Z.zone reader.seen result last }
         ensures all { right.published.amount ≡ length result.seen }
         ensures brought { result.brought ≡ P.brought replying }
+        ensures replied { result.replied ≡ [] }
     {
         let _ = server.audit(rt, &mut reader, &mut right);
         let begun = server.begin(rt, &mut reader, &mut right);
@@ -135,6 +138,7 @@ impl<'a, 's, Z: FirstZone, N: ServerName, L: ServiceLog, P: Replying + Drop> Tel
             last: begun.number,
             begun: begun.number,
             first: None,
+            replied: ReplyList::new(),
         }
     }
 
@@ -154,6 +158,7 @@ impl<'a, 's, Z: FirstZone, N: ServerName, L: ServiceLog, P: Replying + Drop> Tel
             last: _,
             begun: _,
             first: _,
+            replied: _,
         } = self;
         (reader, replying)
     }
@@ -195,21 +200,20 @@ impl<'a, 's, Z: FirstZone, N: ServerName, L, P: Replying + Drop> Judging
 
 impl<'a, 's, Z: FirstZone, N: ServerName, L: ServiceLog, P: Replying + Drop> Publishing
     for Teller<'a, 's, Z, N, L, P> {
-    ghost use Rattle.std.specs.Prelude.{None};
-
     ghost published = { λ teller. teller.seen };
 
     ghost begun = { λ teller. teller.begun };
 
     ghost room = { λ teller. teller.room };
 
-    ghost told = { λ teller. None };
+    ghost replied = { λ teller. teller.replied };
 
     fn begin<R: Wait>(&mut self, rt: &R) -> (SharedVersion, usize)
         ensures last { IsLast self.new.seen result.0 }
         ensures published { self.new.seen ≡ self.old.seen }
         ensures begun { self.new.begun ≡ length self.new.seen }
         ensures room { self.new.room ≡ result.1 }
+        ensures replied { self.new.replied ≡ self.old.replied }
         ensures all { HasBegun Z.zone self.old.seen self.new result.0 }
         ensures brought { self.new.brought ≡ self.old.brought }
     {
@@ -235,6 +239,7 @@ impl<'a, 's, Z: FirstZone, N: ServerName, L: ServiceLog, P: Replying + Drop> Pub
         ensures published { self.new.seen ≡ self.old.seen ++ versions_of group }
         ensures begun { self.new.begun ≡ self.old.begun }
         ensures room { self.new.room + length (versions_of group) ≡ self.old.room }
+        ensures replied { self.new.replied ≡ self.old.replied }
         ensures brought { self.new.brought ≡ self.old.brought }
     {
         let Teller {
@@ -259,9 +264,12 @@ impl<'a, 's, Z: FirstZone, N: ServerName, L: ServiceLog, P: Replying + Drop> Pub
         ensures published { self.new.seen ≡ self.old.seen }
         ensures begun { self.new.begun ≡ self.old.begun }
         ensures room { self.new.room ≡ self.old.room }
-        ensures brought { (one : BroughtOne) × IsBrought Z.zone self.old.seen self.old.begun waiting verdict.code one × (self.new.brought ≡ told_behind self.old.brought (one ∷ [])) }
+        ensures replied { self.new.replied ≡ self.old.replied ++ reply_to (octets_of_waiting waiting) verdict ∷ [] }
+        ensures brought { (one : BroughtOne) × IsBrought Z.zone self.old.seen self.old.begun waiting verdict.code one × (self.new.brought ≡ brought_after self.old.brought (one ∷ [])) }
     {
         let Waiting { asked, way } = waiting;
+        self.replied
+            .note(&[u64::from(verdict.code)], asked.octets());
         let done = Done {
             asked,
             least: self.begun,

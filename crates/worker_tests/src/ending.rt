@@ -1,5 +1,6 @@
 //! A zone served by workers on sockets of the system's, and what that comes to: each thread has done what it may, or all end since one of them has failed.
 
+use crate::nowhere::{NoFaults, Nowhere};
 use conversation::Allowed;
 use dns_engine::SharedVersion;
 use links::Limits;
@@ -17,8 +18,6 @@ use std::sync::Wait;
 use std::sync::atomic::{AtomicU64, Ordering};
 use std::thread::Threads;
 use std::time::Clock;
-use told_disks::ToldDisk;
-use update_job::{NoFaults, Store};
 use zone_service::{Event, JobEnd, ServiceLog};
 use zone_tree::Version;
 
@@ -161,13 +160,13 @@ pub(crate) fn served<R: Net + Threads + Wait + Clock + Sync>(
             items: 8,
             octets: 1 << 20,
         },
-        store: Store::<ToldDisk>::Nowhere,
+        store: Nowhere,
         faults: NoFaults,
     };
     let log = Summed {
         sum: AtomicU64::new(0),
     };
-    let end = serve_zone::<R, Brand, Summed, Store<ToldDisk>, NoFaults>(
+    let end = serve_zone::<R, Brand, Summed, Nowhere, NoFaults>(
         rt, alloc, first, later, duties, plan, handing, &log,
     );
     Some(reason_of(end).saturating_add(log.sum.load(Ordering::SeqCst)))

@@ -11,6 +11,8 @@ mod frames;
 #[cfg(test)]
 mod gates;
 #[cfg(test)]
+mod nowhere;
+#[cfg(test)]
 mod refused;
 #[cfg(test)]
 mod turning;

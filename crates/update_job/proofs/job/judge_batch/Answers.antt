@@ -24,7 +24,7 @@ publish-requires-clause-room g c =
 pub returns-clause-told : goal.returns-clause-told
 returns-clause-told g c =
     let published = g.P.Publishing.published c.args.publishing.now in
-    told_published g.P.Judging.passes g.P.Judging.tells g.P.Judging.makes g.P.Judging.octets g.P.Judging.serial g.S.Storing.stored g.S.Storing.kept
+    told_published g.P.Judging.passes g.P.Judging.tells g.P.Judging.makes g.P.Judging.octets g.P.Judging.serial g.S.Storing.writes g.S.Storing.has
     c.append-fault.result c.args.last.now published (g.P.Publishing.published c.publish.new.self) c.args.batch.now c.judge_group-group.new.verdicts.items c.fail_unkept.new.verdicts.items
     c.args.store.now c.append-fault.new.self c.judge_group-group.result c.append-fault.new.group c.min.result
     c.requires.last c.judge_group-group.ensures.judged c.append-fault.ensures.told c.fail_unkept.ensures.failed c.append-fault.ensures.stored

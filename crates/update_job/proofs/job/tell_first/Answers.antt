@@ -2,7 +2,7 @@
 use Rattle.std.proofs.Common.{◌∙◌}
 use Rattle.std.specs.Vec.Iter.{drain_items}
 use Rattle.update_job.proofs.DoneLemmas.{rest_done}
-use Rattle.update_job.proofs.ToldLemmas.{told_next}
+use Rattle.update_job.proofs.ToldLemmas.{replied_next}
 use Rattle.update_job.proofs.job.tell_first.Goals as goal
 
 pub loop-asked-preserved : goal.loop-asked-preserved
@@ -20,7 +20,7 @@ loop-asked-preserved g c =
           (g.P.Publishing.begun new) verdicts left batch c.in-Some.asked rest next c.first_verdict.ensures.1 c.tell.ensures.published c.tell.ensures.begun before.done;
       published = c.tell.ensures.published ∙ before.published;
       room = c.tell.ensures.room ∙ before.room;
-      told = told_next (g.P.Publishing.told old) (g.P.Publishing.told new) c.in-Some.asked c.first_verdict.result.0 verdicts left batch rest next
-          c.first_verdict.ensures.0 c.first_verdict.ensures.1 c.tell.ensures.told
-          ∙ before.told;
+      replied = replied_next g.P.Judging.octets (g.P.Publishing.replied old) (g.P.Publishing.replied new) c.in-Some.asked c.first_verdict.result.0 verdicts left batch rest next
+          c.first_verdict.ensures.0 c.first_verdict.ensures.1 c.tell.ensures.replied
+          ∙ before.replied;
     }

@@ -1,7 +1,7 @@
--- Those that are still to be told have the verdicts that are left, and what is told with them after what was is all.
-use Rattle.std.proofs.Common.{◌≡◌, take}
+-- Those that are still to be told have the verdicts that are left, and what is replied with them after what was is all.
+use Rattle.std.proofs.Common.{◌≡◌, ◌++◌, take}
 use Rattle.std.specs.Vec.Iter.{drain_items}
-use Rattle.update_job.specs.Done.{AreDone, told_of, told_behind}
+use Rattle.update_job.specs.Done.{AreDone, replies_to}
 use Rattle.update_job.proofs.job.tell_first.Given as goal
 
 abbrev pub invariant-loop-asked : goal.invariant-loop-asked
@@ -10,6 +10,6 @@ invariant-loop-asked g l = record {
       (drain_items l.asked-iterator);
   published : g.P.Publishing.published l.publishing ≡ g.P.Publishing.published l.fn.publishing;
   room : g.P.Publishing.room l.publishing ≡ g.P.Publishing.room l.fn.publishing;
-  told : told_behind (g.P.Publishing.told l.publishing) (told_of l.left (drain_items l.asked-iterator))
-      ≡ told_behind (g.P.Publishing.told l.fn.publishing) (told_of l.fn.verdicts (take l.fn.count l.fn.waiting.items));
+  replied : g.P.Publishing.replied l.publishing ++ replies_to g.P.Judging.octets l.left (drain_items l.asked-iterator)
+      ≡ g.P.Publishing.replied l.fn.publishing ++ replies_to g.P.Judging.octets l.fn.verdicts (take l.fn.count l.fn.waiting.items);
 }

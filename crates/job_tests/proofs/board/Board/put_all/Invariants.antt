@@ -8,4 +8,5 @@ invariant-loop-version l = record {
   published : l.self.before.items ++ l.self.last ∷ [] ≡ (l.fn.self.before.items ++ l.fn.self.last ∷ []) ++ l.yielded;
   begun : l.self.begun ≡ l.fn.self.begun;
   room : l.self.room + length l.yielded ≡ l.fn.self.room;
+  replied : l.self.replied.replies ≡ l.fn.self.replied.replies;
 }

@@ -1,20 +1,27 @@
 -- The first of those that wait are judged as a batch, and each of it is told what it gets.
-use Rattle.std.proofs.Common.{◌≡◌, ◌+◌, ◌++◌, ◌∙◌, ap, sym, subst, length, take, take-append-drop, arith}
+use Rattle.std.proofs.Common.{◌≡◌, ◌+◌, ◌++◌, ◌∙◌, ℕ, List, ap, sym, subst, length, take, take-append-drop, arith}
 use Rattle.std.specs.Prelude.{min, max}
-use Rattle.update_job.specs.Done.{told_of, told_behind}
+use Rattle.dns_rdata.specs.Record.{Record}
+use Rattle.update_job.specs.Done.{replies_to}
 use Rattle.update_job.specs.Turned.{IsTold}
-use Rattle.update_job.proofs.ToldLemmas.{take_some, taken_many, told_between}
+use Rattle.update_job.proofs.ToldLemmas.{take_some, taken_many, told_between, told_tended}
 use Rattle.update_job.proofs.job.UpdateJob.turn.Goals as goal
 
 pub returns-clause-turned : goal.returns-clause-turned
 returns-clause-turned g c =
+    let passes = g.P.Judging.passes in
+    let tells = g.P.Judging.tells in
+    let makes = g.P.Judging.makes in
+    let octets = g.P.Judging.octets in
+    let serial = g.P.Judging.serial in
+    let writes = g.S.Storing.writes in
+    let has = g.S.Storing.has in
     let judged = c.judge_batch-fault.ensures in
     let same = c.fill.ensures.same in
     let old = g.P.Publishing.published c.args.self.now.publishing in
     let begun = g.P.Publishing.published c.begin-last.new.self in
     let later = g.P.Publishing.published c.judge_batch-fault.new.publishing in
     let new = g.P.Publishing.published c.tell_first.new.publishing in
-    let before = g.P.Publishing.told c.args.self.now.publishing in
     let count = c.first_of-count.result in
     let waiting = c.fill.new.self.waiting.items in
     let batch = take count waiting in
@@ -35,15 +42,16 @@ returns-clause-turned g c =
       many = taken_many count (min (max room 1) 64) waiting c.tell_first.new.waiting.items counted c.tell_first.ensures.rest;
       left = omega (arith, left, ap length from, ap length c.tell_first.ensures.published, c.tell_first.ensures.room);
       verdicts = verdicts;
-      ready = c.tend.new.self;
-      stored = c.judge_batch-fault.new.store;
-      tended = subst (λ s. g.S.Storing.tended s c.tend.new.self) same.1 c.tend.ensures;
-      told = told_between g.P.Judging.passes g.P.Judging.tells g.P.Judging.makes g.P.Judging.octets g.P.Judging.serial g.S.Storing.stored g.S.Storing.kept c.judge_batch-fault.result
-          old begun later new batch verdicts c.tend.new.self c.judge_batch-fault.new.store from c.tell_first.ensures.published
-          (subst (λ l. IsTold g.P.Judging.passes g.P.Judging.tells g.P.Judging.makes g.P.Judging.octets g.P.Judging.serial g.S.Storing.stored g.S.Storing.kept begun
-          later (take count l) verdicts c.judge_batch-fault.result c.tend.new.self c.judge_batch-fault.new.store) c.deref.ensures.value judged.told);
-      sent = c.tell_first.ensures.told
-          ∙ (ap (λ o. told_behind o (told_of c.deref-2.result.now batch)) (judged.same ∙ c.begin-last.ensures.told ∙ ap (λ p. g.P.Publishing.told p) same.0)
-          ∙ ap (λ vs. told_behind before (told_of vs batch)) c.deref-2.ensures.value);
-      tended_again = c.tend-2.ensures;
+      told = told_tended passes tells makes octets serial writes has c.judge_batch-fault.result old new batch verdicts c.args.self.now.store c.tend.new.self
+          c.judge_batch-fault.new.store c.tend-2.new.self
+          (subst (λ s. (zone : List Record) (versions : List g.row.P-Version.Denot) (updates : List (List ℕ)) → has zone s versions updates → has zone c.tend.new.self versions updates)
+          same.1 c.tend.ensures)
+          c.tend-2.ensures
+          (told_between passes tells makes octets serial writes has c.judge_batch-fault.result old begun later new batch verdicts c.tend.new.self c.judge_batch-fault.new.store
+          from c.tell_first.ensures.published
+          (subst (λ l. IsTold passes tells makes octets serial writes has begun later (take count l) verdicts c.judge_batch-fault.result c.tend.new.self c.judge_batch-fault.new.store)
+          c.deref.ensures.value judged.told));
+      replied = c.tell_first.ensures.replied
+          ∙ (ap (λ rs. rs ++ replies_to octets c.deref-2.result.now batch) (judged.same ∙ c.begin-last.ensures.replied ∙ ap (λ p. g.P.Publishing.replied p) same.0)
+          ∙ ap (λ vs. g.P.Publishing.replied c.args.self.now.publishing ++ replies_to octets vs batch) c.deref-2.ensures.value);
     }

@@ -8,7 +8,7 @@ pub returns-clause-all : goal.returns-clause-all
 returns-clause-all g c =
     let t = c.self.inside in
     let begun = c.begin-batch.result in
-    let state : ℕ → TellerState = λ room. record { seen = c.begin-batch.new.reader.seen; begun = begun.number + 1; room = room; brought = g.P.Replying.brought t.replying } in
+    let state : ℕ → TellerState = λ room. record { seen = c.begin-batch.new.reader.seen; begun = begun.number + 1; room = room; replied = t.replied.replies; brought = g.P.Replying.brought t.replying } in
     subst (λ (s : TellerState). HasBegun g.Z.FirstZone.zone s.seen (state c.begin-batch.new.right.reserved.amount) begun.last) c.self.view_is
     (subst (λ (n : ℕ). HasBegun g.Z.FirstZone.zone t.reader.seen (state n) begun.last) (sym c.begin-batch.ensures.reserved)
-    (has_begun g.Z.FirstZone.zone t.reader c.begin-batch.new.reader begun (g.P.Replying.brought t.replying) c.begin-batch.ensures.begun))
+    (has_begun g.Z.FirstZone.zone t.reader c.begin-batch.new.reader begun t.replied.replies (g.P.Replying.brought t.replying) c.begin-batch.ensures.begun))

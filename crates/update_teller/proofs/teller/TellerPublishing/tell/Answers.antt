@@ -9,9 +9,9 @@ use Rattle.serve_core.specs.Transport.{limit_of}
 use Rattle.lasting_engine.specs.Asked.{serial_in}
 use Rattle.update_desk.specs.declared.done.Serials.{Serials}
 use Rattle.update_desk.specs.Done.{IsDoneBy}
-use Rattle.update_job.specs.Done.{IsDone, told_behind}
+use Rattle.update_job.specs.Done.{IsDone}
 use Rattle.zone_service.specs.declared.handing.Way.{Way}
-use Rattle.update_teller.specs.Brought.{key_to, sent_by, IsTold, IsBroughtBy}
+use Rattle.update_teller.specs.Brought.{brought_after, key_to, sent_by, IsTold, IsBroughtBy}
 use Rattle.update_teller.specs.Met.{TellerState}
 use Rattle.update_teller.specs.Waits.{passes_waiting, tells_waiting, makes_waiting}
 use Rattle.update_teller.proofs.DoneLemmas.{waiting_done, reply_told}
@@ -35,7 +35,7 @@ pub returns-in-Connection-clause-brought : goal.returns-in-Connection-clause-bro
 returns-in-Connection-clause-brought g c = (
   key_to c.in-Connection.worker c.in-Connection.key,
   subst (λ (w : Way). IsBroughtBy w g.Z.FirstZone.zone c.args.self.now.seen c.args.self.now.begun c.args.waiting.asked c.args.verdict.code (key_to c.in-Connection.worker c.in-Connection.key)) (sym c.in-Connection.is) refl,
-  c.tell-in-Connection.ensures ∙ ap (λ (s : TellerState). told_behind s.brought (key_to c.in-Connection.worker c.in-Connection.key ∷ [])) c.self.view_is,
+  c.tell-in-Connection.ensures ∙ ap (λ (s : TellerState). brought_after s.brought (key_to c.in-Connection.worker c.in-Connection.key ∷ [])) c.self.view_is,
 )
 
 pub returns-in-Datagram-clause-brought : goal.returns-in-Datagram-clause-brought
@@ -57,5 +57,5 @@ returns-in-Datagram-clause-brought g c =
       subst (λ (w : Way). IsBroughtBy w g.Z.FirstZone.zone c.args.self.now.seen c.args.self.now.begun asked c.args.verdict.code one) (sym c.in-Datagram.is)
           (take len out, refl, subst (λ (s : TellerState). IsTold g.Z.FirstZone.zone s.seen s.begun asked c.args.verdict.code (take len out)) c.self.view_is told),
       c.send.ensures
-          ∙ ap (λ (s : TellerState). told_behind s.brought (one ∷ [])) c.self.view_is,
+          ∙ ap (λ (s : TellerState). brought_after s.brought (one ∷ [])) c.self.view_is,
     )

@@ -1,0 +1,5 @@
+use Rattle.update_laws.proofs.LawLemmas.{served_recovered}
+use Rattle.update_laws.proofs.laws.served_updates_are_recovered.Goals as goal
+
+pub returns : goal.returns
+returns g c = served_recovered
