@@ -123,9 +123,9 @@ module _ {V A S : Type 0} (passes : V → A → Type 0) (tells : V → A → ℕ
     pub told_between : (fault : Option (LogFault F)) (old begun later new : List V) (batch : List A) (verdicts : List Verdict) (before after : S) → begun ≡ old → new ≡ later
         → IsTold passes tells makes octets serial writes has begun later batch verdicts fault before after
         → IsTold passes tells makes octets serial writes has old new batch verdicts fault before after
-    told_between fault old begun later new batch verdicts before after from to told =
+    told_between fault old begun later new batch verdicts before after from to is =
         subst (λ (vs : List V). IsTold passes tells makes octets serial writes has old vs batch verdicts fault before after) (sym to)
-        (subst (λ (vs : List V). IsTold passes tells makes octets serial writes has vs later batch verdicts fault before after) from told)
+        (subst (λ (vs : List V). IsTold passes tells makes octets serial writes has vs later batch verdicts fault before after) from is)
 
 -- one more of a batch gets its reply
 pub replied_next : {A : Type 0} (octets : A → List ℕ) (old new : List Reply) (one : A) (verdict : Verdict) (verdicts left : List Verdict) (batch rest : List A)

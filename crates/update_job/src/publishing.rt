@@ -46,5 +46,5 @@ pub trait Publishing: Judging + Drop {
         ensures published { published self.new ≡ published self.old }
         ensures begun { begun self.new ≡ begun self.old }
         ensures room { room self.new ≡ room self.old }
-        ensures replied { replied self.new ≡ replied self.old ++ reply_to (octets asked) verdict ∷ [] };
+        ensures replied { replied self.new ≡ replied self.old ++ reply_to (Self.octets asked) verdict ∷ [] };
 }
