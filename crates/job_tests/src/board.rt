@@ -167,8 +167,7 @@ impl Publishing for Board {
     }
 
     fn tell<R: Wait>(&mut self, _rt: &R, asked: Added, verdict: Verdict) {
-        self.replied
-            .note(&[u64::from(verdict.code)], &asked.octets);
+        self.replied.note(&[u64::from(verdict.code)], &asked.octets);
         if self.told.len() < self.told.capacity() {
             let octet = asked.octets.first().copied();
             self.told

@@ -37,6 +37,6 @@ pub trait Storing<V: Drop>: Drop {
         ensures told { MatchOption result (group.new ≡ group.old) (λ _. IsGivenUp group.old group.new) }
         ensures stored { MatchOption result
             ((updates : List (List ℕ)) → IsBatch group.old updates → (zone : List Record) (versions : List V) (stood : List (List ℕ)) (last : V) → has zone self.old versions stood
-                → IsLast versions last → AreWritten writes last (versions_of group.old) updates → has zone self.new (versions ++ versions_of group.old) (stood ++ updates))
+            → IsLast versions last → AreWritten writes last (versions_of group.old) updates → has zone self.new (versions ++ versions_of group.old) (stood ++ updates))
             (λ _. (zone : List Record) (versions : List V) (stood : List (List ℕ)) → has zone self.old versions stood → has zone self.new versions stood) };
 }
