@@ -1,9 +1,10 @@
 //! The next zone text (own).
-ghost use Rattle.std.specs.Prelude.{◌≡◌, ℕ, List};
+ghost use Rattle.std.specs.Prelude.{◌≡◌, ◌≢◌, ℕ, true, List, None};
 ghost use Rattle.dns_rdata.specs.Record.{Record};
 ghost use Rattle.dns_message.specs.declared.update.Update.{Update};
 ghost use Rattle.file_disks.specs.File.{written, synced};
-ghost use Rattle.compaction.specs.Writer.{trail_of, head_of};
+ghost use Rattle.journal_store.specs.Log.{is_stuck};
+ghost use Rattle.compaction.specs.Writer.{log_of, trail_of, head_of, under_way_of};
 ghost use Rattle.store_compactor.specs.Stands.{Stands};
 
 use crate::event::{CompactionEvent, Notes};
@@ -15,7 +16,10 @@ use std::sync::Wait;
 
 /// Whether another zone text is due, of a journal that had so many octets behind the last one: it takes nothing more, or the text before came to nothing, or it has
 /// more than `most` octets, and twice as many as it had.
-pub(crate) fn is_due(writer: &StoreWriter<FileDisk>, most: u64, had: u64) -> bool {
+pub(crate) fn is_due(writer: &StoreWriter<FileDisk>, most: u64, had: u64) -> bool
+    ensures stuck { is_stuck (log_of writer.now) ≡ true → result ≡ true }
+    ensures under_way { under_way_of writer.now ≢ None → result ≡ true }
+{
     let len = writer.log().len();
     writer.log().is_stuck() || writer.is_compacting() || (len > most && len / 2 > had)
 }

@@ -1,6 +1,6 @@
 -- A store that a start has given, and who writes it.
 use Rattle.std.proofs.Common.{◌≡◌, ◌⊎◌, ℕ, zero, suc, ◌+◌, ◌-◌, ◌≤◌, List, [], ◌∷◌, ◌++◌, length, take, drop, map, Option, None, Some, inl, inr, refl, sym, ap, ◌∙◌, subst, append_assoc, length-append, arith}
-use Rattle.std.specs.Prelude.{All}
+use Rattle.std.specs.Prelude.{All, Bool, true, false, nat_lt, if◌then◌else◌}
 use Rattle.std.specs.declared.io.Error.{Error as IoError}
 use Rattle.std.proofs.lemmas.List.{length-map, length-drop, drop-drop}
 use Rattle.std.proofs.lemmas.List.Elements.{All-nil, All-head, All-tail, All-append, All-drop}
@@ -31,7 +31,7 @@ use Rattle.recovery.proofs.ReadLemmas.{read_once, read_long, read_first}
 use Rattle.stores.proofs.CompactedLemmas.{replay_parts}
 use Rattle.compaction.specs.declared.step.Step.{Step}
 use Rattle.compaction.specs.declared.writer.StoreWriter.{StoreWriter}
-use Rattle.compaction.specs.Trail.{TrailState, versions_in, updates_of, followed}
+use Rattle.compaction.specs.Trail.{TrailState, versions_in, updates_of, shortened, trimmed, longer, pushed, followed}
 use Rattle.compaction.specs.Writer.{log_of, trail_of, head_of}
 use Rattle.compaction.specs.End.{IsEndOf}
 use Rattle.compaction.proofs.TrailLemmas.{versions-append, updates_of-append, followed_is, followed_split}
@@ -254,3 +254,19 @@ writes_on store keep steps writer given versions octets trail log head =
       };
       last = ap (λ (t : TrailState). newest_of t.oldest (versions_in t.steps)) trail ∙ (follows.1 ∙ ap (newest_of store.first) versions);
     }
+
+-- a trail that is followed keeps as many older versions as before
+shortened_keep : (trail : TrailState) (steps : List Step) → (shortened trail steps).keep ≡ trail.keep
+shortened_keep trail [] = refl
+shortened_keep trail (step ∷ steps) = refl
+
+trimmed_keep : (trail : TrailState) → (trimmed trail).keep ≡ trail.keep
+trimmed_keep trail = by_length (nat_lt trail.keep (length trail.steps))
+  where
+    by_length : (b : Bool) → (if b then shortened trail trail.steps else trail).keep ≡ trail.keep
+    by_length true = shortened_keep trail trail.steps
+    by_length false = refl
+
+pub followed_keep : (trail : TrailState) (steps : List Step) → (followed trail steps).keep ≡ trail.keep
+followed_keep trail [] = refl
+followed_keep trail (step ∷ steps) = followed_keep (pushed trail step) steps ∙ trimmed_keep (longer trail step)

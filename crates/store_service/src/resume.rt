@@ -5,6 +5,7 @@ ghost use Rattle.dns_engine.specs.Versions.{IsFirst, AreNext};
 ghost use Rattle.journal.specs.Batch.{IsShort};
 ghost use Rattle.compaction.specs.declared.step.Step.{Step};
 ghost use Rattle.compaction.specs.Trail.{versions_in, updates_of, followed};
+ghost use Rattle.compaction.specs.Writer.{trail_of as trail_in};
 ghost use Rattle.store_service.specs.Resumed.{IsGiven, WritesOn};
 
 use compaction::{StoreWriter, Trail, steps_of};
@@ -26,6 +27,7 @@ pub fn resume_store<R: Wait>(
     ensures later { IfOk result (λ r. r.1.items ≡ store.later.items) }
     ensures served { IfOk result (λ r. IsFirst r.0.zone r.0 × AreNext r.0 r.1.items) }
     ensures writes { IfOk result (λ r. WritesOn r.0 r.1.items r.2) }
+    ensures keep { IfOk result (λ r. (trail_in r.2).keep ≡ min keep KEPT) }
 {
     let Resumed {
         head,

@@ -14,7 +14,7 @@ use Rattle.store_start.specs.declared.resume.Resumed.{Resumed}
 use Rattle.store_start.specs.declared.start.Served.{Served}
 use Rattle.store_start.specs.declared.start.Served.TheVariants.{Begun, Same, Store, StoreThoughOther, Zone}
 use Rattle.store_start.specs.declared.start.Started.{Started}
-use Rattle.store_start.specs.Started.{GoesOn, IsBegunStore, IsChosen, IsServedBy, IsServed, IsKept, IsOwnFault, IsRefused}
+use Rattle.store_start.specs.Started.{GoesOn, IsBegunAnew, IsBegunStore, IsChosen, IsServedBy, IsServed, IsKept, IsOwnFault, IsRefused}
 
 -- want of memory and a device's fault refuse a start
 pub own_refused : (given : List ℕ) (origin : Name) (taken : Option Take) (result : Result Started Refusal) → IfErr result IsOwnFault → IfErr result (λ refusal. IsRefused given origin taken refusal)
@@ -29,6 +29,22 @@ own_refused given origin taken (Err (OtherApex has other)) own = absurd own
 own_refused given origin taken (Err (Text fault)) own = absurd own
 own_refused given origin taken (Err NoMemory) own = tt
 own_refused given origin taken (Err (Device fault)) own = tt
+
+-- what is served isn't begun anew
+pub not_anew : (served : Served) → (IsBegunAnew served → ⊥) → (result : Result Started Refusal) → IfOk result (λ s. s.served ≡ served) → IfOk result (λ s. IsBegunAnew s.served → ⊥)
+not_anew served other (Ok started) is = λ anew. other (subst IsBegunAnew is anew)
+not_anew served other (Err refusal) is = tt
+
+kept_other : (served : Served) → IsKept served → IsBegunAnew served → ⊥
+kept_other Begun kept anew = kept
+kept_other Same kept anew = kept
+kept_other Store kept anew = kept
+kept_other (StoreThoughOther serial) kept anew = kept
+kept_other (Zone path) kept anew = anew
+
+pub kept_not_anew : (result : Result Started Refusal) → IfOk result (λ s. IsKept s.served) → IfOk result (λ s. IsBegunAnew s.served → ⊥)
+kept_not_anew (Ok started) kept = kept_other started.served kept
+kept_not_anew (Err refusal) kept = tt
 
 module _ (given : List ℕ) (origin : Name) (taken : Option Take) (random text octets : List ℕ) where
   -- a choice, as it was made

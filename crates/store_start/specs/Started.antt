@@ -17,6 +17,8 @@ use Rattle.recovery.specs.declared.start.Start.{Start}
 use Rattle.recovery.specs.Replay.{first_version}
 use Rattle.recovery.specs.Rebased.{versions_in, rebased}
 use Rattle.recovery.specs.Start.{IsStarted, IsSound, IsStartFault}
+use Rattle.store_files.specs.declared.open.Opened.{Opened}
+use Rattle.store_files.specs.declared.open.Opened.TheVariants.{Empty, Found}
 use Rattle.stores.specs.declared.choices.Take.{Take}
 use Rattle.stores.specs.declared.choices.Choice.{Choice}
 use Rattle.stores.specs.declared.choices.Choice.TheVariants.{Same as IsSame, Store as IsStore, Zone as IsZone, StoreThoughOther as IsOlder, RefuseNewer, RefuseNotNewer, RefuseOtherApex}
@@ -90,6 +92,17 @@ IsServed given origin taken random started = IsServedBy given origin taken rando
 abbrev pub IsKept : Served → Type 0
 IsKept (Zone kept) = ⊤
 IsKept _ = ⊥
+
+-- a zone text is served since no store was begun
+abbrev pub IsBegunAnew : Served → Type 0
+IsBegunAnew Begun = ⊤
+IsBegunAnew _ = ⊥
+
+-- so it is only of a folder that has no store: one that is found goes on, or is kept beside the one that is begun in its place
+abbrev pub IsOfFolder : Opened → Served → Type 0
+IsOfFolder (Empty lock) served = IsBegunAnew served
+IsOfFolder (Found lock pair) served = IsBegunAnew served → ⊥
+IsOfFolder _ served = ⊥
 
 -- want of memory, or a device's fault
 abbrev pub IsOwnFault : Refusal → Type 0

@@ -3,7 +3,8 @@ ghost use Rattle.std.specs.Prelude.{◌≡◌, ℕ, length, map, IfOk, IfErr};
 ghost use Rattle.file_disks.specs.File.{written};
 ghost use Rattle.recovery.specs.Start.{IsStarted};
 ghost use Rattle.stores.specs.Choice.{IsChoice};
-ghost use Rattle.store_start.specs.Started.{AreLastUpdates, GoesOn, IsBegunStore, IsOwnFault, IsNoText, IsKept, IsServed, IsRefused};
+ghost use Rattle.store_start.specs.Started.{AreLastUpdates, GoesOn, IsBegunAnew, IsBegunStore, IsOfFolder, IsOwnFault, IsNoText, IsKept, IsServed, IsRefused};
+ghost use Rattle.store_files.specs.Store.{IsAsNoted};
 
 use crate::begin::begin_with;
 use crate::refusal::Refusal;
@@ -73,7 +74,25 @@ pub fn start_store<R: Files<File = File> + Alloc + Clone + Drop>(
     ensures served { IfOk result (λ started. IsServed given.entry.text.now given.entry.origin.now given.entry.taken random started) }
     ensures refused { IfErr result (λ refusal. IsRefused given.entry.text.now given.entry.origin.now given.entry.taken refusal) }
 {
-    match open_store(rt, alloc, dir)? {
+    let opened = open_store(rt, alloc, dir)?;
+    start_opened(rt, alloc, dir, given, random, opened)
+}
+
+/// What a server begins with, of what its folder has: with a zone text alone only where there is no store.
+fn start_opened<R: Files<File = File> + Alloc + Clone + Drop>(
+    rt: &R,
+    alloc: Global,
+    dir: &str,
+    given: Given<'_>,
+    random: [u8; 16],
+    opened: Opened,
+) -> Result<Started, Refusal>
+    requires noted { IsAsNoted opened }
+    ensures served { IfOk result (λ started. IsServed given.entry.text.now given.entry.origin.now given.entry.taken random started) }
+    ensures found { IfOk result (λ started. IsOfFolder opened started.served) }
+    ensures refused { IfErr result (λ refusal. IsRefused given.entry.text.now given.entry.origin.now given.entry.taken refusal) }
+{
+    match opened {
         Opened::Locked => Err(Refusal::Held),
         Opened::NoJournal(number) => Err(Refusal::NoJournal(number)),
         Opened::NoText(number) => Err(Refusal::NoText(number)),
@@ -103,6 +122,7 @@ fn start_found<R: Files<File = File> + Alloc + Clone + Drop>(
 ) -> Result<Started, Refusal>
     requires noted { written pair.disk ≡ pair.journal.items }
     ensures served { IfOk result (λ started. IsServed given.entry.text.now given.entry.origin.now given.entry.taken random started) }
+    ensures found { IfOk result (λ started. IsBegunAnew started.served → ⊥) }
     ensures refused { IfErr result (λ refusal. IsRefused given.entry.text.now given.entry.origin.now given.entry.taken refusal) }
 {
     let (start, updates) = start_with_updates(alloc, &pair.text, &pair.journal)?;

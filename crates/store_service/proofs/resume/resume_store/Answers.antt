@@ -4,11 +4,11 @@ use Rattle.std.specs.Global.{Global}
 use Rattle.zone_tree.specs.Version.{Version}
 use Rattle.dns_engine.specs.Held.{KEPT}
 use Rattle.journal.specs.Batch.{IsShort}
-use Rattle.compaction.specs.Trail.{followed}
+use Rattle.compaction.specs.Trail.{TrailState, followed}
 use Rattle.compaction.specs.Writer.{trail_of}
 use Rattle.store_start.specs.declared.resume.Resumed.{Resumed}
 use Rattle.store_service.specs.Resumed.{WritesOn}
-use Rattle.store_service.proofs.ResumedLemmas.{has_short, has_many, writes_on}
+use Rattle.store_service.proofs.ResumedLemmas.{has_short, has_many, writes_on, followed_keep}
 use Rattle.store_service.proofs.resume.resume_store.Goals as goal
 
 pub trail_of-requires-clause-short : goal.trail_of-requires-clause-short
@@ -32,3 +32,9 @@ returns-clause-writes g c =
     writes_on store keep found.0 c.of.result c.requires (found.1 ∙ (c.deref.ensures.value ∙ later))
     (found.2 ∙ ap (λ (us : List (Vec ℕ Global)). map (λ update. update.items) us) c.deref-2.ensures.value) trail c.of.ensures.log c.of.ensures.head in
     subst (λ (f : Version). WritesOn f c.in_ok-later.later.items c.of.result) (sym first) (subst (λ (l : List Version). WritesOn store.first l c.of.result) (sym later) writes)
+
+pub returns-clause-keep : goal.returns-clause-keep
+returns-clause-keep g c =
+    let found = c.in_ok-trail.ensures in
+    let begun : TrailState = record { oldest = c.in-Some.first; steps = []; keep = min c.args.keep KEPT } in
+    ap (λ (t : TrailState). t.keep) (c.of.ensures.trail ∙ found.3) ∙ followed_keep begun found.0
