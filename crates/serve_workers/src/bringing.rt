@@ -9,6 +9,7 @@ use std::net::{SocketAddr, UdpSocket};
 use std::sync::Wait;
 use update_teller::Replying;
 use worker_jobs::{ToldKeys, is_sent};
+use zone_service::AtSeat;
 
 /// How replies get to a thread.
 #[derive(Drop)]
@@ -60,7 +61,7 @@ impl<'a> Bringing<'a> {
 impl Replying for Bringing<'_> {
     ghost brought = { λ _. None };
 
-    fn tell<R: Wait>(&mut self, rt: &R, worker: usize, key: usize) {
+    fn tell<R: Wait>(&mut self, rt: &R, worker: usize, key: usize, _told: AtSeat) {
         if let Some(Path::Keys(keys)) = self.paths.get(worker) {
             keys.tell(rt, key);
         }

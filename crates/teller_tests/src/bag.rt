@@ -5,6 +5,7 @@ use std::alloc::Global;
 use std::net::SocketAddr;
 use std::sync::Wait;
 use update_teller::Replying;
+use zone_service::AtSeat;
 
 /// A datagram that was sent.
 #[derive(Drop)]
@@ -41,7 +42,7 @@ impl Bag {
 impl Replying for Bag {
     ghost brought = { λ bag. None };
 
-    fn tell<R: Wait>(&mut self, _rt: &R, worker: usize, key: usize) {
+    fn tell<R: Wait>(&mut self, _rt: &R, worker: usize, key: usize, _told: AtSeat) {
         let _ = self.keys.push((worker, key));
     }
 

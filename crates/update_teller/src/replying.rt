@@ -4,14 +4,15 @@ ghost use Rattle.update_teller.specs.Brought.{Brought, brought_after, key_to, se
 
 use std::net::SocketAddr;
 use std::sync::Wait;
+use zone_service::AtSeat;
 
 /// What brings replies to those whose updates waited. One that keeps what it was given may tell it, which contracts then speak of.
 pub trait Replying {
     /// What was brought, the first one first, where it is kept.
     ghost brought: { Self → Option (List Brought) };
 
-    /// Tells a worker the key of a connection whose reply can be had, and ends its wait.
-    fn tell<R: Wait>(&mut self, rt: &R, worker: usize, key: usize)
+    /// Tells a worker the key of a connection whose reply is at its seat, and ends its wait.
+    fn tell<R: Wait>(&mut self, rt: &R, worker: usize, key: usize, told: AtSeat)
         ensures { brought self.new ≡ brought_after (brought self.old) (key_to worker key ∷ []) };
 
     /// Sends a datagram by a worker's socket. What can't be sent is lost, as datagrams are.

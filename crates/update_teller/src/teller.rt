@@ -278,9 +278,10 @@ impl<'a, 's, Z: FirstZone, N: ServerName, L: ServiceLog, P: Replying + Drop> Pub
         };
         match way {
             Way::Connection { worker, key, seat } => {
-                self.server
+                let told = self
+                    .server
                     .tell(rt, &mut self.reader, &mut self.right, seat, done);
-                self.replying.tell(rt, worker, key);
+                self.replying.tell(rt, worker, key, told);
             }
             Way::Datagram { worker, to } => {
                 let peer = Peer::over(Transport::Udp, true);

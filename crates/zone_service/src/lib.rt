@@ -19,7 +19,7 @@ pub use answer::{Now, Served, Told, answer_kept, answer_now, serve_one};
 pub use asked::Asked;
 pub use handing::{Hand, Handed, Waiting, Way, hand_in, hand_over, write_done};
 pub use notifying::{NextTurn, Notifying};
-pub use server::Server;
+pub use server::{AtSeat, Server};
 pub use service_log::{Event, JobEnd, Losses, NoLog, ServiceLog, Wanted};
 pub use telling::{tell_refused, tell_signed, tell_update};
 pub use transfer::write_transfer;

@@ -33,6 +33,10 @@ pub struct Server<'a, Z: FirstZone, N: ServerName> {
     desk: Mutex<Desk<'a, Z, N>>,
 }
 
+/// The receipt of something that was told at a seat: [`Server::tell`] alone gives one, so that whoever takes one may wake the worker that is to fetch it.
+#[derive(Drop)]
+pub struct AtSeat(());
+
 /// The serial of an engine's last version, which a reader meets with all that is published.
 fn meet_last<Z: FirstZone, N: ServerName>(
     desk: &mut Desk<'_, Z, N>,
@@ -211,7 +215,7 @@ impl<'a, Z: FirstZone, N: ServerName> Server<'a, Z, N> {
     }
 
     /// Tells something at a seat, if one waits at it, behind the lock, for who has the right to publish: what is told is about versions that its reader, which has seen all
-    /// that is published, has seen.
+    /// that is published, has seen. It gives the receipt of that.
     pub fn tell<R: Wait>(
         &self,
         rt: &R,
@@ -219,7 +223,7 @@ impl<'a, Z: FirstZone, N: ServerName> Server<'a, Z, N> {
         right: &mut PublishRight<N>,
         seat: usize,
         done: Done,
-    )
+    ) -> AtSeat
         requires counted { right.old.published.amount ≡ length reader.old.seen }
         requires done { IsDone Z.zone reader.old.seen done }
         ensures same { reader.new ≡ reader.old }
@@ -228,6 +232,7 @@ impl<'a, Z: FirstZone, N: ServerName> Server<'a, Z, N> {
         let mut desk = self.desk.lock(rt);
         desk.audit(reader, right);
         desk.tell(seat, done);
+        AtSeat(())
     }
 
     /// Begins a batch of updates, behind the lock, for who has the right to publish, and whose reader has seen all that is published: the version that they are to be judged
