@@ -38,28 +38,48 @@ fn is_call(call: &UnderWay<'_>, name: &Handle<'_>) -> bool
 pub(crate) fn is_reserved(calls: &[UnderWay<'_>], name: &Handle<'_>) -> bool
     ensures { result ≡ list_any (λ call. says_reserves name.now call.phase) calls.now }
 {
-    calls.iter().any(|call| call.phase.reserves(name))
+    for call in calls {
+        if call.phase.reserves(name) {
+            return true;
+        }
+    }
+    false
 }
 
 /// Whether a call under way is to put a name into use for a weak owner.
 pub(crate) fn is_reserved_weakly(calls: &[UnderWay<'_>], name: &Handle<'_>) -> bool
     ensures { result ≡ list_any (λ call. says_reserves_weakly name.now call.phase) calls.now }
 {
-    calls.iter().any(|call| call.phase.reserves_weakly(name))
+    for call in calls {
+        if call.phase.reserves_weakly(name) {
+            return true;
+        }
+    }
+    false
 }
 
 /// Whether a call under way uses an owner.
 pub(crate) fn is_used(calls: &[UnderWay<'_>], owner: usize) -> bool
     ensures { result ≡ says_used calls.now owner }
 {
-    calls.iter().any(|call| call.phase.uses(owner))
+    for call in calls {
+        if call.phase.uses(owner) {
+            return true;
+        }
+    }
+    false
 }
 
 /// Whether a call is under way for which the window stays as it is.
 pub(crate) fn is_barred(calls: &[UnderWay<'_>]) -> bool
     ensures { result ≡ says_barred calls.now }
 {
-    calls.iter().any(|call| call.phase.bars())
+    for call in calls {
+        if call.phase.bars() {
+            return true;
+        }
+    }
+    false
 }
 
 /// The call under way of a name.
@@ -69,14 +89,24 @@ pub(crate) fn call_under<'b, 'a>(
 ) -> Option<&'b UnderWay<'a>>
     ensures { option_copied result ≡ call_of name.now calls.now }
 {
-    calls.iter().find(|call| is_call(call, name))
+    for call in calls {
+        if is_call(call, name) {
+            return Some(call);
+        }
+    }
+    None
 }
 
 /// The place of the call under way of a name.
 fn place_of(calls: &[UnderWay<'_>], name: &Handle<'_>) -> Option<usize>
     ensures { result ≡ position (λ call. bytes_eq call.name name.now) calls.now }
 {
-    calls.iter().position(|call| is_call(call, name))
+    for at in 0..calls.len() {
+        if is_call(&calls[at], name) {
+            return Some(at);
+        }
+    }
+    None
 }
 
 /// Takes out the call under way of a name, and gives how far it has come.
@@ -101,13 +131,15 @@ pub(crate) fn put_under_way<'a>(
     ensures ok { OnOk result (calls.new.items ≡ calls.old.items ++ record { name = name.now; phase = phase.entry } ∷ []) }
     ensures refused { IfErr result (λ fault. fault ≡ WorldFault.NoMemory) }
 {
-    if calls.reserve(1).is_err() {
-        mem::drop(phase);
-        return Err(WorldFault::NoMemory);
-    }
-    calls.push_reserved(UnderWay {
+    let call = UnderWay {
         name: name.copy(),
         phase,
-    });
-    Ok(())
+    };
+    match calls.push(call) {
+        Ok(()) => Ok(()),
+        Err(refused) => {
+            mem::drop(refused);
+            Err(WorldFault::NoMemory)
+        }
+    }
 }

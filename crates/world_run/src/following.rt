@@ -29,27 +29,28 @@ impl<'a> Phase<'a> {
         ensures ok { IfOk result (λ progress. progress ≡ after machine.now self.entry event) }
         ensures refused { IfErr result (λ fault. fault ≡ WorldFault.NoMemory) }
     {
-        match self {
-            Phase::Load(name) => Ok(after_load(name, event)),
-            Phase::Look(name, owner) => Ok(after_look(name, owner, event)),
-            Phase::Raise(name, owner) => Ok(after_raise(name, owner, event)),
-            Phase::Note(name, owner) => Ok(after_note(name, owner, event)),
-            Phase::Probe(version, keeping) => Ok(after_probe(version, keeping, event)),
-            Phase::Prepare(version, keeping) => Ok(after_prepare(version, keeping)),
-            Phase::Swap(keeping) => Ok(Progress::On(Phase::Settle(keeping))),
-            Phase::Settle(keeping) => Ok(after_settle(keeping, event)),
-            Phase::Keep(given, keeping) => Ok(after_keep(given, keeping, event)),
-            Phase::Enter(given, kept, keeping) => Ok(after_enter(given, kept, keeping, event)),
-            Phase::Seek(owner, seeking) => Ok(after_seek(owner, seeking, event)),
-            Phase::Gain(owner, seeking) => after_gain(machine, owner, seeking, event),
-            Phase::Release(owner, purpose) => Ok(after_release(owner, purpose, event)),
-            Phase::Bury(owner, purpose) => Ok(after_bury(owner, purpose, event)),
-            Phase::Fade(owner, number, purpose) => Ok(after_fade(owner, number, purpose, event)),
+        let progress = match self {
+            Phase::Load(name) => after_load(name, event),
+            Phase::Look(name, owner) => after_look(name, owner, event),
+            Phase::Raise(name, owner) => after_raise(name, owner, event),
+            Phase::Note(name, owner) => after_note(name, owner, event),
+            Phase::Probe(version, keeping) => after_probe(version, keeping, event),
+            Phase::Prepare(version, keeping) => after_prepare(version, keeping),
+            Phase::Swap(keeping) => Progress::On(Phase::Settle(keeping)),
+            Phase::Settle(keeping) => after_settle(keeping, event),
+            Phase::Keep(given, keeping) => after_keep(given, keeping, event),
+            Phase::Enter(given, kept, keeping) => after_enter(given, kept, keeping, event),
+            Phase::Seek(owner, seeking) => after_seek(owner, seeking, event),
+            Phase::Gain(owner, seeking) => return after_gain(machine, owner, seeking, event),
+            Phase::Release(owner, purpose) => after_release(owner, purpose, event),
+            Phase::Bury(owner, purpose) => after_bury(owner, purpose, event),
+            Phase::Fade(owner, number, purpose) => after_fade(owner, number, purpose, event),
             Phase::Reset(owner, number, purpose) => {
-                Ok(Progress::On(Phase::Free(owner, number, purpose)))
+                Progress::On(Phase::Free(owner, number, purpose))
             }
-            Phase::Free(_, number, purpose) => Ok(purpose.past(gone(number))),
-        }
+            Phase::Free(_, number, purpose) => purpose.past(gone(number)),
+        };
+        Ok(progress)
     }
 }
 
@@ -307,7 +308,10 @@ fn after_got<'a>(
     let mut further = seeking;
     match further.put_got(owner, version) {
         Ok(()) => Ok(gained_after(further)),
-        Err(fault) => Err(fault),
+        Err(fault) => {
+            mem::drop(further);
+            Err(fault)
+        }
     }
 }
 

@@ -27,15 +27,24 @@ fn has_name(named: &Named<'_>, name: &Handle<'_>) -> bool
 pub(crate) fn is_in_use(names: &[Named<'_>], name: &Handle<'_>) -> bool
     ensures { result ≡ list_any (λ named. bytes_eq named.name name.now) names.now }
 {
-    names.iter().any(|named| has_name(named, name))
+    for named in names {
+        if has_name(named, name) {
+            return true;
+        }
+    }
+    false
 }
 
 /// The owner that a name is in use for.
 pub(crate) fn owner_under(names: &[Named<'_>], name: &Handle<'_>) -> Option<usize>
     ensures { result ≡ owner_of name.now names.now }
 {
-    let named = names.iter().find(|named| has_name(named, name))?;
-    Some(named.owner)
+    for named in names {
+        if has_name(named, name) {
+            return Some(named.owner);
+        }
+    }
+    None
 }
 
 /// Takes the name out of use that a call gives up.

@@ -1,0 +1,10 @@
+use Rattle.std.proofs.Common.{◌≡◌, drop}
+use Rattle.std.specs.List.{list_any}
+use Rattle.world_run.specs.Phases.{bars}
+use Rattle.world_run.specs.declared.calls.UnderWay.{UnderWay}
+use Rattle.world_run.proofs.calls.is_barred.Given as goal
+
+-- none of those before here is
+abbrev pub invariant-loop-call : goal.invariant-loop-call
+invariant-loop-call l =
+    list_any (λ (call : UnderWay). bars call.phase) l.calls ≡ list_any (λ (call : UnderWay). bars call.phase) (drop l.call-index l.calls)
