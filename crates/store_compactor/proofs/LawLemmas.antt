@@ -59,5 +59,5 @@ module _ {F : Type 0} where
       → (has : HasUpdates zone store published updates) → IsStarted has.text (synced (disk_of (log_of store.writer)) ++ left) start
       → (all : List Update) × (more : List Update) × AreRead updates all × EachChanges zone (all ++ more) × (start.newest.last.zone ≡ replay zone (all ++ more))
   kept_recovered zone store published updates left start has is =
-      let crash = (crash_has_last has.text has.batches (replay zone has.in_text) has.in_journal has.k store left start has.stands is).2.1 in
-      has_recovered zone store published updates start.newest.last.zone has (crash.0, crash.1, crash.2.0)
+      let crash = (crash_has_last has.text has.batches (replay zone has.in_text) has.in_journal has.k store left start has.stands is).2 in
+      has_recovered zone store published updates start.newest.last.zone has (crash.0, crash.1, crash.2)

@@ -29,7 +29,7 @@ module _ (a b : NamedLft) (T N L P : RattleType) (g : Ghosts T.Denot) (n : namin
   inside_send hears brings =
       recorded_send (inside.the_field a b T N L P n g s r).row _ _ (inside.the_type a b T N L P n g s r).to_one
       (struct_send (shape (inside.the_type a b T N L P n g s r))
-      (shr_send _ _ _ (server_sync b T N g n s), (search (cell.crosses, crossing.crosses, sendable) depth 60 fits 20000, (search (right_send, sendable) depth 60 fits 20000, (search (crossing.crosses, sendable) depth 60 fits 20000, (brings, (search (crossing.crosses, sendable) depth 60 fits 20000, (search (names_send, sendable) depth 60 fits 20000, (search (crossing.crosses, sendable) depth 60 fits 20000, (search (crossing.crosses, sendable) depth 60 fits 20000, (search (engine.shared_send, crossing.crosses, sendable) depth 60 fits 20000, tt)))))))))))
+      (shr_send _ _ _ (server_sync b T N g n s), (search (cell.crosses, crossing.crosses, sendable) depth 60 fits 20000, (search (right_send, sendable) depth 60 fits 20000, (search (crossing.crosses, sendable) depth 60 fits 20000, (brings, (search (crossing.crosses, sendable) depth 60 fits 20000, (search (names_send, sendable) depth 60 fits 20000, (search (crossing.crosses, sendable) depth 60 fits 20000, (search (crossing.crosses, sendable) depth 60 fits 20000, (search (engine.shared_send, crossing.crosses, sendable) depth 60 fits 20000, (search (crossing.crosses, sendable) depth 60 fits 20000, tt))))))))))))
 
   pub teller_send : IsSync L → IsSend P → IsSend (teller.the_row a b T N L P n g s r)
   teller_send hears brings = let inside = inside_send hears brings in search sendable depth 60 fits 20000

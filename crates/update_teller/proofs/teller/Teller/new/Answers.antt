@@ -1,5 +1,5 @@
 -- It has met what is published.
-use Rattle.std.proofs.Common.{◌+◌, ℕ, [], sym, subst}
+use Rattle.std.proofs.Common.{◌+◌, ℕ, sym, subst}
 use Rattle.update_teller.specs.Met.{TellerState, HasBegun}
 use Rattle.update_teller.proofs.MetLemmas.{begun_from, has_begun, met_more}
 use Rattle.update_teller.proofs.teller.Teller.new.Goals as goal
@@ -9,9 +9,9 @@ returns-clause-begun g c =
     let first = g.Z.FirstZone.zone in
     let met = c.audit.new.reader in
     let begun = c.begin-begun.result in
-    let state : ℕ → TellerState = λ room. record { seen = c.begin-begun.new.reader.seen; begun = begun.number + 1; room = room; replied = []; brought = g.P.Replying.brought c.args.replying } in (
+    let state : ℕ → TellerState = λ room. record { seen = c.begin-begun.new.reader.seen; begun = begun.number + 1; room = room; replied = c.new-2.result.replies; brought = g.P.Replying.brought c.args.replying } in (
       begun.last,
       begun_from first c.args.reader.seen met.seen (state c.begin-begun.new.right.reserved.amount) begun.last (met_more first c.args.reader met c.audit.result c.audit.ensures.met)
           (subst (λ (n : ℕ). HasBegun first met.seen (state n) begun.last) (sym c.begin-begun.ensures.reserved)
-          (has_begun first met c.begin-begun.new.reader begun [] (g.P.Replying.brought c.args.replying) c.begin-begun.ensures.begun)),
+          (has_begun first met c.begin-begun.new.reader begun c.new-2.result.replies (g.P.Replying.brought c.args.replying) c.begin-begun.ensures.begun)),
     )

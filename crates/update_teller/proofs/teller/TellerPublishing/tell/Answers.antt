@@ -17,8 +17,8 @@ use Rattle.update_teller.specs.Waits.{passes_waiting, tells_waiting, makes_waiti
 use Rattle.update_teller.proofs.DoneLemmas.{waiting_done, reply_told}
 use Rattle.update_teller.proofs.teller.TellerPublishing.tell.Goals as goal
 
-pub tell-requires : goal.tell-requires
-tell-requires g c =
+pub tell-told-requires : goal.tell-told-requires
+tell-told-requires g c =
     let t = c.self.inside in
     let had = c.self.invariant.0 in
     let least : t.begun ≤ had.version.number = omega (arith, had.begun_before, had.number) in
@@ -35,7 +35,7 @@ pub returns-in-Connection-clause-brought : goal.returns-in-Connection-clause-bro
 returns-in-Connection-clause-brought g c = (
   key_to c.in-Connection.worker c.in-Connection.key,
   subst (λ (w : Way). IsBroughtBy w g.Z.FirstZone.zone c.args.self.now.seen c.args.self.now.begun c.args.waiting.asked c.args.verdict.code (key_to c.in-Connection.worker c.in-Connection.key)) (sym c.in-Connection.is) refl,
-  c.tell-in-Connection.ensures ∙ ap (λ (s : TellerState). brought_after s.brought (key_to c.in-Connection.worker c.in-Connection.key ∷ [])) c.self.view_is,
+  c.tell.ensures ∙ ap (λ (s : TellerState). brought_after s.brought (key_to c.in-Connection.worker c.in-Connection.key ∷ [])) c.self.view_is,
 )
 
 pub returns-in-Datagram-clause-brought : goal.returns-in-Datagram-clause-brought
