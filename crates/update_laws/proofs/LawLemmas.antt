@@ -39,11 +39,11 @@ resumed_has first later writer writes =
     has_begun writes.text writes.batches writes.zone writes.updates writes.k (record { writer = writer; wanted = None }) (first ∷ later) writes.stands
     (subst (λ (v : Version). IsLast (first ∷ later) v) (sym writes.last) (last_more (first ∷ []) first later ([], refl)))
 
-module _ {L : Type 0} where
-  -- a request that waits has the octets that it was read of
-  waiting_read : RequestsAreRead {S = ServedStore (CompactorState IoError) L} passes_waiting tells_waiting makes_waiting octets_of_waiting serial_in IsWrittenBy (HasIn HasUpdates)
-  waiting_read version waiting next lets is = (waiting.asked.short, (waiting.asked.update, waiting.asked.read, is))
+-- a request that waits has the octets that it was read of
+waiting_read : (L : Type 0) → RequestsAreRead {S = ServedStore (CompactorState IoError) L} passes_waiting tells_waiting makes_waiting octets_of_waiting serial_in IsWrittenBy (HasIn HasUpdates)
+waiting_read L version waiting next lets is = (waiting.asked.short, (waiting.asked.update, waiting.asked.read, is))
 
+module _ {L : Type 0} where
   pub served_recovered : (zone : List Record) (old new : JobState Version Waiting (ServedStore (CompactorState IoError) L)) (stood : List (List ℕ))
       (kept : KeptStore (CompactorState IoError) L)
       → (served : HasServed passes_waiting tells_waiting makes_waiting octets_of_waiting serial_in IsWrittenBy (HasIn HasUpdates) old new)
@@ -53,5 +53,5 @@ module _ {L : Type 0} where
       → (all : List Update) × (more : List Update) × AreRead (stood ++ served.updates) all × EachChanges zone (all ++ more) × (start.newest.last.zone ≡ replay zone (all ++ more)))
   served_recovered zone old new stood kept served had is =
       let has : HasUpdates zone kept.store new.published (stood ++ served.updates) =
-      subst (λ (s : ServedStore (CompactorState IoError) L). HasIn HasUpdates zone s new.published (stood ++ served.updates)) is (served.stored waiting_read zone stood had) in
+      subst (λ (s : ServedStore (CompactorState IoError) L). HasIn HasUpdates zone s new.published (stood ++ served.updates)) is (served.stored (waiting_read L) zone stood had) in
       (has, λ left start started. kept_recovered zone kept.store new.published (stood ++ served.updates) left start has started)
