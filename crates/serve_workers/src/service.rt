@@ -1,5 +1,5 @@
 //! A zone served on sockets, by workers.
-ghost use Rattle.std.specs.Prelude.{◌≡◌, ◌+◌, ◌<◌, ◌≤◌, [], true, false, map, vec_len, vec_capacity, None, Some, MatchOption};
+ghost use Rattle.std.specs.Prelude.{◌≡◌, ◌+◌, ◌<◌, ◌≤◌, [], true, false, vec_len, vec_capacity, None, Some, MatchOption};
 ghost use Rattle.std.specs.List.{All, Any};
 ghost use Rattle.dns_engine.specs.Held.{KEPT};
 ghost use Rattle.dns_engine.specs.Versions.{IsFirst, AreNext};
@@ -10,26 +10,24 @@ ghost use Rattle.serve_workers.specs.Numbers.{end_of, fault_by};
 use crate::ending::{end_cell, end_named};
 use crate::jobs::{fault_of, jobs_of};
 use crate::judge::{Handing, Judge, Judging};
+use crate::pairs::{all_readers, pairs_of, put_readers};
 use crate::threads::{SocketJob, run_threads};
 use crate::updates::Updates;
 use dns_engine::{
     EngineFault, FirstZone, NoEngine, SharedVersion, VersionCell, VersionPublisher, VersionReader,
     ZoneVersions,
 };
-use snapshot_cell::{
-    Cell, NamedCell, NamedPublisher, NamedReader, Naming, NewFault, Parts, Reader,
-};
+use snapshot_cell::{Cell, NamedCell, NamedPublisher, NamedReader, Naming, NewFault, Parts};
 use std::alloc::Global;
 use std::marker::Brand;
-use std::mem;
 use std::net::{Net, TcpListener, UdpSocket};
 use std::sync::Wait;
 use std::thread::Threads;
 use std::time::Clock;
 use thiserror::Error;
 use turns::Plan as ConnectionPlan;
-use update_job::{Faults, Storing, UpdateJob};
-use update_queue::Most;
+use update_job::{Faults, Publishing, Storing, UpdateJob};
+use update_queue::{Most, Queue};
 use update_teller::Teller;
 use worker_jobs::{Meanwhile, Muster, NotStarted, Progress, Secondaries};
 use zone_service::{JobEnd, PublishRight, Server, ServerLedgers, ServerName, ServiceLog};
@@ -341,13 +339,51 @@ fn serve_handing<
         store,
         faults,
     } = judging;
+    let queue = updates.queue();
     let teller = Teller::new(rt, server, reader, right, log, bringing);
-    let job = match UpdateJob::new(alloc, teller, store, updates.queue()) {
+    let (served, teller) = serve_judging(
+        rt, alloc, server, muster, updates, queue, teller, store, faults, pairs, back, log,
+    );
+    back.push_reserved(teller.into_parts().0);
+    served
+}
+
+/// Serves the versions of a server's cell, by workers with readers, which are then put into `back`, which has room for them, and judges the updates that they hand on there.
+/// What publishes comes back.
+fn serve_judging<
+    R: Threads + Wait + Clock + Sync,
+    Z: FirstZone + Send + Sync,
+    N: ServerName + Send + Sync,
+    L: ServiceLog + Sync,
+    P: Publishing,
+    S: Storing<P::Version>,
+    F: Faults<S::Fault> + Drop,
+>(
+    rt: &R,
+    alloc: Global,
+    server: &Server<'_, Z, N>,
+    muster: &Muster,
+    updates: &Updates,
+    queue: &Queue<P::Asked>,
+    publishing: P,
+    store: S,
+    faults: F,
+    pairs: Vec<(VersionReader<N>, SocketJob<'_, R>)>,
+    back: &mut Vec<VersionReader<N>>,
+    log: &L,
+) -> (Result<(), ServeFault>, P)
+where
+    P::Asked: Drop,
+    requires room { vec_len pairs < vec_capacity back.old }
+    requires empty { back.old.items ≡ [] }
+    ensures count { vec_len back.new ≡ vec_len pairs.entry }
+    ensures room { vec_capacity back.new ≡ vec_capacity back.old }
+{
+    let job = match UpdateJob::new(alloc, publishing, store, queue) {
         Ok(job) => job,
-        Err((teller, _)) => {
+        Err((publishing, _)) => {
             put_readers(pairs, back);
-            back.push_reserved(teller.into_parts().0);
-            return Err(ServeFault::NoMemory);
+            return (Err(ServeFault::NoMemory), publishing);
         }
     };
     muster.judge();
@@ -357,8 +393,7 @@ fn serve_handing<
         muster,
     };
     let (served, judge) = serve_with(rt, alloc, server, muster, updates, judge, pairs, back, log);
-    back.push_reserved(judge.into_publishing().into_parts().0);
-    served
+    (served, judge.into_publishing())
 }
 
 /// Serves the versions of a server's cell, by workers with readers, which are then put into `back`, which has room for them, and does what is done beside them. They hand
@@ -417,69 +452,4 @@ fn fault_in<N: Naming, C: Clock>(
         }
     }
     None
-}
-
-/// The reader of a pair, whose job is over.
-fn reader_of<N: Naming, C: Clock>(pair: (VersionReader<N>, SocketJob<'_, C>)) -> VersionReader<N>
-    ensures { result ≡ pair.entry.0 }
-{
-    let (reader, job) = pair;
-    mem::drop(job);
-    reader
-}
-
-/// Puts the readers of pairs into `back`, which has room for them.
-fn put_readers<N: Naming, C: Clock>(
-    pairs: Vec<(VersionReader<N>, SocketJob<'_, C>)>,
-    back: &mut Vec<VersionReader<N>>,
-)
-    requires room { vec_len pairs ≤ vec_capacity back.old }
-    requires empty { back.old.items ≡ [] }
-    ensures readers { back.new.items ≡ map (λ pair. pair.0) pairs.entry.items }
-    ensures room { vec_capacity back.new ≡ vec_capacity back.old }
-{
-    for pair in pairs {
-        back.push_reserved(reader_of(pair));
-    }
-}
-
-/// The readers of pairs, and two more, in `back`, which has room for them.
-fn all_readers<N: Naming, C: Clock>(
-    pairs: Vec<(VersionReader<N>, SocketJob<'_, C>)>,
-    reader: VersionReader<N>,
-    own: VersionReader<N>,
-    mut back: Vec<VersionReader<N>>,
-) -> Vec<VersionReader<N>>
-    requires empty { back.items ≡ [] }
-    requires room { vec_len pairs + 1 < vec_capacity back }
-    ensures { vec_len result ≡ vec_len pairs.entry + 2 }
-{
-    put_readers(pairs, &mut back);
-    back.push_reserved(reader);
-    back.push_reserved(own);
-    back
-}
-
-/// The readers of a cell in their order, each with its job, in `pairs`, which has room for them.
-fn pairs_of<'a, N: Naming, C: Clock>(
-    readers: Vec<Reader<SharedVersion>>,
-    jobs: Vec<SocketJob<'a, C>>,
-    mut pairs: Vec<(VersionReader<N>, SocketJob<'a, C>)>,
-) -> Vec<(VersionReader<N>, SocketJob<'a, C>)>
-    requires named { All (λ r. r.cell ≡ N.cell) readers.items }
-    requires count { vec_len readers ≡ vec_len jobs }
-    requires room { vec_len jobs ≤ vec_capacity pairs }
-    requires empty { (pairs.items ≡ []) × (vec_len pairs ≡ 0) }
-    ensures readers { map (λ pair. pair.0) result.items ≡ readers.items }
-    ensures jobs { map (λ pair. pair.1) result.items ≡ jobs.entry.items }
-    ensures count { vec_len result ≡ vec_len jobs.entry }
-{
-    let mut jobs = jobs.into_iter();
-    for reader in readers {
-        let Some(job) = jobs.next() else {
-            unreachable!()
-        };
-        pairs.push_reserved((NamedReader::of(reader), job));
-    }
-    pairs
 }
