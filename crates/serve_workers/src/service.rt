@@ -8,7 +8,7 @@ ghost use Rattle.update_desk.specs.Right.{AreNamed};
 ghost use Rattle.serve_workers.specs.Numbers.{end_of, fault_by};
 
 use crate::ending::{end_cell, end_named};
-use crate::jobs::{fault_of, jobs_of};
+use crate::jobs::jobs_of;
 use crate::judge::{Handing, Judge, Judging};
 use crate::pairs::{all_readers, pairs_of, put_readers};
 use crate::threads::{SocketJob, run_threads};
@@ -27,7 +27,7 @@ use std::time::Clock;
 use thiserror::Error;
 use turns::Plan as ConnectionPlan;
 use update_job::{Faults, Publishing, Storing, UpdateJob};
-use update_queue::{Most, Queue};
+use update_queue::Queue;
 use update_teller::Teller;
 use worker_jobs::{Meanwhile, Muster, NotStarted, Progress, Secondaries};
 use zone_service::{JobEnd, PublishRight, Server, ServerLedgers, ServerName, ServiceLog};
@@ -104,33 +104,6 @@ impl<C: Clock> SocketJob<'_, C> {
     }
 }
 
-/// The updates that threads with these duties hand in, of which so much waits at most.
-fn updates_for<R: Wait>(
-    rt: &R,
-    alloc: Global,
-    most: Most,
-    duties: &[Duty<'_>],
-    places: usize,
-) -> Result<Updates, ServeFault> {
-    match Updates::of(rt, alloc, most, duties, places) {
-        Ok(updates) => Ok(updates),
-        Err(_) => Err(ServeFault::NoMemory),
-    }
-}
-
-/// What updates are judged by that threads with these duties hand in.
-fn judging_for<'a, S: Storing<SharedVersion>, F: Drop>(
-    alloc: Global,
-    handing: Handing<S, F>,
-    duties: &[Duty<'_>],
-    updates: &'a Updates,
-) -> Result<Judging<'a, S, F>, ServeFault> {
-    match Judging::new(alloc, handing, duties, updates) {
-        Ok(judging) => Ok(judging),
-        Err(fault) => Err(fault_of(&fault)),
-    }
-}
-
 /// Serves a zone on sockets, whose cell begins with a first version and with those behind it: its threads answer queries in the version that is
 /// published last, and hand updates on, each of which publishes the next version (RFC 1035, 4.2; RFC 2136, 3). Updates are judged in batches on the thread that this is
 /// called on, and none of the others waits for a disk. It ends once each worker has done what it may, or a thread has failed, and each update that was handed on is told;
@@ -157,8 +130,8 @@ pub fn serve_zone<
     requires kept { plan.keep ≤ KEPT }
 {
     let threads = duties.len();
-    let updates = updates_for(rt, alloc, handing.most, &duties, plan.places)?;
-    let judging = judging_for(alloc, handing, &duties, &updates)?;
+    let updates = Updates::of(rt, alloc, handing.most, &duties, plan.places)?;
+    let judging = Judging::new(alloc, handing, &duties, &updates)?;
     let jobs = jobs_of(rt, alloc, duties, plan, &updates)?;
     let parts = match Cell::<SharedVersion, ZoneVersions<Z>>::new(alloc, threads + 2, first) {
         Ok(parts) => parts,
