@@ -3,8 +3,7 @@ ghost use Rattle.std.specs.Prelude.{◌≡◌};
 ghost use Rattle.std.specs.List.{All};
 
 use snapshot_cell::{
-    Cell, NamedCell, NamedPublisher, NamedReader, NamedStillOut, Names, Naming, Publisher, Reader,
-    StillOut,
+    Cell, NamedCell, NamedPublisher, NamedReader, Names, Naming, Publisher, Reader,
 };
 use std::sync::Wait;
 
@@ -20,15 +19,10 @@ pub(crate) fn end_cell<R: Wait, T: Drop, C: Names<T>>(
 {
     let mut tried = cell.close(publisher, readers);
     for _ in rt.forever() {
-        let StillOut {
-            cell,
-            publisher,
-            readers,
-        } = match tried {
+        tried = match tried {
             Ok(_) => return,
-            Err(out) => out,
+            Err(out) => out.cell.close(out.publisher, out.readers),
         };
-        tried = cell.close(publisher, readers);
     }
     unreachable!()
 }
@@ -42,15 +36,10 @@ pub(crate) fn end_named<R: Wait, T: Drop, C: Names<T>, N: Naming>(
 ) {
     let mut tried = cell.close(publisher, readers);
     for _ in rt.forever() {
-        let NamedStillOut {
-            cell,
-            publisher,
-            readers,
-        } = match tried {
+        tried = match tried {
             Ok(_) => return,
-            Err(out) => out,
+            Err(out) => out.cell.close(out.publisher, out.readers),
         };
-        tried = cell.close(publisher, readers);
     }
     unreachable!()
 }

@@ -8,6 +8,7 @@ ghost use Rattle.serve_workers.specs.Numbers.{number_of, takes_datagrams, are_da
 use crate::service::{Duty, Plan, ServeFault, Sockets};
 use crate::threads::{SocketJob, TcpJob};
 use crate::updates::Updates;
+use mio::Waker;
 use ready_sockets::{TcpPlace, Watch};
 use std::alloc::Global;
 use std::io::{self, ErrorKind};
@@ -47,6 +48,26 @@ fn places_of<C: Clock>(
     Ok(places)
 }
 
+/// A job on connections, which is told keys of connections, if it is, by which its waits end.
+fn hearing<'a, R: Clock + Wait>(
+    rt: &'a R,
+    alloc: Global,
+    job: TcpJob<'a, R>,
+    told: Option<&'a ToldKeys>,
+    waker: Waker,
+) -> TcpJob<'a, R>
+    ensures number { result.number ≡ job.entry.number }
+    ensures plan { result.plan ≡ job.entry.plan }
+{
+    match told {
+        Some(told) => {
+            told.wake_by(rt, waker);
+            job.hearing(alloc, told)
+        }
+        None => job,
+    }
+}
+
 /// The job of a worker, by its number, on listeners that don't wait. An error where they can't be waited on.
 fn tcp_job<'a, R: Clock + Net + Wait>(
     rt: &'a R,
@@ -68,13 +89,7 @@ fn tcp_job<'a, R: Clock + Net + Wait>(
     let plan = plan.connections;
     let waker = watch.waker()?;
     let job = ConnectionsJob::new(worker, watch, places, turns, plan, standing, rt, scratch);
-    match told {
-        Some(told) => {
-            told.wake_by(rt, waker);
-            Ok(job.hearing(alloc, told))
-        }
-        None => Ok(job),
-    }
+    Ok(hearing(rt, alloc, job, told, waker))
 }
 
 /// The job of a thread, which is told keys of connections there, if it is. An error where its sockets can't be waited on.

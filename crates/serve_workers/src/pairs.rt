@@ -1,13 +1,12 @@
-//! The readers of a cell, each in a pair with a job, whatever that is.
+//! Readers, each in a pair with a job, whatever that is.
 ghost use Rattle.std.specs.Prelude.{◌≡◌, ◌+◌, ◌<◌, ◌≤◌, [], map, vec_len, vec_capacity};
 ghost use Rattle.std.specs.List.{All};
 
-use dns_engine::{SharedVersion, VersionReader};
 use snapshot_cell::{NamedReader, Naming, Reader};
 use std::mem;
 
 /// The reader of a pair, whose job is over.
-fn reader_of<N: Naming, J: Drop>(pair: (VersionReader<N>, J)) -> VersionReader<N>
+fn reader_of<T, J: Drop>(pair: (T, J)) -> T
     ensures { result ≡ pair.0 }
 {
     let (reader, job) = pair;
@@ -16,10 +15,7 @@ fn reader_of<N: Naming, J: Drop>(pair: (VersionReader<N>, J)) -> VersionReader<N
 }
 
 /// Puts the readers of pairs into `back`, which has room for them.
-pub(crate) fn put_readers<N: Naming, J: Drop>(
-    pairs: Vec<(VersionReader<N>, J)>,
-    back: &mut Vec<VersionReader<N>>,
-)
+pub(crate) fn put_readers<T: Drop, J: Drop>(pairs: Vec<(T, J)>, back: &mut Vec<T>)
     requires room { vec_len pairs ≤ vec_capacity back.old }
     requires empty { back.old.items ≡ [] }
     ensures readers { back.new.items ≡ map (λ pair. pair.0) pairs.items }
@@ -31,12 +27,12 @@ pub(crate) fn put_readers<N: Naming, J: Drop>(
 }
 
 /// The readers of pairs, and two more, in `back`, which has room for them.
-pub(crate) fn all_readers<N: Naming, J: Drop>(
-    pairs: Vec<(VersionReader<N>, J)>,
-    reader: VersionReader<N>,
-    own: VersionReader<N>,
-    mut back: Vec<VersionReader<N>>,
-) -> Vec<VersionReader<N>>
+pub(crate) fn all_readers<T: Drop, J: Drop>(
+    pairs: Vec<(T, J)>,
+    reader: T,
+    own: T,
+    mut back: Vec<T>,
+) -> Vec<T>
     requires empty { back.items ≡ [] }
     requires room { vec_len pairs + 1 < vec_capacity back }
     ensures { vec_len result ≡ vec_len pairs + 2 }
@@ -48,11 +44,11 @@ pub(crate) fn all_readers<N: Naming, J: Drop>(
 }
 
 /// The readers of a cell in their order, each with its job, in `pairs`, which has room for them.
-pub(crate) fn pairs_of<N: Naming, J: Drop>(
-    readers: Vec<Reader<SharedVersion>>,
+pub(crate) fn pairs_of<T: Drop, N: Naming, J: Drop>(
+    readers: Vec<Reader<T>>,
     jobs: Vec<J>,
-    mut pairs: Vec<(VersionReader<N>, J)>,
-) -> Vec<(VersionReader<N>, J)>
+    mut pairs: Vec<(NamedReader<T, N>, J)>,
+) -> Vec<(NamedReader<T, N>, J)>
     requires named { All (λ r. r.cell ≡ N.cell) readers.items }
     requires count { vec_len readers ≡ vec_len jobs }
     requires room { vec_len jobs ≤ vec_capacity pairs }
