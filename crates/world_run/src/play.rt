@@ -180,8 +180,10 @@ impl<'a> Play<'a> {
         }
         give_up(&mut self.names, call);
         give_up_weakly(&mut self.weak_names, call);
-        put_under_way(&mut self.calls, name, phase)?;
-        Ok(WorldReply::Begun)
+        match put_under_way(&mut self.calls, name, phase) {
+            Ok(()) => Ok(WorldReply::Begun),
+            Err(fault) => Err(fault),
+        }
     }
 
     /// Takes one step of a call under way.
@@ -219,10 +221,10 @@ impl<'a> Play<'a> {
         ensures refused { IfErr result (λ fault. fault ≡ WorldFault.NoMemory) }
     {
         match progress {
-            Progress::On(phase) => {
-                put_under_way(&mut self.calls, name, phase)?;
-                Ok(WorldReply::Step(step))
-            }
+            Progress::On(phase) => match put_under_way(&mut self.calls, name, phase) {
+                Ok(()) => Ok(WorldReply::Step(step)),
+                Err(fault) => Err(fault),
+            },
             Progress::Done(end) => match self.finish(alloc, end) {
                 Ok(answer) => Ok(WorldReply::Last(step, answer)),
                 Err(fault) => Err(fault),
