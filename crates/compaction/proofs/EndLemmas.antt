@@ -14,7 +14,7 @@ use Rattle.lasting_engine.specs.Journal.{AreMadeBy}
 use Rattle.journal.specs.declared.heads.Head.{Head}
 use Rattle.journal.specs.declared.heads.TextSum.{TextSum}
 use Rattle.journal.specs.Batch.{batch_of, IsShort}
-use Rattle.journal.specs.Frame.{Fit}
+use Rattle.journal.specs.Frame.{body_limit, Fit}
 use Rattle.journal.specs.Recovered.{journal_of, updates_in}
 use Rattle.journal.proofs.FramesLemmas.{fit_more}
 use Rattle.recovery.specs.declared.start.Start.{Start}
@@ -54,7 +54,7 @@ begun_end text head number keep random origin version begun = record { store = b
 
 -- a store with one batch more
 store_more : (text : List ℕ) (head : Head) (batches : List (List (List ℕ))) (zone : List Record) (updates more : List Update) (batch : List (List ℕ)) → IsStore text head batches zone updates
-    → All IsShort batch → length (batch_of batch) < 2 ^ 32 → length batches < 2 ^ 64 → AreRead batch more → EachChanges (replay zone updates) more
+    → All IsShort batch → length (batch_of batch) < body_limit → length batches < 2 ^ 64 → AreRead batch more → EachChanges (replay zone updates) more
     → IsStore text head (batches ++ batch ∷ []) zone (updates ++ more)
 store_more text head batches zone updates more batch store short few counted read taken = record {
   is_head = store.is_head;
@@ -110,7 +110,7 @@ moved zone messages updates trail after k gone all read within oldest rest made 
 -- a store with a batch more, once its steps follow
 pub end_more : (text : List ℕ) (head : Head) (batches : List (List (List ℕ))) (zone : List Record) (updates : List Update) (trail : TrailState) (k : ℕ) (steps : List Step)
     → IsEndOf text head batches zone updates trail k → AreMadeBy (last_in trail) (versions_in steps) (updates_of steps)
-    → length (batch_of (updates_of steps)) < 2 ^ 32 → length batches < 2 ^ 64
+    → length (batch_of (updates_of steps)) < body_limit → length batches < 2 ^ 64
     → (more : List Update) × (m : ℕ) × (k ≤ m) × IsEndOf text head (batches ++ updates_of steps ∷ []) zone (updates ++ more) (followed trail steps) m
 end_more text head batches zone updates trail k steps end made few counted =
     let batch : List (List ℕ) = updates_of steps in

@@ -5,7 +5,7 @@ use Rattle.std.proofs.lemmas.List.{map-append, append-nil, drop-append-le, lengt
 use Rattle.std.proofs.lemmas.List.Elements.{All-nil, All-cons, All-append}
 use Rattle.journal.specs.declared.heads.Head.{Head}
 use Rattle.journal.specs.Batch.{counted, batch_of, IsShort}
-use Rattle.journal.specs.Frame.{Fit, framed, frames_of}
+use Rattle.journal.specs.Frame.{body_limit, Fit, framed, frames_of}
 use Rattle.journal.specs.Head.{head_of, salt_of}
 use Rattle.journal.specs.Recovered.{updates_in}
 use Rattle.journal.proofs.BatchLemmas.{counted_long}
@@ -71,7 +71,7 @@ one_more batches batch = updates-append batches (batch ∷ []) ∙ ap (λ (us : 
 
 -- batches behind the first updates of a store, once it has one batch more
 pub behind_more : (k : ℕ) (batches rest : List (List (List ℕ))) (batch : List (List ℕ)) → AreBehind k batches rest → k ≤ length (updates_in batches) → All IsShort batch
-    → length (batch_of batch) < 2 ^ 32 → length rest < 2 ^ 64 → AreBehind k (batches ++ batch ∷ []) (rest ++ batch ∷ [])
+    → length (batch_of batch) < body_limit → length rest < 2 ^ 64 → AreBehind k (batches ++ batch ∷ []) (rest ++ batch ∷ [])
 behind_more k batches rest batch behind within short few counted = record {
   all = one_more rest batch
       ∙ (ap (λ (us : List (List ℕ)). us ++ batch) behind.all
@@ -83,14 +83,14 @@ behind_more k batches rest batch behind within short few counted = record {
 
 -- what is kept, once it has one batch more
 pub marked_more : (k : ℕ) (batches : List (List (List ℕ))) (batch : List (List ℕ)) (body : List ℕ) (old new : Compaction) → IsMarked k batches old → k ≤ length (updates_in batches)
-    → All IsShort batch → body ≡ batch_of batch → length body < 2 ^ 32 → length old.bodies.items < 2 ^ 64 → bodies_of new ≡ bodies_of old ++ body ∷ []
+    → All IsShort batch → body ≡ batch_of batch → length body < body_limit → length old.bodies.items < 2 ^ 64 → bodies_of new ≡ bodies_of old ++ body ∷ []
     → IsMarked k (batches ++ batch ∷ []) new
 marked_more k batches batch body old new marked within short is few counted followed =
     let many : length marked.rest ≡ length old.bodies.items =
     sym (length-map marked.rest batch_of) ∙ (ap length (sym marked.bodies) ∙ length-map old.bodies.items (λ (b : Body). b.octets.items)) in
     record {
       rest = marked.rest ++ batch ∷ [];
-      behind = behind_more k batches marked.rest batch marked.behind within short (subst (λ (o : List ℕ). length o < 2 ^ 32) is few) (omega (arith, many, counted));
+      behind = behind_more k batches marked.rest batch marked.behind within short (subst (λ (o : List ℕ). length o < body_limit) is few) (omega (arith, many, counted));
       bodies = followed ∙ (ap (λ (bs : List (List ℕ)). bs ++ body ∷ []) marked.bodies
           ∙ (ap (λ (o : List ℕ). map batch_of marked.rest ++ o ∷ []) is ∙ sym (map-append batch_of marked.rest (batch ∷ []))));
     }

@@ -13,6 +13,7 @@ ghost use Rattle.lasting_engine.specs.Journal.{AreMadeBy};
 ghost use Rattle.journal.specs.declared.heads.Head.{Head};
 ghost use Rattle.journal.specs.declared.heads.TextSum.{TextSum};
 ghost use Rattle.journal.specs.Batch.{batch_of};
+ghost use Rattle.journal.specs.Frame.{body_limit};
 ghost use Rattle.journal.specs.Recovered.{journal_of};
 ghost use Rattle.recovery.specs.declared.start.Start.{Start};
 ghost use Rattle.recovery.specs.Start.{IsStarted};
@@ -39,7 +40,7 @@ pub fn trails_end_their_stores()
         → IsBegun version.zone number random origin text head → IsEndOf text head [] version.zone [] (record { oldest = version; steps = []; keep = keep }) 0 }
     ensures goes_on { (text : List ℕ) (head : Head) (batches : List (List (List ℕ))) (zone : List Record) (updates : List Update) (trail : TrailState) (k : ℕ) (steps : List Step)
         → IsEndOf text head batches zone updates trail k → AreMadeBy (last_in trail) (versions_in steps) (updates_of steps)
-        → length (batch_of (updates_of steps)) < 2 ^ 32 → length batches < 2 ^ 64
+        → length (batch_of (updates_of steps)) < body_limit → length batches < 2 ^ 64
         → (more : List Update) × (m : ℕ) × (k ≤ m) × IsEndOf text head (batches ++ updates_of steps ∷ []) zone (updates ++ more) (followed trail steps) m }
     ensures last { (text : List ℕ) (head : Head) (batches : List (List (List ℕ))) (zone : List Record) (updates : List Update) (trail : TrailState) (k : ℕ)
         → IsEndOf text head batches zone updates trail k → (last_in trail).zone ≡ replay zone updates }

@@ -1,6 +1,7 @@
 //! What is kept for the next journal while its zone text is written (own).
-ghost use Rattle.std.specs.Prelude.{◌≡◌, ◌^◌, ◌<◌, ◌≤◌, ℕ, List, [], ◌∷◌, ◌++◌, length, All, IfOk, OnOk, OnErr, string_bytes};
+ghost use Rattle.std.specs.Prelude.{◌≡◌, ◌<◌, ◌≤◌, ℕ, List, [], ◌∷◌, ◌++◌, length, All, IfOk, OnOk, OnErr, string_bytes};
 ghost use Rattle.journal.specs.Batch.{batch_of, IsShort};
+ghost use Rattle.journal.specs.Frame.{body_limit};
 ghost use Rattle.journal.specs.Recovered.{updates_in};
 ghost use Rattle.stores.specs.Begun.{IsBegun};
 ghost use Rattle.compaction.specs.Marked.{bodies_of, number_of, IsMarked, IsNextJournal};
@@ -22,7 +23,7 @@ pub struct Compaction {
 impl Compaction {
     /// That of the text of a number and of one batch. It takes memory.
     pub(crate) fn of(alloc: Global, number: u64, octets: Vec<u8>) -> Result<Compaction, AllocError>
-        requires { length octets.items < 2 ^ 32 }
+        requires { length octets.items < body_limit }
         ensures number { IfOk result (λ compaction. number_of compaction ≡ number) }
         ensures bodies { IfOk result (λ compaction. bodies_of compaction ≡ octets.items ∷ []) }
     {
@@ -33,7 +34,7 @@ impl Compaction {
 
     /// Adds a batch that is appended to the store's journal. It takes memory; where there is none it has what it had, and is of no use: another one is begun.
     pub fn follow(&mut self, alloc: Global, body: &[u8]) -> Result<(), AllocError>
-        requires { length body.now < 2 ^ 32 }
+        requires { length body.now < body_limit }
         ensures followed { OnOk result (bodies_of self.new ≡ bodies_of self.old ++ body.now ∷ []) }
         ensures same { OnErr result (bodies_of self.new ≡ bodies_of self.old) }
         ensures marked { OnOk result ((k : ℕ) (batches : List (List (List ℕ))) (batch : List (List ℕ)) → IsMarked k batches self.old

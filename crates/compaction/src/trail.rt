@@ -1,10 +1,11 @@
 //! The newest versions with the updates that made them (own).
-ghost use Rattle.std.specs.Prelude.{◌≡◌, ◌<◌, ◌^◌, ℕ, List, [], ◌∷◌, length, min, IfOk};
+ghost use Rattle.std.specs.Prelude.{◌≡◌, ◌<◌, ℕ, List, [], ◌∷◌, length, min, IfOk};
 ghost use Rattle.dns_rdata.specs.Record.{Record};
 ghost use Rattle.dns_message.specs.declared.update.Update.{Update};
 ghost use Rattle.dns_engine.specs.Held.{KEPT};
 ghost use Rattle.journal.specs.declared.heads.Head.{Head};
 ghost use Rattle.journal.specs.Batch.{batch_of};
+ghost use Rattle.journal.specs.Frame.{body_limit};
 ghost use Rattle.compaction.specs.Trail.{pushed, followed, updates_of};
 ghost use Rattle.compaction.specs.Marked.{bodies_of, number_of, IsMarked};
 ghost use Rattle.compaction.specs.End.{IsEndOf};
@@ -109,7 +110,7 @@ impl Trail {
     /// The batch of its updates.
     fn batch(&self, alloc: Global) -> Result<Vec<u8>, AllocError>
         ensures batch { IfOk result (λ batch. batch.items ≡ batch_of (updates_of self.now.steps)) }
-        ensures short { IfOk result (λ batch. length batch.items < 2 ^ 32) }
+        ensures short { IfOk result (λ batch. length batch.items < body_limit) }
     {
         let mut batch = Vec::new(alloc);
         for step in &self.steps {

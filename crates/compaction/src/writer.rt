@@ -26,6 +26,7 @@ impl<D: Disk> StoreWriter<D> {
     ghost use Rattle.dns_message.specs.declared.update.Update.{Update};
     ghost use Rattle.journal.specs.declared.heads.Head.{Head as HeadState};
     ghost use Rattle.journal.specs.Batch.{batch_of, IsShort};
+    ghost use Rattle.journal.specs.Frame.{body_limit};
     ghost use Rattle.journal.specs.Recovered.{updates_in};
     ghost use Rattle.journal_store.specs.Log.{Holds, IsStuck, is_stuck};
     ghost use Rattle.update_group.specs.Group.{versions_of, IsBatch, IsGivenUp, logged};
@@ -102,7 +103,7 @@ impl<D: Disk> StoreWriter<D> {
 
     /// Adds a batch that is appended to the compaction that is under way; where memory is wanted for it, that is given up.
     fn add(&mut self, alloc: Global, body: &[u8])
-        requires { length body.now < 2 ^ 32 }
+        requires { length body.now < body_limit }
         ensures compaction { MatchOption (under_way_of self.new) ⊤
             (λ now. IfSome (under_way_of self.old) (λ before. (number_of now ≡ number_of before) × (bodies_of now ≡ bodies_of before ++ body.now ∷ []))) }
         ensures some { under_way_of self.old ≡ None → under_way_of self.new ≡ None }

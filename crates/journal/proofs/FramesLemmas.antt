@@ -3,7 +3,7 @@ use Rattle.std.proofs.Common.{◌≡◌, ℕ, zero, suc, ◌+◌, ◌-◌, ◌*�
 use Rattle.std.proofs.lemmas.List.{take-append-drop, take_all, length-take}
 use Rattle.std.proofs.lemmas.Bool.{cases_lt}
 use Rattle.std.proofs.Math.Seq.{take-append-add}
-use Rattle.journal.specs.Frame.{framed, frames_of, Fit, IsFrame, NoFrame, IsRead}
+use Rattle.journal.specs.Frame.{body_limit, framed, frames_of, Fit, IsFrame, NoFrame, IsRead}
 use Rattle.journal.proofs.FrameLemmas.{framed_long, frame_shows, one_frame}
 
 -- nothing begins with a frame only if it has 44 octets
@@ -96,7 +96,7 @@ frames_push salt number bodies body is_number =
 
 -- bodies that fit, and one more
 pub fit_more : (number : ℕ) (bodies : List (List ℕ)) (body : List ℕ)
-    → Fit number bodies → length body < 2 ^ 32 → number + length bodies < 2 ^ 64 → Fit number (bodies ++ body ∷ [])
+    → Fit number bodies → length body < body_limit → number + length bodies < 2 ^ 64 → Fit number (bodies ++ body ∷ [])
 fit_more number [] body fit short counted = (short, subst (λ (n : ℕ). n < 2 ^ 64) (add-zero number) counted, tt)
 fit_more number (first ∷ bodies) body fit short counted =
     (fit.0, fit.1, fit_more (number + 1) bodies body fit.2 short (subst (λ (n : ℕ). n < 2 ^ 64) (count_more number (length bodies)) counted))
@@ -125,7 +125,7 @@ synced_first salt number (body ∷ bodies) (other ∷ others) left rest fit read
     (more.0, joined_more other body others bodies more.0 same.1 more.1)
 
 -- a frame that is cut short is none
-cut_none : (salt : List ℕ) (number n : ℕ) (body behind : List ℕ) → length body < 2 ^ 32 → number < 2 ^ 64 → n < length (framed salt number body)
+cut_none : (salt : List ℕ) (number n : ℕ) (body behind : List ℕ) → length body < body_limit → number < 2 ^ 64 → n < length (framed salt number body)
     → NoFrame salt number (take n (framed salt number body ++ behind))
 cut_none salt number n body behind short counted cut found rest frame =
     let octets : List ℕ = framed salt number body ++ behind in

@@ -3,7 +3,7 @@ use Rattle.std.proofs.Common.{◌≡◌, ℕ, ◌+◌, ◌-◌, ◌^◌, ◌<◌
 use Rattle.std.specs.Int.{w32, w64, to_be_bytes}
 use Rattle.std.proofs.lemmas.List.{take_at, take-append-le, drop-append-le, take-append-drop, length-drop}
 use Rattle.sha2.specs.Sha256.{sha256}
-use Rattle.journal.specs.Frame.{text_of, mark_of, framed}
+use Rattle.journal.specs.Frame.{body_limit, text_of, mark_of, framed}
 use Rattle.journal.specs.Private.{IsDigested}
 use Rattle.journal.specs.Tail.{BeginsLater, BeginsMarked, StandsAgain, IsOutline, ShowsLater}
 use Rattle.journal.proofs.PartLemmas.{same_parts, same_number_4}
@@ -29,7 +29,7 @@ outline_of_later salt next octets later =
     }
 
 -- octets of these parts begin as a later frame does
-pub outline_from : (mark next size number : ℕ) (octets behind after rest whole left : List ℕ) → size < 2 ^ 32 → number < 2 ^ 64 → next < number
+pub outline_from : (mark next size number : ℕ) (octets behind after rest whole left : List ℕ) → size < body_limit → number < 2 ^ 64 → next < number
     → octets ≡ to_be_bytes w64 mark ++ behind → behind ≡ to_be_bytes w32 size ++ after → after ≡ to_be_bytes w64 number ++ rest
     → length whole ≡ 52 + size → octets ≡ whole ++ left → IsOutline (to_be_bytes w64 mark) next octets whole left
 outline_from mark next size number octets behind after rest whole left short counted later first second third long spelt = record {
@@ -50,7 +50,7 @@ one_outline mark next octets whole rest other left one two =
     let behind = same_parts mark (to_be_bytes w32 one.size ++ (to_be_bytes w64 one.number ++ one.behind)) mark (to_be_bytes w32 two.size ++ (to_be_bytes w64 two.number ++ two.behind)) refl
     (sym one.lead ∙ two.lead) in
     let sizes = same_parts (to_be_bytes w32 one.size) (to_be_bytes w64 one.number ++ one.behind) (to_be_bytes w32 two.size) (to_be_bytes w64 two.number ++ two.behind) refl behind.1 in
-    let size : one.size ≡ two.size = same_number_4 one.size two.size one.short two.short sizes.0 in
+    let size : one.size ≡ two.size = same_number_4 one.size two.size (omega (arith, one.short)) (omega (arith, two.short)) sizes.0 in
     let long : length whole ≡ length other = omega (arith, one.long, two.long, size) in
     (same_parts whole rest other left long (sym one.spelt ∙ two.spelt)).0
 

@@ -5,7 +5,7 @@ use Rattle.std.proofs.lemmas.List.{take_at, drop_at}
 use Rattle.std.proofs.lemmas.Nat.{from_be_bytes-to_be_bytes_4, from_be_bytes-to_be_bytes_8}
 use Rattle.sha2.specs.Sha256.{sha256}
 use Rattle.sha2.proofs.Facts256.{length-sha256}
-use Rattle.journal.specs.Frame.{text_of, summed}
+use Rattle.journal.specs.Frame.{body_limit, text_of, summed}
 use Rattle.journal.specs.Private.{IsSummed}
 use Rattle.journal.proofs.PartLemmas.{same_parts, parts_in_a_row, parts_long, same_number_4, same_number_8}
 
@@ -54,7 +54,7 @@ summed_shows salt number octets body rest frame =
     let last : drop 8 (drop 4 octets) ≡ body ++ (sum ++ rest) = ap (λ (o : List ℕ). drop 8 o) then_eight ∙ drop_at eight (body ++ (sum ++ rest)) 8 refl in
     let texts : octets ≡ text_of number body ++ (sum ++ rest) = frame.spelt ∙ text_first salt number body rest in
     record {
-      size = ap (from_be_bytes w32) first ∙ from_be_bytes-to_be_bytes_4 (length body) frame.short;
+      size = ap (from_be_bytes w32) first ∙ from_be_bytes-to_be_bytes_4 (length body) (omega (arith, frame.short));
       counted = ap (from_be_bytes w64) second ∙ from_be_bytes-to_be_bytes_8 number frame.counted;
       behind = last;
       front = ap (λ (o : List ℕ). take (12 + length body) o) texts ∙ take_at (text_of number body) (sum ++ rest) (12 + length body) (text_long number body);
@@ -83,7 +83,7 @@ pub record Leads (salt : List ℕ) (number size told : ℕ) (behind body rest : 
 behind_long : (body sum rest : List ℕ) → length sum ≡ 32 → length (body ++ (sum ++ rest)) ≡ length body + 32 + length rest
 behind_long body sum rest long = simp length-append (omega arith)
 
-pub summed_leads : (salt octets : List ℕ) (size told : ℕ) (after behind : List ℕ) → size < 2 ^ 32 → told < 2 ^ 64
+pub summed_leads : (salt octets : List ℕ) (size told : ℕ) (after behind : List ℕ) → size < body_limit → told < 2 ^ 64
     → octets ≡ to_be_bytes w32 size ++ after → after ≡ to_be_bytes w64 told ++ behind
     → (number : ℕ) (body rest : List ℕ) → IsSummed salt number octets body rest → Leads salt number size told behind body rest
 summed_leads salt octets size told after behind small fits first second number body rest frame =
@@ -92,7 +92,7 @@ summed_leads salt octets size told after behind small fits first second number b
     let four = same_parts (to_be_bytes w32 size) after (to_be_bytes w32 (length body)) (to_be_bytes w64 number ++ (body ++ (sum ++ rest))) refl (sym first ∙ all) in
     let eight = same_parts (to_be_bytes w64 told) behind (to_be_bytes w64 number) (body ++ (sum ++ rest)) refl (sym second ∙ four.1) in
     record {
-      is_size = same_number_4 size (length body) small frame.short four.0;
+      is_size = same_number_4 size (length body) (omega (arith, small)) (omega (arith, frame.short)) four.0;
       is_number = same_number_8 told number fits frame.counted eight.0;
       is_behind = eight.1;
       long = ap length eight.1 ∙ behind_long body sum rest (length-sha256 _);
@@ -119,7 +119,7 @@ text_in octets size number after behind body left first second third is_size =
 
 -- octets of these parts, whose sum is right, begin with a frame
 pub summed_from : (salt octets : List ℕ) (size number : ℕ) (after behind body left sum rest : List ℕ)
-    → size < 2 ^ 32 → number < 2 ^ 64
+    → size < body_limit → number < 2 ^ 64
     → octets ≡ to_be_bytes w32 size ++ after → after ≡ to_be_bytes w64 number ++ behind → behind ≡ body ++ left → left ≡ sum ++ rest → length body ≡ size
     → sum ≡ sha256 (salt ++ take (12 + size) octets) → IsSummed salt number octets body rest
 summed_from salt octets size number after behind body left sum rest small fits first second third fourth is_size is_sum =
@@ -128,13 +128,13 @@ summed_from salt octets size number after behind body left sum rest small fits f
     let text : take (12 + size) octets ≡ text_of number body = ap (λ (o : List ℕ). take (12 + size) o) whole ∙ take_at (text_of number body) left (12 + size) text_size in
     let right : sum ≡ sha256 (salt ++ text_of number body) = is_sum ∙ ap (λ (o : List ℕ). sha256 (salt ++ o)) text in
     record {
-      short = subst (λ (n : ℕ). n < 2 ^ 32) (sym is_size) small;
+      short = subst (λ (n : ℕ). n < body_limit) (sym is_size) small;
       counted = fits;
       spelt = whole ∙ (ap (λ (o : List ℕ). text_of number body ++ o) (fourth ∙ ap (λ (o : List ℕ). o ++ rest) right) ∙ sym (text_first salt number body rest));
     }
 
 -- octets that begin with a frame have its sum
-pub sum_of_summed : (salt octets : List ℕ) (size told : ℕ) (after behind part left sum others : List ℕ) → size < 2 ^ 32 → told < 2 ^ 64
+pub sum_of_summed : (salt octets : List ℕ) (size told : ℕ) (after behind part left sum others : List ℕ) → size < body_limit → told < 2 ^ 64
     → octets ≡ to_be_bytes w32 size ++ after → after ≡ to_be_bytes w64 told ++ behind → behind ≡ part ++ left → left ≡ sum ++ others → length part ≡ size → length sum ≡ 32
     → (number : ℕ) (body rest : List ℕ) → IsSummed salt number octets body rest → sum ≡ sha256 (salt ++ take (12 + size) octets)
 sum_of_summed salt octets size told after behind part left sum others small fits first second third fourth is_size is_long number body rest frame =

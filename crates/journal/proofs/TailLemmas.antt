@@ -3,7 +3,7 @@ use Rattle.std.proofs.Common.{◌≡◌, ℕ, ◌+◌, ◌-◌, ◌^◌, ◌<◌
 use Rattle.std.proofs.lemmas.Bool.{cases_lt}
 use Rattle.std.proofs.lemmas.List.{drop_all, drop_at, take_rest, drop-drop, length-drop}
 use Rattle.journal.specs.declared.tails.Tail.TheVariants.{Torn}
-use Rattle.journal.specs.Frame.{mark_of, framed}
+use Rattle.journal.specs.Frame.{body_limit, mark_of, framed}
 use Rattle.journal.specs.Private.{IsDigested}
 use Rattle.journal.specs.Tail.{BeginsLater, BeginsMarked, ShowsLater, StandsAgain, NoneLater, IsTail}
 use Rattle.journal.proofs.FrameLemmas.{frame_shows}
@@ -140,7 +140,7 @@ pub none_torn : (salt : List ℕ) (next at : ℕ) (rest : List ℕ) → IsTail s
 none_torn salt next at rest torn later = torn.1 at (inl later)
 
 -- so one that was written isn't within one
-pub written_torn : (salt : List ℕ) (next number : ℕ) (front body behind : List ℕ) → next < number → number < 2 ^ 64 → length body < 2 ^ 32
+pub written_torn : (salt : List ℕ) (next number : ℕ) (front body behind : List ℕ) → next < number → number < 2 ^ 64 → length body < body_limit
     → IsTail salt next (front ++ (framed salt number body ++ behind)) Torn → ⊥
 written_torn salt next number front body behind later counted short torn =
     none_torn salt next (length front) (front ++ (framed salt number body ++ behind)) torn (record {

@@ -24,14 +24,18 @@ abbrev pub frames_of : List ℕ → ℕ → List (List ℕ) → List ℕ
 frames_of salt number [] = []
 frames_of salt number (body ∷ bodies) = framed salt number body ++ frames_of salt (number + 1) bodies
 
--- bodies whose lengths fit four octets, and whose numbers, from a number on, fit eight
+-- a body has fewer octets than this: a batch of 64 updates has at most 4,194,368 of them
+abbrev pub body_limit : ℕ
+body_limit = 2 ^ 24
+
+-- bodies that are within the limit, and whose numbers, from a number on, fit eight octets
 abbrev pub Fit : ℕ → List (List ℕ) → Type 0
 Fit number [] = Unit {0}
-Fit number (body ∷ bodies) = (length body < 2 ^ 32) × (number < 2 ^ 64) × Fit (number + 1) bodies
+Fit number (body ∷ bodies) = (length body < body_limit) × (number < 2 ^ 64) × Fit (number + 1) bodies
 
 -- octets begin with the frame of this number and this body, and these stand behind it
 pub record IsFrame (salt : List ℕ) (number : ℕ) (octets body rest : List ℕ) : Type 0 where
-  pub short : length body < 2 ^ 32
+  pub short : length body < body_limit
   pub counted : number < 2 ^ 64
   pub spelt : octets ≡ framed salt number body ++ rest
 

@@ -1,11 +1,11 @@
 -- What only private contracts cite.
 use Rattle.std.specs.Prelude.{◌≡◌, ℕ, ◌+◌, ◌^◌, ◌<◌, ◌≤◌, ◌⊎◌, List, ◌++◌, length, drop}
-use Rattle.journal.specs.Frame.{summed}
+use Rattle.journal.specs.Frame.{body_limit, summed}
 use Rattle.journal.specs.Tail.{BeginsMarked}
 
 -- octets begin with what stands behind the mark of the frame of this number and this body, and these stand behind it
 pub record IsSummed (salt : List ℕ) (number : ℕ) (octets body rest : List ℕ) : Type 0 where
-  pub short : length body < 2 ^ 32
+  pub short : length body < body_limit
   pub counted : number < 2 ^ 64
   pub spelt : octets ≡ summed salt number body ++ rest
 

@@ -3,7 +3,7 @@ use Rattle.std.specs.Prelude.{◌≡◌, ℕ, ◌+◌, ◌^◌, ◌<◌, ◌⊎�
 use Rattle.std.specs.Int.{w32, w64, to_be_bytes}
 use Rattle.journal.specs.declared.tails.Tail.{Tail}
 use Rattle.journal.specs.declared.tails.Tail.TheVariants.{Blank, Torn, Later}
-use Rattle.journal.specs.Frame.{mark_of, IsFrame}
+use Rattle.journal.specs.Frame.{body_limit, mark_of, IsFrame}
 
 -- octets begin with a frame whose number is later than that of the next one
 pub record BeginsLater (salt : List ℕ) (next : ℕ) (octets : List ℕ) : Type 0 where
@@ -26,7 +26,7 @@ pub record IsOutline (mark : List ℕ) (next : ℕ) (octets whole rest : List �
   pub size : ℕ
   pub number : ℕ
   pub behind : List ℕ
-  pub short : size < 2 ^ 32
+  pub short : size < body_limit
   pub counted : number < 2 ^ 64
   pub later : next < number
   pub lead : octets ≡ mark ++ (to_be_bytes w32 size ++ (to_be_bytes w64 number ++ behind))

@@ -1,8 +1,8 @@
 //! Frames of a journal: a mark, and behind it a body, its length, its number and its sum (own).
 ghost use Rattle.std.specs.Prelude.{◌≡◌, ◌+◌, ◌^◌, ◌<◌, ◌≤◌, ◌⊎◌, ◌++◌, ◌↔◌, ℕ, List, IsTrue, length, take, IfOk, IfSome, MatchOption};
-ghost use Rattle.std.specs.Int.{w64, to_be_bytes};
+ghost use Rattle.std.specs.Int.{w32, w64, to_be_bytes};
 ghost use Rattle.sha2.specs.Sha256.{sha256};
-ghost use Rattle.journal.specs.Frame.{mark_of, framed, IsFrame, NoFrame};
+ghost use Rattle.journal.specs.Frame.{body_limit, mark_of, framed, IsFrame, NoFrame};
 ghost use Rattle.journal.specs.Private.{IsSummed};
 
 use crate::parts::{first_part, first_u32, first_u64};
@@ -14,6 +14,9 @@ const MARK: usize = 8;
 
 /// How many octets of a frame stand between its mark and its body: its length, in four, and its number, in eight.
 const LEAD: usize = 12;
+
+/// A body has fewer octets than this: a batch of 64 updates has at most 4,194,368 of them.
+const BODY_LIMIT: u32 = 1 << 24;
 
 /// How many octets a sum has, an SHA-256 (FIPS 180-4, 1).
 pub const SUM: usize = 32;
@@ -40,6 +43,18 @@ pub(crate) fn behind_mark(mark: u64, octets: &[u8]) -> Option<&[u8]>
         return None;
     }
     Some(rest)
+}
+
+/// The length of a body that octets begin with, and those behind it; None where they begin with no length that a body has.
+pub(crate) fn first_size(octets: &[u8]) -> Option<(u32, &[u8])>
+    ensures { MatchOption result ((size : ℕ) (rest : List ℕ) → size < body_limit → octets.now ≡ to_be_bytes w32 size ++ rest → ⊥)
+        (λ r. (octets.now ≡ to_be_bytes w32 r.0 ++ r.1.now) × (length octets.now ≡ 4 + length r.1.now) × (r.0 < body_limit)) }
+{
+    let (size, rest) = first_u32(octets)?;
+    if size >= BODY_LIMIT {
+        return None;
+    }
+    Some((size, rest))
 }
 
 /// The SHA-256 of a journal's salt and some octets (FIPS 180-4, 6.2).
@@ -70,7 +85,7 @@ pub fn write_frame(
     number: u64,
     body: &[u8],
 ) -> Result<Vec<u8>, AllocError>
-    requires { length body.now < 2 ^ 32 }
+    requires { length body.now < body_limit }
     ensures frame { IfOk result (λ frame. frame.items ≡ framed salt.now number body.now) }
     ensures long { IfOk result (λ frame. length frame.items ≡ length body.now + 52) }
 {
@@ -100,7 +115,7 @@ fn summed_among<'a>(
     ensures once { (digested.new ≡ digested.old) ⊎ (digested.new + 32 ≤ digested.old + length octets.now) }
     ensures count { IfSome result (λ r. digested.new + length r.2.now ≤ digested.old + length octets.now) }
 {
-    let (size, behind_size) = first_u32(octets)?;
+    let (size, behind_size) = first_size(octets)?;
     let (number, behind_number) = first_u64(behind_size)?;
     if number < low || high < number {
         return None;

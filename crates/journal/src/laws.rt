@@ -6,7 +6,7 @@ ghost use Rattle.journal.specs.declared.start.Refused.{Refused};
 ghost use Rattle.journal.specs.declared.start.Refused.TheVariants.{NoMemory};
 ghost use Rattle.journal.specs.Batch.{batch_of, IsShort};
 ghost use Rattle.journal.specs.declared.tails.Tail.TheVariants.{Torn};
-ghost use Rattle.journal.specs.Frame.{framed, frames_of, Fit, IsFrame, IsRead};
+ghost use Rattle.journal.specs.Frame.{body_limit, framed, frames_of, Fit, IsFrame, IsRead};
 ghost use Rattle.journal.specs.Head.{head_of, IsHead, IsHeadFault, IsText};
 ghost use Rattle.journal.specs.Recovered.{journal_of, updates_in, IsRecovered, IsRefused};
 ghost use Rattle.journal.specs.Tail.{BeginsLater, IsTail};
@@ -45,7 +45,7 @@ pub fn what_was_synced_is_read_first()
 /// No whole frame with a later number stands anywhere in a torn end: where one was written, whatever stands in front of it and behind it, what is told is no torn end.
 pub fn no_later_frame_is_torn()
     ensures none { (salt : List ℕ) (next at : ℕ) (rest : List ℕ) → IsTail salt next rest Torn → BeginsLater salt next (drop at rest) → ⊥ }
-    ensures written { (salt : List ℕ) (next number : ℕ) (front body behind : List ℕ) → next < number → number < 2 ^ 64 → length body < 2 ^ 32
+    ensures written { (salt : List ℕ) (next number : ℕ) (front body behind : List ℕ) → next < number → number < 2 ^ 64 → length body < body_limit
         → IsTail salt next (front ++ (framed salt number body ++ behind)) Torn → ⊥ }
 {}
 

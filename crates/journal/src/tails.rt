@@ -5,8 +5,8 @@ ghost use Rattle.journal.specs.Frame.{mark_of};
 ghost use Rattle.journal.specs.Private.{IsDigested};
 ghost use Rattle.journal.specs.Tail.{BeginsMarked, IsBlank, IsOutline, IsTail, ShowsLater, StandsAgain};
 
-use crate::frame::{ROUND, SUM, behind_mark, frame_among, mark_of};
-use crate::parts::{first_u32, first_u64};
+use crate::frame::{ROUND, SUM, behind_mark, first_size, frame_among, mark_of};
+use crate::parts::first_u64;
 
 /// What stands behind the last whole frame of a journal.
 #[derive(Clone, Copy, Debug, PartialEq, Eq)]
@@ -72,7 +72,7 @@ fn outline_of(mark: u64, next: u64, octets: &[u8]) -> Option<&[u8]>
         (λ whole. (rest : List ℕ) × IsOutline (to_be_bytes w64 mark) next octets.now whole.now rest) }
 {
     let behind = behind_mark(mark, octets)?;
-    let (size, behind_size) = first_u32(behind)?;
+    let (size, behind_size) = first_size(behind)?;
     let (number, _) = first_u64(behind_size)?;
     if number <= next {
         return None;

@@ -3,7 +3,7 @@ use Rattle.std.proofs.Common.{◌≡◌, ℕ, ◌+◌, ◌^◌, ◌<◌, ◌≤�
 use Rattle.std.proofs.lemmas.List.{take_at, take_all, length_push}
 use Rattle.journal.specs.declared.heads.Head.{Head}
 use Rattle.journal.specs.Head.{head_of, salt_of}
-use Rattle.journal.specs.Frame.{framed, frames_of, Fit}
+use Rattle.journal.specs.Frame.{body_limit, framed, frames_of, Fit}
 use Rattle.journal.proofs.FramesLemmas.{frames_push, fit_more}
 use Rattle.journal_store.specs.declared.log.Log.{Log}
 use Rattle.journal_store.specs.Disk.{BeginsWith}
@@ -26,7 +26,7 @@ long_enough octets front len begins is_len = omega (arith, is_len, ap length beg
 module _ {D F : Type 0} (written synced : D → List ℕ) where
   -- a log to which a frame was appended, and brought to the disk
   pub holds_more : (head : Head) (bodies : List (List ℕ)) (body frame : List ℕ) (old new : Log D F) → Holds written synced head old bodies
-      → frame ≡ framed old.salt old.number body → length body < 2 ^ 32 → old.number + 1 < 2 ^ 64
+      → frame ≡ framed old.salt old.number body → length body < body_limit → old.number + 1 < 2 ^ 64
       → written new.disk ≡ written old.disk ++ frame → synced new.disk ≡ written old.disk ++ frame
       → new.salt ≡ old.salt → new.number ≡ old.number + 1 → new.end ≡ old.end + length frame → new.stuck ≡ false
       → Holds written synced head new (bodies ++ body ∷ [])

@@ -40,7 +40,7 @@ impl<F> From<AllocError> for LogFault<F> {
 impl<D: Disk> Log<D> {
     ghost use Rattle.std.specs.Prelude.{◌≡◌, ℕ, ◌+◌, ◌^◌, ◌<◌, ◌≤◌, ◌⊎◌, ◌↔◌, true, false, List, [], ◌∷◌, ◌++◌, length, OnOk, OnErr, IfOk, IsErrOf};
     ghost use Rattle.journal.specs.declared.heads.Head.{Head};
-    ghost use Rattle.journal.specs.Frame.{Fit};
+    ghost use Rattle.journal.specs.Frame.{body_limit, Fit};
     ghost use Rattle.journal.specs.Head.{salt_of, IsHead};
     ghost use Rattle.journal_store.specs.Disk.{BeginsWith};
     ghost use Rattle.journal_store.specs.Log.{octets_of, Holds, IsStuck, disk_of, is_stuck, IsFull};
@@ -87,7 +87,7 @@ impl<D: Disk> Log<D> {
     /// Appends a batch: at Ok it is on the disk. At an error the journal has what it had, or takes nothing more. It takes memory, before
     /// anything is written.
     pub fn append(&mut self, alloc: Global, body: &[u8]) -> Result<(), LogFault<D::Fault>>
-        requires { length body.now < 2 ^ 32 }
+        requires { length body.now < body_limit }
         ensures appended { OnOk result ((head : Head) (bodies : List (List ℕ)) → Holds D.written D.synced head self.old bodies
             → Holds D.written D.synced head self.new (bodies ++ body.now ∷ [])) }
         ensures kept { OnErr result ((head : Head) (bodies : List (List ℕ)) → Holds D.written D.synced head self.old bodies

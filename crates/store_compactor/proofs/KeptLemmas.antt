@@ -12,6 +12,7 @@ use Rattle.update_group.specs.Group.{newest_of, logged, versions_of, IsBatch}
 use Rattle.lasting_engine.specs.Journal.{AreMadeBy}
 use Rattle.journal.specs.declared.heads.Head.{Head}
 use Rattle.journal.specs.Batch.{batch_of, IsShort}
+use Rattle.journal.specs.Frame.{body_limit}
 use Rattle.journal.specs.Recovered.{updates_in}
 use Rattle.journal_store.specs.declared.log.Log.{Log}
 use Rattle.journal_store.specs.Log.{Holds, IsStuck, is_stuck}
@@ -95,7 +96,7 @@ module _ {F : Type 0} where
       subst (λ (h : Head). Holds written synced h (log_of new) (map batch_of all)) (sym head)
       (subst (λ (bs : List (List ℕ)). Holds written synced (head_of old) (log_of new) bs) (sym bodies) there) in
       let found = end_more text (head_of old) batches zone updates (trail_of old) k steps at.end (steps_made (last_in (trail_of old)) versions octets steps are made)
-      (subst (λ (us : List (List ℕ)). length (batch_of us) < 2 ^ 32) (sym are.updates_are) few.0) (omega (arith, few.1, length-map batches batch_of)) in
+      (subst (λ (us : List (List ℕ)). length (batch_of us) < body_limit) (sym are.updates_are) few.0) (omega (arith, few.1, length-map batches batch_of)) in
       let more : List Update = found.0 in
       let m : ℕ = found.1 in
       let end : IsEndOf text (head_of new) all zone (updates ++ more) (trail_of new) m =

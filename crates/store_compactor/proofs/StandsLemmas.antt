@@ -7,7 +7,7 @@ use Rattle.zone_tree.specs.Version.{Version}
 use Rattle.update_core.specs.Act.{replay}
 use Rattle.journal.specs.declared.heads.Head.{Head}
 use Rattle.journal.specs.Batch.{batch_of}
-use Rattle.journal.specs.Frame.{Fit}
+use Rattle.journal.specs.Frame.{body_limit, Fit}
 use Rattle.journal_store.specs.declared.log.Log.{Log}
 use Rattle.journal_store.specs.Log.{Holds, IsStuck}
 use Rattle.recovery.specs.Store.{IsStore}
@@ -24,7 +24,7 @@ use Rattle.store_compactor.specs.Texts.{Wanted, wanted_of}
 use Rattle.store_compactor.specs.Stands.{IsNext, Stands, StandsFrom}
 
 -- the last of bodies that fit a journal
-pub fit_last : (number : ℕ) (bodies : List (List ℕ)) (body : List ℕ) → Fit number (bodies ++ body ∷ []) → (length body < 2 ^ 32) × (number + length bodies < 2 ^ 64)
+pub fit_last : (number : ℕ) (bodies : List (List ℕ)) (body : List ℕ) → Fit number (bodies ++ body ∷ []) → (length body < body_limit) × (number + length bodies < 2 ^ 64)
 fit_last number [] body fit = (fit.0, omega (arith, fit.1))
 fit_last number (one ∷ bodies) body fit =
     let rest = fit_last (number + 1) bodies body fit.2 in

@@ -1,5 +1,6 @@
 //! Updates that are judged, and brought to the disk by one sync (own).
-ghost use Rattle.std.specs.Prelude.{◌<◌, ◌^◌, length};
+ghost use Rattle.std.specs.Prelude.{◌<◌, length};
+ghost use Rattle.journal.specs.Frame.{body_limit};
 
 use journal_store::{Disk, Log, LogFault};
 use std::alloc::Global;
@@ -9,12 +10,13 @@ use std::alloc::Global;
 pub struct Group<V: Drop> {
     pub(crate) versions: Vec<V>,
     pub(crate) body: Vec<u8>,
-    ghost short: { length body.items < 2 ^ 32 },
+    ghost short: { length body.items < body_limit },
 }
 
 impl<V: Drop> Group<V> {
-    ghost use Rattle.std.specs.Prelude.{◌≡◌, ◌⊎◌, ◌<◌, ◌^◌, ℕ, List, [], length, MatchOption};
+    ghost use Rattle.std.specs.Prelude.{◌≡◌, ◌⊎◌, ◌<◌, ℕ, List, [], length, MatchOption};
     ghost use Rattle.journal.specs.declared.heads.Head.{Head};
+    ghost use Rattle.journal.specs.Frame.{body_limit};
     ghost use Rattle.journal_store.specs.Log.{Holds, IsStuck};
     ghost use Rattle.update_group.specs.Group.{versions_of, body_of, IsBatch, IsGivenUp, logged};
 
@@ -35,7 +37,7 @@ impl<V: Drop> Group<V> {
     /// The batch of the updates that make one.
     pub fn body(&self) -> &[u8]
         ensures body { result.now ≡ body_of self.now }
-        ensures short { length result.now < 2 ^ 32 }
+        ensures short { length result.now < body_limit }
     {
         &self.body
     }

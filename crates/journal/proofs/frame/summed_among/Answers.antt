@@ -1,12 +1,12 @@
-use Rattle.std.proofs.Common.{refl, arith}
-use Rattle.journal.proofs.SummedLemmas.{summed_shows, summed_leads, summed_from, sum_of_summed}
+use Rattle.std.proofs.Common.{length, refl, ◌∙◌, arith}
+use Rattle.journal.proofs.SummedLemmas.{summed_parts, summed_shows, summed_leads, summed_from, sum_of_summed}
 use Rattle.journal.proofs.PartLemmas.{split_again, not_so}
 use Rattle.journal.proofs.frame.summed_among.Goals as goal
 use Rattle.journal.proofs.frame.summed_among.Goals.{then-number-low-via-then-number-low, then-number-low-via-else-number-low+then-high-number}
 
 pub returns-in_err-size-clause-found : goal.returns-in_err-size-clause-found
 returns-in_err-size-clause-found c = rw c.from_residual.ensures (λ number low high body rest frame.
-    let shows = summed_shows c.args.salt.now number c.args.octets.now body rest frame in omega (arith, shows.long, c.in_err-size.ensures))
+    c.in_err-size.ensures (length body) _ frame.short (frame.spelt ∙ summed_parts c.args.salt.now number body rest))
 
 pub returns-in_err-number-clause-found : goal.returns-in_err-number-clause-found
 returns-in_err-number-clause-found c = rw c.from_residual-in_err-number.ensures (λ number low high body rest frame.
