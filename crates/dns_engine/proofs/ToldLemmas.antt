@@ -1,5 +1,5 @@
 -- What becomes of an update that is taken.
-use Rattle.std.proofs.Common.{◌≡◌, List, Bool, true, false, Option, None, Some, refl, subst}
+use Rattle.std.proofs.Common.{◌≡◌, List, Bool, true, false, Option, None, Some, refl, sym, subst, inl, inr}
 use Rattle.std.specs.Option.{option_or}
 use Rattle.dns_rdata.specs.Record.{Record}
 use Rattle.dns_rdata.specs.declared.numbers.Rcode.{Rcode}
@@ -11,7 +11,8 @@ use Rattle.update_core.specs.declared.outcome.Outcome.TheVariants.{Refused, Unch
 use Rattle.update_core.specs.Verdict.{verdict, permission, check, prescan}
 use Rattle.update_core.specs.Applied.{IsTold, code_told, next_of}
 use Rattle.dns_engine.specs.Held.{EngineState}
-use Rattle.dns_engine.specs.Told.{IsTold as IsToldOf, refused, unchanged, starved}
+use Rattle.dns_engine.specs.declared.judged.Judged.{Judged}
+use Rattle.dns_engine.specs.Told.{IsJudged, IsJudgedAs, IsTold as IsToldOf, refused, unchanged, starved}
 use Rattle.dns_engine.specs.Versions.{Makes}
 
 permitted : (front behind : Option Rcode) (may : Bool) → option_or front (option_or (permission may) behind) ≡ None → option_or front (option_or (permission true) behind) ≡ None
@@ -49,3 +50,13 @@ none_told state update may (Refused code) told is = refused told refl
 none_told state update may Unchanged told is = unchanged told.0 told.1 refl refl
 none_told state update may (Next own) told is = cc
 none_told state update may NoMemory told is = starved told refl refl
+
+-- what is told of what becomes of an update is so
+pub judged_as : (version : Version) (update : Update) (may : Bool) (outcome : Outcome) (judged : Judged) → IsTold version update may outcome → IsJudgedAs outcome judged → IsJudged version update may judged
+judged_as version update may (Refused code) judged told is = subst (IsJudged version update may) (sym is) (inl told)
+judged_as version update may Unchanged judged told is = subst (IsJudged version update may) (sym is) (inr (inl (told.0, told.1, refl)))
+judged_as version update may (Next next) judged told is = elim is [
+  | inl made ↦ subst (IsJudged version update may) (sym made) (told.0, made_of version next update may told)
+  | inr starved ↦ subst (IsJudged version update may) (sym starved) told.0
+]
+judged_as version update may NoMemory judged told is = subst (IsJudged version update may) (sym is) told

@@ -4,6 +4,8 @@ use Rattle.dns_rdata.specs.declared.numbers.Rcode.{Rcode}
 use Rattle.dns_rdata.specs.declared.numbers.Rcode.TheVariants.{NoError, ServFail}
 use Rattle.dns_message.specs.declared.update.Update.{Update}
 use Rattle.zone_tree.specs.Version.{Version}
+use Rattle.update_core.specs.declared.outcome.Outcome.{Outcome}
+use Rattle.update_core.specs.declared.outcome.Outcome.TheVariants.{Refused, Unchanged, Next, NoMemory}
 use Rattle.update_core.specs.Verdict.{verdict}
 use Rattle.update_core.specs.Act.{act}
 use Rattle.update_core.specs.Applied.{code_of}
@@ -36,3 +38,11 @@ abbrev pub IsJudged : Version → Update → Bool → Judged → Type 0
 IsJudged version update may (Told code) = Tells version update may code
 IsJudged version update may (Made next) = (verdict version.zone update may ≡ None) × Makes update version next
 IsJudged version update may Starved = verdict version.zone update may ≡ None
+
+-- what becomes of an update is told as it is: the code, NOERROR where it changes nothing, that memory is wanted, or the version that it makes, for which memory may be
+-- wanted too (RFC 2136, 3; own)
+abbrev pub IsJudgedAs : Outcome → Judged → Type 0
+IsJudgedAs (Refused code) judged = judged ≡ Told code
+IsJudgedAs Unchanged judged = judged ≡ Told NoError
+IsJudgedAs NoMemory judged = judged ≡ Starved
+IsJudgedAs (Next next) judged = (judged ≡ Made next) ⊎ (judged ≡ Starved)

@@ -1,5 +1,5 @@
 //! What an update makes of a version that need not be published (RFC 2136, 3).
-ghost use Rattle.dns_engine.specs.Told.{IsJudged};
+ghost use Rattle.dns_engine.specs.Told.{IsJudged, IsJudgedAs};
 
 use crate::shared::SharedVersion;
 use dns_message::Update;
@@ -27,7 +27,14 @@ pub fn judge(alloc: Global, version: &SharedVersion, update: &Update, may: bool)
     if known.number() == u64::MAX {
         return Judged::Told(Rcode::ServFail);
     }
-    match apply(alloc, known, update, may) {
+    judged_of(alloc, apply(alloc, known, update, may))
+}
+
+/// What is told of what becomes of an update: as it is, but of a version that there is no memory for it.
+fn judged_of(alloc: Global, outcome: Outcome) -> Judged
+    ensures { IsJudgedAs outcome result }
+{
+    match outcome {
         Outcome::Refused(code) => Judged::Told(code),
         Outcome::Unchanged => Judged::Told(Rcode::NoError),
         Outcome::NoMemory => Judged::Starved,

@@ -1,7 +1,7 @@
 //! Batches that last, and that fail.
 use crate::board::{Added, Board, Noted};
 use crate::store::Store;
-use journal::{Head, TextSum, recover};
+use journal::{Head, TextSum, recover, write_head};
 use journal_store::{Log, LogFault};
 use std::alloc::{AllocError, Global};
 use std::sync::Wait;
@@ -30,15 +30,17 @@ fn head_of_zone() -> Head {
     }
 }
 
-/// A journal on a disk whose calls do what a plan says, behind those that begin the journal.
+/// A journal without a batch on a disk whose calls do what a plan says, after the two that resume the journal.
 fn journal_on(alloc: Global, plan: &[u8]) -> Result<Store<ToldDisk>, Fail> {
     let mut calls = plan.to_vec(alloc)?;
     calls.push(0)?;
     calls.push(0)?;
-    let Ok(log) = Log::begin(alloc, ToldDisk::new(alloc, calls), &head_of_zone()) else {
-        return Err(Fail::from("the journal doesn't begin"));
-    };
-    Ok(Store::Journal(log))
+    let (head, salt) = write_head(alloc, &head_of_zone())?;
+    let disk = ToldDisk::of(alloc, &head)?.planned(calls);
+    match Log::resume(disk, &salt, 0, head.len() as u64) {
+        Ok(log) => Ok(Store::Journal(log)),
+        Err(_) => Err(Fail::from("the journal isn't resumed")),
+    }
 }
 
 /// Who judges the updates of a queue on a board.

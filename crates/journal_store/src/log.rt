@@ -1,6 +1,6 @@
 //! A journal that is appended to (own).
 use crate::disk::Disk;
-use journal::{Head, SUM, write_frame, write_head};
+use journal::{SUM, write_frame};
 use std::alloc::{AllocError, Global};
 
 /// A journal that is appended to.
@@ -44,27 +44,6 @@ impl<D: Disk> Log<D> {
     ghost use Rattle.journal.specs.Head.{salt_of, IsHead};
     ghost use Rattle.journal_store.specs.Disk.{BeginsWith};
     ghost use Rattle.journal_store.specs.Log.{octets_of, Holds, IsStuck, disk_of, is_stuck, IsFull};
-
-    /// Begins a journal with no batch: its head is on the disk. It takes memory.
-    pub fn begin(alloc: Global, disk: D, head: &Head) -> Result<Log<D>, LogFault<D::Fault>>
-        ensures { IfOk result (λ log. D.written disk ≡ [] → Holds D.written D.synced head.now log []) }
-    {
-        let (octets, salt) = write_head(alloc, head)?;
-        let mut disk = disk;
-        if let Err(fault) = disk.append(&octets) {
-            return Err(LogFault::Disk(fault));
-        }
-        if let Err(fault) = disk.sync() {
-            return Err(LogFault::Disk(fault));
-        }
-        Ok(Log {
-            disk,
-            salt,
-            number: 0,
-            end: octets.len() as u64,
-            stuck: false,
-        })
-    }
 
     /// Goes on with a journal of so many batches that ends at this octet: what stands behind it is cut off, and that is on the disk.
     pub fn resume(disk: D, salt: &[u8; SUM], number: u64, end: u64) -> Result<Log<D>, D::Fault>

@@ -1,5 +1,5 @@
 //! Crashes of a disk that lies in memory.
-use crate::journals::{batch_of, head_of_zone, recovered};
+use crate::journals::{batch_of, empty_log, recovered};
 use journal::{Recovered, put_update};
 use journal_store::{Log, LogFault};
 use std::alloc::{AllocError, Global};
@@ -92,7 +92,7 @@ fn append(
     sent: &mut Sent,
     batch: Vec<u8>,
 ) -> Result<(), AllocError> {
-    if batch.len() >= 1 << 32 {
+    if batch.len() >= 1 << 24 {
         return Ok(());
     }
     match log.append(alloc, &batch) {
@@ -134,8 +134,8 @@ fn is_sent(alloc: Global, found: &Recovered<'_>, sent: &Sent) -> Result<bool, Al
 /// crashes too.
 fn crashes_once(alloc: Global, seed: u64) -> Result<bool, AllocError> {
     let mut random = Random(seed);
-    let disk = ToldDisk::new(alloc, plan_of(alloc, &mut random)?);
-    let Ok(mut log) = Log::begin(alloc, disk, &head_of_zone()) else {
+    let plan = plan_of(alloc, &mut random)?;
+    let Some(mut log) = empty_log(alloc, plan)? else {
         return Ok(true);
     };
     let mut sent = Sent {

@@ -87,7 +87,7 @@ fn with_no_batch(alloc: Global) -> Result<Vec<u8>, AllocError> {
     let mut body = Vec::new(alloc);
     put_update(&mut body, b"whole")?;
     body.extend_from_slice(&[0, 6, b's', b'h', b'o', b'r', b't'])?;
-    if body.len() < 1 << 32 {
+    if body.len() < 1 << 24 {
         octets.extend_from_slice(&write_frame(alloc, &salt, 3, &body)?)?;
     }
     Ok(octets)

@@ -2,7 +2,9 @@
 use journal::{
     Head, HeadFault, Recovered, Refused, SUM, TextSum, put_update, recover, write_frame, write_head,
 };
+use journal_store::Log;
 use std::alloc::{AllocError, Global};
+use told_disks::ToldDisk;
 
 /// A zone text.
 pub(crate) const ZONE: &[u8] = b"example. 3600 IN SOA ns.example. host.example. 7 1 1 1 1\n";
@@ -58,11 +60,18 @@ pub(crate) fn journal_of(alloc: Global, batches: &[&[&[u8]]]) -> Result<Vec<u8>,
     let (mut octets, salt) = write_head(alloc, &head_of_zone())?;
     for (number, updates) in batches.iter().enumerate() {
         let batch = batch_of(alloc, updates)?;
-        if batch.len() < 1 << 32 {
+        if batch.len() < 1 << 24 {
             octets.extend_from_slice(&write_frame(alloc, &salt, number as u64, &batch)?)?;
         }
     }
     Ok(octets)
+}
+
+/// A log without a batch, on a disk whose next calls do what a plan says; None where one of the first two fails.
+pub(crate) fn empty_log(alloc: Global, plan: Vec<u8>) -> Result<Option<Log<ToldDisk>>, AllocError> {
+    let (head, salt) = write_head(alloc, &head_of_zone())?;
+    let disk = ToldDisk::of(alloc, &head)?.planned(plan);
+    Ok(Log::resume(disk, &salt, 0, head.len() as u64).ok())
 }
 
 /// Their updates, in order.

@@ -1,7 +1,5 @@
 //! Logs that stop, and go on with another journal.
-use crate::journals::{
-    BATCHES, END, FIRST, batch_of, head_of_zone, journal_of, recovers, salt, told,
-};
+use crate::journals::{BATCHES, END, FIRST, batch_of, empty_log, journal_of, recovers, salt, told};
 use journal_store::{Log, LogFault};
 use std::alloc::{AllocError, Global};
 use std::test::Fail;
@@ -10,15 +8,14 @@ use told_disks::ToldDisk;
 /// Appends a batch: whether it is on the disk.
 fn append(alloc: Global, log: &mut Log<ToldDisk>, updates: &[&[u8]]) -> Result<bool, AllocError> {
     let batch = batch_of(alloc, updates)?;
-    Ok(batch.len() < 1 << 32 && log.append(alloc, &batch).is_ok())
+    Ok(batch.len() < 1 << 24 && log.append(alloc, &batch).is_ok())
 }
 
-/// A log of the tests, on an empty disk.
+/// A log of the tests, without a batch.
 fn begun(alloc: Global) -> Result<Log<ToldDisk>, Fail> {
-    let disk = ToldDisk::new(alloc, Vec::new(alloc));
-    match Log::begin(alloc, disk, &head_of_zone()) {
-        Ok(log) => Ok(log),
-        Err(_) => Err("no log".into()),
+    match empty_log(alloc, Vec::new(alloc))? {
+        Some(log) => Ok(log),
+        None => Err("no log".into()),
     }
 }
 

@@ -32,10 +32,10 @@ fn a_full_queue(rt: HostRuntime) -> Result<(), Fail> {
     let mut taken: Vec<u64> = Vec::with_capacity(alloc, 3)?;
     assert!(rt; queue.take(&rt, &mut taken) && is_taken(&taken, 0, 3));
     assert!(rt; queue.put(&rt, 4, 1).is_ok() && queue.put(&rt, 5, 1).is_ok());
-    assert!(rt; queue.try_take(&rt) == Some(3));
     taken.clear();
-    assert!(rt; queue.take(&rt, &mut taken) && is_taken(&taken, 4, 2));
-    assert!(rt; queue.try_take(&rt).is_none());
+    assert!(rt; queue.take(&rt, &mut taken) && is_taken(&taken, 3, 3));
+    queue.end(&rt);
+    assert!(rt; !queue.take(&rt, &mut taken));
     Ok(())
 }
 
@@ -51,7 +51,8 @@ fn a_queue_full_of_octets(rt: HostRuntime) -> Result<(), Fail> {
     let mut taken: Vec<u64> = Vec::with_capacity(alloc, 1)?;
     assert!(rt; queue.take(&rt, &mut taken) && is_taken(&taken, 0, 1));
     assert!(rt; queue.put(&rt, 3, 61) == Err(3) && queue.put(&rt, 3, 60).is_ok());
-    assert!(rt; queue.try_take(&rt) == Some(1) && queue.try_take(&rt) == Some(2));
+    let mut two: Vec<u64> = Vec::with_capacity(alloc, 2)?;
+    assert!(rt; queue.take(&rt, &mut two) && is_taken(&two, 1, 2));
     assert!(rt; queue.put(&rt, 4, 41) == Err(4) && queue.put(&rt, 4, 40).is_ok());
     Ok(())
 }

@@ -49,20 +49,21 @@ fn is_later<R: Wait, Z: FirstZone, N: ServerName>(
     }
 }
 
-/// The key of the connection of the one update that waits; None where none waits, or more do.
-fn one_key<R: Wait>(rt: &R, queue: &Queue<Waiting>) -> Option<usize> {
-    let waiting = queue.try_take(rt)?;
-    if queue.try_take(rt).is_some() {
+/// The key of the connection of the one update that waits; None where more do.
+fn one_key<R: Wait>(rt: &R, alloc: Global, queue: &Queue<Waiting>) -> Option<usize> {
+    let mut taken = Vec::with_capacity(alloc, 2).ok()?;
+    if !queue.take(rt, &mut taken) || taken.len() > 1 {
         return None;
     }
+    let waiting = taken.pop()?;
     match waiting.way {
         Way::Connection { worker: 1, key, .. } => Some(key),
         _ => None,
     }
 }
 
-/// Whether an update is handed once while it waits, and anew for another asker, on another connection, and behind a query; and where one waits that leaves no room, not until
-/// that is taken.
+/// Whether an update is handed once while it waits, and anew for another asker, on another connection, and after a query; and where one waits that leaves no room, not until
+/// that is taken. So one that were handed twice would find no room, and be told at once.
 fn is_handed_once<R: Wait, Z: FirstZone, N: ServerName>(
     rt: &R,
     alloc: Global,
@@ -70,16 +71,16 @@ fn is_handed_once<R: Wait, Z: FirstZone, N: ServerName>(
     replies: &mut Replies<'_, '_, Z, N, Kept>,
 ) -> Option<bool> {
     let (update, query) = (octets_of(alloc, UPDATE)?, octets_of(alloc, QUERY)?);
-    let first = is_later(rt, replies, 4711, 0, &update)? && one_key(rt, queue) == Some(0);
-    let again = is_later(rt, replies, 4711, 0, &update)? && queue.try_take(rt).is_none();
-    let other = is_later(rt, replies, 4712, 0, &update)? && one_key(rt, queue) == Some(0);
-    let beside = is_later(rt, replies, 4711, 1, &update)? && one_key(rt, queue) == Some(1);
-    let asked = !is_later(rt, replies, 4712, 0, &query)? && queue.try_take(rt).is_none();
-    let behind = is_later(rt, replies, 4712, 0, &update)? && one_key(rt, queue) == Some(0);
+    let first = is_later(rt, replies, 4711, 0, &update)?;
+    let again = is_later(rt, replies, 4711, 0, &update)? && one_key(rt, alloc, queue) == Some(0);
+    let other = is_later(rt, replies, 4712, 0, &update)? && one_key(rt, alloc, queue) == Some(0);
+    let beside = is_later(rt, replies, 4711, 1, &update)? && one_key(rt, alloc, queue) == Some(1);
+    let asked = !is_later(rt, replies, 4712, 0, &query)?;
+    let behind = is_later(rt, replies, 4712, 0, &update)? && one_key(rt, alloc, queue) == Some(0);
     let full = is_later(rt, replies, 4711, 2, &update)?
         && !is_later(rt, replies, 4711, 3, &update)?
-        && one_key(rt, queue) == Some(2);
-    let room = is_later(rt, replies, 4711, 3, &update)? && one_key(rt, queue) == Some(3);
+        && one_key(rt, alloc, queue) == Some(2);
+    let room = is_later(rt, replies, 4711, 3, &update)? && one_key(rt, alloc, queue) == Some(3);
     Some(first && again && other && beside && asked && behind && full && room)
 }
 

@@ -61,7 +61,7 @@ pub(crate) fn journal_of(alloc: Global, zone: &str, batches: &[&[&str]]) -> Resu
     let (mut octets, salt) = write_head(alloc, &head_of(alloc, zone)?)?;
     for (number, messages) in batches.iter().enumerate() {
         let batch = batch_of(alloc, messages)?;
-        if batch.len() < 1 << 32 {
+        if batch.len() < 1 << 24 {
             octets.extend_from_slice(&write_frame(alloc, &salt, number as u64, &batch)?)?;
         }
     }

@@ -91,7 +91,7 @@ pub fn begun_log(rt: &HostRuntime, dir: &str) -> Result<(Log<FileDisk>, [u8; SUM
 /// Appends the batch of one update.
 pub fn append(alloc: Global, log: &mut Log<FileDisk>, update: &[u8]) -> Result<(), Fail> {
     let batch = batch_of(alloc, update)?;
-    if batch.len() < 1 << 32 && log.append(alloc, &batch).is_ok() {
+    if batch.len() < 1 << 24 && log.append(alloc, &batch).is_ok() {
         return Ok(());
     }
     Err(Fail::from("no batch is appended"))

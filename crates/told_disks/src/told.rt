@@ -31,21 +31,6 @@ impl ToldDisk {
     ghost use Rattle.journal_store.specs.Disk.{BeginsWith};
     ghost use Rattle.told_disks.specs.Told.{written, synced};
 
-    /// A disk with no octets. Its calls do what the plan says, from its last number on: 0 works, any other number fails, and an append has then
-    /// written one octet less than it says. Without a plan all work.
-    pub fn new(alloc: Global, plan: Vec<u8>) -> ToldDisk
-        ensures written { written result ≡ [] }
-        ensures synced { synced result ≡ [] }
-    {
-        ToldDisk {
-            alloc,
-            written: Vec::new(alloc),
-            synced: Vec::new(alloc),
-            plan,
-            failures: CallList::new(),
-        }
-    }
-
     /// A disk whose octets are all on it, as a start finds it. All its calls work.
     pub fn of(alloc: Global, octets: &[u8]) -> Result<ToldDisk, AllocError>
         ensures written { IfOk result (λ disk. written disk ≡ octets.now) }
@@ -58,6 +43,16 @@ impl ToldDisk {
             plan: Vec::new(alloc),
             failures: CallList::new(),
         })
+    }
+
+    /// That disk, whose calls do what the plan says, from its last number on: 0 works, any other number fails, and an append has then written one octet less than
+    /// it says. After the plan all work.
+    pub fn planned(mut self, plan: Vec<u8>) -> ToldDisk
+        ensures written { written result ≡ written self }
+        ensures synced { synced result ≡ synced self }
+    {
+        self.plan = plan;
+        self
     }
 
     /// The octets as they are written.

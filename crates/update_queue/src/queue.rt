@@ -68,11 +68,6 @@ impl<T: Drop> Queue<T> {
         true
     }
 
-    /// Takes the first that waits, if any does.
-    pub fn try_take<R: Wait>(&self, rt: &R) -> Option<T> {
-        self.state.lock(rt).waiting.take_first()
-    }
-
     /// Ends it: nothing more is put, and who takes is told so once nothing is left.
     pub fn end<R: Wait>(&self, rt: &R) {
         self.state.lock(rt).ended = true;
