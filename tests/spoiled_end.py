@@ -1,7 +1,7 @@
 #!/usr/bin/env python3
 """Puts octets of many kinds after the last batch of a journal, up to 64 MB of them, and asks that `dnsd zone` and a start of `dnsd serve --store` tell a torn end from
 damage as docs/FORMATS.md says, and that each takes a time that grows with the octets alone, whatever they are: a second of the processor for 64 MB, or, where a machine
-is slow or loaded, three times what a start takes that digests each octet once. What is right is told by a reading of the octets of its own, with the sums of Python's
+is slow or loaded, twice what a start takes that digests each octet once. What is right is told by a reading of the octets of its own, with the sums of Python's
 hashlib.
 Usage: tests/spoiled_end.py PROGRAM [--megabytes N] [--seconds S]; PROGRAM may be left out where $DNSD names it. It prints what each kind took, and its status is 1 where
 one wasn't so. It needs python3 alone, and three times the octets in the folder for temporary files."""
@@ -22,6 +22,8 @@ from crash_server import NotServed, Served, fill
 
 # the octets of a journal's head, and those of a frame beside its body; where the salt stands in a head, and how many octets of it a frame's mark has
 HEAD, FRAME, SALT, MARK = 156, 52, 124, 8
+# a frame's body has fewer octets
+LIMIT = 1 << 24
 
 
 def frame(salt, number, body, sum_of=None):
@@ -49,7 +51,7 @@ def told_of(salt, number, rest):
         if at + 20 > len(rest):
             continue
         size, told = struct.unpack_from(">IQ", rest, at + MARK)
-        if told <= number or at + FRAME + size > len(rest):
+        if told <= number or size >= LIMIT or at + FRAME + size > len(rest):
             continue
         if rest.find(mark, at + 1, at + FRAME + size) >= 0 or is_frame(salt, rest, at, size):
             return at
@@ -68,9 +70,10 @@ def repeated(octets, many):
     return (octets * (many // len(octets) + 1))[:many]
 
 
-def one_frame(salt, number, many):
-    """What begins as the next frame and has so many octets, with another sum: each octet is digested once."""
-    return struct.pack(">8sIQ", salt[:MARK], many - FRAME, number) + random.Random(2).randbytes(many - 20)
+def digested_once(salt, number, many):
+    """Later frames of a megabyte with another sum, one after another: each octet is digested once."""
+    wide = 1_048_576
+    return spaced(salt, many, wide, lambda at: number + 1 + at, lambda at: wide - FRAME)
 
 
 def ends(salt, number, first, many):
@@ -94,10 +97,15 @@ def ends(salt, number, first, many):
     yield "marks with lengths beyond the end", spaced(salt, many, 20, lambda at: number + 1, lambda at: many - at)
     yield "later frames of no body and another sum", spaced(salt, many, FRAME, lambda at: number + 1 + at, lambda at: 0)
     yield "later frames of 1,024 octets and another sum", spaced(salt, many, 1_024, lambda at: number + 1 + at, lambda at: 1_024 - FRAME)
-    yield "later frames of a megabyte and another sum", spaced(salt, many, wide, lambda at: number + 1 + at, lambda at: wide - FRAME)
-    # the next frame is as long as all, and after its lead later ones stand: each octet is digested twice
-    lead = struct.pack(">8sIQ", salt[:MARK], many - FRAME, number)
-    yield "the next frame, later ones within it, and other sums", lead + spaced(salt, many - len(lead), wide, lambda at: number + 1 + at, lambda at: wide - FRAME)
+    yield "later frames of a megabyte and another sum", digested_once(salt, number, many)
+    # later frames within what begins as the next one: its octets are digested twice, which has a limit
+    for length in (LIMIT - 1, LIMIT, many - FRAME):
+        lead = struct.pack(">8sIQ", salt[:MARK], min(length, many - FRAME), number)
+        yield f"the next frame with {length} octets, later ones within it, and other sums", lead + spaced(salt, many - len(lead), wide, lambda at: number + 1 + at, lambda at: wide - FRAME)
+    # of 2^24 octets no frame is one, whatever its sum
+    yield "a frame of the next number with 2^24 octets", frame(salt, number, bytes(LIMIT))
+    yield "a frame of a later number with 2^24 octets", frame(salt, number + 1, bytes(LIMIT))
+    yield "a frame of a later number with an octet less", frame(salt, number + 1, bytes(LIMIT - 1))
     whole = frame(salt, number + 2, batch(number + 3))
     yield "random octets, and a whole later frame at their end", chance.randbytes(many - len(whole)) + whole
     yield "later frames of another sum, and a whole one at their end", spaced(salt, many - len(whole), 1_024, lambda at: number + 1, lambda at: 1_024 - FRAME) + whole
@@ -185,8 +193,8 @@ def main():
         store = Store(os.path.abspath(args.program), room)
         many = args.megabytes << 20
         base = printed(store, store.with_end(b""))[3], served(store, store.with_end(b""))[3]
-        once = printed(store, store.with_end(one_frame(store.salt, store.number, many)))[3] - base[0]
-        limit = max(args.seconds, 3 * once)
+        once = printed(store, store.with_end(digested_once(store.salt, store.number, many)))[3] - base[0]
+        limit = max(args.seconds, 2 * once)
         print(f"{many:>10} octets that are digested once: zone {once:6.2f} s, so at most {limit:.2f} s")
         for name, octets in ends(store.salt, store.number, store.first, many):
             want = told_of(store.salt, store.number, octets)
