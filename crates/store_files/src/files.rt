@@ -1,11 +1,23 @@
 //! Whole files, and folders (own).
+ghost use Rattle.std.specs.Prelude.{◌≡◌, ◌≢◌, Ok, Err, Some, None, IfOk, IfErr};
+ghost use Rattle.std.specs.IoError.{error_kind};
+
 use std::alloc::Global;
 use std::fs::{File, Files, OpenFile};
 use std::io::{self, ErrorKind, Read, Write};
 
 /// A file that is there, open to be read; else None.
 pub(crate) fn open_there<R: Files>(rt: &R, path: &str) -> io::Result<Option<R::File>> {
-    match File::open(rt, path) {
+    there(File::open(rt, path))
+}
+
+/// A file that was to be opened; None where there is none. One that is there and can't be opened, as where the right is missing, is an error.
+pub(crate) fn there<F: Drop>(opened: io::Result<F>) -> io::Result<Option<F>>
+    ensures found { IfOk opened (λ file. result ≡ Ok (Some file)) }
+    ensures none { IfErr opened (λ error. error_kind error ≡ ErrorKind.NotFound → result ≡ Ok None) }
+    ensures fault { IfErr opened (λ error. error_kind error ≢ ErrorKind.NotFound → result ≡ Err error) }
+{
+    match opened {
         Ok(file) => Ok(Some(file)),
         Err(error) if error.kind() == ErrorKind::NotFound => Ok(None),
         Err(error) => Err(error),

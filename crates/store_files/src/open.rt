@@ -2,13 +2,14 @@
 ghost use Rattle.std.specs.Prelude.{IfOk};
 ghost use Rattle.store_files.specs.Store.{IsAsNoted};
 
+use crate::files::there;
 use crate::names::{JOURNAL, LOCK, path_of};
 use crate::read::{Text, read_text};
 use crate::unbegun::lost_journal;
 use file_disks::FileDisk;
 use std::alloc::Global;
 use std::fs::{File, Files, OpenOptions, TryLockError};
-use std::io::{self, ErrorKind};
+use std::io;
 
 /// A store that this process holds, until it is dropped.
 #[derive(Drop)]
@@ -99,13 +100,10 @@ fn open_journal<R: Files<File = File>>(
     dir: &str,
 ) -> io::Result<Option<File>> {
     let path = path_of(alloc, dir, JOURNAL)?;
-    match OpenOptions::new()
-        .read(true)
-        .write(true)
-        .open(rt, path.as_str())
-    {
-        Ok(file) => Ok(Some(file)),
-        Err(error) if error.kind() == ErrorKind::NotFound => Ok(None),
-        Err(error) => Err(error),
-    }
+    there(
+        OpenOptions::new()
+            .read(true)
+            .write(true)
+            .open(rt, path.as_str()),
+    )
 }

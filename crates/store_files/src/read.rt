@@ -1,5 +1,5 @@
 //! How a store is read (own).
-ghost use Rattle.std.specs.Prelude.{◌↔◌, IsTrue, ℕ, MatchOption};
+ghost use Rattle.std.specs.Prelude.{◌≡◌, ◌↔◌, IsTrue, ℕ, MatchOption, IfOk};
 ghost use Rattle.journal.specs.Head.{IsHeadFault};
 ghost use Rattle.journal.specs.declared.heads.HeadFault.{HeadFault};
 ghost use Rattle.store_files.specs.Names.{Names};
@@ -88,7 +88,19 @@ fn read_once<R: Files>(
     let Some(again) = read_there(rt, alloc, path)? else {
         return Ok(None);
     };
-    if !stands_still(&journal, &again) {
+    judged_again(text, journal, &again)
+}
+
+/// The zone text and the journal that were read, where the journal stands still when it is read again; None where it doesn't.
+fn judged_again(
+    text: Text,
+    journal: Vec<u8>,
+    again: &[u8],
+) -> io::Result<Option<(Vec<u8>, Vec<u8>)>>
+    ensures read { IfOk result (λ found. MatchOption found (StandsStill journal.items again.now → ⊥)
+        (λ pair. (pair.1 ≡ journal) × StandsStill journal.items again.now)) }
+{
+    if !stands_still(&journal, again) {
         return Ok(None);
     }
     match text {

@@ -1,5 +1,5 @@
 //! A start over a folder (own).
-ghost use Rattle.std.specs.Prelude.{◌≡◌, ℕ, length, map, IfOk, IfErr};
+ghost use Rattle.std.specs.Prelude.{◌≡◌, ◌≤◌, ℕ, length, drop, map, IfOk, IfErr, MatchOption};
 ghost use Rattle.file_disks.specs.File.{written};
 ghost use Rattle.recovery.specs.Start.{IsStarted};
 ghost use Rattle.stores.specs.Choice.{IsChoice};
@@ -241,12 +241,23 @@ fn keep_end<R: Files<File = File>>(
     ensures { IfErr result IsOwnFault }
 {
     match ending {
-        Ending::Torn(end) => match journal.get(end..) {
-            Some(octets) if !octets.is_empty() => Ok(Some(keep_torn(rt, alloc, dir, octets)?)),
-            _ => Ok(None),
+        Ending::Torn(end) => match torn_end(journal, end) {
+            Some(octets) => Ok(Some(keep_torn(rt, alloc, dir, octets)?)),
+            None => Ok(None),
         },
         Ending::Clean | Ending::Blank => Ok(None),
     }
+}
+
+/// The octets of a journal after its last batch, which ends at this octet; None where there are none.
+fn torn_end(journal: &[u8], end: usize) -> Option<&[u8]>
+    ensures { MatchOption result (length journal.now ≤ end) (λ octets. octets.now ≡ drop end journal.now) }
+{
+    let octets = journal.get(end..)?;
+    if octets.is_empty() {
+        return None;
+    }
+    Some(octets)
 }
 
 /// A store that is begun with a zone.
