@@ -57,6 +57,6 @@ judged_as version update may (Refused code) judged told is = subst (IsJudged ver
 judged_as version update may Unchanged judged told is = subst (IsJudged version update may) (sym is) (inr (inl (told.0, told.1, refl)))
 judged_as version update may (Next next) judged told is = elim is [
   | inl made ↦ subst (IsJudged version update may) (sym made) (told.0, made_of version next update may told)
-  | inr starved ↦ subst (IsJudged version update may) (sym starved) told.0
+  | inr none ↦ subst (IsJudged version update may) (sym none) told.0
 ]
 judged_as version update may NoMemory judged told is = subst (IsJudged version update may) (sym is) told
