@@ -1,4 +1,4 @@
--- How long the options may let a connection wait (own).
+-- The timeouts that the options allow for a connection (own).
 use Rattle.std.specs.Prelude.{ℕ, ◌≤◌}
 
 -- a time in nanoseconds, from a second to an hour

@@ -1,4 +1,4 @@
-//! What the words of a command line ask for.
+//! Parsing a command line into a task.
 ghost use Rattle.std.specs.Prelude.{◌≡◌, ◌≤◌, IsNone, IfOk};
 ghost use Rattle.std.specs.Result.{IsOkAnd};
 
@@ -13,32 +13,32 @@ use std::alloc::{AllocError, Global};
 use std::convert::AsStr;
 use stored_zone::Part;
 
-/// What a command line asks for.
+/// The task that a command line requests.
 #[derive(Drop)]
 pub enum Task<'a> {
-    /// A command over standard input and output.
+    /// A command that uses standard input and output.
     Lines {
         /// The command.
         command: Command<'a>,
-        /// Whether an origin is given for its zone's text.
+        /// Whether an origin was given for its zone's text.
         has_origin: bool,
     },
-    /// A zone served on sockets.
+    /// Serves a zone on sockets.
     Serve(Serve<'a>),
-    /// The zone of a store, printed.
+    /// Prints the zone of a store.
     Stored(Stored<'a>),
 }
 
-/// A store whose zone is printed.
+/// A store whose zone is to be printed.
 #[derive(Clone, Copy, Debug, PartialEq, Eq)]
 pub struct Stored<'a> {
-    /// The store's folder.
+    /// The store's directory.
     pub dir: &'a str,
-    /// How much of its journal is taken.
+    /// How much of its journal to use.
     pub part: Part,
 }
 
-/// What these words ask for, the program's own name first.
+/// The task that these arguments request. The first one is the program's name.
 pub fn parse_words<'a, S: AsStr>(
     alloc: Global,
     words: &'a [S],
@@ -50,7 +50,7 @@ pub fn parse_words<'a, S: AsStr>(
     }
 }
 
-/// What the command of a name asks for.
+/// The task of the command with this name.
 fn task_of<'a>(
     alloc: Global,
     name: &str,
@@ -76,7 +76,7 @@ fn task_of<'a>(
     })
 }
 
-/// The store whose zone is printed.
+/// The store whose zone is to be printed.
 fn stored_of<'a>(found: &ArgMatches<'a>) -> Stored<'a> {
     let part = if found.get_flag(BEFORE_FAULT) {
         Part::BeforeFault
@@ -89,7 +89,7 @@ fn stored_of<'a>(found: &ArgMatches<'a>) -> Stored<'a> {
     }
 }
 
-/// The command of a name.
+/// The command with this name.
 fn command_of<'a>(
     name: &str,
     found: &ArgMatches<'a>,
@@ -126,31 +126,31 @@ fn command_of<'a>(
 /// The option for the origin at the start of a zone's text.
 pub const ORIGIN: &str = "origin";
 
-/// The word for where a zone's text comes from.
+/// The argument for the source of a zone's text.
 pub const ZONE: &str = "zone";
 
 /// The option for replies as over TCP.
 pub const TCP: &str = "tcp";
 
-/// The word for a store's folder.
+/// The argument for a store's directory.
 pub const DIR: &str = "dir";
 
-/// The option for what stands in front of damage.
+/// The option for the part of a journal before damage.
 pub const BEFORE_FAULT: &str = "before-fault";
 
-/// The option for how many older versions are kept beside the newest.
+/// The option for the number of older versions kept in addition to the newest.
 pub const KEEP: &str = "keep";
 
-/// The most older versions that are kept.
+/// The maximum number of older versions kept.
 pub const MAX_KEEP: usize = transfer_core::KEPT;
 
-/// The option for how many entries the window has.
+/// The option for the size of the IXFR history, in window entries.
 pub const WINDOW: &str = "window";
 
-/// The most entries of the window.
+/// The maximum number of entries in the window.
 const MAX_WINDOW: usize = transfer_core::WINDOW;
 
-/// The number that a word gives an option, from the least to the greatest that it takes; where there is no word, the option's own.
+/// The number given for an option, which must be in the range from `least` to `most`; `own` if the option is not given.
 pub fn number_for<'a>(
     word: Option<&'a str>,
     option: &'static str,

@@ -1,4 +1,4 @@
-//! Why a command line is refused, and how that is told.
+//! Why a command line is refused, and how that is reported.
 ghost use Rattle.std.specs.Prelude.{◌≡◌, ◌⊎◌};
 
 use commands::{DONE, FAILED};
@@ -6,53 +6,53 @@ use dns_name::NameFault;
 use std::alloc::AllocError;
 use std::io;
 
-/// The status of a command line that was refused.
+/// The exit status for a command line that is refused.
 pub const BAD_COMMAND: u8 = 2;
 
 /// Why a command line is refused.
 #[derive(Drop)]
 pub enum CommandFault<'a> {
-    /// The words aren't those of a command, or help was asked for.
+    /// The arguments are not those of a command, or help or the version was requested.
     Words(clap::Error),
-    /// The origin is no name.
+    /// The origin is not a valid name.
     Origin(&'a str, NameFault),
-    /// The word for an option is no number of those that it takes.
+    /// The value of an option is not a number in its range.
     Number {
         /// The option.
         option: &'static str,
-        /// The word.
+        /// The value.
         word: &'a str,
-        /// The least number that it takes.
+        /// The minimum.
         least: u64,
-        /// The greatest number that it takes.
+        /// The maximum.
         most: u64,
     },
-    /// The word for the option is no time of those that it takes.
+    /// The value of the option is not a time in its range.
     Time(&'static str, &'a str),
-    /// The word for the address to listen on is no address with a port.
+    /// The address to listen on is not an address with a port.
     Listen(&'a str),
-    /// A word of the list of addresses that may update and transfer is no address.
+    /// An entry in the list of addresses permitted to update and transfer is not an address.
     Allow(&'a str),
-    /// So many workers, for so many addresses, ask for too many threads.
+    /// This many workers, for this many addresses, need too many threads.
     Threads(usize, usize),
-    /// The word for a secondary is no address.
+    /// The value for a secondary is not an address.
     Notify(&'a str),
-    /// The word is for one secondary more than can be told.
+    /// The value names one secondary more than can be notified.
     Secondaries(&'a str),
-    /// The word is for a secondary that another word is for.
+    /// The value names a secondary that another value also names.
     SecondaryTwice(&'a str),
-    /// The word for an option is no size of those that it takes.
+    /// The value of an option is not a size in its range.
     Size {
         /// The option.
         option: &'static str,
-        /// Which sizes it takes, as the operator is told.
+        /// The sizes it accepts, in the words of the error message.
         takes: &'static str,
-        /// The word.
+        /// The value.
         word: &'a str,
     },
-    /// The word is neither of the two that can be taken.
+    /// The value is neither `store` nor `zone`.
     Take(&'a str),
-    /// The option is one for a store, and none is named.
+    /// The option requires a store, and none is given.
     NoStore(&'static str),
 }
 
@@ -68,7 +68,7 @@ impl From<AllocError> for CommandFault<'_> {
     }
 }
 
-/// Says on standard error why the words are refused, or on standard output what they ask to be told, and gives the status.
+/// Prints on standard error why the arguments are refused, or on standard output the help or version that they request, and returns the exit status.
 pub fn tell_fault<R: Print + Eprint>(rt: &R, fault: &CommandFault<'_>) -> io::Result<u8> {
     match fault {
         CommandFault::Words(fault) => {
@@ -138,7 +138,7 @@ pub fn tell_fault<R: Print + Eprint>(rt: &R, fault: &CommandFault<'_>) -> io::Re
     Ok(BAD_COMMAND)
 }
 
-/// The status of a command line that clap refused: want of memory has one of its own.
+/// The exit status for a command line that clap refused. Lack of memory has its own.
 fn status_of(fault: &clap::Error) -> u8
     ensures { (result ≡ 0) ⊎ (result ≡ 2) ⊎ (result ≡ 3) }
 {

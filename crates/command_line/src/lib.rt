@@ -1,7 +1,7 @@
-//! What the program's words ask for.
+//! Parsing the program's command line.
 //!
-//! [`parse_words`] gives the [`Task`] of a command line, or why it is refused, which [`tell_fault`] says. Which commands there are, and which words each takes, is one
-//! table, in `program`. Each number that a task has lies within its option's bounds. No file and no socket is here.
+//! [`parse_words`] returns the [`Task`] of a command line, or the reason why it is refused, which [`tell_fault`] reports. The commands and their
+//! arguments are one table, in `program`. Each number in a task is within its option's bounds. Nothing here opens a file or a socket.
 #![tactic(auto)]
 
 mod command;

@@ -1,4 +1,4 @@
-//! What the options of `serve` ask for.
+//! The options of `serve`.
 ghost use Rattle.std.specs.Prelude.{◌≡◌, ◌+◌, ◌*◌, ◌-◌, ◌^◌, ◌<◌, ◌≤◌, [], vec_len, IsNone, IfOk};
 ghost use Rattle.std.specs.Result.{IsOkAnd};
 ghost use Rattle.command_line.specs.Patience.{IsPatience};
@@ -14,40 +14,40 @@ use crate::store_options::{
 use clap::ArgMatches;
 use commands::Source;
 use dns_name::Name;
-use links::Limits;
 use std::alloc::{AllocError, Global};
 use std::net::{IpAddr, SocketAddr};
+use tcp_connections::Limits;
 
-/// A zone to be served, and how.
+/// A zone to serve, and how to serve it.
 #[derive(Drop)]
 pub struct Serve<'a> {
     /// Where the zone's text comes from.
     pub zone: Source<'a>,
     /// The origin at the start of the zone's text.
     pub origin: Name,
-    /// Whether that was given, and isn't the root by default.
+    /// Whether the origin was given; if not, it is the root by default.
     pub has_origin: bool,
-    /// The addresses and the ports, each for datagrams and for connections.
+    /// The addresses and ports to listen on, each by UDP and TCP.
     pub listen: Vec<SocketAddr>,
-    /// How many workers there are; each has a thread for connections, and one for the datagrams of each address.
+    /// The number of workers. Each has a thread for connections, and one for the datagrams of each address.
     pub workers: usize,
-    /// How many older versions are kept beside the newest; at most [`MAX_KEEP`].
+    /// The number of older versions kept in addition to the newest, at most [`MAX_KEEP`].
     pub keep: usize,
-    /// After how many datagrams and connections, together, a worker ends.
+    /// The number of datagrams and connections, counted together, after which a worker exits.
     pub most: u64,
-    /// The addresses that may update and transfer.
+    /// The addresses that are permitted to update and transfer.
     pub allowed: Vec<IpAddr>,
-    /// How many connections a worker may have open.
+    /// The maximum number of open connections per worker.
     pub places: usize,
-    /// How long each may wait for its peer, and how fast that takes what is written to it at least.
+    /// The timeouts of a connection, and the minimum rate at which its peer must accept what is written to it.
     pub limits: Limits,
-    /// How many octets of datagrams may wait for a worker, at each address.
+    /// The number of octets of datagrams that may wait for a worker, at each address.
     pub udp_buffer: u32,
-    /// How many octets of memory the updates may be counted for that wait to be judged.
+    /// The limit, in octets, on the memory accounted to updates that wait to be judged.
     pub update_queue: usize,
-    /// The secondaries that are told of each version; a thread tells them.
+    /// The secondaries to notify of each version. One thread notifies them all.
     pub secondaries: Vec<Secondary>,
-    /// The folder in which updates last, if there is one.
+    /// The store in which updates survive a restart, if there is one.
     pub store: Option<StorePlan<'a>>,
     ghost few_kept: { keep ≤ KEPT },
     ghost some_workers: { 0 < workers },
@@ -63,46 +63,47 @@ pub struct Serve<'a> {
 /// The option for an address to listen on.
 pub const LISTEN: &str = "listen";
 
-/// The option for how many workers there are.
+/// The option for the number of workers.
 pub const WORKERS: &str = "workers";
 
-/// The most workers.
+/// The maximum number of workers.
 const MAX_WORKERS: usize = 31;
 
-/// The most threads of all workers, since each has a reader of the zone's versions; the engine has one more, and who judges updates another.
+/// The maximum number of worker threads in total, since each has a reader of the zone's versions. The engine has one more reader, and the update
+/// thread another.
 pub const MAX_THREADS: usize = 62;
 
-/// The option for who may update and transfer.
+/// The option for the addresses permitted to update and transfer.
 pub const ALLOW: &str = "allow";
 
-/// The option for after how many datagrams and connections a worker ends.
+/// The option for the number of datagrams and connections after which a worker exits.
 pub const COUNT: &str = "count";
 
-/// The option for how many connections a worker may have open.
+/// The option for the maximum number of open connections per worker.
 pub const CONNECTIONS: &str = "connections";
 
-/// The most connections that a worker may have open.
+/// The maximum number of open connections per worker that the option accepts.
 const MAX_CONNECTIONS: usize = 100_000;
 
-/// The option for how long a connection may be idle.
+/// The option for the time that a connection may be idle.
 pub const IDLE: &str = "idle";
 
-/// The option for how long the rest of a request may take.
+/// The option for the time that the rest of a request may take.
 pub const MESSAGE: &str = "message";
 
-/// The option for how long the taking of a reply may take.
+/// The option for the time that the peer may take to accept a reply.
 pub const REPLY: &str = "reply";
 
-/// The most seconds of each.
+/// The maximum of each timeout, in seconds.
 const MAX_SECONDS: u64 = 3_600;
 
-/// The seconds of each where the option isn't given.
+/// The default of each timeout, in seconds.
 const SECONDS: u64 = 10;
 
-/// The units of a time, and how many seconds each has.
+/// The units of time, and the number of seconds in each.
 const TIMES: &[(char, u64)] = &[('s', 1), ('m', 60), ('h', 3_600)];
 
-/// What the options ask for.
+/// Reads the options of `serve`. An error is an option whose value is refused, too many threads, or lack of memory.
 pub fn serve_of<'a>(
     alloc: Global,
     found: &ArgMatches<'a>,
@@ -148,7 +149,7 @@ pub fn serve_of<'a>(
     })
 }
 
-/// The most threads of all workers, beside the one that tells secondaries, where there are any.
+/// The maximum number of worker threads in total, less one if there are secondaries, for the thread that notifies them.
 fn threads_beside(secondaries: &[Secondary]) -> usize
     ensures { result ≤ 62 }
 {
@@ -179,7 +180,7 @@ fn listened<'a>(
     Ok(listen)
 }
 
-/// How long connections may wait for their peers, and how fast these take what is written to them at least.
+/// The timeouts of connections, and the minimum rate at which peers must accept what is written to them.
 fn limits_of<'a>(found: &ArgMatches<'a>) -> Result<Limits, CommandFault<'a>>
     ensures idle { IfOk result (λ limits. IsPatience limits.idle) }
     ensures message { IfOk result (λ limits. IsPatience limits.message) }
@@ -194,8 +195,8 @@ fn limits_of<'a>(found: &ArgMatches<'a>) -> Result<Limits, CommandFault<'a>>
     })
 }
 
-/// A time in nanoseconds, by a word for an option: a number of seconds, or of what the letter behind it says; the options' own where there is
-/// no word.
+/// An option's time in nanoseconds. Its value is a number of seconds, or a number followed by the letter of its unit. Without a value it is the
+/// default.
 fn nanos_for<'a>(word: Option<&'a str>, option: &'static str) -> Result<u64, CommandFault<'a>>
     ensures { IfOk result (λ nanos. IsPatience nanos) }
 {
@@ -206,7 +207,7 @@ fn nanos_for<'a>(word: Option<&'a str>, option: &'static str) -> Result<u64, Com
     Ok(seconds * 1_000_000_000)
 }
 
-/// The seconds that a word for an option says.
+/// The value of an option in seconds.
 fn seconds_for<'a>(word: &'a str, option: &'static str) -> Result<u64, CommandFault<'a>>
     ensures least { IfOk result (λ seconds. 1 ≤ seconds) }
     ensures most { IfOk result (λ seconds. seconds ≤ 3600) }
@@ -221,7 +222,7 @@ fn seconds_for<'a>(word: &'a str, option: &'static str) -> Result<u64, CommandFa
     }
 }
 
-/// After how many datagrams and connections a worker ends, by the option's word; without one it never does.
+/// The number of datagrams and connections after which a worker exits. Without a value it is 2^64 - 1, so that a worker never exits for that reason.
 fn count_of<'a>(word: Option<&'a str>) -> Result<u64, CommandFault<'a>>
     ensures { IsNone word.entry → IsOkAnd result (λ most. most ≡ 2 ^ 64 - 1) }
 {
@@ -236,7 +237,7 @@ fn count_of<'a>(word: Option<&'a str>) -> Result<u64, CommandFault<'a>>
     })
 }
 
-/// The addresses of a list with commas between them, and blanks beside these; none of an empty one.
+/// The addresses in a comma-separated list, which may have blanks around each; none for an empty list.
 fn addresses_of<'a>(alloc: Global, list: &'a str) -> Result<Vec<IpAddr>, CommandFault<'a>>
     ensures { list.entry.now ≡ [] → IsOkAnd result (λ addresses. addresses.items ≡ []) }
 {

@@ -1,4 +1,4 @@
-//! The program's commands, and the words that each takes.
+//! The program's commands, and the arguments of each.
 use crate::command::{BEFORE_FAULT, DIR, KEEP, ORIGIN, TCP, WINDOW, ZONE};
 use crate::options::{ALLOW, CONNECTIONS, COUNT, IDLE, LISTEN, MESSAGE, REPLY, WORKERS};
 use crate::secondaries::NOTIFY;
@@ -12,31 +12,31 @@ const PROGRAM: &str = "dnsd";
 /// The program's version, which `--version` prints after its name.
 const VERSION: &str = "0.1.0";
 
-/// What a word of a command is; help calls its value by the first text.
+/// The form of an argument. Help shows the first text as the name of its value.
 #[derive(Clone, Copy)]
 enum Form {
     /// An option without a value.
     Flag,
     /// An option with a value.
     Value(&'static str),
-    /// An option with a value, which is the second text where it isn't given.
+    /// An option with a value; the second text is the default.
     Default(&'static str, &'static str),
-    /// An option with a value, which may be given again for further ones.
+    /// An option with a value, which may be repeated.
     Several(&'static str),
-    /// An option with a value, which has to be given, and may be given again for further ones.
+    /// A required option with a value, which may be repeated.
     OneAtLeast(&'static str),
-    /// A word without an option, which has to be given.
+    /// A required positional argument.
     Word(&'static str),
 }
 
-/// A word of a command.
+/// An argument of a command.
 #[derive(Clone, Copy)]
 struct WordRow {
-    /// What it is read back by; an option is written so.
+    /// The name by which it is looked up; an option is written with it.
     name: &'static str,
-    /// What it is.
+    /// Its form.
     form: Form,
-    /// What help says of it.
+    /// Its help text.
     help: &'static str,
 }
 
@@ -45,29 +45,29 @@ struct WordRow {
 struct CommandRow {
     /// Its name.
     name: &'static str,
-    /// What help says of it.
+    /// Its help text.
     about: &'static str,
-    /// What stands at the end of its help.
+    /// The example at the end of its help.
     example: &'static str,
-    /// Its words, in the order in which help tells them.
+    /// Its arguments, in the order in which help lists them.
     words: &'static [WordRow],
 }
 
-/// The origin of a zone's text.
+/// The argument for the origin of a zone's text.
 const ORIGIN_ROW: WordRow = WordRow {
     name: ORIGIN,
     form: Form::Value("NAME"),
     help: "the origin at the start of the zone's text; the root where it isn't given",
 };
 
-/// Where a zone's text comes from.
+/// The argument for the source of a zone's text.
 const ZONE_ROW: WordRow = WordRow {
     name: ZONE,
     form: Form::Word("ZONE"),
     help: "the zone's text: a file, or - for standard input up to a line %",
 };
 
-/// The commands, in the order in which help tells them.
+/// The commands, in the order in which help lists them.
 const COMMANDS: &[CommandRow] = &[
     CommandRow {
         name: "answer",
@@ -107,7 +107,7 @@ const COMMANDS: &[CommandRow] = &[
     },
 ];
 
-/// The words of `answer`.
+/// The arguments of `answer`.
 const ANSWER_WORDS: &[WordRow] = &[
     ORIGIN_ROW,
     ZONE_ROW,
@@ -118,7 +118,7 @@ const ANSWER_WORDS: &[WordRow] = &[
     },
 ];
 
-/// The words of `steps`.
+/// The arguments of `steps`.
 const STEPS_WORDS: &[WordRow] = &[
     ORIGIN_ROW,
     ZONE_ROW,
@@ -134,7 +134,7 @@ const STEPS_WORDS: &[WordRow] = &[
     },
 ];
 
-/// The words of `zone`.
+/// The arguments of `zone`.
 const STORED_WORDS: &[WordRow] = &[
     WordRow {
         name: BEFORE_FAULT,
@@ -148,7 +148,7 @@ const STORED_WORDS: &[WordRow] = &[
     },
 ];
 
-/// The words of `serve`.
+/// The arguments of `serve`.
 const SERVE_WORDS: &[WordRow] = &[
     ORIGIN_ROW,
     ZONE_ROW,
@@ -234,7 +234,7 @@ const SERVE_WORDS: &[WordRow] = &[
     },
 ];
 
-/// The program's command line.
+/// The parser for the program's command line.
 pub fn program<'a>(alloc: Global) -> Result<Parser<'a>, AllocError> {
     let mut parser = Parser::new(alloc, PROGRAM)
         .version(VERSION)
@@ -247,7 +247,7 @@ pub fn program<'a>(alloc: Global) -> Result<Parser<'a>, AllocError> {
     Ok(parser)
 }
 
-/// The command of a row.
+/// The parser for a row of the table of commands.
 fn command_of<'a>(alloc: Global, row: &CommandRow) -> Result<Parser<'a>, AllocError> {
     let mut parser = Parser::new(alloc, row.name)
         .about(row.about)
@@ -258,7 +258,7 @@ fn command_of<'a>(alloc: Global, row: &CommandRow) -> Result<Parser<'a>, AllocEr
     Ok(parser)
 }
 
-/// The word of a row.
+/// The argument for a row of a table of arguments.
 fn arg_of<'a>(alloc: Global, row: &WordRow) -> Arg<'a> {
     let arg = Arg::new(alloc, row.name).help(row.help);
     let option = match row.form {

@@ -1,28 +1,30 @@
-//! The secondaries that are told of each version of the zone (RFC 1996), as the command line names them.
+//! The secondaries that are notified of each version of the zone (RFC 1996), as given on the command line.
 use crate::fault::CommandFault;
 use clap::ArgMatches;
 use std::alloc::{AllocError, Global};
 use std::net::{IpAddr, Ipv4Addr, Ipv6Addr, SocketAddr};
 
-/// The most secondaries that are told (own).
+/// The maximum number of secondaries (own).
 pub const MAX_SECONDARIES: usize = 32;
 
-/// The option for a secondary that is told of each version.
+/// The option for a secondary to notify of each version.
 pub const NOTIFY: &str = "notify";
 
-/// The port of a secondary for which none is given (RFC 1035, 4.2).
+/// The default port of a secondary (RFC 1035, 4.2).
 const DNS_PORT: u16 = 53;
 
-/// A secondary, as the command line names it.
+/// A secondary, as given on the command line.
 #[derive(Clone, Copy)]
 pub struct Secondary {
     /// Its address and its port.
     pub address: SocketAddr,
-    /// The address from which it is told, where that is given.
+    /// The source address of its notifications, if one is given.
     pub from: Option<IpAddr>,
 }
 
-/// The secondaries of the option's words, each `ADDR[:PORT][@FROM]`; at most [`MAX_SECONDARIES`], no two at one address.
+/// The secondaries given by the option, each as `ADDR[:PORT][@FROM]`: at most [`MAX_SECONDARIES`], no two with the same address and port.
+///
+/// An error is the first value that is not of this form, exceeds the maximum or repeats an address, or lack of memory.
 pub fn secondaries_of<'a>(
     alloc: Global,
     found: &ArgMatches<'a>,
@@ -51,7 +53,7 @@ pub fn secondaries_of<'a>(
     Ok(secondaries)
 }
 
-/// The secondary of a word; None of any other word, and where both addresses aren't of one family.
+/// The secondary given by a value. None if the value has another form, or if its two addresses differ in family.
 fn secondary_of(word: &str) -> Option<Secondary> {
     let (to, from) = match word.split_once('@') {
         None => (word, None),
@@ -67,8 +69,8 @@ fn secondary_of(word: &str) -> Option<Secondary> {
     }
 }
 
-/// The address from which a secondary is told: the one that is given; else the first of its family that is listened on; else whichever
-/// routing picks, as the wildcard of that family.
+/// The source address for notifying a secondary: the one given for it; else the first listening address of its family; else the wildcard of that
+/// family, so that routing picks one.
 pub fn source_of(secondary: &Secondary, listen: &[SocketAddr]) -> IpAddr {
     if let Some(from) = secondary.from {
         return from;
@@ -85,7 +87,7 @@ pub fn source_of(secondary: &Secondary, listen: &[SocketAddr]) -> IpAddr {
     }
 }
 
-/// Whether one of the secondaries is told from an address that routing picks, where these are listened on.
+/// Whether routing picks the source address for any of the secondaries, given the listening addresses.
 pub fn is_routed(secondaries: &[Secondary], listen: &[SocketAddr]) -> bool {
     secondaries
         .iter()

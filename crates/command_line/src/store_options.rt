@@ -1,29 +1,29 @@
-//! What the options of `serve` for updates that last ask for.
+//! The options of `serve` for the store, and for sizes.
 ghost use Rattle.std.specs.Prelude.{◌≡◌, ◌≤◌, IsNone, IfOk};
 ghost use Rattle.std.specs.Result.{IsOkAnd};
 
 use crate::fault::CommandFault;
 use clap::ArgMatches;
-use stores::Take;
+use store_recovery::Take;
 
-/// A folder in which updates last, and how.
+/// A directory in which updates survive a restart, and how it is used.
 #[derive(Clone, Copy, Debug)]
 pub struct StorePlan<'a> {
-    /// The folder.
+    /// The directory.
     pub dir: &'a str,
-    /// How many octets its journal has before a new zone text is written, and the journal begun anew behind it.
+    /// The journal size, in octets, at which the store is compacted: a new zone text is written, and the journal starts again after it.
     pub journal: u64,
-    /// Which is taken where the zone's text is another one than the store was begun from.
+    /// Which to serve if the zone's text is not the one that the store was created from.
     pub taken: Option<Take>,
 }
 
-/// The option for the folder in which updates last.
+/// The option for the store's directory.
 pub const STORE: &str = "store";
 
-/// The option for how many octets a journal has before it is begun anew.
+/// The option for the journal size at which the store is compacted.
 pub const JOURNAL: &str = "journal";
 
-/// The sizes of a journal (own).
+/// The sizes it accepts (own).
 const JOURNAL_SIZES: Sizes = Sizes {
     option: JOURNAL,
     own: 64_000_000,
@@ -32,10 +32,10 @@ const JOURNAL_SIZES: Sizes = Sizes {
     takes: "from 4K to 1024G, as 100000, 500K or 64M",
 };
 
-/// The option for how many octets of datagrams wait for a worker, at each address.
+/// The option for the number of octets of datagrams that may wait for a worker, at each address.
 pub const UDP_BUFFER: &str = "udp-buffer";
 
-/// The sizes of that (own).
+/// The sizes it accepts (own).
 const UDP_SIZES: Sizes = Sizes {
     option: UDP_BUFFER,
     own: 4_194_304,
@@ -44,10 +44,10 @@ const UDP_SIZES: Sizes = Sizes {
     takes: "from 4K to 1G, as 500K or 4M",
 };
 
-/// The option for how many octets of what is written to it a connection's peer takes in ten seconds at least.
+/// The option for the minimum number of octets that a connection's peer must accept in ten seconds.
 pub const TRANSFER_RATE: &str = "transfer-rate";
 
-/// The sizes of that; 0 is no bound (own).
+/// The sizes it accepts; 0 means no bound (own).
 const RATES: Sizes = Sizes {
     option: TRANSFER_RATE,
     own: 16_384,
@@ -56,10 +56,10 @@ const RATES: Sizes = Sizes {
     takes: "from 0 to 1G, as 16K or 1M",
 };
 
-/// The option for how many octets of memory the updates may be counted for that wait.
+/// The option for the limit, in octets, on the memory accounted to waiting updates.
 pub const UPDATE_QUEUE: &str = "update-queue";
 
-/// The sizes of that (own).
+/// The sizes it accepts (own).
 const UPDATE_SIZES: Sizes = Sizes {
     option: UPDATE_QUEUE,
     own: 16_777_216,
@@ -68,22 +68,22 @@ const UPDATE_SIZES: Sizes = Sizes {
     takes: "from 64K to 1G, as 500K or 16M",
 };
 
-/// The sizes that an option takes.
+/// The sizes that an option accepts.
 #[derive(Clone, Copy)]
 struct Sizes {
     /// The option.
     option: &'static str,
-    /// How many octets there are where the option isn't given.
+    /// The default, in octets.
     own: u64,
-    /// The least that it takes.
+    /// The minimum.
     least: u64,
-    /// The most that it takes.
+    /// The maximum.
     most: u64,
-    /// Both, as the operator is told.
+    /// Both bounds, in the words of the error message.
     takes: &'static str,
 }
 
-/// The units of a size, and how many octets each has.
+/// The units of size, and the number of octets in each.
 const SIZES: &[(char, u64)] = &[
     ('K', 1 << 10),
     ('k', 1 << 10),
@@ -93,10 +93,10 @@ const SIZES: &[(char, u64)] = &[
     ('g', 1 << 30),
 ];
 
-/// The option for which is taken, the store or the zone's text.
+/// The option for which to serve, the store or the zone's text.
 pub const TAKE: &str = "take";
 
-/// The folder in which updates last, if there is one.
+/// The store given by the options, if there is one. An error is a value that is refused, or an option that requires a store when none is given.
 pub fn store_of<'a>(found: &ArgMatches<'a>) -> Result<Option<StorePlan<'a>>, CommandFault<'a>> {
     let journal = journal_size(found.get_str(JOURNAL))?;
     let taken = taken_of(found.get_str(TAKE))?;
@@ -116,7 +116,7 @@ pub fn store_of<'a>(found: &ArgMatches<'a>) -> Result<Option<StorePlan<'a>>, Com
     Ok(None)
 }
 
-/// How many octets a journal has before it is begun anew.
+/// The journal size, in octets, at which the store is compacted.
 fn journal_size<'a>(word: Option<&'a str>) -> Result<u64, CommandFault<'a>>
     ensures own { IsNone word.entry → IsOkAnd result (λ size. size ≡ 64000000) }
     ensures least { IfOk result (λ size. 4096 ≤ size) }
@@ -125,7 +125,7 @@ fn journal_size<'a>(word: Option<&'a str>) -> Result<u64, CommandFault<'a>>
     size_of(word, JOURNAL_SIZES)
 }
 
-/// How many octets of datagrams wait for a worker, at each address.
+/// The number of octets of datagrams that may wait for a worker, at each address.
 pub fn udp_buffer<'a>(word: Option<&'a str>) -> Result<u32, CommandFault<'a>>
     ensures own { IsNone word.entry → IsOkAnd result (λ size. size ≡ 4194304) }
     ensures least { IfOk result (λ size. 4096 ≤ size) }
@@ -135,7 +135,7 @@ pub fn udp_buffer<'a>(word: Option<&'a str>) -> Result<u32, CommandFault<'a>>
     Ok(size as u32)
 }
 
-/// How many octets of what is written to it a connection's peer takes in ten seconds at least; 0 is no bound.
+/// The minimum number of octets that a connection's peer must accept in ten seconds of what is written to it; 0 means no bound.
 pub fn transfer_rate<'a>(word: Option<&'a str>) -> Result<u64, CommandFault<'a>>
     ensures own { IsNone word.entry → IsOkAnd result (λ size. size ≡ 16384) }
     ensures most { IfOk result (λ size. size ≤ 1073741824) }
@@ -143,7 +143,7 @@ pub fn transfer_rate<'a>(word: Option<&'a str>) -> Result<u64, CommandFault<'a>>
     size_of(word, RATES)
 }
 
-/// How many octets of memory the updates may be counted for that wait to be judged.
+/// The limit, in octets, on the memory accounted to updates that wait to be judged.
 pub fn update_queue<'a>(word: Option<&'a str>) -> Result<usize, CommandFault<'a>>
     ensures own { IsNone word.entry → IsOkAnd result (λ size. size ≡ 16777216) }
     ensures least { IfOk result (λ size. 65536 ≤ size) }
@@ -153,8 +153,8 @@ pub fn update_queue<'a>(word: Option<&'a str>) -> Result<usize, CommandFault<'a>
     Ok(size as usize)
 }
 
-/// How many octets a word tells: a number, and after it K, M or G, or k, m or g, for 1,024 times as many once, twice or three times; the option's own where there is
-/// no word.
+/// The number of octets in a size: a number, optionally followed by K or k for 2^10, M or m for 2^20, or G or g for 2^30 times as many. Without a
+/// value it is the default.
 fn size_of<'a>(word: Option<&'a str>, sizes: Sizes) -> Result<u64, CommandFault<'a>>
     ensures own { IsNone word.entry → IsOkAnd result (λ size. size ≡ sizes.own) }
     ensures least { sizes.least ≤ sizes.own → IfOk result (λ size. sizes.least ≤ size) }
@@ -173,7 +173,7 @@ fn size_of<'a>(word: Option<&'a str>, sizes: Sizes) -> Result<u64, CommandFault<
     }
 }
 
-/// That a word is no size of those that an option takes.
+/// The fault for a value that is not a size that the option accepts.
 fn no_size<'a>(word: &'a str, sizes: Sizes) -> CommandFault<'a> {
     CommandFault::Size {
         option: sizes.option,
@@ -182,7 +182,7 @@ fn no_size<'a>(word: &'a str, sizes: Sizes) -> CommandFault<'a> {
     }
 }
 
-/// A word without its last letter where that is one for a unit, and how many the unit has; 1 where it is none.
+/// Splits a value into the text before its unit letter and the size of that unit. Without a unit letter it is the whole value and 1.
 pub fn split_unit<'a>(word: &'a str, units: &[(char, u64)]) -> (&'a str, u64) {
     for (letter, unit) in units {
         if let Some(digits) = word.strip_suffix(*letter) {
@@ -192,7 +192,7 @@ pub fn split_unit<'a>(word: &'a str, units: &[(char, u64)]) -> (&'a str, u64) {
     (word, 1)
 }
 
-/// Which of the two a word takes; neither where there is none.
+/// Which of the two the value names; None if there is no value.
 fn taken_of<'a>(word: Option<&'a str>) -> Result<Option<Take>, CommandFault<'a>>
     ensures { IsNone word.entry → IsOkAnd result IsNone }
 {

@@ -104,7 +104,7 @@ impl Write for Device {
 
 /// What a command tells: its status, what it writes, and what it says of errors.
 #[derive(Drop)]
-pub(crate) struct Told {
+pub(crate) struct CommandResult {
     pub(crate) status: u8,
     pub(crate) written: Vec<u8>,
     pub(crate) errors: Vec<u8>,
@@ -117,13 +117,13 @@ pub(crate) fn tell(
     text: &[u8],
     output: Device,
     errors: Device,
-) -> Option<Told> {
+) -> Option<CommandResult> {
     let mut reader = Cursor::new(text);
     let mut writer = BufWriter::new(alloc, output).ok()?;
     let mut errors = errors;
     let ended = run_text(alloc, &command(kind), &mut reader, &mut writer, &mut errors);
     let (output, _) = writer.into_parts();
-    Some(Told {
+    Some(CommandResult {
         status: ended.status,
         written: output.taken,
         errors: errors.taken,

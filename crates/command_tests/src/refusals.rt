@@ -1,6 +1,6 @@
 //! Runs where memory is refused: with one request refused, whichever it is, the run says so, and the other of two is as ever;
 //! with two in a row refused, one of three.
-use crate::made::{Device, Kind, Parts, Told, ZONE, tell, text_of};
+use crate::made::{CommandResult, Device, Kind, Parts, ZONE, tell, text_of};
 use dns_name::Name;
 use master_file::{read_zone, write_zone};
 use std::alloc::Global;
@@ -34,7 +34,7 @@ const FAULTY: Case = Case {
 };
 
 /// Whether a run had no memory, said so, and wrote a part of what it writes at most, or all that it writes without an update.
-fn is_starved(told: &Told, writes: &str, without: Option<&str>) -> bool {
+fn is_starved(told: &CommandResult, writes: &str, without: Option<&str>) -> bool {
     let errors = told.errors.as_slice();
     let says = told.status == 3
         || errors.starts_with(b"line 0: M14 NoMemory\n")

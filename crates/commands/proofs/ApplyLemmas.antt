@@ -18,10 +18,10 @@ use Rattle.commands.specs.Run.{TellsIn, TellsLarge, TellsRoot}
 use Rattle.notify.specs.declared.large.Large.{Large}
 use Rattle.master_file.specs.declared.fault.FileFault.{FileFault}
 use Rattle.commands.specs.Apply.{message_on, messages_on, taken, text_of, taken_text, IsOfTransfer}
-use Rattle.line_io.specs.Lines.{input_lines, Begins}
-use Rattle.line_io.proofs.LinesLemmas.{input_lines-first, take_through-some}
-use Rattle.line_io.proofs.PartsLemmas.{Begins-unwritten}
-use Rattle.line_io.proofs.LinesLemmas.{ReadsFirstLine}
+use Rattle.commands.specs.Lines.{input_lines, Begins}
+use Rattle.commands.proofs.LinesLemmas.{input_lines-first, take_through-some}
+use Rattle.commands.proofs.PartsLemmas.{Begins-unwritten}
+use Rattle.commands.proofs.LinesLemmas.{ReadsFirstLine}
 
 -- the octets of messages
 abbrev pub octets_of : List (Vec ℕ) → List (List ℕ)

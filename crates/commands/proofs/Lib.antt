@@ -1,3 +1,10 @@
+pub mod AnswerLemmas
+pub mod AnswerLinesLemmas
 pub mod ApplyLemmas
+pub mod InputLemmas
+pub mod LinesLemmas
+pub mod PartsLemmas
 pub mod RunLemmas
+pub mod ScriptLemmas
 pub mod ToldLemmas
+pub mod VersionsLemmas

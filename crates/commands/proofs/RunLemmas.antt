@@ -6,7 +6,7 @@ use Rattle.commands.specs.declared.command.Command.{Command}
 use Rattle.commands.specs.declared.fault.Fault.{Fault}
 use Rattle.commands.specs.declared.fault.Fault.TheVariants.{Zone, Script, World, Transfer, Device}
 use Rattle.commands.specs.Run.{AtDevice, DoesIn, BeginsToDoIn}
-use Rattle.line_io.proofs.LinesLemmas.{Appends-kept, Begins-whole}
+use Rattle.commands.proofs.LinesLemmas.{Appends-kept, Begins-whole}
 
 -- a fact at each fault of a device
 pub AtDevice-each : {T : Type 0} (r : Result T Fault) (P : Type 0) → P → IfErr r (λ fault. AtDevice fault P)

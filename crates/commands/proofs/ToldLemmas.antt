@@ -1,8 +1,8 @@
 -- Lemmas on what is told of a fault.
 use Rattle.std.proofs.Common.{ℕ, List, ◌++◌, Option, Result, Ok, Err, OnOk}
 use Rattle.std.specs.Io.KnownBytes.{Appends}
-use Rattle.line_io.specs.Lines.{Writes}
-use Rattle.line_io.proofs.LinesLemmas.{Appends-twice}
+use Rattle.commands.specs.Lines.{Writes}
+use Rattle.commands.proofs.LinesLemmas.{Appends-twice}
 use Rattle.commands.specs.Told.{AppendsSome}
 
 -- what is written behind something that was written is something with it

@@ -1,3 +1,9 @@
+pub mod Answers
 pub mod Apply
+pub mod Fault
+pub mod Input
+pub mod Lines
 pub mod Run
+pub mod Script
 pub mod Told
+pub mod Versions

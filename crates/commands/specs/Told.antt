@@ -1,4 +1,4 @@
--- What the program tells of a fault, in a line (own).
+-- How the program reports a fault, in a line (own).
 use Rattle.std.specs.Prelude.{ℕ, List, ◌∷◌, ◌++◌, codes, decimal, Option, Some, None, IfSome}
 use Rattle.std.specs.Io.KnownBytes.{Appends}
 use Rattle.commands.specs.declared.fault.Fault.{Fault}
@@ -7,7 +7,8 @@ use Rattle.master_file.specs.Fault.{printed_at}
 use Rattle.transfer_core.specs.Told.{fault_words}
 use Rattle.world_run.specs.Told.{world_words}
 
--- what is told of a fault: `line N: CODE NAME` of a zone's text, `line N: bad` of a script, `CODE NAME` of steps or a transfer; none where the device words it
+-- how a fault is worded: `line N: CODE NAME` for a zone's text, `line N: bad` for a script, `CODE NAME` for steps or a transfer; none if the I/O
+-- error words it
 abbrev pub told : Fault → Option (List ℕ)
 told (Zone fault) = Some (printed_at fault)
 told (Script line) = Some (codes "line " ++ decimal line ++ codes ": bad")
@@ -15,7 +16,7 @@ told (World fault) = Some (world_words fault)
 told (Transfer fault) = Some (fault_words fault)
 told (Device fault) = None
 
--- a line was written, and something below it
+-- a line was written, and possibly more after it
 pub record AppendsLine (before after : Option (List ℕ)) (line : List ℕ) : Type 0 where
   pub below : List ℕ
   pub written : Appends before after (line ++ 10 ∷ below)
@@ -24,6 +25,6 @@ pub record AppendsLine (before after : Option (List ℕ)) (line : List ℕ) : Ty
 abbrev pub AppendsSome : Option (List ℕ) → Option (List ℕ) → Type 0
 AppendsSome before after = (octets : List ℕ) × Appends before after octets
 
--- what is told of a fault was written, on a line; below it stands what is wrong in words
+-- a fault was written as a line; what follows it is left open
 abbrev pub IsTold : Fault → Option (List ℕ) → Option (List ℕ) → Type 0
 IsTold fault before after = IfSome (told fault) (AppendsLine before after)

@@ -1,19 +1,19 @@
-//! A zone's text in its written form.
+//! Printing a zone's text in its canonical form.
 ghost use Rattle.std.specs.Prelude.{filter, flat_map};
-ghost use Rattle.line_io.specs.Lines.{Writes};
+ghost use Rattle.commands.specs.Lines.{Writes};
 ghost use Rattle.master_file.specs.WrittenZone.{is_other, record_line, zone_text};
 
+use crate::whole::write_whole;
 use dns_rdata::{RRset, RType};
-use line_io::write_whole;
 use master_file::write_set;
 use std::alloc::Global;
 use std::io::{self, Write};
 use zone_tree::{Zone, ZoneRead};
 
-/// Writes a zone as text: one record a line, the SOA first and then the others in canonical order (RFC 1035, 5.1). No more
-/// than a set's lines are kept at a time.
+/// Writes a zone as text: one record per line, first the SOA and then the others in canonical order (RFC 1035, 5.1). At most one RRset's lines are
+/// held at a time.
 ///
-/// An `Err` is a device's, or want of memory; what was written up to then is a beginning of the text.
+/// An `Err` is an I/O error or lack of memory. What has been written by then is a prefix of the text.
 pub fn run_check<W: Write>(alloc: Global, zone: &Zone, writer: &mut W) -> io::Result<()>
     ensures { Writes result (W.contents writer.old) (W.contents writer.new) (zone_text zone.now) }
 {
@@ -22,7 +22,7 @@ pub fn run_check<W: Write>(alloc: Global, zone: &Zone, writer: &mut W) -> io::Re
     put_others(&mut lines, zone, writer)
 }
 
-/// Writes the lines of the records that are no SOA.
+/// Writes the lines of all records except the SOA.
 fn put_others<W: Write>(lines: &mut String, zone: &Zone, writer: &mut W) -> io::Result<()>
     ensures { Writes result (W.contents writer.old) (W.contents writer.new) (flat_map record_line (filter is_other zone.now)) }
 {
@@ -34,7 +34,7 @@ fn put_others<W: Write>(lines: &mut String, zone: &Zone, writer: &mut W) -> io::
     Ok(())
 }
 
-/// Writes the lines of a set's records, which are put together first.
+/// Writes the lines of an RRset's records, which are assembled first.
 fn put_set<W: Write>(lines: &mut String, set: &RRset, writer: &mut W) -> io::Result<()>
     ensures { Writes result (W.contents writer.old) (W.contents writer.new) (flat_map record_line set.now) }
 {

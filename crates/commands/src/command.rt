@@ -8,13 +8,13 @@ use serve_core::Transport;
 /// Where the zone's text comes from.
 #[derive(Clone, Copy, Debug, PartialEq, Eq)]
 pub enum Source<'a> {
-    /// The front of standard input, up to a line `%` or its end.
+    /// The start of standard input, up to a line `%` or the end.
     Input,
     /// A file.
     File(&'a str),
 }
 
-/// A command that the program does.
+/// A command of the program.
 #[derive(Drop)]
 pub enum Command<'a> {
     /// Replies to requests in hexadecimal.
@@ -23,17 +23,17 @@ pub enum Command<'a> {
         zone: Source<'a>,
         /// The origin at the start of the zone's text.
         origin: Name,
-        /// What carries the requests and replies.
+        /// The transport of the requests and replies.
         transport: Transport,
     },
-    /// The zone's text in its written form.
+    /// Prints the zone's text in its canonical form.
     Check {
         /// Where the zone's text comes from.
         zone: Source<'a>,
         /// The origin at the start of the zone's text.
         origin: Name,
     },
-    /// Takes a transfer, a message in hexadecimal a line, and prints the zone's text behind it.
+    /// Applies a transfer, a message in hexadecimal per line, and prints the resulting zone's text.
     Apply {
         /// Where the zone's text comes from.
         zone: Source<'a>,
@@ -46,9 +46,9 @@ pub enum Command<'a> {
         zone: Source<'a>,
         /// The origin at the start of the zone's text.
         origin: Name,
-        /// How many versions are kept beside the last, at most 8.
+        /// The number of versions kept in addition to the newest, at most 8.
         keep: usize,
-        /// How many entries the window has at most from which changes are sent, at most 16.
+        /// The size of the IXFR history: the maximum number of entries in the window, at most 16.
         window: usize,
     },
 }

@@ -1,40 +1,40 @@
-//! Why a command isn't done, and the statuses with which the program ends.
+//! Why a command fails, and the statuses with which the program exits.
 ghost use Rattle.std.specs.Prelude.{◌≡◌};
 ghost use Rattle.commands.specs.declared.fault.Fault.TheVariants.{Zone, Transfer, Device};
 ghost use Rattle.commands.specs.Run.{status_of, fault_of};
 ghost use Rattle.commands.specs.Told.{told};
 
-use command_steps::StepsFault;
+use crate::script_fault::StepsFault;
 use master_file::FileFault;
 use std::error::Error;
 use std::{fmt, io};
 use transfer_core::TransferFault;
 use world_run::WorldFault;
 
-/// The status of a command that was done.
+/// The status of a command that succeeded.
 pub const DONE: u8 = 0;
 /// The status of a zone, a script or a transfer that was refused.
 pub const REFUSED: u8 = 1;
-/// The status of a device's fault, or of want of memory that has no code.
+/// The status of an I/O error, or of lack of memory that has no code of its own.
 pub const FAILED: u8 = 3;
 
-/// Why a command isn't done.
+/// Why a command fails.
 #[derive(Debug, Drop)]
 pub enum Fault {
     /// The zone's text is refused.
     Zone(FileFault),
-    /// The line of a script, counted from 1, that says no step.
+    /// The number, counted from 1, of a line of a script that is not a step.
     Script(u64),
-    /// The steps of a script aren't played.
+    /// The steps of a script cannot be played.
     World(WorldFault),
-    /// A transfer isn't taken.
+    /// A transfer is refused, or runs out of memory.
     Transfer(TransferFault),
-    /// A device's fault, or want of memory.
+    /// An I/O error, or lack of memory.
     Device(io::Error),
 }
 
 impl Fault {
-    /// The status with which the program ends.
+    /// The status with which the program exits.
     pub fn status(&self) -> u8
         ensures { result ≡ status_of self.now }
     {

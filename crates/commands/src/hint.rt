@@ -1,4 +1,4 @@
-//! What would be right in place of what a zone's text has, where one word shows it.
+//! What would be right instead of what a zone's text has, if one word shows it.
 use crate::seen::{Seen, marks_of, octets_of};
 use crate::units::seconds_of;
 use dns_name::octet_at;
@@ -7,24 +7,24 @@ use master_file::Cause;
 use record_text::{Front, is_number, read_front};
 use zone_lexing::Word;
 
-/// What would be right in place of what a text has.
+/// What would be right instead of what a text has.
 #[derive(Clone, Copy)]
 pub enum Hint<'a> {
-    /// A TTL has units: its word, and the seconds that it is.
+    /// A TTL has units: its word, and its value in seconds.
     Ttl(&'a [u8], u64),
-    /// A time of an SOA has units: its word, and the seconds that it is.
+    /// A time in an SOA has units: its word, and its value in seconds.
     Time(&'a [u8], u64),
-    /// The type of this name is written by its number.
+    /// A type of this name must be written by its number.
     Numbered(&'static str, u16),
-    /// There is no type.
+    /// The type is missing.
     NoType,
     /// A string has too many octets.
     LongString,
-    /// A word of a type's data is missing: its name, and what the type and its data are.
+    /// A word of a type's data is missing: its name, and the form of the type and its data.
     Missing(&'static str, &'static str),
 }
 
-/// The types that are written by their numbers here, whom other servers know by name (IANA, DNS parameters).
+/// The types that must be written by their numbers here, although other servers know them by name (IANA, DNS parameters).
 const NUMBERED: [(&str, u16); 24] = [
     ("HINFO", 13),
     ("RP", 17),
@@ -65,12 +65,12 @@ enum Field {
 #[derive(Clone, Copy)]
 struct Form {
     rtype: RType,
-    /// The type and its data, by the names of its words.
+    /// The type and its data, as the names of its words.
     line: &'static str,
     fields: &'static [Field],
 }
 
-/// The words of the data of each type that has a form (RFC 1035, 3.3; RFC 3596, 2; RFC 2782).
+/// The words of the data of each type with a presentation form (RFC 1035, 3.3; RFC 3596, 2; RFC 2782).
 const FORMS: [Form; 9] = [
     Form {
         rtype: RType::A,
@@ -132,10 +132,10 @@ const FORMS: [Form; 9] = [
     },
 ];
 
-/// The most octets of a string (RFC 1035, 3.3).
+/// The maximum length of a string, in octets (RFC 1035, 3.3).
 const MAX_STRING: usize = 255;
 
-/// What would be right in place of what is seen where a text is refused, for this cause.
+/// What would be right instead of the part of a text that is refused for this cause.
 pub fn hint_of<'a>(cause: Cause, seen: &Seen<'a>) -> Option<Hint<'a>> {
     match cause {
         Cause::UnknownType => hint_of_type(seen.word?),
@@ -150,7 +150,7 @@ pub fn hint_of<'a>(cause: Cause, seen: &Seen<'a>) -> Option<Hint<'a>> {
     }
 }
 
-/// What would be right in place of a word that is no type.
+/// What would be right instead of a word that is not a type.
 fn hint_of_type(word: &[u8]) -> Option<Hint<'_>> {
     if let Some(seconds) = seconds_of(word) {
         return Some(Hint::Ttl(word, seconds));
@@ -163,7 +163,7 @@ fn hint_of_type(word: &[u8]) -> Option<Hint<'_>> {
     None
 }
 
-/// What would be right in place of a directive's argument.
+/// What would be right instead of a directive's argument.
 fn hint_of_directive<'a>(directive: &[u8], words: &[Word<'a>]) -> Option<Hint<'a>> {
     if directive != b"$TTL".as_slice() {
         return None;
@@ -172,7 +172,7 @@ fn hint_of_directive<'a>(directive: &[u8], words: &[Word<'a>]) -> Option<Hint<'a
     Some(Hint::Ttl(word, seconds_of(word)?))
 }
 
-/// What would be right in place of the words behind an owner.
+/// What would be right instead of the words after an owner.
 fn hint_of_record<'a>(cause: Cause, marks: &[Word<'a>]) -> Option<Hint<'a>> {
     match read_front(marks) {
         Ok(front) => hint_of_data(cause, &front),
@@ -181,7 +181,7 @@ fn hint_of_record<'a>(cause: Cause, marks: &[Word<'a>]) -> Option<Hint<'a>> {
     }
 }
 
-/// What would be right in place of a record's data.
+/// What would be right instead of a record's data.
 fn hint_of_data<'a>(cause: Cause, front: &Front<'_, 'a>) -> Option<Hint<'a>> {
     if front.rtype == RType::SOA && cause == Cause::Number {
         if let Some(hint) = time_among(front.words) {
@@ -200,7 +200,7 @@ fn hint_of_data<'a>(cause: Cause, front: &Front<'_, 'a>) -> Option<Hint<'a>> {
     None
 }
 
-/// The first of an SOA's words that is a time with units, behind its two names.
+/// The first of an SOA's words, after its two names, that is a time with units.
 fn time_among<'a>(words: &[Word<'a>]) -> Option<Hint<'a>> {
     for word in words.get(2..)? {
         if let Word::Plain(text) = word {
@@ -212,8 +212,8 @@ fn time_among<'a>(words: &[Word<'a>]) -> Option<Hint<'a>> {
     None
 }
 
-/// Which word of a type's data is missing, where there are too few: the first number in whose place another word stands, or else the one
-/// behind the last word. At a number that is refused it is the first alone.
+/// The word that is missing from a type's data, if it has too few words: the first number that has another word in its place, or else the word after
+/// the last one. For a refused number, only the former.
 fn missing_in(cause: Cause, fields: &[Field], words: &[Word<'_>]) -> Option<&'static str> {
     if words.len() >= fields.len() || is_generic(words) {
         return None;
@@ -230,12 +230,12 @@ fn missing_in(cause: Cause, fields: &[Field], words: &[Word<'_>]) -> Option<&'st
     }
 }
 
-/// Whether data is written as that of a type without a form is (RFC 3597, 5).
+/// Whether data is written in the generic form of a type without a form of its own (RFC 3597, 5).
 fn is_generic(words: &[Word<'_>]) -> bool {
     octets_of(words.first()) == Some(b"\\#".as_slice())
 }
 
-/// Whether a word is a string of too many octets (RFC 1035, 3.3 and 5.1).
+/// Whether a word is a string with too many octets (RFC 1035, 3.3 and 5.1).
 fn is_long(word: &Word<'_>) -> bool {
     let mut rest = octets_of(Some(word)).unwrap_or(b"");
     for _ in 0..MAX_STRING {

@@ -1,4 +1,4 @@
-//! What a fault means, in words.
+//! The meaning of a fault, in words.
 use crate::command::Source;
 use crate::hint::{Hint, hint_of};
 use crate::seen::{Seen, seen_at};
@@ -7,10 +7,10 @@ use master_file::{Cause, FileFault};
 use std::alloc::{AllocError, Global};
 use transfer_core::TransferFault;
 
-/// What a fault of a zone's text means: the file and the line, where the text is a file's; what is wrong; the word or the owner that is at
-/// fault, where it is known; and the line of the text.
+/// The meaning of a fault of a zone's text: the file and the line, if the text is from a file; what is wrong; the faulty word or owner, if it is
+/// known; and the line of the text.
 ///
-/// The fault is a growth that was refused.
+/// An error is an allocation that was refused.
 pub fn reason(
     alloc: Global,
     fault: FileFault,
@@ -31,7 +31,7 @@ pub fn reason(
     Ok(reason)
 }
 
-/// Puts a file, and a line of it where there is one, behind a text.
+/// Appends the name of a file, and a line number if there is one.
 fn push_place(to: &mut String, source: Source<'_>, line: u64) -> Result<(), AllocError> {
     match source {
         Source::Input => Ok(()),
@@ -40,13 +40,13 @@ fn push_place(to: &mut String, source: Source<'_>, line: u64) -> Result<(), Allo
     }
 }
 
-/// Whether a fault may come from a byte order mark at the start of a text, which is then read as a part of its first word.
+/// Whether a fault may be caused by a byte order mark at the start of a text, which is read as part of its first word.
 fn is_by_order_mark(fault: FileFault, text: &[u8]) -> bool {
     text.starts_with(b"\xef\xbb\xbf")
         && (fault.line == 1 || matches!(fault.cause, Cause::Outside | Cause::Apex))
 }
 
-/// Puts what is wrong behind a text: what would be right, where that is known.
+/// Appends what is wrong, and what would be right if that is known.
 fn push_meaning(
     to: &mut String,
     fault: FileFault,
@@ -78,7 +78,7 @@ fn push_meaning(
     }
 }
 
-/// Puts the word or the owner that is at fault behind a text, where it is known, and the line.
+/// Appends the faulty word or owner, if it is known, and the line.
 fn push_seen(to: &mut String, found: &Seen<'_>) -> Result<(), AllocError> {
     to.push_str(": ")?;
     if let Some(word) = found.word {
@@ -88,7 +88,7 @@ fn push_seen(to: &mut String, found: &Seen<'_>) -> Result<(), AllocError> {
     push_quoted(to, found.line)
 }
 
-/// What a fault of a zone's text means, in words.
+/// The meaning of a fault of a zone's text, in words.
 pub fn reason_of(fault: FileFault) -> &'static str {
     match fault.cause {
         Cause::Directive => "a directive is due, $ORIGIN or $TTL with its argument",
@@ -116,7 +116,7 @@ pub fn reason_of(fault: FileFault) -> &'static str {
     }
 }
 
-/// What a fault of a transfer means, in words.
+/// The meaning of a fault of a transfer, in words.
 pub fn reason_of_transfer(fault: TransferFault) -> &'static str {
     match fault {
         TransferFault::Broken => {

@@ -1,17 +1,17 @@
-//! Doing a command.
+//! Running a command.
 ghost use Rattle.std.specs.Prelude.{◌≡◌, ◌⊎◌, [], Ok, Err, OnOk, OnErr, IfOk, IfErr, IfSome};
 ghost use Rattle.std.specs.Io.Buffered.{writer_buffer, writer_contents};
-ghost use Rattle.line_io.specs.Input.{zone_text_of, behind_zone_text};
+ghost use Rattle.commands.specs.Input.{zone_text_of, behind_zone_text};
 ghost use Rattle.commands.specs.Run.{status_of, AtRefusedZone, AtDevice, IsOfInput, IsOfRun, IsOfZone, IsRefused, zone_for, TellsIn, TellsOf, TellsLarge, TellsRoot, Does, DoesIn, BeginsToDo, BeginsToDoIn};
 
+use crate::answer::run_answer;
 use crate::apply::run_apply;
 use crate::check::run_check;
 use crate::command::Command;
 use crate::fault::Fault;
+use crate::input::read_zone_text;
+use crate::steps::run_steps;
 use crate::told::tell;
-use command_answer::run_answer;
-use command_steps::run_steps;
-use line_io::read_zone_text;
 use master_file::{FileFault, read_zone};
 use notify::{Large, large_in};
 use std::alloc::Global;
@@ -26,25 +26,25 @@ pub struct Ended {
     pub status: u8,
     /// Whether the apex of the zone is the root.
     pub at_root: bool,
-    /// What the zone has more of than stock secondaries take, of a zone that is checked.
+    /// For a checked zone, what it has more of than stock secondaries accept.
     pub large: Option<Large>,
 }
 
-/// What became of a command over a zone's text.
+/// The outcome of a command over a zone's text.
 #[derive(Drop)]
 pub struct Outcome {
-    /// That it is done, or why it isn't.
+    /// Ok if the command succeeded, or why it failed.
     pub done: Result<(), Fault>,
     /// Whether the apex of the zone is the root.
     pub at_root: bool,
-    /// What the zone has more of than stock secondaries take, of a zone that is checked.
+    /// For a checked zone, what it has more of than stock secondaries accept.
     pub large: Option<Large>,
 }
 
-/// Does one parsed command whose zone's text is the front of the reader, up to a line `%` or its end; the command's input
-/// follows it. What is wrong goes to `errors`, on a line, and for a zone's text or a transfer what it means below it. Gives the program's
-/// status: 0 done, 1 the zone, the script or the transfer is refused, 3 a device's fault or want of memory. At 0 nothing that was written is
-/// left in the buffer.
+/// Runs one parsed command. The zone's text is the start of the reader's input, up to a line `%` or the end of input; the command's own input
+/// follows. A fault is written to `errors` as one line, followed by its meaning if it is a fault of the zone's text or of a transfer. Returns the
+/// program's status: 0 if the command succeeded, 1 if the zone, the script or the transfer is refused, 3 on an I/O error or lack of memory. At 0
+/// nothing that was written is left in the buffer.
 pub fn run_text<R: BufRead, W: Write + Drop, E: Write>(
     alloc: Global,
     command: &Command<'_>,
@@ -52,7 +52,7 @@ pub fn run_text<R: BufRead, W: Write + Drop, E: Write>(
     writer: &mut BufWriter<W>,
     errors: &mut E,
 ) -> Ended
-    // Where the reader tells its octets, and the writers those that they hold.
+    // Clauses about octets hold if the reader reports its remaining octets and the writers their contents.
     ensures done { result.status ≡ 0 → IfSome (R.remaining reader.old) (λ input.
         Does command.now (zone_text_of input) (behind_zone_text input) (writer_contents W.contents writer.old) (writer_contents W.contents writer.new)) }
     ensures flushed { result.status ≡ 0 → writer_buffer writer.new ≡ [] }
@@ -91,7 +91,7 @@ pub fn run_text<R: BufRead, W: Write + Drop, E: Write>(
     }
 }
 
-/// Does one parsed command over the zone of a text that was read already, as `run_text` does it.
+/// Runs one parsed command over the zone of a text that has already been read, as `run_text` does.
 pub fn run_with_zone<R: BufRead, W: Write + Drop>(
     alloc: Global,
     command: &Command<'_>,
@@ -99,7 +99,7 @@ pub fn run_with_zone<R: BufRead, W: Write + Drop>(
     reader: &mut R,
     writer: &mut BufWriter<W>,
 ) -> Outcome
-    // Where the reader tells its octets and the writer those that it holds.
+    // Clauses about octets hold if the reader reports its remaining octets and the writer its contents.
     ensures ok { OnOk result.done (IfSome (R.remaining reader.old) (λ input.
         Does command.now text.now input (writer_contents W.contents writer.old) (writer_contents W.contents writer.new))) }
     ensures at_root { OnOk result.done (TellsRoot (zone_for command.now text.now) result.at_root) }
@@ -125,7 +125,7 @@ pub fn run_with_zone<R: BufRead, W: Write + Drop>(
     }
 }
 
-/// Whether a zone that was read has the root as its apex.
+/// Whether a zone was read and its apex is the root.
 fn is_at_root(read: &Result<Zone, FileFault>) -> bool
     ensures { TellsRoot read.now result }
 {
@@ -135,7 +135,7 @@ fn is_at_root(read: &Result<Zone, FileFault>) -> bool
     }
 }
 
-/// What a zone that is checked has more of than stock secondaries take; None where it has no more, nothing is checked, or no zone was read.
+/// What a checked zone has more of than stock secondaries accept. None if it has no more, the command is not a check, or no zone was read.
 fn large_of(command: &Command<'_>, read: &Result<Zone, FileFault>) -> Option<Large>
     ensures { TellsLarge command.now read.now result }
 {
@@ -145,7 +145,7 @@ fn large_of(command: &Command<'_>, read: &Result<Zone, FileFault>) -> Option<Lar
     }
 }
 
-/// Does one parsed command over what was read of a zone's text.
+/// Runs one parsed command over the result of reading a zone's text.
 fn run_read<R: BufRead, W: Write + Drop>(
     alloc: Global,
     command: &Command<'_>,
@@ -153,7 +153,7 @@ fn run_read<R: BufRead, W: Write + Drop>(
     reader: &mut R,
     writer: &mut BufWriter<W>,
 ) -> Result<(), Fault>
-    // Where the reader tells its octets and the writer those that it holds.
+    // Clauses about octets hold if the reader reports its remaining octets and the writer its contents.
     ensures refused { IfErr read (λ fault. result ≡ Err (Fault.Zone fault)) }
     ensures unread { OnErr read (R.remaining reader.new ≡ R.remaining reader.old) }
     ensures zone { OnOk read (IfErr result (λ fault. AtRefusedZone fault ⊥)) }
@@ -171,7 +171,7 @@ fn run_read<R: BufRead, W: Write + Drop>(
     run_over(alloc, command, zone, reader, writer)
 }
 
-/// Does one parsed command over a zone, and flushes the writer.
+/// Runs one parsed command over a zone, and flushes the writer.
 fn run_over<R: BufRead, W: Write + Drop>(
     alloc: Global,
     command: &Command<'_>,
@@ -179,7 +179,7 @@ fn run_over<R: BufRead, W: Write + Drop>(
     reader: &mut R,
     writer: &mut BufWriter<W>,
 ) -> Result<(), Fault>
-    // Where the reader tells its octets and the writer those that it holds.
+    // Clauses about octets hold if the reader reports its remaining octets and the writer its contents.
     ensures ok { OnOk result (IfSome (R.remaining reader.old) (λ input.
         DoesIn command.now zone input (writer_contents W.contents writer.old) (writer_contents W.contents writer.new))) }
     ensures flushed { OnOk result (writer_buffer writer.new ≡ []) }
@@ -196,7 +196,7 @@ fn run_over<R: BufRead, W: Write + Drop>(
     Ok(())
 }
 
-/// Does one parsed command over a zone.
+/// Runs one parsed command over a zone.
 fn do_command<R: BufRead, W: Write>(
     alloc: Global,
     command: &Command<'_>,
@@ -204,7 +204,7 @@ fn do_command<R: BufRead, W: Write>(
     reader: &mut R,
     writer: &mut W,
 ) -> Result<(), Fault>
-    // Where the reader tells its octets and the writer those that it holds.
+    // Clauses about octets hold if the reader reports its remaining octets and the writer its contents.
     ensures ok { OnOk result (IfSome (R.remaining reader.old) (λ input.
         DoesIn command.now zone input (W.contents writer.old) (W.contents writer.new))) }
     ensures fault { IfErr result (λ fault. IfSome (R.remaining reader.old) (λ input. IsOfInput command.now input fault)) }

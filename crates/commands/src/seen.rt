@@ -1,27 +1,27 @@
-//! Where a zone's text is refused: the line, the words of its entry, and the word or the owner that is at fault.
+//! Where a zone's text is refused: the line, the words of its entry, and the faulty word or owner.
+use crate::lines::lines_of;
 use dns_name::Name;
-use line_io::lines_of;
 use master_file::{Cause, FileFault};
 use record_text::{owner, read_front};
 use std::alloc::{AllocError, Global};
 use zone_lexing::{Entries, Word};
 
-/// What stands in a zone's text where it is refused.
+/// The part of a zone's text where it is refused.
 #[derive(Drop)]
 pub struct Seen<'a> {
-    /// The line on which the fault is told.
+    /// The line that the fault names.
     pub line: &'a [u8],
-    /// The words of the entry that begins on the line; none where no entry does.
+    /// The words of the entry that begins on the line; empty if none begins there.
     pub words: Vec<Word<'a>>,
-    /// Whether the line begins with a blank.
+    /// Whether the line begins with white space.
     pub indented: bool,
-    /// The word that is at fault, or the owner of the record, where it is known.
+    /// The faulty word, or the owner of the record, if it is known.
     pub word: Option<&'a [u8]>,
 }
 
-/// What stands in a text where a fault is told of it. None where the text hasn't the line.
+/// Finds the part of a text that a fault refers to. None if the text has no such line.
 ///
-/// The fault is a growth that was refused.
+/// An error is an allocation that was refused.
 pub fn seen_at(
     alloc: Global,
     fault: FileFault,
@@ -46,7 +46,7 @@ pub fn seen_at(
     }))
 }
 
-/// The words of an entry behind its owner.
+/// The words of an entry after its owner.
 pub fn marks_of<'w, 'a>(indented: bool, words: &'w [Word<'a>]) -> &'w [Word<'a>] {
     match words {
         [_, behind @ ..] if !indented => behind,
@@ -54,7 +54,7 @@ pub fn marks_of<'w, 'a>(indented: bool, words: &'w [Word<'a>]) -> &'w [Word<'a>]
     }
 }
 
-/// A text from one of its lines on, by its number; nothing where the text hasn't the line.
+/// A text from the line of this number on; empty if the text has no such line.
 fn from_line(text: &[u8], number: u64) -> &[u8] {
     if number == 0 {
         return b"";
@@ -69,9 +69,8 @@ fn from_line(text: &[u8], number: u64) -> &[u8] {
     rest
 }
 
-/// The word that is at fault in the entry on whose line a fault is told, or the owner of its record; None where no one word
-/// is, and where no entry begins on the line. An entry's words are read from its own line on; what stands before is read for an owner that it
-/// takes from there.
+/// The faulty word in the entry that begins on the fault's line, or the owner of its record. None if no single word is at fault, or if no entry
+/// begins on the line. An entry's words are read from its own line on; the text before it is read only to find an owner that the entry inherits.
 fn word_at<'a>(
     alloc: Global,
     fault: FileFault,
@@ -90,7 +89,7 @@ fn word_at<'a>(
     Ok(word_of(fault.cause, indented, owner, words))
 }
 
-/// The owner that an entry takes which begins on the line of a fault, for one that is told with it.
+/// The owner that the entry on a fault's line inherits, for a fault that is reported with its owner.
 fn last_owner(alloc: Global, fault: FileFault, text: &[u8]) -> Result<Option<&[u8]>, AllocError> {
     if !matches!(fault.cause, Cause::Outside | Cause::Apex | Cause::Conflict) {
         return Ok(None);
@@ -113,7 +112,7 @@ fn last_owner(alloc: Global, fault: FileFault, text: &[u8]) -> Result<Option<&[u
     Ok(None)
 }
 
-/// The word of an entry that is at fault. Whether the entry's line begins with a blank, and the last owner up to it.
+/// The faulty word of an entry. `indented` is whether the entry's line begins with white space; `owner` is the last owner up to that line.
 fn word_of<'a>(
     cause: Cause,
     indented: bool,
@@ -131,7 +130,7 @@ fn word_of<'a>(
     }
 }
 
-/// The first word that is no name wherever it stands.
+/// The first word that is not a valid name in any position.
 fn bad_name<'w, 'a>(words: &'w [Word<'a>]) -> Option<&'w Word<'a>> {
     let root = Name::root();
     for word in words {
@@ -142,7 +141,7 @@ fn bad_name<'w, 'a>(words: &'w [Word<'a>]) -> Option<&'w Word<'a>> {
     None
 }
 
-/// The first of the words behind an owner that makes a TTL, a class or a type faulty, for this cause.
+/// The first of the words after an owner that makes the TTL, class or type faulty, for this cause.
 fn bad_mark<'w, 'a>(cause: Cause, words: &'w [Word<'a>]) -> Option<&'w Word<'a>> {
     for (at, word) in words.iter().enumerate() {
         match read_front(&words[..at + 1]) {
@@ -153,7 +152,7 @@ fn bad_mark<'w, 'a>(cause: Cause, words: &'w [Word<'a>]) -> Option<&'w Word<'a>>
     None
 }
 
-/// The octets of a word, as they stand in the text.
+/// The octets of a word, as written in the text.
 pub fn octets_of<'a>(word: Option<&Word<'a>>) -> Option<&'a [u8]> {
     match word? {
         Word::Plain(text) | Word::Quoted(text) => Some(text),

@@ -1,10 +1,10 @@
-//! How octets of a zone's text are shown.
+//! How octets of a zone's text are displayed.
 use std::alloc::AllocError;
 
-/// The most octets that are shown of a word or a line.
+/// The maximum number of octets displayed of a word or a line.
 const MAX_SHOWN: usize = 400;
 
-/// Puts octets behind a text, between backquotes: the first [`MAX_SHOWN`] of them, and three dots where there are more.
+/// Appends octets to a text, between backquotes: the first [`MAX_SHOWN`] of them, and three dots if there are more.
 pub fn push_quoted(to: &mut String, octets: &[u8]) -> Result<(), AllocError> {
     to.push('`')?;
     push_octets(to, octets)?;
@@ -15,7 +15,7 @@ pub fn push_quoted(to: &mut String, octets: &[u8]) -> Result<(), AllocError> {
     Ok(())
 }
 
-/// Puts the first [`MAX_SHOWN`] of octets behind a text.
+/// Appends the first [`MAX_SHOWN`] octets to a text.
 pub fn push_octets(to: &mut String, octets: &[u8]) -> Result<(), AllocError> {
     for octet in &octets[..octets.len().min(MAX_SHOWN)] {
         push_octet(to, *octet)?;
@@ -23,7 +23,7 @@ pub fn push_octets(to: &mut String, octets: &[u8]) -> Result<(), AllocError> {
     Ok(())
 }
 
-/// Puts an octet behind a text, as it is printed: a tab as a blank, and what isn't printed as a backslash and three digits (RFC 1035, 5.1).
+/// Appends an octet to a text in printable form: a tab as a space, and any other unprintable octet as a backslash and three digits (RFC 1035, 5.1).
 fn push_octet(to: &mut String, octet: u8) -> Result<(), AllocError> {
     match octet {
         b'\t' => to.push(' '),

@@ -1,4 +1,4 @@
-//! What the program says of a fault, and the status that goes with it.
+//! How the program reports a fault, and the status for it.
 ghost use Rattle.std.specs.Prelude.{◌≡◌, OnOk, IfErr};
 ghost use Rattle.commands.specs.Run.{EndsBy};
 ghost use Rattle.commands.specs.Told.{IsTold, AppendsSome};
@@ -6,13 +6,14 @@ ghost use Rattle.commands.specs.Told.{IsTold, AppendsSome};
 use crate::command::Source;
 use crate::fault::{DONE, FAILED, Fault};
 use crate::reason::{reason, reason_of, reason_of_transfer};
-use line_io::write_whole;
+use crate::whole::write_whole;
 use master_file::FileFault;
 use std::alloc::Global;
 use std::io::{self, Write};
 
-/// The status of what was done over a zone's text; what is wrong goes to `errors` first, on a line, and for a zone's text
-/// or a transfer what it means below it, of a text with the word at fault and the line of the text. Where it can't be told, that is a device's fault too.
+/// The status of a command over a zone's text. A fault is first written to `errors` as one line, followed by its meaning if it is a fault of the
+/// zone's text or of a transfer; for a fault of the text with the faulty word and the line of the text. If the fault cannot be written, the status is
+/// that of an I/O error.
 pub fn tell<E: Write>(alloc: Global, done: Result<(), Fault>, text: &[u8], errors: &mut E) -> u8
     ensures done { OnOk done ((result ≡ 0) × (E.contents errors.new ≡ E.contents errors.old)) }
     ensures fault { IfErr done (λ fault. EndsBy fault result (E.contents errors.old) (E.contents errors.new)) }
@@ -20,7 +21,7 @@ pub fn tell<E: Write>(alloc: Global, done: Result<(), Fault>, text: &[u8], error
     tell_of(alloc, done, Source::Input, text, errors)
 }
 
-/// The same of a text that comes from a source, which is named where it is a file.
+/// The same for a text from a given source, which is named if it is a file.
 pub fn tell_of<E: Write>(
     alloc: Global,
     done: Result<(), Fault>,
@@ -41,7 +42,7 @@ pub fn tell_of<E: Write>(
     }
 }
 
-/// Writes what is told of a fault on a line, and below it what it means where it is a zone's text's or a transfer's.
+/// Writes a fault as one line, followed by its meaning if it is a fault of a zone's text or of a transfer.
 fn write_fault<E: Write>(
     alloc: Global,
     fault: &Fault,
@@ -59,7 +60,7 @@ fn write_fault<E: Write>(
     }
 }
 
-/// Writes what a fault of a zone's text means, on a line: in few words where there is no memory for more.
+/// Writes the meaning of a fault of a zone's text as one line, in brief if there is no memory for more.
 fn write_reason<E: Write>(
     alloc: Global,
     fault: FileFault,
@@ -75,7 +76,7 @@ fn write_reason<E: Write>(
     }
 }
 
-/// Writes a text on a line.
+/// Writes a text and a line end.
 fn write_line<E: Write>(text: &str, errors: &mut E) -> io::Result<()>
     ensures { OnOk result (AppendsSome (E.contents errors.old) (E.contents errors.new)) }
 {

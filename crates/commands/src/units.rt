@@ -1,6 +1,6 @@
-//! Times with units, as other servers take them in a zone's text.
+//! Times with units, as other servers accept them in a zone's text.
 
-/// The units of a time, and how many seconds each has.
+/// The units of time, and the number of seconds in each.
 const UNITS: [(u8, u64); 5] = [
     (b's', 1),
     (b'm', 60),
@@ -9,11 +9,11 @@ const UNITS: [(u8, u64); 5] = [
     (b'w', 604_800),
 ];
 
-/// The most seconds of a TTL (RFC 2181, 8).
+/// The maximum TTL in seconds (RFC 2181, 8).
 const MAX_SECONDS: u64 = 2_147_483_647;
 
-/// How many seconds a word is that has a unit behind each of its numbers, as 5400 of `1h30m`; None of another word, and of more than a TTL may
-/// have.
+/// The number of seconds in a word that has a unit after each of its numbers, such as 5400 for `1h30m`. None for any other word, and for more than
+/// the maximum TTL.
 pub fn seconds_of(word: &[u8]) -> Option<u64> {
     let mut seconds: u64 = 0;
     let mut number = None;
@@ -31,13 +31,13 @@ pub fn seconds_of(word: &[u8]) -> Option<u64> {
     Some(seconds)
 }
 
-/// A number with a digit more.
+/// A number with one more digit.
 fn with_digit(number: Option<u64>, digit: u8) -> Option<u64> {
     let digit = u64::from(digit.saturating_sub(b'0'));
     number.unwrap_or(0).checked_mul(10)?.checked_add(digit)
 }
 
-/// How many seconds a unit has, in either case.
+/// The number of seconds in a unit, in upper or lower case.
 fn unit_of(letter: u8) -> Option<u64> {
     for (unit, seconds) in UNITS {
         if unit == letter.to_ascii_lowercase() {

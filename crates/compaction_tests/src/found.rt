@@ -1,21 +1,21 @@
-//! What a start finds in a folder.
+//! What a start recovers from a directory.
 use crate::updates::check;
-use compaction::Trail;
 use master_file::write_zone;
-use recovery::{Newest, Start, recover_zone};
 use std::alloc::{AllocError, Global};
 use std::fs;
 use std::test::Fail;
+use store_compaction::RecentUpdates;
 use store_files::read_store;
+use store_recovery::{RecentVersions, Recovery, recover_zone};
 
-/// A start of a folder.
-pub(crate) fn found_in(files: &HostRuntime, dir: &str) -> Result<Start, Fail> {
+/// A start from a directory.
+pub(crate) fn found_in(files: &HostRuntime, dir: &str) -> Result<Recovery, Fail> {
     let (text, journal) = read_store(files, files.alloc(), dir)?;
     Ok(recover_zone(files.alloc(), &text, &journal)?)
 }
 
-/// A start, in a line: the number of its zone text, how many batches are behind it, and the serials of the versions that it has.
-fn line_of(alloc: Global, start: &Start) -> Result<String, AllocError> {
+/// A start in one line: the number of its zone text, the number of batches after it, and the serials of its versions.
+fn line_of(alloc: Global, start: &Recovery) -> Result<String, AllocError> {
     let newest = &start.newest;
     let first = newest.older.first().unwrap_or(&newest.last);
     format!(in alloc;
@@ -27,8 +27,8 @@ fn line_of(alloc: Global, start: &Start) -> Result<String, AllocError> {
     )
 }
 
-/// The zones of a start's versions, one behind the other, as text.
-fn text_of_start(alloc: Global, newest: &Newest) -> Result<String, AllocError> {
+/// The zones of the versions that a start recovers, one after the other, as text.
+fn text_of_start(alloc: Global, newest: &RecentVersions) -> Result<String, AllocError> {
     let mut text = String::new(alloc);
     for version in &newest.older {
         text.push_str(&write_zone(alloc, version.zone())?)?;
@@ -37,8 +37,8 @@ fn text_of_start(alloc: Global, newest: &Newest) -> Result<String, AllocError> {
     Ok(text)
 }
 
-/// The zones of a trail's versions.
-fn text_of_trail(alloc: Global, trail: &Trail) -> Result<String, AllocError> {
+/// The zones of the versions of recent updates, as text.
+fn text_of_trail(alloc: Global, trail: &RecentUpdates) -> Result<String, AllocError> {
     let mut text = write_zone(alloc, trail.oldest().get().zone())?;
     for step in trail.steps() {
         text.push_str(&write_zone(alloc, step.version().get().zone())?)?;
@@ -46,17 +46,21 @@ fn text_of_trail(alloc: Global, trail: &Trail) -> Result<String, AllocError> {
     Ok(text)
 }
 
-/// Whether a start has the versions of a trail, and none behind them.
-pub(crate) fn has_trail(alloc: Global, start: &Start, trail: &Trail) -> Result<bool, AllocError> {
+/// Whether a start recovers the versions of recent updates, and none after them.
+pub(crate) fn has_trail(
+    alloc: Global,
+    start: &Recovery,
+    trail: &RecentUpdates,
+) -> Result<bool, AllocError> {
     let text = text_of_start(alloc, &start.newest)?;
     Ok(text.ends_with(text_of_trail(alloc, trail)?.as_str()))
 }
 
-/// Fails where a start of a folder isn't this one, or hasn't the versions of a trail.
+/// Fails if a start from a directory is not this one, or does not recover the versions of recent updates.
 pub(crate) fn expect(
     files: &HostRuntime,
     dir: &str,
-    trail: &Trail,
+    trail: &RecentUpdates,
     line: &'static str,
 ) -> Result<(), Fail> {
     let start = found_in(files, dir)?;
@@ -65,7 +69,7 @@ pub(crate) fn expect(
     check(has_trail(files.alloc(), &start, trail)?, line)
 }
 
-/// Whether a file of this name is in a folder.
+/// Whether a file with this name is in a directory.
 pub(crate) fn is_there(files: &HostRuntime, dir: &str, name: &str) -> Result<bool, Fail> {
     let path = format!(in files.alloc(); "{dir}/{name}")?;
     Ok(fs::exists(files, path.as_str())?)

@@ -1,4 +1,4 @@
-//! Tests of compactions, over real folders: what a start finds behind each step of one, also where a file can't be written.
+//! Tests of compaction, in real directories: what a start recovers after each step of a compaction, also when a file cannot be written.
 #![tactic(auto)]
 
 #[cfg(test)]

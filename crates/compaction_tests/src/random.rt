@@ -1,11 +1,11 @@
-//! Numbers that look random.
+//! Pseudorandom numbers.
 
-/// Numbers that look random: Knuth's generator of 64 bits (The Art of Computer Programming, 3.3.4), of which the high bits are taken.
+/// Pseudorandom numbers: Knuth's generator of 64 bits (The Art of Computer Programming, 3.3.4), of which the high bits are used.
 #[derive(Drop)]
 pub(crate) struct Random(pub(crate) u64);
 
 impl Random {
-    /// A number below another one.
+    /// A number below `most`; 0 if `most` is 0.
     pub(crate) fn below(&mut self, most: u64) -> u64 {
         self.0 = self
             .0

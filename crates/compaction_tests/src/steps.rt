@@ -1,26 +1,27 @@
-//! The steps of compactions, in their order.
+//! The steps of compactions, in order.
 use crate::found::{expect, is_there};
 use crate::updates::{begin, check, send};
-use compaction::{NextText, StoreWriter};
-use compaction_files::{create_next_text, drop_old_texts, replace_with_next, write_next_text};
-use file_disks::FileDisk;
 use journal::Head;
 use std::alloc::Global;
 use std::fs;
 use std::sync::Wait;
 use std::test::Fail;
+use store_compaction::{
+    NextText, StoreWriter, create_next_text, drop_old_texts, replace_with_next, write_next_text,
+};
+use store_files::FileDisk;
 
-/// The folder of the test.
+/// The directory of the test.
 const DIR: &str = "compaction_tests_steps";
 
-/// What a start finds in front of the updates that are sent while a text is written, and behind them.
+/// The starts before and after the updates that are sent while a text is written.
 #[derive(Drop)]
 struct Lines {
     front: &'static str,
     behind: &'static str,
 }
 
-/// Begins a compaction.
+/// Starts a compaction.
 fn begin_text<R: Wait>(
     rt: &R,
     alloc: Global,
@@ -32,7 +33,7 @@ fn begin_text<R: Wait>(
     }
 }
 
-/// Sends two updates, of the numbers from this one on.
+/// Sends two updates, with the numbers from `number` on.
 fn send_two<R: Wait>(
     rt: &R,
     alloc: Global,
@@ -43,7 +44,7 @@ fn send_two<R: Wait>(
     check(kept, "two updates")
 }
 
-/// A compaction up to its text, while two updates are sent, of the numbers from this one on.
+/// A compaction up to its text, while two updates are sent, with the numbers from `number` on.
 fn write_text<R: Wait>(
     rt: &R,
     files: &HostRuntime,
@@ -64,7 +65,7 @@ fn write_text<R: Wait>(
     Ok(head)
 }
 
-/// Puts the journal of a text in place, and removes the texts that aren't needed any more: what a start finds behind that.
+/// Puts the journal of a text in place, and removes the texts that are not needed any more. Checks what a start recovers after that.
 fn put_in_place(
     files: &HostRuntime,
     writer: &mut StoreWriter<FileDisk>,
@@ -80,7 +81,7 @@ fn put_in_place(
     expect(files, DIR, writer.trail(), line)
 }
 
-/// A first compaction, with updates in front of each step.
+/// A first compaction, with updates before each step.
 fn compact_first<R: Wait>(
     rt: &R,
     files: &HostRuntime,
@@ -102,7 +103,7 @@ fn compact_first<R: Wait>(
     check(is_there(files, DIR, "zone-0")?, "the text before goes")
 }
 
-/// A second one, and an update behind it. A start keeps eight older versions: the text begins with the oldest of these, of serial 10.
+/// A second compaction, and an update after it. A start keeps eight older versions: the text holds the oldest of these, with serial 10.
 fn compact_again<R: Wait>(
     rt: &R,
     files: &HostRuntime,
@@ -124,7 +125,8 @@ fn compact_again<R: Wait>(
     )
 }
 
-// Two compactions: a start behind each step has what was sent. At the end the store's text and the one before it are there, and nothing else that compactions have left.
+// Two compactions: a start after each step recovers the updates that were sent. At the end the store's text and the one before it are there,
+// and no other file of the compactions.
 #[test]
 fn each_step_keeps_the_versions(rt: HostRuntime) -> Result<(), Fail> {
     let mut writer = begin(&rt, DIR)?;

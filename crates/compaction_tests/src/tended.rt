@@ -1,30 +1,30 @@
-//! A store that is compacted between two batches.
+//! A store that is compacted between two batches, when it is tended.
 ghost use Rattle.std.specs.Prelude.{option_map, IfOk};
-ghost use Rattle.store_compactor.specs.Texts.{wanted_of, IsWritten};
+ghost use Rattle.store_compaction.specs.TextWriter.{wanted_of, IsWritten};
 
 use crate::found::{expect, is_there};
 use crate::updates::{begin, check, group_of};
-use compaction::NextText;
-use compaction_files::{create_next_text, write_next_text};
 use journal::Head;
 use std::alloc::Global;
 use std::sync::Wait;
 use std::test::Fail;
 use std::{fs, io};
-use store_compactor::{CompactionEvent, Notes, StoreCompactor, Texts};
+use store_compaction::{
+    CompactedStore, CompactionEvent, NextText, Notes, TextWriter, create_next_text, write_next_text,
+};
 use store_files::NewText;
-use update_job::Storing;
+use update_batches::UpdateStore;
 
-/// The folder of the test.
+/// The directory of the test.
 const DIR: &str = "compaction_tests_tended";
 
-/// Where it is moved to.
+/// The directory that it is moved to.
 const MOVED: &str = "compaction_tests_moved";
 
-/// Its journal that isn't renamed yet.
+/// The store's new journal, before it is renamed.
 const NEW_JOURNAL: &str = "compaction_tests_tended/journal.new";
 
-/// A text that is to be written.
+/// A text to be written.
 #[derive(Drop)]
 struct Order {
     alloc: Global,
@@ -48,7 +48,7 @@ impl Order {
     }
 }
 
-/// Who writes a text when it is asked what has become of it, once or twice.
+/// A text writer that writes a text when it is asked for the result, the first or the second time.
 #[derive(Drop)]
 struct TextsWhenAsked {
     files: HostRuntime,
@@ -56,7 +56,7 @@ struct TextsWhenAsked {
     waits: bool,
 }
 
-impl Texts for TextsWhenAsked {
+impl TextWriter for TextsWhenAsked {
     ghost wanted = { λ texts. option_map (λ order. wanted_of order.next order.before) texts.order };
 
     fn write<R: Wait>(
@@ -95,7 +95,7 @@ impl Texts for TextsWhenAsked {
     }
 }
 
-/// Who notes nothing.
+/// Ignores compaction events.
 #[derive(Drop)]
 struct NoNotes;
 
@@ -103,10 +103,11 @@ impl Notes for NoNotes {
     fn note<R: Wait>(&mut self, _rt: &R, _event: CompactionEvent) {}
 }
 
-/// A store that is compacted where its journal has more than 400 octets.
-type Store = StoreCompactor<HostRuntime, TextsWhenAsked, NoNotes>;
+/// A store that is compacted when its journal has more than 400 octets.
+type Store = CompactedStore<HostRuntime, TextsWhenAsked, NoNotes>;
 
-/// Brings the updates of the numbers from one on up to another to a store, and tends it: what a start finds, and whether a text is being written.
+/// Appends the updates with the numbers from `from` up to, but not including, `to` to a store, and tends it. Checks what a start recovers, and
+/// whether a text is being written.
 fn send<R: Wait>(
     rt: &R,
     files: &HostRuntime,
@@ -121,7 +122,7 @@ fn send<R: Wait>(
     tend(rt, files, store, line, writes)
 }
 
-/// Tends a store: what a start finds behind that, and whether a text is being written.
+/// Tends a store. Checks what a start recovers after that, and whether a text is being written.
 fn tend<R: Wait>(
     rt: &R,
     files: &HostRuntime,
@@ -134,7 +135,7 @@ fn tend<R: Wait>(
     check(store.writer().is_compacting() == writes, line)
 }
 
-/// A store that begins.
+/// A new store.
 fn begin_store(files: &HostRuntime) -> Result<Store, Fail> {
     let writer = begin(files, DIR)?;
     let texts = TextsWhenAsked {
@@ -143,11 +144,11 @@ fn begin_store(files: &HostRuntime) -> Result<Store, Fail> {
         waits: false,
     };
     let dir = format!(in files.alloc(); "{DIR}")?;
-    Ok(StoreCompactor::new(*files, dir, writer, texts, NoNotes, 400))
+    Ok(CompactedStore::new(*files, dir, writer, texts, NoNotes, 400))
 }
 
-/// Two texts are begun, each where the journal has more than 400 octets, and twice as many as behind the last one: it begins with 156, and a batch has 52, and 52 for each
-/// of its updates.
+/// Two texts are started, each when the journal has more than 400 octets, and twice as many as after the last compaction. The journal starts
+/// with 156 octets, and a batch has 52, and 52 for each of its updates.
 fn begin_texts<R: Wait>(rt: &R, files: &HostRuntime, store: &mut Store) -> Result<(), Fail> {
     let line = "text 0, batches 1, serials 7 to 10";
     send(rt, files, store, (1, 4), line, false)?;
@@ -161,7 +162,8 @@ fn begin_texts<R: Wait>(rt: &R, files: &HostRuntime, store: &mut Store) -> Resul
     send(rt, files, store, (9, 13), line, true)
 }
 
-/// The journal of the second can't be put in place: the one before stays, that text goes, and the next one waits.
+/// The journal of the second text cannot be put in place: the old journal stays, that text is removed, and the next one is written when it is
+/// asked for the second time.
 fn fail_to_lay<R: Wait>(rt: &R, files: &HostRuntime, store: &mut Store) -> Result<(), Fail> {
     let line = "text 1, batches 3, serials 11 to 19";
     fs::create_dir(files, NEW_JOURNAL)?;
@@ -174,7 +176,8 @@ fn fail_to_lay<R: Wait>(rt: &R, files: &HostRuntime, store: &mut Store) -> Resul
     check(!is_there(files, DIR, "zone-1")?, "the text before stays")
 }
 
-/// The folder is moved: no batch is kept, and nothing comes in the folder's place; once it is back the next batch is kept, behind those before.
+/// The directory is moved: no batch is stored, and no directory is created in its place. Once it is back, the next batch is stored after those
+/// before.
 fn move_away<R: Wait>(rt: &R, files: &HostRuntime, store: &mut Store) -> Result<(), Fail> {
     fs::rename(files, DIR, MOVED)?;
     let mut group = group_of(files.alloc(), store.writer().trail(), 13, 14)?;

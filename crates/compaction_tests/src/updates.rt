@@ -1,33 +1,32 @@
-//! Stores that are begun in folders, and updates that are brought to them.
-ghost use Rattle.lasting_engine.specs.Asked.{passes, tells, makes, octets_of, serial_in};
+//! New stores in directories, and updates that are appended to them.
+ghost use Rattle.update_batches.specs.UpdateRequest.{passes, tells, makes, octets_of, serial_in};
 
-use compaction::{StoreWriter, Trail};
 use dns_engine::{KEPT, SharedVersion};
 use dns_name::Name;
-use file_disks::FileDisk;
-use journal::{TextSum, write_head};
-use journal_store::Log;
-use lasting_engine::{Asked, judge_asked, serial_in};
+use journal::{Log, TextSum, write_head};
 use master_file::read_zone;
 use std::alloc::Global;
 use std::fs;
 use std::sync::Wait;
 use std::test::Fail;
-use store_files::write_pair;
-use stores::begin_store;
-use update_group::{Group, Judgement, Judging, judge_group};
+use store_compaction::{RecentUpdates, StoreWriter};
+use store_files::{FileDisk, write_pair};
+use store_recovery::begin_store;
+use update_batches::{
+    Batch, Judgement, Judging, UpdateRequest, judge_group, judge_request, serial_in,
+};
 use zone_tree::{Version, Zone};
 
-/// The zone text that a store begins with, of serial 7.
+/// The zone text of a new store, with serial 7.
 const ZONE: &[u8] = b"example. 3600 IN SOA ns.example. host.example. 7 1 1 1 1
 example. 3600 IN NS ns.example.
 ";
 
-/// An A record of 192.0.2.1 at a.example, added by an update that Python put together (RFC 2136, 2).
+/// An update that adds an A record of 192.0.2.1 at a.example, built with Python (RFC 2136, 2).
 const ADD: &str =
     "000128000001000000010000076578616d706c6500000600010161076578616d706c6500000100010000012c0004c0000201";
 
-/// Fails with words where something doesn't hold.
+/// Fails with a message if a condition does not hold.
 pub(crate) fn check(holds: bool, words: &str) -> Result<(), Fail> {
     if holds {
         Ok(())
@@ -36,13 +35,13 @@ pub(crate) fn check(holds: bool, words: &str) -> Result<(), Fail> {
     }
 }
 
-/// The rules by which an update is judged, with no engine.
+/// The rules by which an update is judged, without an engine.
 struct Rules;
 
 impl Judging for Rules {
     type Version = SharedVersion;
 
-    type Asked = Asked;
+    type Asked = UpdateRequest;
 
     ghost octets = { octets_of };
 
@@ -58,12 +57,12 @@ impl Judging for Rules {
         &self,
         alloc: Global,
         version: &SharedVersion,
-        asked: &Asked,
+        asked: &UpdateRequest,
     ) -> Judgement<SharedVersion> {
-        judge_asked(alloc, version, asked)
+        judge_request(alloc, version, asked)
     }
 
-    fn octets_of<'a>(&self, asked: &'a Asked) -> &'a [u8] {
+    fn octets_of<'a>(&self, asked: &'a UpdateRequest) -> &'a [u8] {
         asked.octets()
     }
 
@@ -72,7 +71,7 @@ impl Judging for Rules {
     }
 }
 
-/// The log of a store that begins in a folder with a zone, and its trail, which keeps as many versions as one may.
+/// The writer of a new store in a directory, for a zone. Its recent updates keep as many versions as they may.
 fn begin_with(rt: &HostRuntime, dir: &str, zone: Zone) -> Result<StoreWriter<FileDisk>, Fail> {
     let alloc = rt.alloc();
     let (text, head) = begin_store(alloc, &zone, 0, [7; 16], TextSum::of(ZONE))?;
@@ -82,11 +81,11 @@ fn begin_with(rt: &HostRuntime, dir: &str, zone: Zone) -> Result<StoreWriter<Fil
     let Some(first) = SharedVersion::new(alloc, Version::first(zone)) else {
         return Err(Fail::from("no memory for a version"));
     };
-    let trail = Trail::of(alloc, first, KEPT)?;
+    let trail = RecentUpdates::of(alloc, first, KEPT)?;
     Ok(StoreWriter::of(head, log, trail))
 }
 
-/// Who writes a store that begins in a folder of its own.
+/// The writer of a new store in a directory of its own.
 pub(crate) fn begin(rt: &HostRuntime, dir: &str) -> Result<StoreWriter<FileDisk>, Fail> {
     let _ = fs::remove_dir_all(rt, dir);
     fs::create_dir(rt, dir)?;
@@ -94,19 +93,19 @@ pub(crate) fn begin(rt: &HostRuntime, dir: &str) -> Result<StoreWriter<FileDisk>
     begin_with(rt, dir, zone)
 }
 
-/// The update that adds the address of a number at a.example: 192.0, and the number's two octets.
-fn update_of(alloc: Global, number: u16) -> Result<Asked, Fail> {
+/// The update that adds the address of a number at a.example: 192.0 followed by the two octets of the number.
+fn update_of(alloc: Global, number: u16) -> Result<UpdateRequest, Fail> {
     let mut octets = hex::decode(alloc, ADD.as_bytes())?;
     octets.truncate(octets.len().saturating_sub(2));
     octets.extend_from_slice(&number.to_be_bytes())?;
-    match Asked::read(alloc, octets, true) {
+    match UpdateRequest::read(alloc, octets, true) {
         Some(asked) => Ok(asked),
         None => Err(Fail::from("an update isn't read")),
     }
 }
 
-/// The updates that add the addresses of the numbers from one on up to another.
-fn updates_of(alloc: Global, from: u16, to: u16) -> Result<Vec<Asked>, Fail> {
+/// The updates that add the addresses of the numbers from `from` up to, but not including, `to`.
+fn updates_of(alloc: Global, from: u16, to: u16) -> Result<Vec<UpdateRequest>, Fail> {
     let mut asked = Vec::new(alloc);
     for number in from..to {
         asked.push(update_of(alloc, number)?)?;
@@ -114,21 +113,22 @@ fn updates_of(alloc: Global, from: u16, to: u16) -> Result<Vec<Asked>, Fail> {
     Ok(asked)
 }
 
-/// The version that a trail ends with.
-fn last_of(trail: &Trail) -> &SharedVersion {
+/// The last version of recent updates.
+fn last_of(trail: &RecentUpdates) -> &SharedVersion {
     match trail.steps().last() {
         Some(step) => step.version(),
         None => trail.oldest(),
     }
 }
 
-/// The updates that add the addresses of the numbers from one on up to another, judged behind a trail: each makes a version.
+/// The updates that add the addresses of the numbers from `from` up to, but not including, `to`, judged after recent updates. Each makes a
+/// version.
 pub(crate) fn group_of(
     alloc: Global,
-    trail: &Trail,
+    trail: &RecentUpdates,
     from: u16,
     to: u16,
-) -> Result<Group<SharedVersion>, Fail> {
+) -> Result<Batch<SharedVersion>, Fail> {
     let asked = updates_of(alloc, from, to)?;
     let mut verdicts = Vec::with_capacity(alloc, asked.len())?;
     let group = judge_group(&Rules, alloc, last_of(trail), &asked, 64, &mut verdicts);
@@ -139,7 +139,7 @@ pub(crate) fn group_of(
     Ok(group)
 }
 
-/// Brings them to a store, as one batch: whether it is kept.
+/// Appends them to a store as one batch. Returns whether the batch is stored.
 pub(crate) fn send<R: Wait>(
     rt: &R,
     alloc: Global,

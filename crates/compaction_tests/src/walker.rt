@@ -1,49 +1,49 @@
-//! A store whose compactions come in any order, and whose files can't always be written.
+//! A store whose compactions come in any order, and whose files cannot always be written.
 use crate::found::{found_in, has_trail};
 use crate::random::Random;
 use crate::updates::{begin, check, send};
-use compaction::{NextText, StoreWriter};
-use compaction_files::{create_next_text, drop_old_texts, replace_with_next, write_next_text};
-use file_disks::FileDisk;
 use journal::Head;
 use std::fs;
 use std::sync::Wait;
 use std::test::Fail;
-use store_files::PairFault;
+use store_compaction::{
+    NextText, StoreWriter, create_next_text, drop_old_texts, replace_with_next, write_next_text,
+};
+use store_files::{FileDisk, PairFault};
 
-/// The folder of the test.
+/// The directory of the test.
 pub(crate) const DIR: &str = "compaction_tests_walk";
 
 /// Its journal.
 const JOURNAL: &str = "compaction_tests_walk/journal";
 
-/// Its journal that isn't renamed yet.
+/// The store's new journal, before it is renamed.
 const NEW_JOURNAL: &str = "compaction_tests_walk/journal.new";
 
-/// Where its journal is put aside.
+/// The path to which its journal is moved aside.
 const ASIDE: &str = "compaction_tests_walk/aside";
 
-/// A store that is written, and what is known of it by who walks.
+/// A store that is written, and its expected state.
 #[derive(Drop)]
 pub(crate) struct Walker {
     writer: StoreWriter<FileDisk>,
     random: Random,
-    /// The number of the address that is added next.
+    /// The number of the next address to add.
     next: u16,
-    /// How many updates are kept.
+    /// The number of updates that are stored.
     kept: u32,
     /// The greatest number that a text was given.
     given: u64,
-    /// Whether a compaction is under way.
+    /// Whether a compaction is in progress.
     under_way: bool,
-    /// The head of its text, once that is written.
+    /// The head of its text, once the text is written.
     head: Option<Head>,
-    /// Whether nobody knows which of two journals a start finds.
+    /// Whether it is unknown which of two journals a start finds.
     stuck: bool,
 }
 
 impl Walker {
-    /// A store that begins.
+    /// A new store.
     pub(crate) fn begin(files: &HostRuntime, seed: u64) -> Result<Walker, Fail> {
         Ok(Walker {
             writer: begin(files, DIR)?,
@@ -57,7 +57,7 @@ impl Walker {
         })
     }
 
-    /// Takes a step.
+    /// Does one step.
     pub(crate) fn step<R: Wait>(&mut self, rt: &R, files: &HostRuntime) -> Result<(), Fail> {
         match self.random.below(10) {
             0 => self.write_text(rt, files),
@@ -71,7 +71,8 @@ impl Walker {
         }
     }
 
-    /// Fails where a start of the folder hasn't the versions of the trail, or another last one than that of the updates that are kept.
+    /// Fails if a start from the directory does not recover the versions of the recent updates, or its last version is not that of the stored
+    /// updates.
     pub(crate) fn expect_all(&self, files: &HostRuntime) -> Result<(), Fail> {
         let start = found_in(files, DIR)?;
         let all = has_trail(files.alloc(), &start, self.writer.trail())?;
@@ -92,7 +93,7 @@ impl Walker {
         check(kept != self.stuck, "a batch")
     }
 
-    /// Begins a compaction, in place of the one that is under way, if one is.
+    /// Starts a compaction. It replaces the one that is in progress, if any.
     fn begin_text<R: Wait>(&mut self, rt: &R, files: &HostRuntime) -> Result<NextText, Fail> {
         let Some(next) = self.writer.begin_compaction(rt, files.alloc())? else {
             return Err(Fail::from("no number is left"));
@@ -104,21 +105,21 @@ impl Walker {
         Ok(next)
     }
 
-    /// Writes a text that is begun: the head of its journal.
+    /// Writes a text that was started, and returns the head of its journal.
     fn write(&self, files: &HostRuntime, next: &NextText) -> Result<Head, Fail> {
         let file = create_next_text(files, files.alloc(), DIR, next)?;
         let before = self.writer.head();
         Ok(write_next_text(files.alloc(), file, next, before, [9; 16])?)
     }
 
-    /// Begins a compaction, and writes its text.
+    /// Starts a compaction, and writes its text.
     fn write_text<R: Wait>(&mut self, rt: &R, files: &HostRuntime) -> Result<(), Fail> {
         let next = self.begin_text(rt, files)?;
         self.head = Some(self.write(files, &next)?);
         Ok(())
     }
 
-    /// The head of the text that is written, if one is; else one is written.
+    /// The head of the text that is written, if there is one. Otherwise, writes one.
     fn written<R: Wait>(&mut self, rt: &R, files: &HostRuntime) -> Result<Head, Fail> {
         if self.head.is_none() {
             self.write_text(rt, files)?;
@@ -129,7 +130,7 @@ impl Walker {
         }
     }
 
-    /// Writes a text late, behind that of a later one: it gets no journal.
+    /// Writes a text late, after that of a later compaction. It gets no journal.
     fn write_late<R: Wait>(&mut self, rt: &R, files: &HostRuntime) -> Result<(), Fail> {
         let early = self.begin_text(rt, files)?;
         self.write_text(rt, files)?;
@@ -138,7 +139,7 @@ impl Walker {
         check(!done, "a text that is written late has a journal")
     }
 
-    /// Begins a compaction whose text can't be written: a folder has its name.
+    /// Starts a compaction whose text cannot be written, because a directory has its name.
     fn fail_to_create<R: Wait>(&mut self, rt: &R, files: &HostRuntime) -> Result<(), Fail> {
         let next = self.begin_text(rt, files)?;
         let path = format!(in files.alloc(); "{DIR}/zone-{}", next.number)?;
@@ -159,7 +160,7 @@ impl Walker {
         check(done, "no journal is in place")
     }
 
-    /// The same, where the journal can't be written: the store is as it was, and the same is tried again later.
+    /// The same, where the journal cannot be written: the store is as it was, and the same is tried again later.
     fn fail_to_lay<R: Wait>(&mut self, rt: &R, files: &HostRuntime) -> Result<(), Fail> {
         let head = self.written(rt, files)?;
         let _ = fs::remove_file(files, NEW_JOURNAL);
@@ -169,7 +170,7 @@ impl Walker {
         check(matches!(told, Err(PairFault::Before(_))), "it is laid")
     }
 
-    /// The same, where the journal can't be renamed: nobody knows which of the two a start finds, and it is one of them.
+    /// The same, where the journal cannot be renamed: it is unknown which of the two journals a start finds, but it is one of them.
     fn fail_to_rename<R: Wait>(&mut self, rt: &R, files: &HostRuntime) -> Result<(), Fail> {
         let head = self.written(rt, files)?;
         self.head = None;
@@ -183,7 +184,7 @@ impl Walker {
         self.find_either(files)
     }
 
-    /// Puts one of two journals in place, which a start then finds.
+    /// Puts one of the two journals in place; the next start finds it.
     fn find_either(&mut self, files: &HostRuntime) -> Result<(), Fail> {
         let found = if self.random.below(2) == 0 {
             ASIDE
@@ -194,7 +195,7 @@ impl Walker {
         Ok(())
     }
 
-    /// Removes the texts that aren't needed: none where one may be that isn't the store's.
+    /// Removes the texts that are not needed. Removes none where there may be one that is not the store's.
     fn drop_old(&mut self, files: &HostRuntime) -> Result<(), Fail> {
         let done = drop_old_texts(files, DIR, &self.writer)?;
         let settled = !self.under_way && !self.stuck;

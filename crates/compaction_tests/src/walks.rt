@@ -1,9 +1,10 @@
-//! A walk in an order that looks random.
+//! A walk in pseudorandom order.
 use crate::walker::{DIR, Walker};
 use std::fs;
 use std::test::Fail;
 
-// A start behind each of forty steps has the versions that are kept, and no others behind them. From this seed on each kind of step comes twice at least.
+// A start after each of forty steps recovers the versions that are stored, and none after them. With this seed each kind of step comes at
+// least twice.
 #[test]
 fn any_order_keeps_the_versions(rt: HostRuntime) -> Result<(), Fail> {
     let mut walker = Walker::begin(&rt, 400)?;

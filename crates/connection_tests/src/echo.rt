@@ -1,15 +1,15 @@
-//! One who answers each request by what it begins with.
+//! A handler that answers each request by its first octet.
 ghost use Rattle.std.specs.Prelude.{◌≡◌, ◌≤◌, ◌∷◌, ◌++◌, [], List, length, if◌then◌else◌};
 
-use connections::{Answering, Messages, Reply, Unmade};
 use serve_core::{Peer, Transport};
 use std::net::SocketAddr;
 use std::sync::Wait;
+use tcp_connections::{Handler, Messages, Reply, Unmade};
 
-/// How many octets the longest message has (RFC 1035, 4.2.2).
+/// The length of the longest message, in octets (RFC 1035, 4.2.2).
 pub(crate) const LARGE: usize = 65_535;
 
-/// Two messages of an octet each, one after the other.
+/// Two messages of one octet each, one after the other.
 #[derive(Drop)]
 pub(crate) struct Both {
     first: bool,
@@ -34,21 +34,21 @@ impl Messages for Both {
     }
 }
 
-/// One who gives each request back, but no reply to one of no octets, two messages to one of two, and other replies to one that begins with
-/// `?`, `L` or `u`; and [`Unmade::Spent`] once it was asked for so many.
+/// A handler that echoes each request, with exceptions: there is no reply to a request of no octets, there are two messages for one of two
+/// octets, and there are other replies to one that starts with `?`, `L` or `u`. After `left` requests it returns [`Unmade::Spent`].
 #[derive(Drop)]
 pub(crate) struct Echo {
     peer: Peer,
     asker: usize,
     pub(crate) left: u32,
-    /// How many requests that begin with `u` it was asked for.
+    /// The number of calls for requests that start with `u`.
     pub(crate) asked: u32,
-    /// The key of the connection whose reply to such a request is made, which is later than it is asked for.
+    /// The key of the connection whose reply to such a request is ready. Without it the reply is made later.
     pub(crate) made: Option<usize>,
 }
 
 impl Echo {
-    /// One who is asked for so many requests.
+    /// A handler for `left` requests.
     pub(crate) fn new(left: u32) -> Echo {
         Echo {
             peer: Peer::over(Transport::Tcp, false),
@@ -75,8 +75,8 @@ impl Echo {
         false
     }
 
-    /// Writes the message that is the reply to a request, and gives how many octets it has: [`LARGE`] for one that begins with `L`, and 1 for
-    /// one that begins with `?`, which is 1 where the peer may update, else 0.
+    /// Writes the message that is the reply to a request, and returns its length in octets: [`LARGE`] for a request that starts with `L`, and 1
+    /// for one that starts with `?`, whose octet is 1 if the peer is allowed to update, else 0.
     fn message(&self, request: &[u8], out: &mut [u8]) -> usize
         requires { 65535 ≤ length out.old }
         ensures most { result ≤ 65535 }
@@ -96,7 +96,7 @@ impl Echo {
     }
 }
 
-impl Answering<Both> for Echo {
+impl Handler<Both> for Echo {
     ghost seen = { λ _ _. record { published = []; buried = [] } };
 
     ghost peer = { λ echo. echo.peer };

@@ -1,6 +1,6 @@
-//! Tests of `connections`: streams in memory that come and go in pieces, that would block, and that end in each way; of `links`: connections of
-//! several peers, and those that take too long; of `turns` over polls that are made up; and of `ready_sockets`: a worker's turns over sockets
-//! of this machine. In `memory` each request for memory is refused in turn.
+//! Tests of `tcp_connections`: streams in memory that are read and written in pieces, that would block, and that end in each way, connections
+//! of several peers, and connections that take too long; of `tcp_loop`, over simulated polls; and of `sockets`: a worker's turns over sockets
+//! of this machine. In `memory` each memory allocation fails in turn.
 #![tactic(auto)]
 
 #[cfg(test)]

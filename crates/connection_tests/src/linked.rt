@@ -1,31 +1,31 @@
-//! Connections that are served each under its key, at a time that the test makes.
+//! Connections that are served under their keys, at times that the test gives.
 
 use crate::echo::{Both, Echo};
 use crate::pieces::{After, Pieces, address, room_of, written};
 use crate::running::SECOND;
-use links::{Ends, Limits, Link, Room, make_room, serve_ready, sweep};
 use peer_groups::PeerGroup;
 use serve_core::{Peer, Transport};
 use slab::Slab;
 use std::alloc::{AllocError, Global};
 use std::sync::Wait;
 use std::test::Fail;
+use tcp_connections::{Connection, Ends, Limits, Room, make_room, serve_ready, sweep};
 
-/// Connections, and what they are served by.
+/// Connections, and the state that serves them.
 #[derive(Drop)]
 pub(crate) struct Served {
     alloc: Global,
-    pub(crate) links: Slab<Link<Pieces, Both>>,
+    pub(crate) links: Slab<Connection<Pieces, Both>>,
     pub(crate) ends: Ends,
     echo: Echo,
-    /// Which could go on after the last share.
+    /// The keys of connections that could continue after the last share.
     next: Vec<usize>,
     room: Vec<u8>,
     out: Vec<u8>,
 }
 
 impl Served {
-    /// No connections yet.
+    /// The state without connections.
     pub(crate) fn new(alloc: Global) -> Result<Served, AllocError> {
         Ok(Served {
             alloc,
@@ -38,12 +38,12 @@ impl Served {
         })
     }
 
-    /// Puts a connection under the next key, whose peer may update or not, at a time.
+    /// Adds a connection under the next key, whose peer is or is not allowed to update, at a time.
     pub(crate) fn put(&mut self, stream: Pieces, may: bool, now: u64) -> Result<(), AllocError> {
         self.put_from(1, stream, may, now)
     }
 
-    /// The same of a peer at an address of 192.0.2.0/24.
+    /// The same, for a peer with an address in 192.0.2.0/24.
     fn put_from(
         &mut self,
         last: u8,
@@ -52,13 +52,17 @@ impl Served {
         now: u64,
     ) -> Result<(), AllocError> {
         let peer = Peer::over(Transport::Tcp, may);
-        let _key = self
-            .links
-            .insert(Link::new(stream, self.alloc, peer, address(last), now))?;
+        let _key = self.links.insert(Connection::new(
+            stream,
+            self.alloc,
+            peer,
+            address(last),
+            now,
+        ))?;
         Ok(())
     }
 
-    /// Serves the connections under some keys by a share each.
+    /// Serves the connections under some keys, one share of work each.
     pub(crate) fn serve<R: Wait>(
         &mut self,
         rt: &R,
@@ -91,23 +95,24 @@ const LIMITS: Limits = Limits {
     rate: 0,
 };
 
-/// What is done with connections, and how many of them have then ended.
+/// A step of serving connections, and how many of them have ended after it.
 struct Step {
-    /// The key of the one whose reply is made.
+    /// The key of the connection whose reply is ready.
     made: Option<usize>,
-    /// By how many shares they are served, and when.
+    /// The number of shares of work in which they are served, and the time of these.
     shares: usize,
     served: u64,
-    /// When those that are over are ended.
+    /// The time at which late connections are ended.
     swept: u64,
-    /// How many were idle for too long, or had to bring the rest of a request, or to take replies.
+    /// The number of connections that were idle for too long, that took too long over the rest of a request, and that took too long over
+    /// replies.
     ended: [u64; 3],
-    /// The keys of the others, each as a digit, from 1.
+    /// The keys of the open connections, each as a digit, counted from 1.
     open: u64,
 }
 
-/// The keys of connections, each as a digit, from 1.
-fn keys_of(links: &Slab<Link<Pieces, Both>>) -> u64 {
+/// The keys of connections, each as a digit, counted from 1.
+fn keys_of(links: &Slab<Connection<Pieces, Both>>) -> u64 {
     let mut keys = 0u64;
     for (key, _link) in links.iter() {
         keys = keys
@@ -118,7 +123,7 @@ fn keys_of(links: &Slab<Link<Pieces, Both>>) -> u64 {
     keys
 }
 
-/// How many have ended after a step, which of the others are there, and how many of them could go on.
+/// The number of connections that have ended after a step, those that are open, and the number of those that could continue.
 fn after_step<R: Wait>(
     rt: &R,
     served: &mut Served,
@@ -137,8 +142,8 @@ fn after_step<R: Wait>(
     ))
 }
 
-/// What comes on each connection, and in pieces of which size: nothing, half a request, a whole one, one octet by octet, one whose reply is made later
-/// with the beginning of the next, and half a request.
+/// The octets that arrive on each connection, and the size of their pieces: nothing, half a request, a whole one, one octet by octet, one whose
+/// reply is made later with the start of the next, and half a request.
 const COMING: [(&[u8], usize); 6] = [
     (&[], 1),
     (&[0, 9, b'a'], 1),
@@ -148,8 +153,9 @@ const COMING: [(&[u8], usize); 6] = [
     (&[0, 9, b'u'], 700),
 ];
 
-/// Their times. At 3 s octets come and go: only whole requests and replies count, under 2 and 3. The rest of a request is waited for 7 s, from
-/// when the connection began. Who waits for a reply has time; from that on, its peer has to bring the rest of the next request.
+/// The steps of these connections in time. At 3 s octets arrive and replies are written; only whole requests and replies count for the time
+/// limits, those under keys 2 and 3. For the rest of a request there are 7 s, counted from the start of the connection. A connection that waits
+/// for its reply is not ended; after the reply, its peer has to send the rest of the next request in time.
 const STEPS: [Step; 9] = [
     Step {
         made: None,
@@ -236,7 +242,7 @@ fn each_connection_has_its_time(rt: HostRuntime) -> Result<(), Fail> {
         served.put(stream, false, 0)?;
     }
     for step in STEPS.iter() {
-        // None of them could go on.
+        // None of them can continue.
         let wanted = (step.ended, step.open, 0);
         assert_eq!(rt;
             after_step(&rt, &mut served, step)?,
@@ -248,8 +254,8 @@ fn each_connection_has_its_time(rt: HostRuntime) -> Result<(), Fail> {
     Ok(())
 }
 
-/// Connections by the last octet of their peers' addresses, what comes on them, and when they begin: one that is idle, one with a part of a request,
-/// another that is idle, another with a part, and one whose request waits for its reply.
+/// Connections, by the last octet of their peers' addresses, the octets that arrive on them, and the time at which they start: one that is
+/// idle, one with a part of a request, another that is idle, another with a part, and one whose request waits for its reply.
 const HOARDED: [(u8, &[u8], u64); 5] = [
     (2, &[], 1),
     (1, &[0, 9, b'a'], 2),
@@ -267,7 +273,7 @@ fn the_longest_without_a_request_gives_its_place(rt: HostRuntime) -> Result<(), 
     for _share in 0..8u32 {
         served.serve(&rt, &[0, 1, 2, 3, 4], 5)?;
     }
-    // How many places there are, who wants one, and which is given.
+    // The number of slots, the last octet of the new peer's address, and the slot that it gets.
     let rooms = [
         (6usize, 3u8, Room::Free),
         (5, 3, Room::Made(1)),
@@ -301,7 +307,8 @@ fn who_takes_too_slowly_is_ended(rt: HostRuntime) -> Result<(), Fail> {
     for _share in 0..8u32 {
         served.serve(&rt, &[0, 1], 0)?;
     }
-    // Ten seconds without an octet taken of those that wait, while none waits on the other; nine are too few, and at no rate none is ended.
+    // One connection ends after ten seconds in which its peer takes no octet of the waiting replies; nothing waits on the other one. Nine
+    // seconds are too few, and without a rate no connection is ended.
     for (rate, now, open) in [
         (1_000_000, 9 * SECOND, 12u64),
         (0, 20 * SECOND, 12),
@@ -316,7 +323,7 @@ fn who_takes_too_slowly_is_ended(rt: HostRuntime) -> Result<(), Fail> {
     Ok(())
 }
 
-/// Whether the peer of each connection may update, and what is after its octets.
+/// Whether the peer of each connection is allowed to update, and what follows its octets.
 const PEERS: [(bool, After); 5] = [
     (true, After::Nothing),
     (false, After::Nothing),
@@ -325,8 +332,8 @@ const PEERS: [(bool, After); 5] = [
     (true, After::Nothing),
 ];
 
-/// Serves five connections in forty rounds by some keys, of which some stand there twice, and one is nobody's; how many could go on after a
-/// round, at most.
+/// Serves five connections in forty rounds, under keys of which some occur twice and one is not in use. Returns the maximum number of
+/// connections that could continue after a round.
 fn most_that_go_on<R: Wait>(rt: &R, served: &mut Served) -> Result<usize, AllocError> {
     let mut most = 0;
     for round in 0..40usize {
@@ -350,7 +357,7 @@ fn each_connection_has_the_rights_of_its_peer(rt: HostRuntime) -> Result<(), Fai
     assert!(rt; most_that_go_on(&rt, &mut served)? <= 7);
     let ends = served.ends;
     assert_eq!(rt; [ends.clean, ends.device, ends.total()], [1, 1, 2]);
-    // The replies to those under 0, 1 and 4.
+    // The replies under keys 0, 1 and 4.
     let replies = [0, 1, 1, 0, 1, 1, 0, 1, 0, 0, 1, 0, 0, 1, 1, 0, 1, 1];
     let gone = written(rt.alloc(), &served.links)?;
     assert_eq!(rt; gone.as_slice(), replies.as_slice());

@@ -1,22 +1,22 @@
-//! Want of memory: what holds where each request for it is refused in turn, as `refused.sh` does.
+//! Lack of memory: the behaviour when each memory allocation fails in turn, as in `refused.sh`.
 
 use crate::linked::Served;
 use crate::pieces::{After, Pieces, repeated, written};
 use crate::polls::{Comers, Poll};
 use crate::running::{Running, SECOND};
 use crate::streams::end_of;
-use conversation::StreamEnd;
+use requests::StreamEnd;
 use std::alloc::{AllocError, Global};
 use std::sync::Wait;
 
-/// A frame of 259 octets, which is its own reply, and these octets after it, both twice: queues have to grow several times for them.
+/// A frame of 259 octets, which is its own reply, and these octets after it, both twice. Queues have to grow several times for them.
 fn long_and(alloc: Global, octets: &[u8]) -> Result<Vec<u8>, AllocError> {
     let mut both = repeated(alloc, &[1], 259)?;
     both.extend_from_slice(octets)?;
     repeated(alloc, &both, 2)
 }
 
-/// Requests: after each long one another, whose reply has two messages.
+/// Requests: after each long one another one, whose reply has two messages.
 fn requests(alloc: Global) -> Result<Vec<u8>, AllocError> {
     long_and(alloc, &[0, 2, b'a', b'b'])
 }
@@ -26,13 +26,14 @@ fn replies(alloc: Global) -> Result<Vec<u8>, AllocError> {
     long_and(alloc, &[0, 1, 1, 0, 1, 2])
 }
 
-/// Whether two tries, in one of which memory may be refused, have found what they should: those that were not for want of it, but one at least.
+/// Whether two attempts, one of which may fail for lack of memory (None), have the expected result: each of them that does not fail, and at
+/// least one.
 fn are_so(first: Option<bool>, second: Option<bool>) -> bool {
     first.or(second) == Some(true) && second.or(first) == Some(true)
 }
 
-/// Whether all replies are written to a stream that is served to its end; or a beginning of them, where that is want of memory. An error
-/// there, and where there is no memory for the stream, or for what it is served by.
+/// Whether all replies are written to a stream that is served to its end. AllocError if there is no memory for the stream or for the state that
+/// serves it, or if the stream ends for lack of memory and a prefix of the replies is written.
 fn is_served<R: Wait>(rt: &R, alloc: Global) -> Result<bool, AllocError> {
     let sent = requests(alloc)?;
     let replies = replies(alloc)?;
@@ -55,8 +56,8 @@ fn streams_end_where_memory_is_refused(rt: HostRuntime) {
     assert!(rt; are_so(first, second));
 }
 
-/// Whether all replies are written on each of three connections but for one that ended for want of memory, which is counted. An error where
-/// there is no memory for the connections.
+/// Whether all replies are written on each of three connections, except one that may have ended for lack of memory, which is counted.
+/// AllocError if there is no memory for the connections.
 fn are_served<R: Wait>(rt: &R, alloc: Global) -> Result<bool, AllocError> {
     let sent = requests(alloc)?;
     let mut served = Served::new(alloc)?;
@@ -68,7 +69,7 @@ fn are_served<R: Wait>(rt: &R, alloc: Global) -> Result<bool, AllocError> {
         served.put(stream, false, 0)?;
     }
     for _round in 0..100u32 {
-        // Where there is no memory for their keys, none of them is served.
+        // If there is no memory for their keys, none of them is served.
         let _ = served.serve(rt, &[0, 1, 2], 0);
     }
     let open = served.links.len();
@@ -86,8 +87,8 @@ fn connections_go_on_where_memory_is_refused(rt: HostRuntime) {
     assert!(rt; are_so(first, second));
 }
 
-/// Whether a worker serves four connections, but for one that gets no place for want of memory, or ends for it. An error where there is no
-/// memory for the worker, or for what the poll tells.
+/// Whether a worker serves four connections, except one that may get no slot for lack of memory, or end for it. AllocError if there is no
+/// memory for the worker, or for the keys that the poll reports.
 fn are_turned_to<R: Wait>(rt: &R, alloc: Global) -> Result<bool, AllocError> {
     let sent = requests(alloc)?;
     let poll = Poll {

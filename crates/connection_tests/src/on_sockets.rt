@@ -4,16 +4,16 @@ use crate::echo::LARGE;
 use crate::pieces::{repeated, room_of};
 use crate::running::{Running, SECOND};
 use mio::net::TcpListener;
-use ready_sockets::{TcpPeer, TcpPlace, Watch};
+use sockets::{TcpPeer, TcpPlace, Watch};
 use std::alloc::Global;
 use std::io::{self, ErrorKind, Read, Write};
 use std::net::{Net, Shutdown, SocketAddr, TcpListener as StdListener, TcpStream};
 use std::sync::Wait;
 use std::test::Fail;
 use std::time::Clock;
-use turns::{NotWatched, Readiness};
+use tcp_loop::{NotWatched, Readiness};
 
-/// A poll that waits for a millisecond at most.
+/// A poll that waits at most a millisecond.
 #[derive(Drop)]
 struct Hasty<'a, C> {
     watch: Watch<'a, C>,
@@ -31,7 +31,7 @@ impl<C: Clock> Readiness<TcpPeer> for Hasty<'_, C> {
     }
 }
 
-/// A worker with a place at a port that the system picks, and its address.
+/// A worker with a listener on a port that the system chooses, and its address.
 fn started<'a, R: Net + Clock>(
     rt: &'a R,
     alloc: Global,
@@ -45,7 +45,7 @@ fn started<'a, R: Net + Clock>(
     Ok((running, address))
 }
 
-/// How many octets a client reads up to the end, or in so many turns of a worker.
+/// The number of octets that a client reads up to the end, or in `most` turns of a worker.
 fn read_all<R: Wait, C: Clock>(
     rt: &R,
     alloc: Global,
@@ -68,24 +68,24 @@ fn read_all<R: Wait, C: Clock>(
     Ok(count)
 }
 
-/// What a client does.
+/// The actions of a client.
 struct Visit {
-    /// What it sends at first, and how many turns are taken then.
+    /// The octets that it sends first, and the number of turns after that.
     first: &'static [u8],
     turns: usize,
-    /// What it sends next, so many times, whether it closes its side, and how many turns are taken before it reads anything.
+    /// The octets that it sends next, repeated `times` times, whether it closes its side, and the number of turns before it reads.
     next: &'static [u8],
     times: usize,
     closes: bool,
     delay: usize,
-    /// In how many turns it reads at most.
+    /// The maximum number of turns in which it reads.
     reads: usize,
-    /// How many replies it gets, and how many connections have then ended by themselves.
+    /// The number of replies that it gets, and the number of connections that have ended cleanly by then.
     replies: usize,
     ended: u64,
 }
 
-/// Half a request goes with another, and its rest with a third: each has a reply.
+/// Half of a request is sent with another request, and its rest with a third. Each gets a reply.
 const SOME: Visit = Visit {
     first: &[0, 1, b'L', 0],
     turns: 1,
@@ -102,7 +102,7 @@ const VISITS: [Visit; 5] = [
     SOME,
     Visit { ended: 2, ..SOME },
     Visit { ended: 3, ..SOME },
-    // 19 MB are more than the system keeps for a client that reads nothing.
+    // 19 MB are more than the system buffers for a client that reads nothing.
     Visit {
         first: &[],
         next: &[0, 1, b'L'],
@@ -112,8 +112,9 @@ const VISITS: [Visit; 5] = [
         ended: 4,
         ..SOME
     },
-    // A request of 19,532 octets, whose length is two `L` itself, fills the worker's room several times; what is after it has come too, and isn't
-    // told again. The connection is taken before, and told to be ready for writing, so that nothing but the request is told later.
+    // A request of 19,532 octets, whose length is two `L` itself, fills the worker's buffer several times. The octets after a full buffer have
+    // arrived too, and are not reported again. The connection is accepted before, and reported as ready for writing, so that later only the
+    // request is reported.
     Visit {
         first: &[],
         turns: 9,
@@ -127,7 +128,7 @@ const VISITS: [Visit; 5] = [
     },
 ];
 
-/// How many octets a client reads that does so, how many connections have begun by then, and how many have ended by themselves.
+/// The number of octets that such a client reads, the number of connections that were started by then, and the number that have ended cleanly.
 fn seen_by<R: Net<Stream = TcpStream> + Wait, C: Clock>(
     rt: &R,
     alloc: Global,
@@ -172,7 +173,7 @@ fn one_that_is_reset_ends_alone(rt: HostRuntime) -> Result<(), Fail> {
     let mut client = TcpStream::connect(&rt, address)?;
     client.write_all(&[0, 1, b'L'])?;
     running.turn(&rt, 9)?;
-    // Octets that came and aren't read have the system reset a connection that is closed.
+    // When a connection with unread octets is closed, the system resets it.
     drop(client);
     running.turn(&rt, 9)?;
     let ends = running.turns.tally().ends;
@@ -184,7 +185,7 @@ fn one_that_is_reset_ends_alone(rt: HostRuntime) -> Result<(), Fail> {
     Ok(())
 }
 
-/// Whether a client's request over sockets is answered; an error where a device fails, or there is no memory.
+/// Whether a client's requests over sockets are answered. An error if a device fails or memory allocation fails.
 fn is_answered<R: Net<Listener = StdListener, Stream = TcpStream> + Clock + Wait>(
     rt: &R,
     alloc: Global,

@@ -1,18 +1,18 @@
-//! That no wait for sockets sleeps, however many the one before told of, by a clock that counts.
+//! No wait for sockets sleeps, however many sockets the wait before it reported: a test with a clock that counts.
 use mio::net::TcpListener;
-use ready_sockets::{TcpPeer, TcpPlace, Watch};
+use sockets::{TcpPeer, TcpPlace, Watch};
 use std::alloc::Global;
 use std::cell::Cell;
 use std::io::{self, ErrorKind, Write};
 use std::net::{Net, SocketAddr, TcpListener as StdListener, TcpStream};
 use std::test::Fail;
 use std::time::{Clock, Duration};
-use turns::{Arrivals, Readiness};
+use tcp_loop::{Arrivals, Readiness};
 
 /// A millisecond, in nanoseconds.
 const MILLISECOND: u64 = 1_000_000;
 
-/// A clock by which nobody sleeps, but each call to do so is counted.
+/// A clock that does not sleep, but counts the calls to do so.
 #[derive(Drop)]
 struct Counting<'a, C> {
     clock: &'a C,
@@ -33,7 +33,7 @@ impl<C: Clock> Clock for Counting<'_, C> {
     }
 }
 
-/// Clients, the connections that have come from them, and what waits for these.
+/// Clients, the connections that have come from them, and the poll that watches these.
 #[derive(Drop)]
 struct Connected<'a, C> {
     clock: &'a C,
@@ -44,7 +44,7 @@ struct Connected<'a, C> {
 }
 
 impl<'a, C: Clock> Connected<'a, C> {
-    /// So many clients, each of whose connections has been told to be ready for writing.
+    /// `most` clients, each of whose connections has been reported as ready for writing.
     fn new<R: Net<Listener = StdListener, Stream = TcpStream>>(
         net: &R,
         alloc: Global,
@@ -76,7 +76,7 @@ impl<'a, C: Clock> Connected<'a, C> {
         Ok(connected)
     }
 
-    /// Has so many clients send an octet each.
+    /// Sends one octet from each of the first `count` clients.
     fn send(&mut self, count: usize) -> io::Result<()> {
         for client in self.clients.iter_mut().take(count) {
             client.write_all(b"a")?;
@@ -84,7 +84,7 @@ impl<'a, C: Clock> Connected<'a, C> {
         Ok(())
     }
 
-    /// Of how many sockets a wait of at most so many nanoseconds tells.
+    /// The number of sockets that a wait of at most `most` nanoseconds reports.
     fn wait(&mut self, most: u64) -> io::Result<usize> {
         self.keys.clear();
         if self.watch.wait(most, &mut self.keys).is_err() {
@@ -94,8 +94,8 @@ impl<'a, C: Clock> Connected<'a, C> {
     }
 }
 
-/// Of how many sockets a wait tells once so many clients have sent an octet, of how many the next one, which may be so long, and one after it;
-/// and how many pauses there have been before each of the two that follow.
+/// The number of sockets that a wait reports once `count` clients have sent an octet, the number that the next one reports, which may take
+/// `most` nanoseconds, and the number that one after it reports; and, after each of the last two, the number of pauses so far.
 fn told<C: Clock>(
     connected: &mut Connected<'_, Counting<'_, C>>,
     count: usize,
@@ -116,7 +116,7 @@ fn no_wait_begins_with_a_pause(rt: HostRuntime) -> Result<(), Fail> {
         pauses: Cell::new(0),
     };
     let mut connected = Connected::new(&rt, rt.alloc(), &clock, 20)?;
-    // How many clients send, and how long the next wait may be.
+    // The number of clients that send, and the length of the next wait.
     let rows = [
         (1, MILLISECOND),
         (2, MILLISECOND),

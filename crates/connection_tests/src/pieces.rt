@@ -1,16 +1,16 @@
-//! A stream in memory that gives and takes its octets in pieces, and would block before each of them; or fails once it has taken so many.
+//! A stream in memory that reads and writes its octets in pieces, and would block before each of them, or fails once it has taken a number of
+//! octets.
 ghost use Rattle.std.specs.Prelude.{◌≡◌, ◌<◌, ◌-◌, ◌^◌, IfOk, IfSome, vec_len};
-ghost use Rattle.connections.specs.declared.blocking.Fault.{Fault as FaultOf};
+ghost use Rattle.tcp_connections.specs.declared.blocking.Fault.{Fault as FaultOf};
 
 use crate::echo::Both;
-use connections::{Blocking, Fault};
-use links::Link;
 use slab::Slab;
 use std::alloc::{AllocError, Global};
 use std::net::{Ipv4Addr, SocketAddr, SocketAddrV4};
-use turns::Remote;
+use tcp_connections::{Blocking, Connection, Fault};
+use tcp_loop::Remote;
 
-/// What is after the octets of a stream.
+/// What follows the octets of a stream.
 #[derive(Clone, Copy)]
 pub(crate) enum After {
     /// Its end.
@@ -21,40 +21,40 @@ pub(crate) enum After {
     Nothing,
 }
 
-/// A stream that gives and takes some octets at once, and would block before each time, if it may.
+/// A stream that reads and writes some octets at a time, and, if it may block, would block before each piece.
 #[derive(Drop)]
 pub(crate) struct Pieces {
     pub(crate) from: SocketAddr,
     pub(crate) octets: Vec<u8>,
     pub(crate) at: usize,
-    /// How many octets come or go at once, and up to how many fewer than so many more, by a number that goes on at random.
+    /// The number of octets that are read or written at a time: `size`, and a pseudorandom number below `spread` more, computed from `number`.
     pub(crate) size: usize,
     pub(crate) spread: u64,
     pub(crate) number: u64,
-    /// After which of the first 64 octets that come, and of those that go, a piece ends at the latest, a bit each.
+    /// The octets, of the first 64 that are read and of the first 64 that are written, after which a piece ends at the latest: one bit each.
     pub(crate) cuts: (u64, u64),
     pub(crate) may_block: bool,
     pub(crate) would_block: bool,
     pub(crate) after: After,
-    /// How many octets it takes before it fails.
+    /// The number of octets that it takes before it fails.
     pub(crate) room: usize,
     pub(crate) faults: u64,
     pub(crate) written: Vec<u8>,
 }
 
-/// An address of 192.0.2.0/24.
+/// An address in 192.0.2.0/24.
 pub(crate) fn address(last: u8) -> SocketAddr {
     SocketAddr::V4(SocketAddrV4::new(Ipv4Addr::new(192, 0, 2, last), 5_353))
 }
 
-/// Room for so many octets. What is in it isn't told: a goal in which so many zeros stand is computed octet by octet.
+/// A buffer of `len` octets. The contract does not say which: a goal with that many zeros would be computed octet by octet.
 pub(crate) fn room_of(alloc: Global, len: usize) -> Result<Vec<u8>, AllocError>
     ensures { IfOk result (λ room. vec_len room ≡ len) }
 {
     vec![in alloc; 0; len]
 }
 
-/// These octets, so many times.
+/// These octets, repeated `times` times.
 pub(crate) fn repeated(alloc: Global, octets: &[u8], times: usize) -> Result<Vec<u8>, AllocError> {
     let mut all = Vec::new(alloc);
     for _time in 0..times {
@@ -63,10 +63,10 @@ pub(crate) fn repeated(alloc: Global, octets: &[u8], times: usize) -> Result<Vec
     Ok(all)
 }
 
-/// What was written on connections, in the order of their keys.
+/// The octets that were written on connections, in the order of their keys.
 pub(crate) fn written(
     alloc: Global,
-    links: &Slab<Link<Pieces, Both>>,
+    links: &Slab<Connection<Pieces, Both>>,
 ) -> Result<Vec<u8>, AllocError> {
     let mut all = Vec::new(alloc);
     for (_key, link) in links.iter() {
@@ -75,7 +75,7 @@ pub(crate) fn written(
     Ok(all)
 }
 
-/// How many octets a piece has at most that begins after so many: up to the next cut, if there is one.
+/// The maximum number of octets of a piece that starts after `gone` octets: up to the next cut, if there is one.
 fn up_to_cut(cuts: u64, gone: usize) -> usize
     ensures { 0 < result }
 {
@@ -86,7 +86,8 @@ fn up_to_cut(cuts: u64, gone: usize) -> usize
 }
 
 impl Pieces {
-    /// A stream of these octets, so many times, which come and go one by one; with memory for a thousand octets that are written.
+    /// A stream of these octets, repeated `times` times, which are read and written one by one; with memory for a thousand octets that are
+    /// written.
     pub(crate) fn new(alloc: Global, octets: &[u8], times: usize) -> Result<Pieces, AllocError> {
         Ok(Pieces {
             from: address(1),
@@ -105,7 +106,7 @@ impl Pieces {
         })
     }
 
-    /// How many octets come or go next, at most; None where it would block, as it does every other time where it may.
+    /// The maximum number of octets of the next piece. None if it would block, as it does every other time if it may block.
     fn next_size(&mut self) -> Option<usize>
         ensures size { IfSome result (λ size. 0 < size) }
         ensures same { self.new.faults ≡ self.old.faults }

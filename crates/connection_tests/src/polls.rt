@@ -1,29 +1,29 @@
-//! Polls that are made up, and where connections come in.
+//! Simulated polls and listeners.
 
 use crate::pieces::{After, Pieces, address};
-use connections::Blocking;
 use std::alloc::{AllocError, Global};
 use std::cell::Cell;
-use turns::{Arrivals, Finished, NotWatched, Readiness, Refusal};
+use tcp_connections::Blocking;
+use tcp_loop::{Arrivals, Finished, NotWatched, Readiness, Refusal};
 
-/// A poll that tells readiness that isn't there, of keys that nobody has, and whose time is the test's.
+/// A poll that reports readiness that is not there, and keys that are not in use, and whose time the test gives.
 #[derive(Drop)]
 pub(crate) struct Poll {
-    /// Under how many each key is told by each wait, with as many that nobody has, the first of which is the first place's.
+    /// Each wait reports the keys below this number, and as many keys of no connection; the first of these is the first listener's.
     pub(crate) keys: usize,
-    /// How far the key that is told is from that which is watched, and is told once: 0, or so much that nobody has it.
+    /// The distance from the key that is watched to the key that is reported, once: 0, or so large that this key is not in use.
     pub(crate) beside: usize,
     pub(crate) watches: bool,
-    /// How many waits don't fail.
+    /// The number of waits that do not fail.
     pub(crate) waits: u32,
-    /// By how much its time goes on at a wait, at most.
+    /// By how much its time advances in a wait, at most.
     pub(crate) step: u64,
     pub(crate) now: u64,
     pub(crate) told: Vec<usize>,
 }
 
 impl Poll {
-    /// One that tells each key under so many again and again, and never fails.
+    /// A poll that reports each key below `keys` in each wait, and never fails.
     pub(crate) fn new(alloc: Global, keys: usize) -> Poll {
         Poll {
             keys,
@@ -36,7 +36,7 @@ impl Poll {
         }
     }
 
-    /// Puts the keys that it tells after others.
+    /// Appends the keys that it reports to others.
     fn tell(&mut self, keys: &mut Vec<usize>) -> Result<(), AllocError> {
         for key in 0..self.keys {
             keys.push(key)?;
@@ -69,7 +69,7 @@ impl<S: Blocking> Readiness<S> for Poll {
     }
 }
 
-/// What tells the key that the test has put there, once.
+/// Reports the key that the test has put there, once.
 #[derive(Drop)]
 pub(crate) struct Told<'a> {
     pub(crate) key: &'a Cell<Option<usize>>,
@@ -81,29 +81,29 @@ impl Finished for Told<'_> {
     }
 }
 
-/// Connections that come one after another, with a failed one before each, from 192.0.2.1 and 192.0.2.2 by turns; and at first some for
-/// which there is no room.
+/// Connections that arrive one after another, with a failed one before each, from 192.0.2.1 and 192.0.2.2 in turn; before them, some for which
+/// there is no room.
 #[derive(Drop)]
 pub(crate) struct Comers<'a> {
     pub(crate) alloc: Global,
-    /// How many come.
+    /// The number of connections that arrive.
     pub(crate) count: u8,
-    /// The octets that come on every other one, and those on the others, so many times.
+    /// The octets that arrive on every other connection, and those on the others, repeated `times` times.
     pub(crate) even: &'a [u8],
     pub(crate) odd: &'a [u8],
     pub(crate) times: usize,
-    /// How many octets of one come or go at once, or up to two more.
+    /// The number of octets of one connection that are read or written at a time, or up to two more.
     pub(crate) size: usize,
     pub(crate) may_block: bool,
     pub(crate) after: After,
     pub(crate) no_room: u32,
     pub(crate) is_odd: bool,
-    /// Why none comes after them.
+    /// The result once all of them have arrived.
     pub(crate) last: Refusal,
 }
 
 impl<'a> Comers<'a> {
-    /// So many on which these octets come, once, in pieces.
+    /// `count` connections on which these octets arrive, once, in pieces.
     pub(crate) fn new(alloc: Global, count: u8, octets: &'a [u8]) -> Comers<'a> {
         Comers {
             alloc,

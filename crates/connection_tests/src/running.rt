@@ -1,25 +1,24 @@
-//! A worker with what it takes turns by.
+//! A worker with the state that its turns need.
 
 use crate::echo::{Both, Echo};
 use crate::pieces::room_of;
-use connections::Blocking;
-use conversation::Allowed;
-use links::Limits;
+use requests::Allowed;
 use std::alloc::{AllocError, Global};
 use std::io::{self, ErrorKind};
 use std::net::{IpAddr, Ipv4Addr};
 use std::sync::Wait;
-use turns::{Arrivals, Plan, Readiness, Remote, TurnEnd, Turns};
+use tcp_connections::{Blocking, Limits};
+use tcp_loop::{Arrivals, EventLoop, Plan, Readiness, Remote, TurnEnd};
 
 /// A second, in nanoseconds.
 pub(crate) const SECOND: u64 = 1_000_000_000;
 
-/// Who may update: 192.0.2.1 alone.
+/// The addresses from which updates are allowed: only 192.0.2.1.
 fn may() -> [IpAddr; 1] {
     [IpAddr::V4(Ipv4Addr::new(192, 0, 2, 1))]
 }
 
-/// Ten seconds for everything, and who may update.
+/// Ten seconds for each time limit, and the addresses from which updates are allowed.
 fn plan(addresses: &[IpAddr]) -> Plan<'_> {
     Plan {
         limits: Limits {
@@ -32,10 +31,10 @@ fn plan(addresses: &[IpAddr]) -> Plan<'_> {
     }
 }
 
-/// A worker with a poll, one place where connections come in, and one who answers.
+/// A worker with a poll, one listener, and a handler.
 #[derive(Drop)]
 pub(crate) struct Running<S: Drop, P, L> {
-    pub(crate) turns: Turns<S, Both>,
+    pub(crate) turns: EventLoop<S, Both>,
     pub(crate) poll: P,
     pub(crate) places: Vec<L>,
     pub(crate) echo: Echo,
@@ -48,12 +47,12 @@ impl<S: Blocking + Remote + Drop, P: Readiness<S> + Drop, L: Arrivals<Stream = S
     P,
     L,
 > {
-    /// One of eight places.
+    /// A worker with eight slots.
     pub(crate) fn new(alloc: Global, poll: P, place: L) -> Result<Running<S, P, L>, AllocError> {
         let mut places = Vec::new(alloc);
         places.push(place)?;
         Ok(Running {
-            turns: Turns::new(alloc, 8, 1)?,
+            turns: EventLoop::new(alloc, 8, 1)?,
             poll,
             places,
             echo: Echo::new(u32::MAX),
@@ -62,14 +61,14 @@ impl<S: Blocking + Remote + Drop, P: Readiness<S> + Drop, L: Arrivals<Stream = S
         })
     }
 
-    /// Takes so many turns.
+    /// Runs `count` turns.
     pub(crate) fn turn<R: Wait>(&mut self, rt: &R, count: usize) -> io::Result<()> {
         let addresses = may();
         for _turn in 0..count {
             if self.room.is_empty() || self.out.len() < 65_535 {
                 return Err(io::Error::from(ErrorKind::InvalidInput));
             }
-            let turned = self.turns.turn(
+            let turned = self.turns.poll_once(
                 rt,
                 &mut self.poll,
                 plan(&addresses),
@@ -85,7 +84,7 @@ impl<S: Blocking + Remote + Drop, P: Readiness<S> + Drop, L: Arrivals<Stream = S
         Ok(())
     }
 
-    /// Takes turns until so many connections have given their places, or no more turns can be taken.
+    /// Runs turns until `gone` connections have given up their slots, or no more turns are possible.
     pub(crate) fn run<R: Wait>(&mut self, rt: &R, gone: u64) -> Result<(), TurnEnd> {
         if self.room.is_empty() || self.out.len() < 65_535 {
             return Err(TurnEnd::NoMemory);

@@ -1,15 +1,15 @@
-//! Streams that are served by shares, to each of their ends.
+//! Streams that are served in shares of work, to each of their ends.
 ghost use Rattle.std.specs.Prelude.{◌<◌, ◌≤◌, length};
 
 use crate::echo::Echo;
 use crate::pieces::{After, Pieces, room_of};
-use connections::{Conversation, serve_some};
-use conversation::{OpenGate, StreamEnd};
+use requests::{OpenGate, StreamEnd};
 use std::alloc::{AllocError, Global};
 use std::sync::Wait;
 use std::test::Fail;
+use tcp_connections::{ConnectionState, serve_some};
 
-/// Serves a stream share after share, of which so many requests are answered, and tells how it ends.
+/// Serves a stream, one share of work after another, until it ends; `requests` of its requests are answered. Returns how it ends.
 fn serve_to_end<R: Wait>(
     rt: &R,
     alloc: Global,
@@ -22,7 +22,7 @@ fn serve_to_end<R: Wait>(
     requires out { 65535 ≤ length out.old }
 {
     let mut echo = Echo::new(requests);
-    let mut conversation = Conversation::new(alloc);
+    let mut conversation = ConnectionState::new(alloc);
     for _ in rt.forever() {
         match serve_some(
             rt,
@@ -40,7 +40,7 @@ fn serve_to_end<R: Wait>(
     unreachable!()
 }
 
-/// The same; an error where there is no memory for what it is served by.
+/// The same. AllocError if there is no memory for its buffers.
 pub(crate) fn end_of<R: Wait>(
     rt: &R,
     alloc: Global,
@@ -52,23 +52,23 @@ pub(crate) fn end_of<R: Wait>(
     Ok(serve_to_end(rt, alloc, stream, requests, &mut room, &mut out))
 }
 
-/// Four requests: one of an octet, one of two, whose reply has two messages, one of none, which has no reply, and one of an octet.
+/// Four requests: one of one octet, one of two, whose reply has two messages, one of no octets, which has no reply, and one of one octet.
 const SENT: [u8; 12] = [0, 1, b'a', 0, 2, b'b', b'c', 0, 0, 0, 1, b'd'];
 
 /// Their replies.
 const REPLIES: [u8; 12] = [0, 1, b'a', 0, 1, 1, 0, 1, 2, 0, 1, b'd'];
 
-/// Some octets of the requests, what is after them, and how the stream is to end.
+/// Some octets of the requests, what follows them, and the expected end of the stream.
 #[derive(Drop)]
 struct Case {
     sent: usize,
     after: After,
-    /// How many requests are answered.
+    /// The number of requests that are answered.
     requests: u32,
-    /// How many octets of replies the stream takes.
+    /// The number of octets of replies that the stream takes.
     room: usize,
     end: StreamEnd,
-    /// How many octets of the replies are written; where no version is loaded, at most.
+    /// The number of octets of the replies that are written; the maximum number, if no version is loaded.
     replied: usize,
 }
 
@@ -82,7 +82,7 @@ const WHOLE: Case = Case {
     replied: 12,
 };
 
-/// Whether a stream ends as it should where its octets come and go in pieces of this size.
+/// Whether a stream ends as expected if its octets are read and written in pieces of this size.
 fn ends_so<R: Wait>(rt: &R, alloc: Global, case: &Case, size: usize) -> Result<bool, AllocError> {
     let sent = SENT.get(..case.sent).unwrap_or(&[]);
     let mut stream = Pieces {
@@ -97,7 +97,7 @@ fn ends_so<R: Wait>(rt: &R, alloc: Global, case: &Case, size: usize) -> Result<b
     Ok(end == case.end && is_whole && replies.starts_with(&stream.written))
 }
 
-/// The same, whatever pieces they come and go in.
+/// The same, for pieces of each size.
 fn all_end_so<R: Wait>(rt: &R, alloc: Global, case: Case) -> Result<bool, AllocError> {
     for size in 1..14usize {
         if !ends_so(rt, alloc, &case, size)? {
@@ -107,8 +107,8 @@ fn all_end_so<R: Wait>(rt: &R, alloc: Global, case: Case) -> Result<bool, AllocE
     Ok(true)
 }
 
-/// How a stream ends that has so many octets of the requests, and how many octets of the replies are written: before a request, within
-/// its length, or within its message.
+/// The number of octets of the requests that a stream has, how it ends, and the number of octets of the replies that are written. It ends
+/// before a request, within its length, or within its message.
 const ENDS: [(usize, StreamEnd, usize); 13] = [
     (0, StreamEnd::Clean, 0),
     (1, StreamEnd::Torn, 0),
@@ -162,7 +162,7 @@ fn streams_fail_after_any_octet(rt: HostRuntime) -> Result<(), Fail> {
 
 #[test]
 fn streams_end_where_no_version_is_loaded(rt: HostRuntime) -> Result<(), Fail> {
-    // What is answered before may be written.
+    // The replies to the requests before may be written.
     for (requests, replied) in [(0, 0usize), (1, 3), (2, 9), (3, 9)] {
         let case = Case {
             requests,
@@ -192,7 +192,7 @@ fn a_write_that_fails_leaves_a_beginning(rt: HostRuntime) -> Result<(), Fail> {
     Ok(())
 }
 
-/// Whether all of these requests are answered by themselves where they come and go in pieces of this size, or at random up to so many more.
+/// Whether these requests are echoed if they are read and written in pieces of this size, or pseudorandomly larger by less than `spread`.
 fn are_echoed<R: Wait>(
     rt: &R,
     alloc: Global,
@@ -211,7 +211,7 @@ fn are_echoed<R: Wait>(
     Ok(end == StreamEnd::Clean && stream.written.as_slice() == sent)
 }
 
-/// Sizes of pieces: each of so many octets, or up to so many more at random, by a number.
+/// Sizes of pieces: the size, the bound of the pseudorandom number that is added, and the number that it starts with.
 const SIZES: [(usize, u64, u64); 12] = [
     (1, 1, 0),
     (7, 1, 0),
@@ -240,10 +240,11 @@ fn many_requests_that_come_at_once_are_answered_in_order(rt: HostRuntime) -> Res
     Ok(())
 }
 
-/// The frames of two requests, and so those of their replies.
+/// The frames of two requests, and also those of their replies.
 const FRAMES: [u8; 8] = [0, 3, b'a', b'b', b'c', 0, 1, b'd'];
 
-/// Whether two frames are answered that come in these pieces, and whose replies go in those, a bit for each octet after which one ends.
+/// Whether two frames are answered that are read in these pieces, and whose replies are written in those: one bit for each octet after which a
+/// piece ends.
 fn is_answered<R: Wait>(
     rt: &R,
     alloc: Global,
@@ -268,7 +269,7 @@ fn is_answered<R: Wait>(
 #[test]
 fn two_frames_in_any_pieces_are_answered(rt: HostRuntime) -> Result<(), Fail> {
     let mut out = room_of(rt.alloc(), 65_535)?;
-    // There are seven places between their octets: each two of them, of those that come, and of those that go.
+    // There are seven positions between their octets: at most two of them, of the octets read, and of those written.
     for number in 0..0x4000u64 {
         let cuts = (number % 0x80, number / 0x80);
         if cuts.0.count_ones() > 2 || cuts.1.count_ones() > 2 {

@@ -1,4 +1,4 @@
-//! A worker's turns over polls that are made up.
+//! A worker's turns over simulated polls.
 
 use crate::echo::Echo;
 use crate::pieces::{After, Pieces, repeated, written};
@@ -8,19 +8,19 @@ use std::alloc::{AllocError, Global};
 use std::cell::Cell;
 use std::sync::Wait;
 use std::test::Fail;
-use turns::{Refusal, TurnEnd, Turns, Woken};
+use tcp_loop::{EventLoop, Refusal, TurnEnd, Woken};
 
-/// Connections that come to a worker, what its poll tells, and what has then become of them.
+/// Connections that come to a worker, what its poll reports, and the expected result.
 struct Stage {
-    /// How many places the worker has; 0 where it is that of the stage before.
+    /// The number of slots of the worker; 0 for the worker of the stage before, with its connections.
     places: usize,
-    /// What the poll tells and watches, how many waits don't fail, and how far its time goes on by each.
+    /// What the poll reports and watches, the number of waits that do not fail, and how far its time advances in each.
     keys: usize,
     beside: usize,
     watches: bool,
     waits: u32,
     step: u64,
-    /// Which connections come, and the octets on each, so many times.
+    /// The connections that arrive, and the octets on each, repeated `times` times.
     comers: u8,
     octets: &'static [u8],
     times: usize,
@@ -28,19 +28,19 @@ struct Stage {
     after: After,
     no_room: u32,
     last: Refusal,
-    /// How many connections have given their places when it ends, how it does, and whether waits are then left.
+    /// The number of connections that have given up their slots at which the turns end, how they end, and whether waits are left then.
     gone: u64,
     end: Result<(), TurnEnd>,
     waits_on: bool,
-    /// How many connections have begun, ended by themselves, had to bring the rest of a request for too long, ended in all, gave their places, were
-    /// turned away, got no room, and are open.
+    /// The number of connections that were started, that ended cleanly, that took too long over the rest of a request, that ended in all, that
+    /// gave up their slots to others, that were turned away, that found no room, and that are open.
     counts: [u64; 8],
-    /// What is written on all that are open, so many times.
+    /// The octets that are written on all open connections, repeated `replied` times.
     replies: &'static [u8],
     replied: usize,
 }
 
-/// Turns until no wait is left, with seven connections on which a request comes, by a poll that tells all keys of eight places.
+/// Turns until no wait is left, with seven connections on which a request arrives, by a poll that reports all keys of eight slots.
 const PLAIN: Stage = Stage {
     places: 8,
     keys: 8,
@@ -64,7 +64,7 @@ const PLAIN: Stage = Stage {
 };
 
 const STAGES: [Stage; 18] = [
-    // Each is answered by its own rights: every other one may update.
+    // Each connection is answered with the rights of its peer: every other one may update.
     Stage {
         places: 64,
         keys: 64,
@@ -77,13 +77,13 @@ const STAGES: [Stage; 18] = [
         replied: 20,
         ..PLAIN
     },
-    // Those that end by themselves give their places back,
+    // Connections that end cleanly free their slots.
     Stage {
         after: After::End,
         counts: [7, 7, 0, 7, 0, 0, 0, 0],
         ..PLAIN
     },
-    // and those that begin a request, and bring no more,
+    // Connections that start a request, and send no more of it, stay open
     Stage {
         places: 0,
         waits: 30,
@@ -91,14 +91,14 @@ const STAGES: [Stage; 18] = [
         counts: [14, 7, 0, 7, 0, 0, 0, 7],
         ..PLAIN
     },
-    // once that takes too long.
+    // until that takes too long.
     Stage {
         places: 0,
         comers: 0,
         counts: [14, 7, 7, 14, 0, 0, 0, 0],
         ..PLAIN
     },
-    // Four that begin a request have the places:
+    // Four connections that start a request have the slots:
     Stage {
         places: 4,
         waits: 20,
@@ -108,7 +108,7 @@ const STAGES: [Stage; 18] = [
         counts: [4, 0, 0, 0, 0, 0, 0, 4],
         ..PLAIN
     },
-    // others take these.
+    // others take these slots.
     Stage {
         places: 0,
         waits: 20,
@@ -118,7 +118,7 @@ const STAGES: [Stage; 18] = [
         counts: [7, 0, 0, 0, 3, 0, 0, 4],
         ..PLAIN
     },
-    // Four whose requests are answered later have the places:
+    // Four connections whose requests are answered later have the slots:
     Stage {
         places: 4,
         waits: 20,
@@ -138,7 +138,7 @@ const STAGES: [Stage; 18] = [
         counts: [4, 0, 0, 0, 0, 3, 0, 4],
         ..PLAIN
     },
-    // Idle ones give theirs.
+    // Idle connections give up their slots.
     Stage {
         places: 4,
         waits: 20,
@@ -148,7 +148,7 @@ const STAGES: [Stage; 18] = [
         counts: [9, 0, 0, 0, 5, 0, 0, 4],
         ..PLAIN
     },
-    // Want of room is waited out.
+    // After a temporary lack of room, connections are accepted.
     Stage {
         waits: 30,
         comers: 5,
@@ -157,7 +157,7 @@ const STAGES: [Stage; 18] = [
         counts: [5, 0, 0, 0, 0, 0, 3, 5],
         ..PLAIN
     },
-    // What is told once is served to its end.
+    // A connection that is reported once is served to its end.
     Stage {
         keys: 0,
         step: 1,
@@ -169,7 +169,7 @@ const STAGES: [Stage; 18] = [
         replied: 5_000,
         ..PLAIN
     },
-    // Transfers go on beside one another: a request of two octets has two messages for a reply.
+    // Transfers proceed side by side: the reply to a request of two octets has two messages.
     Stage {
         waits: 900,
         step: 1,
@@ -181,7 +181,7 @@ const STAGES: [Stage; 18] = [
         replied: 300,
         ..PLAIN
     },
-    // What isn't watched gets no place.
+    // A connection that is not watched gets no slot.
     Stage {
         keys: 0,
         watches: false,
@@ -191,7 +191,7 @@ const STAGES: [Stage; 18] = [
         counts: [0, 0, 0, 0, 0, 0, 3, 0],
         ..PLAIN
     },
-    // What begins is served before it is told.
+    // A new connection is served before it is reported.
     Stage {
         keys: 0,
         beside: 1_000,
@@ -202,7 +202,7 @@ const STAGES: [Stage; 18] = [
         counts: [5, 5, 0, 5, 0, 0, 0, 0],
         ..PLAIN
     },
-    // Turns end once so many are gone: at once,
+    // The turns end once so many connections are gone: at once,
     Stage {
         after: After::End,
         gone: 0,
@@ -210,7 +210,7 @@ const STAGES: [Stage; 18] = [
         waits_on: true,
         ..PLAIN
     },
-    // or with the last one;
+    // or with the last connection;
     Stage {
         after: After::End,
         gone: 7,
@@ -219,7 +219,7 @@ const STAGES: [Stage; 18] = [
         counts: [7, 7, 0, 7, 0, 0, 0, 0],
         ..PLAIN
     },
-    // where nothing can be waited for;
+    // when a wait fails;
     Stage {
         keys: 0,
         beside: 1_000,
@@ -231,7 +231,7 @@ const STAGES: [Stage; 18] = [
         replied: 7,
         ..PLAIN
     },
-    // and where nothing can come in any more.
+    // and when no more connections can arrive.
     Stage {
         keys: 0,
         waits: 5,
@@ -243,14 +243,14 @@ const STAGES: [Stage; 18] = [
     },
 ];
 
-/// Has a worker begin a stage, with no connections but those of the stage before where it has no places of its own.
+/// Prepares a worker for a stage. Without slots of its own, the stage has the connections of the stage before.
 fn begin(
     alloc: Global,
     worker: &mut Running<Pieces, Poll, Comers<'static>>,
     stage: &Stage,
 ) -> Result<(), AllocError> {
     if stage.places > 0 {
-        worker.turns = Turns::new(alloc, stage.places, 1)?;
+        worker.turns = EventLoop::new(alloc, stage.places, 1)?;
     }
     worker.poll = Poll {
         keys: stage.keys,
@@ -278,7 +278,7 @@ fn begin(
     Ok(())
 }
 
-/// How many connections have begun, and what has become of them, as [`Stage`] counts them.
+/// The number of connections that were started, and what became of them, as [`Stage`] counts them.
 fn counts_of(worker: &Running<Pieces, Poll, Comers<'static>>) -> [u64; 8] {
     let tally = worker.turns.tally();
     [
@@ -312,33 +312,34 @@ fn turns_go_through_stages(rt: HostRuntime) -> Result<(), Fail> {
     Ok(())
 }
 
-/// Two connections' requests, of which the second of the first waits for its reply.
+/// The requests of two connections. The second request of the first one waits for its reply.
 const UPDATE: [u8; 9] = [0, 1, b'a', 0, 1, b'u', 0, 1, b'b'];
 
 const OTHER: [u8; 9] = [0, 1, b'a', 0, 1, b'c', 0, 1, b'b'];
 
-/// All replies on four connections, by turns of the other kind and of the first, but for those to the second that waits and to the request after it.
+/// The replies on four connections, alternately of the second kind and of the first. Under key 1, the replies to the request that waits and to
+/// the request after it are missing.
 const REPLIES: [u8; 30] = [
     0, 1, b'a', 0, 1, b'c', 0, 1, b'b', 0, 1, b'a', 0, 1, b'a', 0, 1, b'c', 0, 1, b'b', 0, 1, b'a',
     0, 1, b'u', 0, 1, b'b',
 ];
 
-/// The key that is told, that of the connection whose reply is made, how often turns that follow ask for a reply that is later, and how many octets
-/// of the replies are then written.
+/// The key that is reported, the key of the connection whose reply is ready, how often the handler gets a request that is answered later in the
+/// turns that follow, and how many octets of the replies are written after them.
 const WAKINGS: [(Option<usize>, Option<usize>, u32, usize); 6] = [
-    // Under 1 and 3 the second request waits. It is asked for when its connection begins, and once that is told to be ready.
+    // Under keys 1 and 3 the second request waits. The handler gets it when its connection starts, and when that is reported as ready.
     (None, None, 4, 24),
     (None, None, 0, 24),
-    // One that is told too early waits on, and so does the other.
+    // A connection that is reported too early continues to wait, and so does the other.
     (Some(3), None, 1, 24),
-    // A reply that is made comes once its key is told, with that of the request after it.
+    // A reply that is ready is written once its key is reported, with the reply to the request after it.
     (None, Some(3), 0, 24),
     (Some(3), Some(3), 1, 30),
-    // A key of nobody changes nothing.
+    // A key that is not in use changes nothing.
     (Some(7), None, 0, 30),
 ];
 
-/// Has one who answers begin a row: nothing was asked for later yet, and the reply on the connection under this key is made.
+/// Prepares the handler for a row: no calls for later replies are counted, and the reply on the connection with this key is ready.
 fn begin_row(echo: &mut Echo, made: Option<usize>) {
     echo.made = made;
     echo.asked = 0;

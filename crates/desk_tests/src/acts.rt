@@ -1,4 +1,4 @@
-//! Acts of those who wait at a desk, and of who tells them.
+//! Acts on a server state, by the clients that hold its tickets and by the thread that reports to them.
 use crate::desks::Table;
 use crate::updates::{is_told, servfail, update};
 use dns_engine::{FirstZone, VersionCell, VersionPublisher, VersionReader};
@@ -6,31 +6,31 @@ use dns_rdata::Rcode;
 use played_zones::{Play, Played};
 use std::alloc::Global;
 use std::sync::Wait;
-use update_desk::{Desk, Fetched, ServerLedgers, ServerName};
+use zone_server::{Poll, ServerLedgers, ServerName, ServerState};
 
-/// An act at a desk, with what comes of it.
+/// An act on a server state, and its expected result.
 #[derive(Clone, Copy)]
 pub(crate) enum Act {
-    /// A seat is opened, which is this one.
+    /// Opens a ticket; it is this one.
     Open(usize),
-    /// An update is told at a seat, by the octet that tells it from others.
+    /// Reports an update at a ticket; the octet tells the update from others.
     Tell(usize, u8),
-    /// What is told at a seat is fetched: it isn't there yet.
+    /// Polls a ticket: the result is pending.
     Waits(usize),
-    /// This update is told there.
+    /// Polls a ticket: the result of this update is ready.
     Fetch(usize, u8),
-    /// Nobody waits there.
+    /// Polls a ticket: it is not in use.
     Nothing(usize),
-    /// Who waits at a seat waits no more.
+    /// Abandons a ticket: its client no longer waits.
     Leave(usize),
-    /// A seat is freed at which nothing is to be told.
+    /// Frees a ticket at which nothing will be reported.
     Close(usize),
 }
 
-/// Whether of an act at a desk comes what should; None where memory is refused.
+/// Whether an act on a server state has the expected result. None if memory allocation fails.
 fn goes_as_told<Z: FirstZone, N: ServerName>(
     alloc: Global,
-    desk: &mut Desk<'_, Z, N>,
+    desk: &mut ServerState<'_, Z, N>,
     act: Act,
 ) -> Option<bool> {
     match act {
@@ -39,19 +39,19 @@ fn goes_as_told<Z: FirstZone, N: ServerName>(
             let done = servfail(desk, update(alloc, octet, true)?);
             desk.tell(seat, done);
         }
-        Act::Waits(seat) => return Some(matches!(desk.fetch(seat), Fetched::Waits)),
+        Act::Waits(seat) => return Some(matches!(desk.fetch(seat), Poll::Pending)),
         Act::Fetch(seat, octet) => {
             let told = (octet, Rcode::ServFail, 0, None);
             return Some(is_told(&desk.fetch(seat), &told));
         }
-        Act::Nothing(seat) => return Some(matches!(desk.fetch(seat), Fetched::Nothing)),
+        Act::Nothing(seat) => return Some(matches!(desk.fetch(seat), Poll::Unknown)),
         Act::Leave(seat) => desk.leave(seat),
         Act::Close(seat) => desk.close(seat),
     }
     Some(true)
 }
 
-/// Acts at a desk, one after another.
+/// Acts on a server state, one after another.
 #[derive(Drop)]
 pub(crate) struct Acts(pub(crate) &'static [Act]);
 
@@ -76,18 +76,18 @@ impl Play for Acts {
 }
 
 impl Acts {
-    /// Whether it goes as it should; None where memory is refused.
+    /// Runs the acts. Returns whether each has the expected result; None if memory allocation fails.
     fn run<Z: FirstZone, N: ServerName>(
         &self,
         alloc: Global,
-        desk: &mut Desk<'_, Z, N>,
+        desk: &mut ServerState<'_, Z, N>,
     ) -> Option<bool> {
         for act in self.0 {
             if !goes_as_told(alloc, desk, *act)? {
                 return Some(false);
             }
         }
-        // Nothing of it is published.
+        // Nothing is published by the acts.
         Some(desk.number() == 0 && desk.serial().0 == 7)
     }
 }

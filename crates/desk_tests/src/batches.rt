@@ -1,10 +1,10 @@
-//! Batches of updates that are judged in the version published last, published, and told.
+//! Batches of updates that are judged in the version published last, then published and reported.
 ghost use Rattle.std.specs.Prelude.{◌≡◌, ◌≤◌, ℕ, List, IfSome, length};
 ghost use Rattle.zone_tree.specs.Version.{Version};
 ghost use Rattle.dns_engine.specs.Held.{IsLatest};
-ghost use Rattle.update_group.specs.Group.{versions_of, Judged};
-ghost use Rattle.lasting_engine.specs.Asked.{passes, tells, makes, octets_of, serial_in};
-ghost use Rattle.update_desk.specs.Done.{IsJudgedIn, AreDone};
+ghost use Rattle.update_batches.specs.Batch.{versions_of, Judged};
+ghost use Rattle.update_batches.specs.UpdateRequest.{passes, tells, makes, octets_of, serial_in};
+ghost use Rattle.zone_server.specs.UpdateResult.{IsJudgedIn, AreDone};
 
 use crate::desks::{Table, goes};
 use crate::updates::{Telling, code_of, have_codes, is_told, outside, update};
@@ -12,23 +12,26 @@ use dns_engine::{
     FirstZone, SharedVersion, VersionCell, VersionChain, VersionPublisher, VersionReader,
 };
 use dns_rdata::{Rcode, Serial};
-use lasting_engine::{Asked, judge_asked, serial_in};
 use played_zones::{Play, Played};
 use std::alloc::Global;
 use std::sync::Wait;
 use std::test::Fail;
 use transfer_core::{ChainView, VersionList};
-use update_desk::{Desk, Done, Fetched, PublishRight, ServerLedgers, ServerName, serials_of};
-use update_group::{Group, Judgement, Judging, Verdict, judge_group};
+use update_batches::{
+    Batch, Judgement, Judging, UpdateRequest, Verdict, judge_group, judge_request, serial_in,
+};
+use zone_server::{
+    Poll, PublishRight, ServerLedgers, ServerName, ServerState, UpdateResult, serials_of,
+};
 
-/// What judges updates, by the rules of `dns_engine`.
+/// Judges updates by the rules of `dns_engine`.
 #[derive(Drop)]
 struct Rules;
 
 impl Judging for Rules {
     type Version = SharedVersion;
 
-    type Asked = Asked;
+    type Asked = UpdateRequest;
 
     ghost octets = { octets_of };
 
@@ -44,12 +47,12 @@ impl Judging for Rules {
         &self,
         alloc: Global,
         version: &SharedVersion,
-        asked: &Asked,
+        asked: &UpdateRequest,
     ) -> Judgement<SharedVersion> {
-        judge_asked(alloc, version, asked)
+        judge_request(alloc, version, asked)
     }
 
-    fn octets_of<'b>(&self, asked: &'b Asked) -> &'b [u8] {
+    fn octets_of<'b>(&self, asked: &'b UpdateRequest) -> &'b [u8] {
         asked.octets()
     }
 
@@ -58,26 +61,27 @@ impl Judging for Rules {
     }
 }
 
-/// A batch of updates that were judged in the version that was published last: its number and serial, and how many more could be published after it.
+/// A batch of updates that were judged in the version published last: the number and serial of that version, and how many more versions could
+/// be published after it.
 #[derive(Drop)]
-pub(crate) struct Batch {
+pub(crate) struct JudgedBatch {
     pub number: u64,
     pub before: Serial,
     pub room: usize,
     pub verdicts: Vec<Verdict>,
-    pub group: Group<SharedVersion>,
+    pub group: Batch<SharedVersion>,
 }
 
-/// Judges updates in the version that was published last, which the reader meets, one upon the other: at most as many make a version as are sure to find room.
-/// None where memory is refused.
+/// Judges updates in the version published last, which the reader loads, each after the effect of those before it. At most as many make a
+/// version as are sure to find room. None if memory allocation fails.
 pub(crate) fn judge<R: Wait, Z: FirstZone, N: ServerName>(
     rt: &R,
     alloc: Global,
-    desk: &mut Desk<'_, Z, N>,
+    desk: &mut ServerState<'_, Z, N>,
     right: &mut PublishRight<N>,
     reader: &mut VersionReader<N>,
-    asked: &[Asked],
-) -> Option<Batch>
+    asked: &[UpdateRequest],
+) -> Option<JudgedBatch>
     ensures counted { right.new.published.amount ≡ length reader.new.seen }
     ensures room { IfSome result (λ batch. length (versions_of batch.group) ≤ right.new.reserved.amount) }
     ensures judged_in { IfSome result (λ batch. IsJudgedIn Z.zone reader.new.seen (versions_of batch.group)) }
@@ -85,13 +89,13 @@ pub(crate) fn judge<R: Wait, Z: FirstZone, N: ServerName>(
         × Judged passes tells makes octets_of serial_in last asked.now batch.verdicts.items (versions_of batch.group) updates) }
 {
     desk.audit(reader, right);
-    let begun = desk.begin(rt, reader, right);
+    let begun = desk.begin_batch(rt, reader, right);
     let Ok(mut verdicts) = Vec::with_capacity(alloc, asked.len()) else {
         return None;
     };
     let most = begun.room.min(64);
     let group = judge_group(&Rules, alloc, &begun.last, asked, most, &mut verdicts);
-    Some(Batch {
+    Some(JudgedBatch {
         number: begun.number,
         before: begun.last.get().serial(),
         room: begun.room,
@@ -100,12 +104,12 @@ pub(crate) fn judge<R: Wait, Z: FirstZone, N: ServerName>(
     })
 }
 
-/// Tells updates what they get, each at its seat, and the number of the version that they were judged in.
+/// Reports the results of updates, each at its ticket, with the number of the version that they were judged in.
 fn tell_all<Z: FirstZone, N: ServerName>(
-    desk: &mut Desk<'_, Z, N>,
+    desk: &mut ServerState<'_, Z, N>,
     number: u64,
     seats: &[usize],
-    asked: Vec<Asked>,
+    asked: Vec<UpdateRequest>,
     verdicts: &[Verdict],
 )
     requires { AreDone Z.zone desk.old.held.published number asked.items verdicts.now }
@@ -119,7 +123,7 @@ fn tell_all<Z: FirstZone, N: ServerName>(
         let Some((seat, others)) = places.split_first() else {
             return;
         };
-        let done = Done {
+        let done = UpdateResult {
             asked: one,
             least: number,
             code: code_of(verdict.code),
@@ -131,13 +135,13 @@ fn tell_all<Z: FirstZone, N: ServerName>(
     }
 }
 
-/// Publishes a batch of updates, and tells them what they get, each at its seat: their verdicts.
+/// Publishes a batch of updates, and reports the result of each at its ticket. Returns their verdicts.
 pub(crate) fn publish<Z: FirstZone, N: ServerName>(
-    desk: &mut Desk<'_, Z, N>,
+    desk: &mut ServerState<'_, Z, N>,
     right: &mut PublishRight<N>,
     reader: &mut VersionReader<N>,
-    batch: Batch,
-    asked: Vec<Asked>,
+    batch: JudgedBatch,
+    asked: Vec<UpdateRequest>,
     seats: &[usize],
 ) -> Vec<Verdict>
     requires counted { right.old.published.amount ≡ length reader.old.seen }
@@ -152,8 +156,9 @@ pub(crate) fn publish<Z: FirstZone, N: ServerName>(
     batch.verdicts
 }
 
-/// Updates of which two make a version: the second changes nothing, the third is of a peer that may not update, and the fourth is of another zone.
-fn mixed(alloc: Global) -> Option<Vec<Asked>> {
+/// Updates of which two make a version: the second changes nothing, the third is from a peer that is not allowed to update, and the fourth is
+/// for another zone.
+fn mixed(alloc: Global) -> Option<Vec<UpdateRequest>> {
     let mut asked = Vec::new(alloc);
     asked.push(update(alloc, 1, true)?).ok()?;
     asked.push(update(alloc, 1, true)?).ok()?;
@@ -163,7 +168,7 @@ fn mixed(alloc: Global) -> Option<Vec<Asked>> {
     Some(asked)
 }
 
-/// What each of them is told: NOERROR, REFUSED or NOTZONE (RFC 2136, 2.2 and 3), judged in the version 0, with its own serials.
+/// The result of each of them: NOERROR, REFUSED or NOTZONE (RFC 2136, 2.2 and 3), judged in version 0, with its own serials.
 const TOLD: [Telling; 5] = [
     (1, Rcode::NoError, 0, Some((7, 8))),
     (1, Rcode::NoError, 0, Some((8, 8))),
@@ -172,10 +177,10 @@ const TOLD: [Telling; 5] = [
     (3, Rcode::NoError, 0, Some((8, 9))),
 ];
 
-/// Whether a reader is told of the versions after that of serial 7, up to the number 2: those of serials 8 and 9, in their order.
+/// Whether a reader gets the versions after the one of serial 7, up to number 2: those of serials 8 and 9, in this order.
 fn has_both<R: Wait, Z: FirstZone, N: ServerName>(
     rt: &R,
-    desk: &mut Desk<'_, Z, N>,
+    desk: &mut ServerState<'_, Z, N>,
     reader: &mut VersionReader<N>,
 ) -> bool {
     desk.meet(reader);
@@ -187,8 +192,11 @@ fn has_both<R: Wait, Z: FirstZone, N: ServerName>(
     chain.is_whole() && chain.len() == 2 && serial_at(0) == Some(8) && serial_at(1) == Some(9)
 }
 
-/// Whether what is told at each of the first seats is this.
-fn are_told<Z: FirstZone, N: ServerName>(desk: &mut Desk<'_, Z, N>, told: &[Telling]) -> bool {
+/// Whether the results at the first tickets are these.
+fn are_told<Z: FirstZone, N: ServerName>(
+    desk: &mut ServerState<'_, Z, N>,
+    told: &[Telling],
+) -> bool {
     let mut right = true;
     for (seat, telling) in told.iter().enumerate() {
         right = is_told(&desk.fetch(seat), telling) && right;
@@ -196,16 +204,16 @@ fn are_told<Z: FirstZone, N: ServerName>(desk: &mut Desk<'_, Z, N>, told: &[Tell
     right
 }
 
-/// Whether each of the first seats, so many, has who waits.
-fn all_wait<Z: FirstZone, N: ServerName>(desk: &mut Desk<'_, Z, N>, count: usize) -> bool {
+/// Whether the results at the first `count` tickets are pending.
+fn all_wait<Z: FirstZone, N: ServerName>(desk: &mut ServerState<'_, Z, N>, count: usize) -> bool {
     let mut right = true;
     for seat in 0..count {
-        right = matches!(desk.fetch(seat), Fetched::Waits) && right;
+        right = matches!(desk.fetch(seat), Poll::Pending) && right;
     }
     right
 }
 
-/// A batch that is published, and told.
+/// A batch that is published and reported.
 #[derive(Drop)]
 struct InOrder;
 
@@ -230,12 +238,12 @@ impl Play for InOrder {
 }
 
 impl InOrder {
-    /// Whether it goes as it should; None where memory is refused.
+    /// Runs the test. Returns whether it passes; None if memory allocation fails.
     fn run<R: Wait, Z: FirstZone, N: ServerName>(
         &self,
         rt: &R,
         alloc: Global,
-        desk: &mut Desk<'_, Z, N>,
+        desk: &mut ServerState<'_, Z, N>,
         right: &mut PublishRight<N>,
         reader: &mut VersionReader<N>,
     ) -> Option<bool> {
@@ -246,13 +254,13 @@ impl InOrder {
         }
         let asked = mixed(alloc)?;
         let batch = judge(rt, alloc, desk, right, reader, &asked)?;
-        // Of 64 slots the last version has one. Nobody sees what is judged, nor is anything told, before it is published.
+        // The last version uses one of the 64 slots. Before the batch is published, no reader sees a judged version and no result is reported.
         goes = batch.number == 0 && batch.before.0 == 7 && batch.room == 63 && goes;
         goes = batch.group.versions().len() == 2 && desk.number() == 0 && goes;
         goes = all_wait(desk, 5) && goes;
         let verdicts = publish(desk, right, reader, batch, asked, &seats);
         goes = have_codes(&verdicts, &[0, 0, 5, 10, 0]) && goes;
-        let next = desk.begin(rt, reader, right);
+        let next = desk.begin_batch(rt, reader, right);
         goes = next.number == 2 && next.room == 61 && next.last.get().serial().0 == 9 && goes;
         goes = desk.number() == 2 && desk.serial().0 == 9 && goes;
         goes = desk.last_shared().get().serial().0 == 9 && has_both(rt, desk, reader) && goes;
@@ -260,7 +268,7 @@ impl InOrder {
     }
 }
 
-// Each of a batch is told its code at its seat, once the versions that the batch makes are published in their order.
+// Once the versions that a batch makes are published in order, the code of each update is reported at its ticket.
 #[test]
 fn a_batch_is_published_in_order(rt: HostRuntime) -> Result<(), Fail> {
     assert_eq!(rt; goes(&rt, rt.alloc(), InOrder), Some(true));

@@ -1,6 +1,6 @@
-//! Desks over which something is done.
+//! Server states for tests.
 ghost use Rattle.std.specs.Prelude.{◌≡◌};
-ghost use Rattle.update_desk.specs.Right.{AreNamed};
+ghost use Rattle.zone_server.specs.Right.{AreNamed};
 
 use dns_engine::{Engine, FirstZone, KEPT, VersionCell, VersionPublisher, VersionReader};
 use dns_name::Name;
@@ -8,32 +8,33 @@ use master_file::read_zone;
 use played_zones::{Play, Played, is_played_by};
 use std::alloc::Global;
 use std::sync::Wait;
-use update_desk::{Desk, PublishRight, ServerLedgers, ServerName};
+use zone_server::{PublishRight, ServerLedgers, ServerName, ServerState};
 
-/// The zone text of the tests, of serial 7.
+/// The zone text of the tests, with serial 7.
 const ZONE: &str = "example. 3600 IN SOA ns.example. host.example. 7 1 1 1 1
 example. 3600 IN NS ns.example.
 ";
 
-/// A desk of the tests' zone, whose engine keeps as many versions as one may, with the readers that it leaves.
+/// A server state of the tests' zone, whose engine keeps as many versions as it may, with the readers that it does not use.
 pub(crate) struct Table<'a, Z: FirstZone, N: ServerName> {
-    /// The desk.
-    pub desk: Desk<'a, Z, N>,
+    /// The server state.
+    pub desk: ServerState<'a, Z, N>,
     readers: Vec<VersionReader<N>>,
 }
 
-/// A desk, the right to publish there, and a reader beside it.
-pub(crate) type Begun<'a, Z, N> = (Table<'a, Z, N>, PublishRight<N>, VersionReader<N>);
+/// A server state, the right to publish in it, and one more reader.
+pub(crate) type NewTable<'a, Z, N> = (Table<'a, Z, N>, PublishRight<N>, VersionReader<N>);
 
 impl<'a, Z: FirstZone, N: ServerName> Table<'a, Z, N> {
-    /// The desk of a cell, with the right to publish there, and a reader beside it; what comes back where there is none.
+    /// Makes the server state of a cell, with the right to publish in it, and one more reader. Where there is no server state, the test's
+    /// result is None, with the publisher and the readers.
     pub fn begin(
         alloc: Global,
         cell: &'a VersionCell<Z, N>,
         publisher: VersionPublisher<Z, N>,
         readers: Vec<VersionReader<N>>,
         ledgers: ServerLedgers,
-    ) -> Result<Begun<'a, Z, N>, Played<Z, N>>
+    ) -> Result<NewTable<'a, Z, N>, Played<Z, N>>
         requires first { publisher.number ≡ 0 }
         requires named { AreNamed N.published N.reserved ledgers }
     {
@@ -47,7 +48,7 @@ impl<'a, Z: FirstZone, N: ServerName> Table<'a, Z, N> {
         };
         match Engine::new(cell, publisher, own, KEPT) {
             Ok(engine) => {
-                let (desk, right) = Desk::of(alloc, cell, engine, ledgers);
+                let (desk, right) = ServerState::of(alloc, cell, engine, ledgers);
                 Ok((Table { desk, readers }, right, reader))
             }
             Err(refused) => {
@@ -58,7 +59,7 @@ impl<'a, Z: FirstZone, N: ServerName> Table<'a, Z, N> {
         }
     }
 
-    /// What is told, with what comes back, and the reader.
+    /// The result of a test, with the publisher and all readers.
     pub fn end(self, reader: VersionReader<N>, told: Option<bool>) -> Played<Z, N> {
         let Table { desk, mut readers } = self;
         let (publisher, own) = desk.into_engine().finish();
@@ -72,7 +73,7 @@ impl<'a, Z: FirstZone, N: ServerName> Table<'a, Z, N> {
     }
 }
 
-/// What comes back where there is no desk.
+/// The result where there is no server state, with the publisher and the readers.
 fn not_played<Z: FirstZone, N: ServerName>(
     publisher: VersionPublisher<Z, N>,
     readers: Vec<VersionReader<N>>,
@@ -84,12 +85,12 @@ fn not_played<Z: FirstZone, N: ServerName>(
     }
 }
 
-/// Whether it goes as it should; None where memory is refused.
+/// Runs a test. Returns whether it passes; None if memory allocation fails.
 pub(crate) fn goes<R: Wait, T: Play + Drop>(rt: &R, alloc: Global, run: T) -> Option<bool> {
     goes_by(rt, alloc, u64::MAX, run)
 }
 
-/// The same where the engine's reader has so many grants.
+/// The same, with readers that have `grants` grants.
 pub(crate) fn goes_by<R: Wait, T: Play + Drop>(
     rt: &R,
     alloc: Global,

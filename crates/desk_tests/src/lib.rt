@@ -1,4 +1,5 @@
-//! Tests of desks: seats of those who wait for replies to their updates, and batches of updates that are judged, published and told (RFC 2136, 3 and 3.8).
+//! Tests of server states: tickets of clients that wait for replies to their updates, and batches of updates that are judged, published and
+//! reported (RFC 2136, 3 and 3.8).
 #![tactic(auto)]
 
 #[cfg(test)]

@@ -1,34 +1,34 @@
-//! Seats whose memory is refused.
+//! Tickets when memory allocation fails.
 use crate::desks::{Table, goes};
 use crate::updates::{is_told, servfail, update};
 use dns_engine::{FirstZone, VersionCell, VersionPublisher, VersionReader};
 use dns_rdata::Rcode;
-use lasting_engine::Asked;
 use played_zones::{Play, Played};
 use std::alloc::Global;
 use std::sync::Wait;
-use update_desk::{Desk, ServerLedgers, ServerName};
+use update_batches::UpdateRequest;
+use zone_server::{ServerLedgers, ServerName, ServerState};
 
-/// How many seats are opened.
+/// The number of tickets that are opened.
 const SEATS: usize = 100;
 
-/// The update, read anew where memory is refused.
-fn update_anew(alloc: Global) -> Option<Asked> {
+/// The update, read again if memory allocation fails.
+fn update_anew(alloc: Global) -> Option<UpdateRequest> {
     match update(alloc, 1, true) {
         Some(asked) => Some(asked),
         None => update(alloc, 1, true),
     }
 }
 
-/// A hundred seats, at the first of which something is told; where there is no memory for one it is opened anew, if they are to be.
+/// A hundred tickets, with a result reported at the first. With `anew`, a ticket that finds no memory is opened again.
 #[derive(Drop)]
-struct Seats {
+struct Tickets {
     anew: bool,
 }
 
-impl Seats {
-    /// A seat, opened anew where there is no memory for it, if it is to be.
-    fn open<Z: FirstZone, N: ServerName>(&self, desk: &mut Desk<'_, Z, N>) -> Option<usize> {
+impl Tickets {
+    /// Opens a ticket. With `anew`, it is tried again if memory allocation fails.
+    fn open<Z: FirstZone, N: ServerName>(&self, desk: &mut ServerState<'_, Z, N>) -> Option<usize> {
         match desk.open() {
             None if self.anew => desk.open(),
             seat => seat,
@@ -36,7 +36,7 @@ impl Seats {
     }
 }
 
-impl Play for Seats {
+impl Play for Tickets {
     fn play<R: Wait, Z: FirstZone, N: ServerName>(
         &self,
         rt: &R,
@@ -56,19 +56,19 @@ impl Play for Seats {
     }
 }
 
-impl Seats {
-    /// Whether it goes as it should; None where memory is refused.
+impl Tickets {
+    /// Runs the test. Returns whether it passes; None if memory allocation fails.
     fn run<Z: FirstZone, N: ServerName>(
         &self,
         alloc: Global,
-        desk: &mut Desk<'_, Z, N>,
+        desk: &mut ServerState<'_, Z, N>,
     ) -> Option<bool> {
         let mut next = 0usize;
         let mut right = self.open(desk)? == 0;
         let done = servfail(desk, update_anew(alloc)?);
         desk.tell(0, done);
         for _ in 1..SEATS {
-            // Where there is no memory for a seat, those that are there stay as they were.
+            // If there is no memory for a ticket, the tickets that are there stay as they were.
             if let Some(seat) = self.open(desk) {
                 next = next.saturating_add(1);
                 right = seat == next && right;
@@ -79,18 +79,18 @@ impl Seats {
     }
 }
 
-// With any one request for memory refused, the seat isn't there, what is told at another stays, and the seat is opened once it is asked for anew.
+// If any one allocation fails, there is no ticket, the result at another ticket stays, and the next request opens the ticket.
 #[test]
-fn seats_where_memory_is_refused(rt: HostRuntime) {
-    let told = match goes(&rt, rt.alloc(), Seats { anew: true }) {
+fn tickets_where_memory_is_refused(rt: HostRuntime) {
+    let told = match goes(&rt, rt.alloc(), Tickets { anew: true }) {
         Some(told) => Some(told),
-        None => goes(&rt, rt.alloc(), Seats { anew: true }),
+        None => goes(&rt, rt.alloc(), Tickets { anew: true }),
     };
     assert!(rt; told == Some(true));
 }
 
-// With all requests refused from one of them on, no seat comes, and what is told at one stays.
+// If all allocations fail from some point on, no more tickets are opened, and the result at an open one stays.
 #[test]
-fn seats_where_memory_is_refused_ever_after(rt: HostRuntime) {
-    assert!(rt; goes(&rt, rt.alloc(), Seats { anew: false }) != Some(false));
+fn tickets_where_memory_is_refused_ever_after(rt: HostRuntime) {
+    assert!(rt; goes(&rt, rt.alloc(), Tickets { anew: false }) != Some(false));
 }

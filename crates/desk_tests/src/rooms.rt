@@ -1,18 +1,19 @@
-//! How many versions more find room, of those that batches make, and of those that single updates make once the desk has the right to publish.
+//! How many more versions find room: those that batches make, and those that single updates make once the server state has the right to
+//! publish.
 use crate::batches::{judge, publish};
 use crate::desks::{Table, goes_by};
 use crate::updates::{have_codes, update};
 use dns_engine::{FirstZone, VersionCell, VersionPublisher, VersionReader};
 use dns_rdata::Rcode;
-use lasting_engine::Asked;
 use played_zones::{Play, Played};
 use std::alloc::Global;
 use std::sync::Wait;
 use std::test::Fail;
-use update_desk::{Desk, PublishRight, ServerLedgers, ServerName};
+use update_batches::UpdateRequest;
+use zone_server::{PublishRight, ServerLedgers, ServerName, ServerState};
 
-/// Updates that add the addresses of the numbers from one on up to another, each of which makes a version.
-fn updates(alloc: Global, from: u8, to: u8) -> Option<Vec<Asked>> {
+/// Updates that add the addresses of the numbers from `from` up to, but not including, `to`. Each makes a version.
+fn updates(alloc: Global, from: u8, to: u8) -> Option<Vec<UpdateRequest>> {
     let mut asked = Vec::new(alloc);
     for number in from..to {
         asked.push(update(alloc, number, true)?).ok()?;
@@ -20,7 +21,7 @@ fn updates(alloc: Global, from: u8, to: u8) -> Option<Vec<Asked>> {
     Some(asked)
 }
 
-/// Three updates where two versions more can be published.
+/// Three updates where two more versions can be published.
 #[derive(Drop)]
 struct NoRoom;
 
@@ -45,12 +46,12 @@ impl Play for NoRoom {
 }
 
 impl NoRoom {
-    /// Whether it goes as it should; None where memory is refused.
+    /// Runs the test. Returns whether it passes; None if memory allocation fails.
     fn run<R: Wait, Z: FirstZone, N: ServerName>(
         &self,
         rt: &R,
         alloc: Global,
-        desk: &mut Desk<'_, Z, N>,
+        desk: &mut ServerState<'_, Z, N>,
         right: &mut PublishRight<N>,
         reader: &mut VersionReader<N>,
     ) -> Option<bool> {
@@ -62,7 +63,7 @@ impl NoRoom {
         let verdicts = publish(desk, right, reader, batch, asked, &[]);
         goes = have_codes(&verdicts, &[0, 0, 2]) && goes;
         goes = desk.number() == 2 && desk.serial().0 == 9 && goes;
-        // Where no version more finds room, what changes nothing is told NOERROR, and what would make one SERVFAIL.
+        // Where no more versions find room, an update that changes nothing gets NOERROR, and one that would make a version gets SERVFAIL.
         let asked = updates(alloc, 2, 4)?;
         let batch = judge(rt, alloc, desk, right, reader, &asked)?;
         goes = batch.number == 2 && batch.room == 0 && batch.group.versions().is_empty() && goes;
@@ -72,14 +73,15 @@ impl NoRoom {
     }
 }
 
-// By three grants, of which the engine's own version takes one, two versions more find room: of a batch of three updates two make one, and of the next batch none.
+// Of three grants the engine's own version takes one, so two more versions find room: in a batch of three updates two make one, and in the
+// next batch none does.
 #[test]
 fn a_batch_makes_as_many_versions_as_find_room(rt: HostRuntime) -> Result<(), Fail> {
     assert_eq!(rt; goes_by(&rt, rt.alloc(), 3, NoRoom), Some(true));
     Ok(())
 }
 
-/// Single updates before and after the desk has the right to publish, where two versions more can be published.
+/// Single updates before and after the server state has the right to publish, where two more versions can be published.
 #[derive(Drop)]
 struct OneByOne;
 
@@ -103,10 +105,10 @@ impl Play for OneByOne {
     }
 }
 
-/// Whether an update that adds the address of a number gets this code, and the version published last has then this number.
+/// Whether an update that adds the address of a number gets this code, and the version published last then has this number.
 fn gets<Z: FirstZone, N: ServerName>(
     alloc: Global,
-    desk: &mut Desk<'_, Z, N>,
+    desk: &mut ServerState<'_, Z, N>,
     address: u8,
     code: Rcode,
     number: u64,
@@ -117,12 +119,12 @@ fn gets<Z: FirstZone, N: ServerName>(
 }
 
 impl OneByOne {
-    /// Whether it goes as it should; None where memory is refused.
+    /// Runs the test. Returns whether it passes; None if memory allocation fails.
     fn run<R: Wait, Z: FirstZone, N: ServerName>(
         &self,
         rt: &R,
         alloc: Global,
-        desk: &mut Desk<'_, Z, N>,
+        desk: &mut ServerState<'_, Z, N>,
         right: PublishRight<N>,
         reader: &mut VersionReader<N>,
     ) -> Option<bool> {
@@ -134,7 +136,7 @@ impl OneByOne {
         goes = have_codes(&verdicts, &[0]) && desk.number() == 1 && goes;
         goes = gets(alloc, desk, 1, Rcode::NoError, 1)? && goes;
         goes = gets(alloc, desk, 2, Rcode::ServFail, 1)? && goes;
-        // What the batch left of its room is free again.
+        // The room that the batch did not use is free again.
         desk.keep(right);
         goes = gets(alloc, desk, 2, Rcode::NoError, 2)? && goes;
         goes = gets(alloc, desk, 2, Rcode::NoError, 2)? && goes;
@@ -143,7 +145,8 @@ impl OneByOne {
     }
 }
 
-// A single update that would change the zone gets SERVFAIL as long as the right to publish is out, and makes a version once the desk has it, if one more finds room.
+// While another owner has the right to publish, a single update that would change the zone gets SERVFAIL. Once the server state has the right,
+// such an update makes a version if one more finds room.
 #[test]
 fn single_updates_are_published_by_the_right(rt: HostRuntime) -> Result<(), Fail> {
     assert_eq!(rt; goes_by(&rt, rt.alloc(), 3, OneByOne), Some(true));

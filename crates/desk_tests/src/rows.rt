@@ -1,14 +1,14 @@
-//! Rows of acts at seats (RFC 2136, 3.8; own).
+//! Table of acts on tickets (RFC 2136, 3.8; own).
 use crate::acts::{Act, Acts};
 use crate::desks::goes;
 use std::alloc::Global;
 use std::sync::Wait;
 use std::test::Fail;
 
-/// Acts at one desk, and what they show.
+/// What a row shows, and its acts on one server state.
 type Row = (&'static str, &'static [Act]);
 
-/// The number of the first row whose acts don't go as they should; None where all do.
+/// The first row whose acts do not have the expected results. None if all have.
 fn wrong_row<R: Wait>(rt: &R, alloc: Global, rows: &[Row]) -> Option<&'static str> {
     for (what, acts) in rows {
         if goes(rt, alloc, Acts(acts)) != Some(true) {
@@ -18,7 +18,7 @@ fn wrong_row<R: Wait>(rt: &R, alloc: Global, rows: &[Row]) -> Option<&'static st
     None
 }
 
-/// Seats at which something is told.
+/// Tickets at which a result is reported.
 const TOLD: &[Row] = &[
     (
         "a seat whose update is told is free once that is fetched",
@@ -75,7 +75,7 @@ const TOLD: &[Row] = &[
     ),
 ];
 
-/// Seats of those who wait no more.
+/// Tickets whose clients no longer wait, and tickets that are closed.
 const LEFT: &[Row] = &[
     (
         "what is told at a seat that was left goes nowhere, and the seat is free then",
@@ -128,7 +128,7 @@ const LEFT: &[Row] = &[
     ),
 ];
 
-/// Seats that nobody has.
+/// Tickets that are not in use.
 const NOBODY: &[Row] = &[
     (
         "there is no seat",

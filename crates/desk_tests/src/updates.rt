@@ -1,17 +1,16 @@
-//! Updates that are sent, and what is told of them (RFC 2136, 2 and 2.2).
+//! Updates that are sent, and their results (RFC 2136, 2 and 2.2).
 ghost use Rattle.std.specs.Prelude.{◌≡◌};
 ghost use Rattle.dns_rdata.specs.Numbers.{rcode_number};
 ghost use Rattle.dns_rdata.specs.declared.numbers.Rcode.{Rcode as Code};
-ghost use Rattle.update_desk.specs.Done.{IsDone};
+ghost use Rattle.zone_server.specs.UpdateResult.{IsDone};
 
 use dns_engine::FirstZone;
 use dns_rdata::Rcode;
-use lasting_engine::Asked;
 use std::alloc::Global;
-use update_desk::{Desk, Done, Fetched, Serials, ServerName};
-use update_group::Verdict;
+use update_batches::{UpdateRequest, Verdict};
+use zone_server::{Poll, Serials, ServerName, ServerState, UpdateResult};
 
-/// An A record of 192.0.2.1 at a.example, added by an update that Python put together (RFC 2136, 2).
+/// An update that adds an A record of 192.0.2.1 at a.example, built with Python (RFC 2136, 2).
 const ADD: &str =
     "000128000001000000010000076578616d706c6500000600010161076578616d706c6500000100010000012c0004c0000201";
 
@@ -19,7 +18,7 @@ const ADD: &str =
 const OUTSIDE: &str =
     "000128000001000000010000076578616d706c6500000600010161047465737400000100010000012c0004c0000201";
 
-/// The octets of an update that adds the address of a number at a.example: 192.0.2, and the number.
+/// The octets of an update that adds the address of a number at a.example: 192.0.2 followed by the number.
 pub(crate) fn octets_of(alloc: Global, number: u8) -> Option<Vec<u8>> {
     let mut octets = hex::decode(alloc, ADD.as_bytes()).ok()?;
     if let Some(last) = octets.last_mut() {
@@ -28,17 +27,17 @@ pub(crate) fn octets_of(alloc: Global, number: u8) -> Option<Vec<u8>> {
     Some(octets)
 }
 
-/// That update, of a peer that may update, or may not.
-pub(crate) fn update(alloc: Global, number: u8, may: bool) -> Option<Asked> {
-    Asked::read(alloc, octets_of(alloc, number)?, may)
+/// That update, from a peer that is or is not allowed to update.
+pub(crate) fn update(alloc: Global, number: u8, may: bool) -> Option<UpdateRequest> {
+    UpdateRequest::read(alloc, octets_of(alloc, number)?, may)
 }
 
 /// An update of a name outside the zone.
-pub(crate) fn outside(alloc: Global) -> Option<Asked> {
-    Asked::read(alloc, hex::decode(alloc, OUTSIDE.as_bytes()).ok()?, true)
+pub(crate) fn outside(alloc: Global) -> Option<UpdateRequest> {
+    UpdateRequest::read(alloc, hex::decode(alloc, OUTSIDE.as_bytes()).ok()?, true)
 }
 
-/// The code of a number (RFC 2136, 2.2; RFC 6891, 9).
+/// The response code of a number (RFC 2136, 2.2; RFC 6891, 9).
 pub(crate) fn code_of(number: u8) -> Rcode
     ensures { (is : Code) → rcode_number is ≡ number → result ≡ is }
 {
@@ -58,7 +57,7 @@ pub(crate) fn code_of(number: u8) -> Rcode
     }
 }
 
-/// Whether updates get these codes.
+/// Whether updates get these response codes.
 pub(crate) fn have_codes(verdicts: &[Verdict], codes: &[u8]) -> bool {
     let mut right = verdicts.len() == codes.len();
     for (verdict, code) in verdicts.iter().zip(codes.iter()) {
@@ -67,12 +66,15 @@ pub(crate) fn have_codes(verdicts: &[Verdict], codes: &[u8]) -> bool {
     right
 }
 
-/// SERVFAIL of an update in the version that was published last, as where memory is wanted for what it makes.
-pub(crate) fn servfail<Z: FirstZone, N: ServerName>(desk: &Desk<'_, Z, N>, asked: Asked) -> Done
+/// The result SERVFAIL for an update in the version published last, as if memory allocation had failed for the version that it makes.
+pub(crate) fn servfail<Z: FirstZone, N: ServerName>(
+    desk: &ServerState<'_, Z, N>,
+    asked: UpdateRequest,
+) -> UpdateResult
     ensures { IsDone Z.zone desk.now.held.published result }
 {
     let least = desk.number();
-    Done {
+    UpdateResult {
         asked,
         least,
         code: Rcode::ServFail,
@@ -80,10 +82,11 @@ pub(crate) fn servfail<Z: FirstZone, N: ServerName>(desk: &Desk<'_, Z, N>, asked
     }
 }
 
-/// What is told of an update: the octet that tells it from others, its code, the number that it is told in or behind, and its serials, before it and after it.
+/// The result of an update: the octet that tells it from others, its response code, the number of the version in which or after which it is
+/// reported, and the serials before and after it.
 pub(crate) type Telling = (u8, Rcode, u64, Option<(u32, u32)>);
 
-/// Whether serials are these.
+/// Whether the serials are these.
 fn are_serials(serials: Option<Serials>, told: Option<(u32, u32)>) -> bool {
     match (serials, told) {
         (Some(serials), Some((before, after))) => {
@@ -94,9 +97,9 @@ fn are_serials(serials: Option<Serials>, told: Option<(u32, u32)>) -> bool {
     }
 }
 
-/// Whether this is told at a seat.
-pub(crate) fn is_told(fetched: &Fetched, told: &Telling) -> bool {
-    let Fetched::Told(done) = fetched else {
+/// Whether this result is ready at a ticket.
+pub(crate) fn is_told(fetched: &Poll, told: &Telling) -> bool {
+    let Poll::Ready(done) = fetched else {
         return false;
     };
     let last = done.asked.octets().last().copied();

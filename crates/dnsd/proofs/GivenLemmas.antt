@@ -1,17 +1,17 @@
 -- A store that is served was given by a start.
 use Rattle.std.proofs.Common.{ℕ, List, Option, inl, inr}
 use Rattle.dns_name.specs.Name.{Name}
-use Rattle.stores.specs.declared.choices.Take.{Take}
-use Rattle.store_start.specs.declared.resume.Resumed.{Resumed}
-use Rattle.store_start.specs.declared.start.Served.{Served}
-use Rattle.store_start.specs.declared.start.Served.TheVariants.{Begun, Same, Store, StoreThoughOther, Zone}
-use Rattle.store_start.specs.Started.{IsBegunWith, IsServedBy}
-use Rattle.store_service.specs.Resumed.{IsGiven}
+use Rattle.store_recovery.specs.declared.choices.Take.{Take}
+use Rattle.store_server.specs.declared.resume.OpenStore.{OpenStore}
+use Rattle.store_server.specs.declared.start.Served.{Served}
+use Rattle.store_server.specs.declared.start.Served.TheVariants.{Begun, Same, Store, StoreThoughOther, Zone}
+use Rattle.store_server.specs.Started.{IsBegunWith, IsServedBy}
+use Rattle.store_server.specs.Resumed.{IsGiven}
 
-begun : (text : List ℕ) (origin : Name) (random : List ℕ) (store : Resumed) → IsBegunWith text origin random store → IsGiven store
+begun : (text : List ℕ) (origin : Name) (random : List ℕ) (store : OpenStore) → IsBegunWith text origin random store → IsGiven store
 begun text origin random store with = inr (with.zone, with.number, random, text, with.begun)
 
-pub given : (text : List ℕ) (origin : Name) (taken : Option Take) (random : List ℕ) (store : Resumed) (served : Served) → IsServedBy text origin taken random store served → IsGiven store
+pub given : (text : List ℕ) (origin : Name) (taken : Option Take) (random : List ℕ) (store : OpenStore) (served : Served) → IsServedBy text origin taken random store served → IsGiven store
 given text origin taken random store Begun is = begun text origin random store is
 given text origin taken random store (Zone kept) is = begun text origin random store is.4
 given text origin taken random store Same is = inl (is.0, is.1, is.2.start, is.3)

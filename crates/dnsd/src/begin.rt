@@ -1,51 +1,48 @@
-//! What a server begins to serve.
+//! What a server starts to serve.
 ghost use Rattle.std.specs.Prelude.{IfOk};
 ghost use Rattle.dns_engine.specs.Versions.{IsFirst, AreNext};
 ghost use Rattle.dnsd.specs.Begun.{CanBegin, IsIn, Begins};
 
-use compaction::StoreWriter;
 use dns_engine::SharedVersion;
-use file_disks::FileDisk;
 use server_log::Log;
 use std::alloc::{AllocError, Global};
 use std::fs::{File, Files};
 use std::sync::Wait;
 use std::sync::atomic::AtomicBool;
-use store_compactor::{StoreCompactor, Texts};
-use store_files::StoreLock;
-use store_service::{KeptStore, ServedStore, StoreNotes, resume_store};
-use store_start::Started;
+use store_compaction::{CompactedStore, StoreWriter, TextWriter};
+use store_files::{FileDisk, StoreLock};
+use store_server::{LoggedStore, ServerStore, Started, StoreNotes, resume_store};
 use zone_tree::{Version, Zone};
 
-/// Where a server's updates are kept, and what tells its log of that.
-pub type KeptIn<'a, R, T> = ServedStore<'a, StoreCompactor<R, T, StoreNotes<'a, Log>>, Log>;
+/// Where a server's updates are stored; it logs its events to the server's log.
+pub type ZoneStore<'a, R, T> = ServerStore<'a, CompactedStore<R, T, StoreNotes<'a, Log>>, Log>;
 
-/// A store in which updates last.
+/// A store in which updates survive a restart.
 #[derive(Drop)]
-pub struct BegunStore {
-    /// Its folder.
+pub struct StartedStore {
+    /// Its directory.
     pub dir: String,
-    /// How many octets its journal has before a new zone text is written.
+    /// The journal size, in octets, at which a new zone text is written.
     pub journal: u64,
-    /// What a start has given of it.
+    /// The result of starting from it.
     pub started: Started,
 }
 
-/// What a server begins with.
+/// What a server starts with.
 #[derive(Drop)]
-pub enum Begun {
-    /// A zone, whose updates are lost at the program's end.
+pub enum StartedZone {
+    /// A zone, whose updates are lost when the program exits.
     Zone(Zone),
     /// A store.
-    Store(BegunStore),
+    Store(StartedStore),
 }
 
-impl Begun {
+impl StartedZone {
     /// The zone that is served.
     pub fn zone(&self) -> &Zone {
         match self {
-            Begun::Zone(zone) => zone,
-            Begun::Store(kept) => match kept.started.store.later.last() {
+            StartedZone::Zone(zone) => zone,
+            StartedZone::Store(kept) => match kept.started.store.later.last() {
                 Some(last) => last.zone(),
                 None => kept.started.store.first.zone(),
             },
@@ -53,55 +50,55 @@ impl Begun {
     }
 }
 
-/// What a server begins to serve.
+/// What a server starts to serve.
 #[derive(Drop)]
-pub struct Beginning<'a, R: Files<File = File> + Alloc + Clone + Drop, T: Texts> {
-    /// The oldest version that it has.
+pub struct ServedZone<'a, R: Files<File = File> + Alloc + Clone + Drop, T: TextWriter> {
+    /// The oldest of its versions.
     pub first: SharedVersion,
-    /// Those behind it.
+    /// The versions after it.
     pub later: Vec<SharedVersion>,
-    /// Where updates are kept.
-    pub store: KeptIn<'a, R, T>,
-    /// What holds the store's folder, where there is one.
+    /// Where updates are stored.
+    pub store: ZoneStore<'a, R, T>,
+    /// The lock on the store's directory, if there is a store.
     pub lock: Option<StoreLock>,
 }
 
-/// What a server begins to serve that keeps so many older versions, whose store has its zone texts written by these. It tells the log what happens to it, and notes in
-/// `failing` whether the last batch that was to be kept wasn't.
-pub fn begin<'a, R: Files<File = File> + Wait + AllocGlobal + Copy + Drop, T: Texts>(
+/// Prepares the versions and the store of a server that keeps `keep` older versions. The store's zone texts are written by `texts`. The store logs
+/// its events to `log`, and records in `failing` whether writing its last batch failed. An error is lack of memory.
+pub fn prepare_zone<'a, R: Files<File = File> + Wait + AllocGlobal + Copy + Drop, T: TextWriter>(
     rt: &R,
     alloc: Global,
     keep: usize,
-    begun: Begun,
+    begun: StartedZone,
     texts: T,
     log: &'a Log,
     failing: &'a AtomicBool,
-) -> Result<Beginning<'a, R, T>, AllocError>
+) -> Result<ServedZone<'a, R, T>, AllocError>
     requires { CanBegin begun }
     ensures begins { IfOk result (λ b. Begins begun b.first b.later.items b.store) }
     ensures served { IfOk result (λ b. IsFirst b.first.zone b.first × AreNext b.first b.later.items) }
 {
     match begun {
-        Begun::Zone(zone) => {
+        StartedZone::Zone(zone) => {
             let Some(first) = SharedVersion::new(alloc, Version::first(zone)) else {
                 return Err(AllocError);
             };
-            Ok(Beginning {
+            Ok(ServedZone {
                 first,
                 later: Vec::new(alloc),
-                store: ServedStore::Nowhere,
+                store: ServerStore::Nowhere,
                 lock: None,
             })
         }
-        Begun::Store(kept) => {
-            let BegunStore {
+        StartedZone::Store(kept) => {
+            let StartedStore {
                 dir,
                 journal,
                 started,
             } = kept;
             let Started { lock, store, .. } = started;
             let (first, later, writer) = resume_store(rt, alloc, store, keep)?;
-            Ok(Beginning {
+            Ok(ServedZone {
                 first,
                 later,
                 store: kept_in(rt, dir, journal, writer, texts, log, failing),
@@ -111,8 +108,8 @@ pub fn begin<'a, R: Files<File = File> + Wait + AllocGlobal + Copy + Drop, T: Te
     }
 }
 
-/// A store of this writer in which updates are kept, whose zone texts are written by these.
-fn kept_in<'a, R: Files<File = File> + AllocGlobal + Copy + Drop, T: Texts>(
+/// A store with this writer, in which updates are stored and whose zone texts are written by `texts`.
+fn kept_in<'a, R: Files<File = File> + AllocGlobal + Copy + Drop, T: TextWriter>(
     rt: &R,
     dir: String,
     journal: u64,
@@ -120,12 +117,12 @@ fn kept_in<'a, R: Files<File = File> + AllocGlobal + Copy + Drop, T: Texts>(
     texts: T,
     log: &'a Log,
     failing: &'a AtomicBool,
-) -> KeptIn<'a, R, T>
+) -> ZoneStore<'a, R, T>
     ensures { IsIn writer result }
 {
     let notes = StoreNotes::new(log);
-    ServedStore::Store(KeptStore {
-        store: StoreCompactor::new(*rt, dir, writer, texts, notes, journal),
+    ServerStore::Store(LoggedStore {
+        store: CompactedStore::new(*rt, dir, writer, texts, notes, journal),
         log,
         failing,
     })

@@ -1,29 +1,29 @@
-//! The sockets that a zone is served on (RFC 1035, 4.2).
-use serve_workers::{Duty, Progress, Sockets};
+//! The sockets on which a zone is served (RFC 1035, 4.2).
+use serve_workers::{Sockets, ThreadSpec, WorkLimit};
 use sockets::{Turn, bind_datagrams, bind_listener, keep_received};
 use std::alloc::Global;
 use std::io::{self, ErrorKind};
 use std::net::{Net, SocketAddr, TcpListener, UdpSocket};
 
-/// The sockets of a worker: for each address one for datagrams, and a listener.
+/// The sockets of a worker: for each address a UDP socket and a TCP listener.
 #[derive(Drop)]
 pub struct WorkerSockets {
     datagrams: Vec<UdpSocket>,
     listeners: Vec<TcpListener>,
 }
 
-/// What can't be listened for, and why.
+/// An address that cannot be listened on, and why.
 #[derive(Drop)]
 pub struct Unbound {
-    /// The address and the port.
+    /// The address and port.
     pub listen: SocketAddr,
-    /// What carries the requests.
+    /// The transport, UDP or TCP.
     pub transport: &'static str,
-    /// Why.
+    /// The reason.
     pub fault: io::Error,
 }
 
-/// A listener and a socket for datagrams at an address, and the address with the port that they have.
+/// Binds a listener and a UDP socket at an address. Also returns the address with the port that they were given.
 fn bind_both<R: Net>(
     rt: &R,
     listen: SocketAddr,
@@ -42,7 +42,7 @@ fn bind_both<R: Net>(
     Ok((listener, datagrams, address))
 }
 
-/// The sockets of the first worker, and the addresses with the ports that they have.
+/// Binds the sockets of the first worker. Also returns the addresses with the ports that they were given.
 fn bind_first<R: Net>(
     rt: &R,
     alloc: Global,
@@ -63,7 +63,7 @@ fn bind_first<R: Net>(
     Ok((sockets, addresses))
 }
 
-/// The sockets of one more worker, at the addresses of the first.
+/// Binds the sockets of another worker, at the addresses of the first.
 fn bind_another<R: Net>(
     rt: &R,
     alloc: Global,
@@ -80,7 +80,7 @@ fn bind_another<R: Net>(
     Ok(sockets)
 }
 
-/// What wants memory.
+/// The fault for lack of memory.
 fn no_memory(listen: SocketAddr, fault: io::Error) -> Unbound {
     Unbound {
         listen,
@@ -89,7 +89,7 @@ fn no_memory(listen: SocketAddr, fault: io::Error) -> Unbound {
     }
 }
 
-/// Puts a worker's sockets at an address behind its others.
+/// Appends a listener and a UDP socket to a worker's sockets.
 fn put(
     sockets: &mut WorkerSockets,
     address: SocketAddr,
@@ -103,8 +103,8 @@ fn put(
     Err(no_memory(address, io::Error::from(ErrorKind::OutOfMemory)))
 }
 
-/// The sockets of so many workers, at least one, and the addresses with the ports that they have. Where a port is another program's, none
-/// has it.
+/// Binds the sockets of all workers, at least one, and returns them with the addresses and the ports that they were given. If another program has a
+/// port, none of the workers gets it.
 pub fn bind_all<R: Net>(
     rt: &R,
     alloc: Global,
@@ -130,7 +130,7 @@ pub fn bind_all<R: Net>(
     Err(no_memory(none, io::Error::from(ErrorKind::OutOfMemory)))
 }
 
-/// Has the system keep so many octets of datagrams for each socket of workers, and gives how many it keeps for the one for which it keeps fewest.
+/// Asks the system for a receive buffer of this many octets for each UDP socket, and returns the size of the smallest one that it grants.
 pub fn keep_datagrams(workers: &[WorkerSockets], octets: u32) -> u32 {
     let mut fewest = octets;
     for worker in workers {
@@ -139,7 +139,7 @@ pub fn keep_datagrams(workers: &[WorkerSockets], octets: u32) -> u32 {
     fewest
 }
 
-/// The same of one worker.
+/// The same for one worker.
 fn keep_for(worker: &WorkerSockets, octets: u32) -> u32 {
     let mut fewest = octets;
     for socket in worker.datagrams.iter() {
@@ -148,27 +148,28 @@ fn keep_for(worker: &WorkerSockets, octets: u32) -> u32 {
     fewest
 }
 
-/// What each thread does: of each worker one its listeners, and one more each of its sockets for datagrams. None where there is no memory.
-pub fn duties_of<'a>(
+/// What each thread serves: for each worker, one thread serves its listeners, and one more thread each of its UDP sockets. None if there is not
+/// enough memory, or fewer limits than workers.
+pub fn thread_specs_of<'a>(
     alloc: Global,
     workers: Vec<WorkerSockets>,
-    progresses: &'a [Progress],
-) -> Option<Vec<Duty<'a>>> {
+    progresses: &'a [WorkLimit],
+) -> Option<Vec<ThreadSpec<'a>>> {
     let mut duties = Vec::new(alloc);
     let mut worker = 0usize;
     for sockets in workers {
         let progress = progresses.get(worker)?;
         worker = worker.saturating_add(1);
-        put_duties(&mut duties, worker, progress, sockets)?;
+        put_thread_specs(&mut duties, worker, progress, sockets)?;
     }
     Some(duties)
 }
 
-/// Puts what a worker's threads do behind what others do.
-fn put_duties<'a>(
-    duties: &mut Vec<Duty<'a>>,
+/// Appends what a worker's threads serve.
+fn put_thread_specs<'a>(
+    duties: &mut Vec<ThreadSpec<'a>>,
     worker: usize,
-    progress: &'a Progress,
+    progress: &'a WorkLimit,
     sockets: WorkerSockets,
 ) -> Option<()> {
     let WorkerSockets {
@@ -176,7 +177,7 @@ fn put_duties<'a>(
         listeners,
     } = sockets;
     duties
-        .push(Duty {
+        .push(ThreadSpec {
             worker,
             progress,
             sockets: Sockets::Connections(listeners),
@@ -184,7 +185,7 @@ fn put_duties<'a>(
         .ok()?;
     for socket in datagrams {
         duties
-            .push(Duty {
+            .push(ThreadSpec {
                 worker,
                 progress,
                 sockets: Sockets::Datagrams(socket),

@@ -1,19 +1,20 @@
-//! The limit of descriptors (Linux, proc(5)).
+//! The limit on open descriptors (Linux, proc(5)).
 ghost use Rattle.std.specs.Prelude.{◌≡◌, ◌+◌, ◌-◌, ◌*◌, ◌/◌, ◌<◌, ◌≤◌, min, max};
 
 use std::fs;
 use std::rt::Files;
 
-/// Where the system tells a program's limits.
+/// The file in which the system lists a process's limits.
 const LIMITS: &str = "/proc/self/limits";
 
-/// What stands in front of the limit of descriptors there.
+/// The label before the limit on descriptors in that file.
 const OPEN_FILES: &str = "Max open files";
 
-/// How many descriptors are wanted beside those of connections and sockets, at most (own).
+/// The maximum number of descriptors needed besides those of connections and sockets (own).
 const BESIDE: usize = 32;
 
-/// How many descriptors so many workers may want: of each address a listener and a socket of datagrams, which is shared with who judges updates, each its own.
+/// The number of descriptors that the workers may need. For each address, each worker has its own listener and its own UDP socket, for which the
+/// update thread has another descriptor.
 pub fn wanted(workers: usize, places: usize, addresses: usize) -> usize {
     places
         .saturating_add(addresses.saturating_mul(3))
@@ -22,11 +23,11 @@ pub fn wanted(workers: usize, places: usize, addresses: usize) -> usize {
         .saturating_add(BESIDE)
 }
 
-/// How many connections each of so many workers may have open, of so many that are asked for, where the program may have so many descriptors: as many as there are descriptors
-/// for, and one at least. There is no call of the toolchain's that raises the limit.
+/// The number of connections that each worker may have open, if the program may have `limit` descriptors: as many as there are descriptors for, at
+/// least one, and at most as many as requested. The toolchain has no call that raises the limit.
 pub fn places_within(limit: usize, workers: usize, places: usize, addresses: usize) -> usize
     requires some { 0 < workers }
-    // A share of the descriptors less those of its sockets: one at least, and no more than are asked for.
+    // A worker's share of the descriptors less those of its sockets: at least one, and at most as many as requested.
     ensures places { result ≡ min places (max 1 ((limit - BESIDE) / workers - (addresses * 3 + 2))) }
     ensures most { result ≤ places }
     ensures one { 0 < places → 0 < result }
@@ -36,7 +37,7 @@ pub fn places_within(limit: usize, workers: usize, places: usize, addresses: usi
     each.saturating_sub(sockets).max(1).min(places)
 }
 
-/// How many descriptors the program may have open; None where that isn't told, or there is no limit.
+/// The number of descriptors that the program may have open. None if it is unknown, or there is no limit.
 pub fn limit<R: Files>(rt: &R) -> Option<usize>
 where
     R: AllocGlobal,
@@ -46,7 +47,7 @@ where
     limit_in(text)
 }
 
-/// The limit of descriptors in such a text.
+/// The limit on descriptors in the text of that file.
 fn limit_in(text: &str) -> Option<usize> {
     for line in text.split('\n') {
         if let Some(rest) = line.strip_prefix(OPEN_FILES) {

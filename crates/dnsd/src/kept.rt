@@ -1,6 +1,6 @@
-//! The start of a server whose updates last.
+//! Starting a server whose updates survive a restart.
 ghost use Rattle.std.specs.Prelude.{IfOk};
-ghost use Rattle.store_service.specs.Resumed.{IsGiven};
+ghost use Rattle.store_server.specs.Resumed.{IsGiven};
 
 use command_line::{Serve, StorePlan};
 use commands::{FAILED, Fault, REFUSED, tell};
@@ -10,14 +10,15 @@ use std::fs::{File, Files};
 use std::io;
 use std::random::RandomSource;
 use std::rt::Env;
-use store_start::{Given, Refusal, Served, Started, start_store};
+use store_server::{Given, Refusal, Served, Started, start_store};
 use stored_zone::ToldFault;
 
-/// How many octets that nobody outside knows a journal begins with.
+/// The number of secret octets at the start of a new journal.
 const SALT: usize = 16;
 
-/// Holds the store of a folder, beside which a zone's text is named, and gives what a server begins with, which standard error tells where it isn't the store begun
-/// from this text; or the program's status, where nothing is served, and standard error then has the reason.
+/// Locks the store in a directory, opens it, or creates it from a zone's text, and returns what the server starts with. If that is not the store
+/// that was created from this text, a line on standard error says so. If nothing can be served, returns the program's status, and standard error has
+/// the reason.
 #[tactic(auto, using(crate::proofs::GivenLemmas::given))]
 pub fn start_kept<
     R: Files<File = File> + Env + Eprint + AllocGlobal + Alloc + RandomSource + Clone + Drop,
@@ -41,7 +42,7 @@ pub fn start_kept<
     }
 }
 
-/// Tells which is served, and what was cut off.
+/// Reports on standard error which of the two is served, and whether the end of the journal was cut off.
 fn tell_started<R: Env + AllocGlobal + Eprint>(
     rt: &R,
     dir: &str,
@@ -72,7 +73,7 @@ fn tell_started<R: Env + AllocGlobal + Eprint>(
     }
 }
 
-/// Tells why nothing is served, and gives the program's status.
+/// Reports on standard error why nothing is served, and returns the program's status.
 fn tell_refusal<R: Env + AllocGlobal + Eprint>(
     rt: &R,
     alloc: Global,

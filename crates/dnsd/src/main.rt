@@ -1,9 +1,8 @@
 //! `dnsd`: an authoritative name server for one zone of class IN.
 //!
-//! The command line is parsed by `command_line`. What a command does over a zone's text, standard input and standard output is
-//! `commands`': `answer` replies to each request that it reads, `check` prints the zone's written text, `apply` that of the zone
-//! after a transfer's messages, and `steps` plays a script. `zone` prints the zone of a store, by `stored_zone`. `serve` answers on
-//! sockets, by the workers of `serve_workers`.
+//! `command_line` parses the command line. Commands over a zone's text, standard input and standard output are in `commands`: `answer` replies to
+//! each request that it reads, `check` prints the zone's text in its canonical form, `apply` prints the text of the zone after a transfer's messages,
+//! and `steps` plays a script. `zone` prints the zone of a store, by `stored_zone`. `serve` answers on sockets, by the workers of `serve_workers`.
 #![tactic(auto)]
 
 pub mod begin;
@@ -43,7 +42,7 @@ fn main(rt: HostRuntime) -> ExitCode {
     }
 }
 
-/// Does what the program's words ask for, and gives its status.
+/// Runs the task that the command line requests, and returns the program's status.
 fn run_words<
     R: Files<File = File>
         + Env
@@ -77,8 +76,8 @@ fn run_words<
     }
 }
 
-/// Does a command over standard input and output, and writes what it says of a failure to standard error; where its zone's apex is the
-/// root, and no origin is given, a warning, since names without a final dot are then below the root; and one of a zone that stock secondaries don't take.
+/// Runs a command over standard input and output, and writes its error messages to standard error. Warns if the zone's apex is the root and no origin
+/// was given, since names without a final dot are then below the root, and if stock secondaries would not accept the zone.
 fn run_command<R: Files + Print + Eprint + Input + AllocGlobal>(
     rt: &R,
     command: &Command<'_>,
@@ -97,12 +96,12 @@ fn run_command<R: Files + Print + Eprint + Input + AllocGlobal>(
     Ok(ended.status)
 }
 
-/// Whether a command is one for trying a zone's text, which warns of an origin that is missing.
+/// Whether a command is one for trying out a zone's text, which warns if no origin was given.
 fn is_warned_of(command: &Command<'_>) -> bool {
     matches!(command, Command::Check { .. } | Command::Answer { .. })
 }
 
-/// Does a command over standard input and output; what it says of a failure goes to the end of `errors`.
+/// Runs a command over standard input and output. Its error messages are appended to `errors`.
 fn run_on_streams<R: Files + Print + Eprint + Input + AllocGlobal>(
     rt: &R,
     command: &Command<'_>,
@@ -117,7 +116,7 @@ fn run_on_streams<R: Files + Print + Eprint + Input + AllocGlobal>(
     }
 }
 
-/// Does a command over a file's zone, with requests from `input` and replies to `output`.
+/// Runs a command over the zone in a file, with requests from `input` and replies to `output`.
 fn run_with_file<R: Files + Eprint + AllocGlobal, I: BufRead, O: Write + Drop>(
     rt: &R,
     command: &Command<'_>,

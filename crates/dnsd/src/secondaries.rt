@@ -1,7 +1,7 @@
-//! The sockets by which secondaries are told of each version of the zone (RFC 1996).
+//! The sockets for notifying secondaries of each version of the zone (RFC 1996).
 use command_line::{Secondary, source_of};
 use dns_name::Name;
-use serve_workers::{Duty, NotifySocket, Progress, Secondaries, Sockets};
+use serve_workers::{NotifySocket, Secondaries, Sockets, ThreadSpec, WorkLimit};
 use server_log::Level;
 use std::alloc::Global;
 use std::io::{self, ErrorKind};
@@ -9,17 +9,17 @@ use std::net::{Net, SocketAddr, UdpSocket};
 use std::random::RandomSource;
 use std::rt::Env;
 
-/// How many octets the seed of IDs has.
+/// The size of the seed for message IDs, in octets.
 const SEED: usize = 32;
 
-/// A secondary that can't be told, and why.
+/// A secondary that cannot be notified, and why.
 #[derive(Drop)]
 struct Unreached {
     address: SocketAddr,
     fault: io::Error,
 }
 
-/// The sockets of secondaries, where these addresses are listened on.
+/// Binds the sockets for the secondaries, given the listening addresses.
 fn bind_secondaries<R: Net>(
     rt: &R,
     alloc: Global,
@@ -39,22 +39,22 @@ fn bind_secondaries<R: Net>(
     Ok(sockets)
 }
 
-/// The socket of a secondary at an address, which is told from another one; the port is the system's choice.
+/// Binds the socket for notifying a secondary from a source address. The system chooses the port.
 fn socket_for<R: Net>(rt: &R, source: SocketAddr, address: SocketAddr) -> io::Result<NotifySocket> {
     NotifySocket::new(UdpSocket::bind(rt, source)?, address)
 }
 
-/// What is needed to notify secondaries, whatever the zone is.
+/// What is needed to notify secondaries of any zone.
 #[derive(Drop)]
 pub struct SecondarySockets {
-    /// The socket of each.
+    /// A socket for each secondary.
     sockets: Vec<NotifySocket>,
-    /// The seed of the messages' IDs.
+    /// The seed for message IDs.
     seed: [u8; SEED],
 }
 
 impl SecondarySockets {
-    /// The same for the zone at an apex.
+    /// The same for the zone with this apex.
     pub fn of_zone(self, apex: Name) -> Secondaries {
         let SecondarySockets { sockets, seed } = self;
         Secondaries {
@@ -65,7 +65,8 @@ impl SecondarySockets {
     }
 }
 
-/// What is needed to notify secondaries, where these addresses are listened on. None where one of them can't be notified, which is said on standard error.
+/// Prepares the notification of secondaries, given the listening addresses. None if one of them cannot be notified; standard error then has the
+/// reason.
 pub fn secondaries_for<R: Env + AllocGlobal + Net + Eprint + RandomSource>(
     rt: &R,
     secondaries: &[Secondary],
@@ -88,10 +89,10 @@ pub fn secondaries_for<R: Env + AllocGlobal + Net + Eprint + RandomSource>(
     Ok(Some(SecondarySockets { sockets, seed }))
 }
 
-/// Puts what the thread for secondaries does, if there are any, behind what others do. None where there is no memory.
+/// Appends what the thread for secondaries serves, if there are any. None if there is not enough memory.
 pub fn put_secondaries<'a>(
-    duties: &mut Vec<Duty<'a>>,
-    progress: &'a Progress,
+    duties: &mut Vec<ThreadSpec<'a>>,
+    progress: &'a WorkLimit,
     secondaries: Secondaries,
 ) -> Option<()> {
     if secondaries.sockets.is_empty() {
@@ -99,7 +100,7 @@ pub fn put_secondaries<'a>(
     }
     let worker = duties.len().saturating_add(1);
     duties
-        .push(Duty {
+        .push(ThreadSpec {
             worker,
             progress,
             sockets: Sockets::Secondaries(secondaries),

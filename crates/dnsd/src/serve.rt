@@ -3,21 +3,20 @@ ghost use Rattle.std.specs.Prelude.{◌≤◌, vec_len};
 ghost use Rattle.transfer_core.specs.declared.kept.TheConstants.{KEPT};
 ghost use Rattle.dnsd.specs.Begun.{CanBegin};
 
-use crate::begin::{Beginning, Begun, BegunStore, KeptIn, begin};
-use crate::bound::{Unbound, WorkerSockets, bind_all, duties_of, keep_datagrams};
+use crate::begin::{ServedZone, StartedStore, StartedZone, ZoneStore, prepare_zone};
+use crate::bound::{Unbound, WorkerSockets, bind_all, keep_datagrams, thread_specs_of};
 use crate::descriptors;
 use crate::kept::start_kept;
 use crate::secondaries::{SecondarySockets, put_secondaries, secondaries_for};
 use crate::zone_file::read_zone_file;
 use command_line::{MAX_THREADS, Serve, StorePlan, is_routed};
-use commands::{DONE, FAILED, Fault, Source, tell};
-use conversation::Allowed;
-use line_io::read_zone_text;
+use commands::{DONE, FAILED, Fault, Source, read_zone_text, tell};
 use master_file::{FileFault, read_zone};
 use notify::large_in;
+use requests::Allowed;
 use serve_workers::{
-    ConnectionPlan, Duty, Handing, Most, Muster, Plan, Progress, Secondaries, ServeFault,
-    serve_zone,
+    ConnectionPlan, Most, Plan, Secondaries, ServeFault, Shutdown, ThreadSpec, UpdateConfig,
+    WorkLimit, serve_zone,
 };
 use server_log::{Entries, Level, Listening, Log, LogLine, start_entries};
 use std::alloc::Global;
@@ -32,16 +31,16 @@ use std::sync::Wait;
 use std::sync::atomic::AtomicBool;
 use std::thread::Threads;
 use std::time::Clock;
-use store_compactor::{Texts, ThreadTexts};
-use store_service::StoreFaults;
+use store_compaction::{TextWriter, ThreadTextWriter};
+use store_server::StoreFaults;
 use zone_tree::{Zone, ZoneRead};
 
-/// How many updates may wait for who judges them, whatever their size (own).
+/// The maximum number of updates that may wait for the update thread, whatever their size (own).
 const WAITING: usize = 1024;
 
-/// Serves a zone, and gives the program's status: 0 where each worker has done what it may, 1 where the zone is refused, 3 at a
-/// device's fault, a thread that can't be started or want of memory. With a store, all that a server needs of the system is had before the store is begun, so that
-/// a start that fails leaves its directory as it was.
+/// Serves a zone and returns the program's status: 0 if each worker has done as much as it may, 1 if the zone or the store is refused, 3 on an I/O
+/// error, if a thread cannot be started, or on lack of memory. With a store, the sockets are bound and the log's thread is started before the store
+/// is created, so that a failure up to then leaves the store's directory as it was.
 pub fn run_serve<
     R: Files<File = File>
         + Env
@@ -64,12 +63,12 @@ pub fn run_serve<
     };
     match serve.store {
         Some(plan) => serve_store(rt, serve, plan, text),
-        None => serve_text(rt, serve, text),
+        None => serve_zone_text(rt, serve, text),
     }
 }
 
-/// Serves the zone of a text, whose updates are lost at the program's end.
-fn serve_text<
+/// Serves the zone of a text. Its updates are lost when the program exits.
+fn serve_zone_text<
     R: Files<File = File>
         + Env
         + Eprint
@@ -93,10 +92,10 @@ fn serve_text<
     let Some(bound) = bind(rt, serve)? else {
         return Ok(FAILED);
     };
-    serve_bound(rt, serve, Begun::Zone(zone), bound)
+    serve_on_sockets(rt, serve, StartedZone::Zone(zone), bound)
 }
 
-/// The zone's text; None where it can't be read, which is said on standard error.
+/// The zone's text. None if its file cannot be read; standard error then has the reason.
 fn text_for<R: Files<File = File> + Env + Eprint + Input + AllocGlobal>(
     rt: &R,
     serve: &Serve<'_>,
@@ -111,7 +110,7 @@ fn text_for<R: Files<File = File> + Env + Eprint + Input + AllocGlobal>(
     }
 }
 
-/// Serves what a store has, or the zone of a text with which it begins.
+/// Serves the zone of a store, or the zone of the text from which the store is created.
 fn serve_store<
     R: Files<File = File>
         + Env
@@ -136,15 +135,15 @@ fn serve_store<
         Err(status) => return Ok(status),
     };
     mem::drop(text);
-    let kept = BegunStore {
+    let kept = StartedStore {
         dir: format!(in rt.alloc(); "{}", plan.dir)?,
         journal: plan.journal,
         started,
     };
-    serve_bound(rt, serve, Begun::Store(kept), bound)
+    serve_on_sockets(rt, serve, StartedZone::Store(kept), bound)
 }
 
-/// Tells why a zone's text is refused, and gives the program's status.
+/// Reports on standard error why a zone's text is refused, and returns the program's status.
 fn tell_zone<R: Env + Eprint + AllocGlobal>(
     rt: &R,
     text: &[u8],
@@ -158,22 +157,23 @@ fn tell_zone<R: Env + Eprint + AllocGlobal>(
     Ok(status)
 }
 
-/// What a server needs of the system before it has a zone.
+/// What a server acquires from the system before it has a zone.
 #[derive(Drop)]
 struct Bound {
     /// The sockets of each worker.
     workers: Vec<WorkerSockets>,
-    /// The addresses with the ports that they have.
+    /// The addresses, with the ports that they were given.
     addresses: Vec<SocketAddr>,
-    /// How many octets of datagrams the system keeps for each.
+    /// The size, in octets, of the smallest receive buffer of the UDP sockets.
     kept: u32,
     /// The sockets for secondaries.
     secondaries: SecondarySockets,
-    /// What the log's thread takes.
+    /// The queue of the log's thread.
     entries: Entries,
 }
 
-/// Binds all sockets, and starts the log's thread. None where an address can't be listened on, or a secondary can't be notified, which is said on standard error.
+/// Binds all sockets, and starts the log's thread. None if an address cannot be listened on or a secondary cannot be notified; standard error then
+/// has the reason.
 fn bind<
     R: Env
         + Eprint
@@ -209,7 +209,7 @@ fn bind<
     }))
 }
 
-/// Says why an address can't be listened on.
+/// Writes why an address cannot be listened on to standard error.
 fn tell_unbound<R: Env + AllocGlobal + Eprint>(rt: &R, unbound: &Unbound) -> io::Result<()> {
     let Unbound {
         listen,
@@ -227,7 +227,7 @@ fn tell_unbound<R: Env + AllocGlobal + Eprint>(rt: &R, unbound: &Unbound) -> io:
     }
 }
 
-/// Why an address can't be listened on, in an operator's words; none where the fault's own words are told.
+/// Why an address cannot be listened on, in an operator's words. None if the text of the I/O error is used.
 fn reason_of(fault: &io::Error) -> Option<&'static str> {
     match fault.kind() {
         ErrorKind::AddrInUse => Some("another program listens there"),
@@ -239,8 +239,8 @@ fn reason_of(fault: &io::Error) -> Option<&'static str> {
     }
 }
 
-/// Serves a zone on sockets that are bound.
-fn serve_bound<
+/// Serves a zone on sockets that are already bound.
+fn serve_on_sockets<
     R: Files<File = File>
         + Eprint
         + AllocGlobal
@@ -254,7 +254,7 @@ fn serve_bound<
         + Sync
         + Drop
         + 'static,
->(rt: &R, serve: &Serve<'_>, begun: Begun, bound: Bound) -> io::Result<u8>
+>(rt: &R, serve: &Serve<'_>, begun: StartedZone, bound: Bound) -> io::Result<u8>
     requires { CanBegin begun }
 {
     let Bound {
@@ -285,7 +285,7 @@ fn serve_bound<
     if let Some(large) = large {
         log.add(rt, LogLine::Large(large));
     }
-    let status = match serve_all(rt, rt.alloc(), serve, begun, workers, secondaries, &log) {
+    let status = match serve_on_workers(rt, rt.alloc(), serve, begun, workers, secondaries, &log) {
         Ok(()) => DONE,
         Err(fault) => {
             log.add(rt, LogLine::Fault(fault));
@@ -296,7 +296,7 @@ fn serve_bound<
     Ok(status)
 }
 
-/// Warns of what may not be as the operator expects.
+/// Logs warnings of what may differ from what the operator expects.
 fn warn<R: Wait>(rt: &R, serve: &Serve<'_>, log: &Log) {
     for address in serve.listen.iter() {
         if address.ip().is_unspecified() {
@@ -308,7 +308,7 @@ fn warn<R: Wait>(rt: &R, serve: &Serve<'_>, log: &Log) {
     }
 }
 
-/// How many connections each worker may have open: as many as are asked for, or as there are descriptors for, which the log tells.
+/// The maximum number of open connections per worker: as many as requested, or else, with a line in the log, as many as there are descriptors for.
 fn places_for<R: Files + AllocGlobal + Wait>(rt: &R, serve: &Serve<'_>, log: &Log) -> usize {
     let (workers, places, addresses) = (serve.workers, serve.places, serve.listen.len());
     let wanted = descriptors::wanted(workers, places, addresses);
@@ -327,8 +327,8 @@ fn places_for<R: Files + AllocGlobal + Wait>(rt: &R, serve: &Serve<'_>, log: &Lo
     }
 }
 
-/// Serves a zone on workers' sockets.
-fn serve_all<
+/// Serves a zone on the workers' sockets.
+fn serve_on_workers<
     R: Files<File = File>
         + AllocGlobal
         + Net
@@ -343,39 +343,40 @@ fn serve_all<
     rt: &R,
     alloc: Global,
     serve: &Serve<'_>,
-    begun: Begun,
+    begun: StartedZone,
     sockets: Vec<WorkerSockets>,
     secondaries: Secondaries,
     log: &Log,
 ) -> Result<(), ServeFault>
     requires { CanBegin begun }
 {
-    let Some(progresses) = progresses_of(alloc, serve.workers, serve.most) else {
+    let Some(progresses) = work_limits_of(alloc, serve.workers, serve.most) else {
         return Err(ServeFault::NoMemory);
     };
-    let telling = Progress::new(u64::MAX);
-    let duties = duties_for(alloc, sockets, secondaries, progresses.as_slice(), &telling);
+    let telling = WorkLimit::new(u64::MAX);
+    let duties = thread_specs_for(alloc, sockets, secondaries, progresses.as_slice(), &telling);
     let Some(duties) = duties else {
         return Err(ServeFault::NoMemory);
     };
-    serve_planned(rt, alloc, serve, begun, duties, log)
+    serve_with_specs(rt, alloc, serve, begun, duties, log)
 }
 
-/// What each thread does: of each worker its listeners, and its sockets for datagrams, and one more the secondaries. None where there is no memory.
-fn duties_for<'a>(
+/// What each thread serves: each worker's listeners, each of its UDP sockets, and, in one more thread, the secondaries. None if there is not enough
+/// memory.
+fn thread_specs_for<'a>(
     alloc: Global,
     sockets: Vec<WorkerSockets>,
     secondaries: Secondaries,
-    progresses: &'a [Progress],
-    telling: &'a Progress,
-) -> Option<Vec<Duty<'a>>> {
-    let mut duties = duties_of(alloc, sockets, progresses)?;
+    progresses: &'a [WorkLimit],
+    telling: &'a WorkLimit,
+) -> Option<Vec<ThreadSpec<'a>>> {
+    let mut duties = thread_specs_of(alloc, sockets, progresses)?;
     put_secondaries(&mut duties, telling, secondaries)?;
     Some(duties)
 }
 
-/// Serves a zone by threads with these duties.
-fn serve_planned<
+/// Serves a zone with one thread for each of these duties.
+fn serve_with_specs<
     R: Files<File = File>
         + AllocGlobal
         + Net
@@ -390,8 +391,8 @@ fn serve_planned<
     rt: &R,
     alloc: Global,
     serve: &Serve<'_>,
-    begun: Begun,
-    duties: Vec<Duty<'_>>,
+    begun: StartedZone,
+    duties: Vec<ThreadSpec<'_>>,
     log: &Log,
 ) -> Result<(), ServeFault>
     requires { CanBegin begun }
@@ -403,7 +404,7 @@ fn serve_planned<
     let Ok(dir) = format!(in alloc; "{dir}") else {
         return Err(ServeFault::NoMemory);
     };
-    let muster = Muster::new(duties.len());
+    let muster = Shutdown::new(duties.len());
     let plan = Plan {
         muster: &muster,
         keep: serve.keep,
@@ -413,34 +414,34 @@ fn serve_planned<
             allowed: Allowed::new(serve.allowed.as_slice()),
         },
     };
-    let texts = ThreadTexts::new(*rt, dir);
+    let texts = ThreadTextWriter::new(*rt, dir);
     let most = Most {
         items: WAITING,
         octets: serve.update_queue,
     };
-    serve_duties(rt, alloc, most, begun, texts, duties, plan, log)
+    serve_with_store(rt, alloc, most, begun, texts, duties, plan, log)
 }
 
-/// What so many workers have done, each of which ends after so much; None where there is no memory.
-fn progresses_of(alloc: Global, workers: usize, most: u64) -> Option<Vec<Progress>> {
+/// The work limits of the workers, each of which exits after `most` datagrams and connections. None if there is not enough memory.
+fn work_limits_of(alloc: Global, workers: usize, most: u64) -> Option<Vec<WorkLimit>> {
     let mut progresses = Vec::new(alloc);
     for _ in 0..workers {
-        progresses.push(Progress::new(most)).ok()?;
+        progresses.push(WorkLimit::new(most)).ok()?;
     }
     Some(progresses)
 }
 
-/// Serves a zone by threads with these duties, of whose updates at most so much waits, and whose store has its zone texts written by these.
-fn serve_duties<
+/// Serves a zone with one thread for each of these duties. At most `most` updates wait, and the store's zone texts are written by `texts`.
+fn serve_with_store<
     R: Files<File = File> + AllocGlobal + Net + Threads + Wait + Clock + Copy + Sync + Drop,
-    T: Texts,
+    T: TextWriter,
 >(
     rt: &R,
     alloc: Global,
     most: Most,
-    begun: Begun,
+    begun: StartedZone,
     texts: T,
-    duties: Vec<Duty<'_>>,
+    duties: Vec<ThreadSpec<'_>>,
     plan: Plan<'_>,
     log: &Log,
 ) -> Result<(), ServeFault>
@@ -449,28 +450,28 @@ fn serve_duties<
     requires kept { plan.keep ≤ KEPT }
 {
     let failing = AtomicBool::new(false);
-    let Ok(beginning) = begin(rt, alloc, plan.keep, begun, texts, log, &failing) else {
+    let Ok(beginning) = prepare_zone(rt, alloc, plan.keep, begun, texts, log, &failing) else {
         return Err(ServeFault::NoMemory);
     };
-    let Beginning {
+    let ServedZone {
         first,
         later,
         store,
         lock,
     } = beginning;
-    let handing = Handing {
+    let handing = UpdateConfig {
         most,
         store,
         faults: StoreFaults::new(log, &failing),
     };
-    let served = serve_zone::<R, Brand, Log, KeptIn<'_, R, T>, StoreFaults<'_, Log>>(
+    let served = serve_zone::<R, Brand, Log, ZoneStore<'_, R, T>, StoreFaults<'_, Log>>(
         rt, alloc, first, later, duties, plan, handing, log,
     );
     mem::drop(lock);
     served
 }
 
-/// How many records a zone has.
+/// The number of records in a zone.
 fn records_of(zone: &Zone) -> usize {
     let mut records = 0usize;
     for set in zone.walk() {

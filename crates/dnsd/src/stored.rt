@@ -1,13 +1,13 @@
-//! The zone of a store, printed.
+//! Printing the zone of a store.
 use command_line::Stored;
 use commands::{DONE, FAILED, REFUSED};
-use recovery::StartFault;
 use std::io::{self, BufWriter};
 use std::rt::Files;
 use store_files::read_store;
+use store_recovery::StartFault;
 use stored_zone::{PrintFault, ToldFault, print_store};
 
-/// Prints the zone of a store on standard output, and gives the status; what is wrong goes to standard error.
+/// Prints the zone of a store on standard output, and returns the program's status. Errors go to standard error.
 pub fn run_stored<R: Files + Print + Eprint + AllocGlobal>(
     rt: &R,
     stored: Stored<'_>,
@@ -34,7 +34,7 @@ pub fn run_stored<R: Files + Print + Eprint + AllocGlobal>(
     }
 }
 
-/// The status with which the program ends where a store gives no start.
+/// The status with which the program exits if the store cannot be started from.
 fn status_of(fault: &StartFault) -> u8 {
     match fault {
         StartFault::NoMemory => FAILED,

@@ -1,8 +1,8 @@
-//! The zone's file.
+//! Reading the zone's file.
 use std::rt::Files;
 use std::{fs, io};
 
-/// The text in a zone's file; none where it can't be read, and standard error then has the reason.
+/// The text in a zone's file. None if it cannot be read; standard error then has the reason.
 pub fn read_zone_file<R: Files + Eprint + AllocGlobal>(
     rt: &R,
     path: &str,

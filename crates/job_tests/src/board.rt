@@ -1,22 +1,22 @@
-//! A board on which versions are published, and which keeps what is told. A version is a number, and an update the octet that is added to it.
+//! A board on which versions are published, which keeps what is reported. A version is a number, and an update is the octet that is added to
+//! it.
 ghost use Rattle.std.specs.Prelude.{◌≡◌, ◌+◌, ◌≤◌, ◌++◌, ◌∷◌, [], ◌-◌, ◌%◌, vec_len, vec_capacity, length, ◌<◌, ◌^◌};
 
-use journal_store::LogFault;
+use journal::LogFault;
 use std::alloc::{AllocError, Global};
 use std::mem;
 use std::sync::Wait;
 use told_disks::DiskFault;
-use update_group::{Group, Judgement, Judging, Verdict};
-use update_job::{Faults, Publishing, ReplyList};
+use update_batches::{Batch, Faults, Judgement, Judging, ReplyList, UpdatePublisher, Verdict};
 
-/// How many versions the board has room for.
+/// The number of versions that the board has room for.
 const ROOM: usize = 16;
 
 /// A version.
 #[derive(Clone, Copy)]
 pub(crate) struct Sum(pub(crate) u64);
 
-/// An update: an octet that is added. None is out of form, 0 changes nothing, and for 255 there is no memory.
+/// An update: an octet that is added. An update without an octet gets FORMERR, 0 changes nothing, and for 255 there is no memory.
 #[derive(Drop)]
 pub(crate) struct Added {
     octets: Vec<u8>,
@@ -24,14 +24,14 @@ pub(crate) struct Added {
 }
 
 impl Added {
-    /// One that adds an octet.
+    /// An update that adds an octet.
     pub fn of(alloc: Global, octet: u8) -> Result<Added, AllocError> {
         let mut octets = Vec::new(alloc);
         octets.push(octet)?;
         Ok(Added { octets })
     }
 
-    /// One that is out of form.
+    /// An update that gets FORMERR.
     pub fn none(alloc: Global) -> Added {
         Added {
             octets: Vec::new(alloc),
@@ -39,7 +39,7 @@ impl Added {
     }
 }
 
-/// The versions that are published, and what was told of updates.
+/// The versions that are published, and the reported results of updates.
 #[derive(Drop)]
 pub(crate) struct Board {
     before: Vec<Sum>,
@@ -47,7 +47,7 @@ pub(crate) struct Board {
     begun: usize,
     room: usize,
     pub(crate) told: Vec<(Option<u8>, u8, Option<(u32, u32)>)>,
-    /// How many versions of a batch find room at most.
+    /// The maximum number of versions of a batch that find room.
     pub(crate) most: usize,
     replied: ReplyList,
     ghost held: { 16 ≤ vec_capacity before },
@@ -55,7 +55,7 @@ pub(crate) struct Board {
 }
 
 impl Board {
-    /// A board with one version, the number 0.
+    /// A board with one version, number 0.
     pub fn new(alloc: Global) -> Result<Board, AllocError> {
         Ok(Board {
             before: Vec::with_capacity(alloc, ROOM)?,
@@ -68,7 +68,7 @@ impl Board {
         })
     }
 
-    /// How many versions are published.
+    /// The number of versions that are published.
     pub fn published(&self) -> usize {
         self.before.len().saturating_add(1)
     }
@@ -86,7 +86,7 @@ impl Board {
         self.before.push_reserved(before);
     }
 
-    /// Publishes versions in their order.
+    /// Publishes versions in order.
     fn put_all(&mut self, versions: Vec<Sum>)
         requires { length versions.items ≤ self.old.room }
         ensures published { self.new.before.items ++ self.new.last ∷ [] ≡ (self.old.before.items ++ self.old.last ∷ []) ++ versions.items }
@@ -134,10 +134,10 @@ impl Judging for Board {
     }
 }
 
-impl Publishing for Board {
+impl UpdatePublisher for Board {
     ghost use Rattle.std.specs.Prelude.{◌≡◌, ◌+◌, ◌≤◌, ◌++◌, ◌∷◌, [], length};
-    ghost use Rattle.update_group.specs.Engine.{IsLast, AreMade};
-    ghost use Rattle.update_group.specs.Group.{versions_of};
+    ghost use Rattle.update_batches.specs.Engine.{IsLast, AreMade};
+    ghost use Rattle.update_batches.specs.Batch.{versions_of};
     ghost use Rattle.job_tests.specs.declared.board.Added.{Added};
     ghost use Rattle.job_tests.specs.declared.board.Sum.{Sum};
 
@@ -149,13 +149,13 @@ impl Publishing for Board {
 
     ghost replied = { λ board. board.replied.replies };
 
-    fn begin<R: Wait>(&mut self, _rt: &R) -> (Sum, usize) {
+    fn begin_batch<R: Wait>(&mut self, _rt: &R) -> (Sum, usize) {
         self.begun = self.before.len() + 1;
         self.room = ROOM.saturating_sub(self.before.len()).min(self.most);
         (self.last, self.room)
     }
 
-    fn publish<R: Wait>(&mut self, _rt: &R, group: Group<Sum>)
+    fn publish<R: Wait>(&mut self, _rt: &R, group: Batch<Sum>)
         requires made { (first : Sum) × IsLast (self.old.before.items ++ self.old.last ∷ []) first × AreMade {V = Sum} {A = Added} (λ _ _ _. Unit {0}) first (versions_of group) }
         requires room { length (versions_of group) ≤ self.old.room }
         ensures published { self.new.before.items ++ self.new.last ∷ [] ≡ (self.old.before.items ++ self.old.last ∷ []) ++ versions_of group }
@@ -176,7 +176,7 @@ impl Publishing for Board {
     }
 }
 
-/// The faults that are noted: how many batches were on the disk, and how many not.
+/// The faults that are noted: how many batches were on the disk, and how many were not.
 #[derive(Clone, Copy)]
 pub(crate) struct Noted {
     pub(crate) lasting: u64,

@@ -1,16 +1,14 @@
-//! Batches that last, and that fail.
+//! Batches that reach the disk, and batches that fail.
 use crate::board::{Added, Board, Noted};
 use crate::store::Store;
-use journal::{Head, TextSum, recover, write_head};
-use journal_store::{Log, LogFault};
+use journal::{Head, Log, LogFault, TextSum, recover, write_head};
 use std::alloc::{AllocError, Global};
 use std::sync::Wait;
 use std::test::Fail;
-use told_disks::{DiskFault, ToldDisk};
-use update_job::{Ended, UpdateJob};
-use update_queue::{Most, Queue};
+use told_disks::{DiskFault, MemoryDisk};
+use update_batches::{Ended, Most, Queue, UpdateThread};
 
-/// How much waits at most.
+/// The limits of the queue.
 const MOST: Most = Most {
     items: 8,
     octets: 8,
@@ -30,33 +28,33 @@ fn head_of_zone() -> Head {
     }
 }
 
-/// A journal without a batch on a disk whose calls do what a plan says, after the two that resume the journal.
-fn journal_on(alloc: Global, plan: &[u8]) -> Result<Store<ToldDisk>, Fail> {
+/// A journal without a batch, on a disk whose calls give the results of a plan, after the two calls that resume the journal.
+fn journal_on(alloc: Global, plan: &[u8]) -> Result<Store<MemoryDisk>, Fail> {
     let mut calls = plan.to_vec(alloc)?;
     calls.push(0)?;
     calls.push(0)?;
     let (head, salt) = write_head(alloc, &head_of_zone())?;
-    let disk = ToldDisk::of(alloc, &head)?.planned(calls);
+    let disk = MemoryDisk::of(alloc, &head)?.planned(calls);
     match Log::resume(disk, &salt, 0, head.len() as u64) {
         Ok(log) => Ok(Store::Journal(log)),
         Err(_) => Err(Fail::from("the journal isn't resumed")),
     }
 }
 
-/// Who judges the updates of a queue on a board.
+/// A thread that judges the updates of a queue on a board.
 fn job_on<'a>(
     alloc: Global,
     board: Board,
-    store: Store<ToldDisk>,
+    store: Store<MemoryDisk>,
     queue: &'a Queue<Added>,
-) -> Result<UpdateJob<'a, Board, Store<ToldDisk>>, AllocError> {
-    match UpdateJob::new(alloc, board, store, queue) {
+) -> Result<UpdateThread<'a, Board, Store<MemoryDisk>>, AllocError> {
+    match UpdateThread::new(alloc, board, store, queue) {
         Ok(job) => Ok(job),
         Err(_) => Err(AllocError),
     }
 }
 
-/// Updates that wait: those that add these octets, and one that is out of form.
+/// Queues updates that add these octets, and one that gets FORMERR.
 fn put_all<R: Wait>(
     rt: &R,
     alloc: Global,
@@ -70,8 +68,8 @@ fn put_all<R: Wait>(
     Ok(queue.put(rt, Added::none(alloc), 1).is_ok() && all)
 }
 
-/// The first octets of the updates that a start finds in a journal.
-fn found_in(alloc: Global, store: &Store<ToldDisk>) -> Result<Vec<u8>, Fail> {
+/// The first octets of the updates that a start recovers from a journal.
+fn found_in(alloc: Global, store: &Store<MemoryDisk>) -> Result<Vec<u8>, Fail> {
     let mut found = Vec::new(alloc);
     if let Store::Journal(log) = store {
         let image = log.disk().crashed(alloc, &[])?;
@@ -85,7 +83,8 @@ fn found_in(alloc: Global, store: &Store<ToldDisk>) -> Result<Vec<u8>, Fail> {
     Ok(found)
 }
 
-// Each update of a batch is told what it gets behind those before it, with its own serials, and those that make a version are on the disk in their order.
+// Each update of a batch is judged after the effect of those before it, and gets its own serials. Those that make a version are on the disk in
+// order.
 #[test]
 fn a_batch_lasts(rt: HostRuntime) -> Result<(), Fail> {
     let alloc: Global = rt.alloc();
@@ -108,7 +107,7 @@ fn a_batch_lasts(rt: HostRuntime) -> Result<(), Fail> {
     Ok(())
 }
 
-// What finds no room in a batch waits for the next one, and isn't told SERVFAIL; but one is judged where there is no room at all.
+// Updates that find no room in a batch wait for the next one, and do not get SERVFAIL. But one is judged even if there is no room at all.
 #[test]
 fn a_batch_is_as_long_as_there_is_room(rt: HostRuntime) -> Result<(), Fail> {
     let alloc: Global = rt.alloc();
@@ -143,12 +142,12 @@ fn a_batch_is_as_long_as_there_is_room(rt: HostRuntime) -> Result<(), Fail> {
     Ok(())
 }
 
-// Where the disk fails each is told SERVFAIL, and nothing is published; and so behind it, where the sync failed.
+// If the disk fails, each update gets SERVFAIL and nothing is published. If it was the sync that failed, the same holds for later updates.
 #[test]
 fn a_batch_fails(rt: HostRuntime) -> Result<(), Fail> {
     let alloc: Global = rt.alloc();
     let queue: Queue<Added> = Queue::new(alloc, MOST)?;
-    // The append works, and the sync fails; what it left is cut off.
+    // The append works, and the sync fails; the appended octets are cut off.
     let store = journal_on(alloc, &[1, 0])?;
     let mut job = job_on(alloc, Board::new(alloc)?, store, &queue)?;
     assert!(rt; put_all(&rt, alloc, &queue, &[5, 0])?);
@@ -169,12 +168,13 @@ fn a_batch_fails(rt: HostRuntime) -> Result<(), Fail> {
     Ok(())
 }
 
-// Without a journal updates are lost at the end, and told as they are judged. What waits when the queue is ended is still judged.
+// Without a journal, updates are reported as they are judged, and are lost at the end. Updates that are queued when the queue is ended are
+// still judged.
 #[test]
 fn a_queue_is_served_to_its_end(rt: HostRuntime) -> Result<(), Fail> {
     let alloc: Global = rt.alloc();
     let queue: Queue<Added> = Queue::new(alloc, MOST)?;
-    let store: Store<ToldDisk> = Store::Nowhere;
+    let store: Store<MemoryDisk> = Store::Nowhere;
     let mut job = job_on(alloc, Board::new(alloc)?, store, &queue)?;
     assert!(rt; put_all(&rt, alloc, &queue, &[5, 7])?);
     queue.end(&rt);

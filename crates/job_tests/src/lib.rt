@@ -1,4 +1,4 @@
-//! Tests of batches of updates that wait in a queue: what is told of each, what is published and what is on the disk, where it works, and where the disk
+//! Tests of batches of queued updates: the result of each update, what is published and what is on the disk, when the disk works and when it
 //! fails.
 #![tactic(auto)]
 

@@ -1,21 +1,20 @@
-//! Where updates are brought in these tests.
-use journal_store::{Disk, Log, LogFault};
+//! The stores of these tests.
+use journal::{Disk, Log, LogFault};
 use std::alloc::Global;
 use std::sync::Wait;
-use update_group::Group;
-use update_job::Storing;
+use update_batches::{Batch, UpdateStore};
 
-/// Where the updates of batches are brought, and nothing is done between them.
+/// A store for batches of updates, which does nothing between them.
 #[derive(Drop)]
 pub(crate) enum Store<D: Disk> {
-    /// Nowhere: they are lost at the program's end.
+    /// No store: the updates are lost at the end of the program.
     Nowhere,
-    /// To a journal.
+    /// A journal.
     Journal(Log<D>),
 }
 
-// What it has is looked at by the tests: contracts say nothing of it.
-impl<V: Drop, D: Disk> Storing<V> for Store<D> {
+// The tests check what it has: contracts say nothing about it.
+impl<V: Drop, D: Disk> UpdateStore<V> for Store<D> {
     type Fault = D::Fault;
 
     ghost writes = { λ _ _ _. Unit {0} };
@@ -28,7 +27,7 @@ impl<V: Drop, D: Disk> Storing<V> for Store<D> {
         &mut self,
         _rt: &R,
         alloc: Global,
-        group: &mut Group<V>,
+        group: &mut Batch<V>,
     ) -> Option<LogFault<D::Fault>> {
         match self {
             Store::Nowhere => None,

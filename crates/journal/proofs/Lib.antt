@@ -2,6 +2,7 @@ pub mod BatchLemmas
 pub mod FrameLemmas
 pub mod FramesLemmas
 pub mod HeadLemmas
+mod LogLemmas
 pub mod OutlineLemmas
 pub mod PartLemmas
 pub mod RecoveredLemmas

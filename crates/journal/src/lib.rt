@@ -1,23 +1,28 @@
-//! A journal of updates: a head, and behind it frames, each a batch of updates that were brought to the disk together (own).
+//! A journal of updates, as octets and on a disk (own). No file is here, and nobody looks into an update.
 //!
-//! A head says which zone text the journal belongs to ([`Head`], [`write_head`], [`read_head`]). A frame is a body behind a mark, its
-//! length and its number, and in front of its SHA-256, which is salted by the head's ([`write_frame`], [`read_frame`], [`read_all`]); its body is a
-//! batch ([`put_update`], [`read_batch`]). [`tail_of`] tells what a crash leaves from damage: a later frame is looked for where its mark stands alone,
-//! so that no octet is digested twice for it. [`recover`] is what a start takes of a zone text and a journal, or why it takes none. No file is here,
-//! and nobody looks into an update.
+//! A journal is a head and frames, each a batch of updates that were brought to the disk together. A head says which zone text the journal belongs to ([`Head`], [`write_head`],
+//! [`read_head`]). A frame has a mark, the length of its body, its number, its body, and an SHA-256 that is salted by the head's ([`write_frame`], [`read_frame`], [`read_all`]); its body is
+//! a batch ([`put_update`], [`read_batch`]). [`tail_of`] tells what a crash leaves from damage: a later frame is looked for where its mark stands alone, so that no octet is digested
+//! twice for it. [`recover`] is what a start takes of a zone text and a journal, or why it takes none.
+//!
+//! A [`Disk`] is what a journal lies on; what a crash leaves of it begins with what was synced. A [`Log`] appends to one: at Ok the batch is on the disk; at an error the journal has
+//! what it had, or takes nothing more. That a file is such a disk is a premise, and no contract can say it.
 #![tactic(auto)]
 
 mod batch;
+mod disk;
 mod frame;
 mod frames;
 mod head_octets;
 mod heads;
 mod laws;
+mod log;
 mod parts;
 mod start;
 mod tails;
 
 pub use batch::{put_update, read_batch};
+pub use disk::Disk;
 pub use frame::{SUM, read_frame, write_frame};
 pub use frames::read_all;
 pub use head_octets::{read_head, write_head};
@@ -27,5 +32,6 @@ pub use laws::{
     what_is_written_is_read, what_is_written_is_recovered, what_was_synced_is_read_first,
     what_was_synced_is_recovered_first,
 };
+pub use log::{Log, LogFault};
 pub use start::{Recovered, Refused, recover, recover_counted};
 pub use tails::{Tail, tail_of};

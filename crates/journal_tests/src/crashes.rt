@@ -1,16 +1,15 @@
-//! Crashes of a disk that lies in memory.
+//! Crashes of a disk held in memory.
 use crate::journals::{batch_of, empty_log, recovered};
-use journal::{Recovered, put_update};
-use journal_store::{Log, LogFault};
+use journal::{Log, LogFault, Recovered, put_update};
 use std::alloc::{AllocError, Global};
-use told_disks::ToldDisk;
+use told_disks::MemoryDisk;
 
-/// Numbers that look random: Knuth's generator of 64 bits (The Art of Computer Programming, 3.3.4), of which the high bits are taken.
+/// Pseudorandom numbers: Knuth's generator of 64 bits (The Art of Computer Programming, 3.3.4), of which the high bits are used.
 #[derive(Drop)]
 struct Random(u64);
 
 impl Random {
-    /// A number below another one.
+    /// A number below `most`; 0 if `most` is 0.
     fn below(&mut self, most: u64) -> u64 {
         self.0 = self
             .0
@@ -25,7 +24,7 @@ impl Random {
     }
 }
 
-/// So many octets.
+/// Pseudorandom octets, fewer than `most`.
 fn octets_of(alloc: Global, random: &mut Random, most: u64) -> Result<Vec<u8>, AllocError> {
     let len = random.below(most);
     let mut octets = Vec::new(alloc);
@@ -35,7 +34,7 @@ fn octets_of(alloc: Global, random: &mut Random, most: u64) -> Result<Vec<u8>, A
     Ok(octets)
 }
 
-/// What the calls of a disk do: one in six fails.
+/// The results of the calls of a disk: one in six fails.
 fn plan_of(alloc: Global, random: &mut Random) -> Result<Vec<u8>, AllocError> {
     let mut plan = Vec::new(alloc);
     for _ in 0..random.below(40) {
@@ -49,8 +48,8 @@ fn plan_of(alloc: Global, random: &mut Random) -> Result<Vec<u8>, AllocError> {
     Ok(plan)
 }
 
-/// What a crash does to octets that weren't synced, in pages of up to 40 octets: it loses a page, keeps it, or turns bits of it; and it may leave none from
-/// some place on.
+/// What a crash does to octets that were not synced, in pages of up to 40 octets: it loses a page, keeps it, or flips bits of it; and it may
+/// lose all octets from some position on.
 fn fates_of(alloc: Global, random: &mut Random) -> Result<Vec<u8>, AllocError> {
     let mut fates = Vec::new(alloc);
     for _ in 0..random.below(12) {
@@ -66,7 +65,8 @@ fn fates_of(alloc: Global, random: &mut Random) -> Result<Vec<u8>, AllocError> {
     Ok(fates)
 }
 
-/// What was sent, as batches have it: updates that were told to be on the disk, and those of the batch after them, if the disk refused it.
+/// The updates that were sent, in the form of batches: those reported to be on the disk, and those of the batch after them, if the disk refused
+/// it.
 #[derive(Drop)]
 struct Sent {
     told: Vec<u8>,
@@ -85,10 +85,10 @@ fn some_batch(alloc: Global, random: &mut Random) -> Result<Vec<u8>, AllocError>
     Ok(batch)
 }
 
-/// Appends a batch, and notes what came of it.
+/// Appends a batch, and notes the result.
 fn append(
     alloc: Global,
-    log: &mut Log<ToldDisk>,
+    log: &mut Log<MemoryDisk>,
     sent: &mut Sent,
     batch: Vec<u8>,
 ) -> Result<(), AllocError> {
@@ -106,11 +106,11 @@ fn append(
     Ok(())
 }
 
-/// What a crash leaves of a log to which some batches were appended.
+/// The octets that a crash leaves of a log to which some batches were appended.
 fn crashed(
     alloc: Global,
     random: &mut Random,
-    log: &mut Log<ToldDisk>,
+    log: &mut Log<MemoryDisk>,
     sent: &mut Sent,
 ) -> Result<Vec<u8>, AllocError> {
     for _ in 0..random.below(8) {
@@ -119,7 +119,7 @@ fn crashed(
     log.disk().crashed(alloc, &fates_of(alloc, random)?)
 }
 
-/// Whether these are the updates that were told, and after them none, or the whole batch that the disk refused last.
+/// Whether these are the updates that were reported to be on the disk, and after them none, or the whole batch that the disk refused last.
 fn is_sent(alloc: Global, found: &Recovered<'_>, sent: &Sent) -> Result<bool, AllocError> {
     let updates = batch_of(alloc, &found.updates)?;
     Ok(match updates.split_at_checked(sent.told.len()) {
@@ -130,8 +130,8 @@ fn is_sent(alloc: Global, found: &Recovered<'_>, sent: &Sent) -> Result<bool, Al
     })
 }
 
-/// A log on a disk that fails, and a crash of it: whether a start finds what was told, and no other updates than sent ones. Another log goes on from there, and
-/// crashes too.
+/// A log on a disk that fails, and a crash of it. Whether a start recovers the updates that were reported to be on the disk, and no updates
+/// that were not sent. Another log continues from there, and crashes too.
 fn crashes_once(alloc: Global, seed: u64) -> Result<bool, AllocError> {
     let mut random = Random(seed);
     let plan = plan_of(alloc, &mut random)?;
@@ -151,7 +151,7 @@ fn crashes_once(alloc: Global, seed: u64) -> Result<bool, AllocError> {
     }
 }
 
-/// Goes on from what a crash has left, and crashes again.
+/// Continues from what a crash has left, and crashes again.
 fn goes_on(
     alloc: Global,
     random: &mut Random,
@@ -162,7 +162,7 @@ fn goes_on(
         told: batch_of(alloc, &found.updates)?,
         refused: Vec::new(alloc),
     };
-    let disk = ToldDisk::of(alloc, image)?;
+    let disk = MemoryDisk::of(alloc, image)?;
     let Ok(mut log) = Log::resume(disk, &found.salt, found.number, found.end as u64) else {
         return Ok(false);
     };
@@ -173,7 +173,7 @@ fn goes_on(
     }
 }
 
-// A thousand crashes: what was told to be on the disk is there, in its order, and no other updates than sent ones.
+// A thousand crashes: the updates that were reported to be on the disk are there, in order, and no updates that were not sent.
 #[test]
 fn a_thousand_crashes(rt: HostRuntime) -> Result<(), AllocError> {
     let alloc: Global = rt.alloc();

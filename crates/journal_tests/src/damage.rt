@@ -1,12 +1,12 @@
-//! Journals of which octets are turned, or that are cut, and whose frames are out of place.
+//! Journals with flipped bits, journals that are cut short, and journals whose frames are out of place.
 use crate::journals::{
     BATCHES, END, FIRST, Found, HEAD, LAST, bad_head, journal_of, recovers, told,
 };
 use journal::{HeadFault, Refused};
 use std::alloc::{AllocError, Global};
 
-/// What is told where an octet is turned: in the head it is told by name; in a batch before another one it is damage, told at
-/// the octet at which the next whole frame begins; in the last one it is as a crash would leave it.
+/// The expected result if bits of the octet at `at` are flipped. In the head, the fault of the head is reported. In a batch before another one
+/// it is damage, reported at the octet where the next whole frame starts. In the last batch the result is as after a crash.
 fn of_turned(at: usize) -> Result<Found, Refused> {
     match at {
         0..16 => bad_head(HeadFault::Foreign),
@@ -17,14 +17,14 @@ fn of_turned(at: usize) -> Result<Found, Refused> {
     }
 }
 
-/// Turns bits of an octet.
+/// Flips bits of an octet.
 fn turn(octets: &mut [u8], at: usize, bits: u8) {
     if let Some(octet) = octets.get_mut(at) {
         *octet ^= bits;
     }
 }
 
-/// The first octet of the journal of which it is told otherwise, where one bit of it is turned, or all are.
+/// The first octet of the journal for which the result is another one, if one bit of it, or each bit, is flipped.
 fn first_wrong_turn(alloc: Global, octets: &mut [u8]) -> Option<usize> {
     for at in 0..END {
         for bits in [1, 2, 4, 8, 16, 32, 64, 128, 255] {
@@ -45,8 +45,8 @@ fn each_octet_turned(rt: HostRuntime) -> Result<(), AllocError> {
     Ok(())
 }
 
-/// What is told of so many octets: within the head it is too short; else the batches that are whole are recovered, and what is after
-/// them is torn.
+/// The expected result of the first `len` octets. Within the head they are too short. Otherwise the whole batches are recovered, and the octets
+/// after them are torn.
 fn of_cut(len: usize) -> Result<Found, Refused> {
     let mut wanted = bad_head(HeadFault::Short);
     for (number, end) in [(0, HEAD), (1, FIRST), (2, LAST), (3, END)] {
@@ -57,7 +57,7 @@ fn of_cut(len: usize) -> Result<Found, Refused> {
     wanted
 }
 
-/// The first length of the journal of which it is told otherwise.
+/// The first length of the journal for which the result is another one.
 fn first_wrong_cut(alloc: Global, octets: &[u8]) -> Option<usize> {
     for len in 0..=octets.len() {
         if told(alloc, &octets[..len]) != of_cut(len) {
@@ -80,7 +80,7 @@ const MARK: [u8; 8] = [0xce, 0x87, 0x82, 0x44, 0xbc, 0x21, 0xdd, 0x78];
 
 const FRONT: [u8; 7] = [0xce, 0x87, 0x82, 0x44, 0xbc, 0x21, 0xdd];
 
-/// Lengths of a body, of 16 octets and of 17.
+/// Lengths of a body: 16 octets, and 17.
 const SIZE: [u8; 4] = [0, 0, 0, 16];
 
 const LONG: [u8; 4] = [0, 0, 0, 17];
@@ -90,12 +90,12 @@ const NEXT: [u8; 8] = [0, 0, 0, 0, 0, 0, 0, 3];
 
 const LATER: [u8; 8] = [0, 0, 0, 0, 0, 0, 0, 4];
 
-/// As many octets as a body of 16 and its sum have beside a mark, and one more.
+/// The number of octets of a body of 16 and its sum without a mark, and one more.
 const NEAR: [u8; 40] = [0; 40];
 
 const FAR: [u8; 41] = [0; 41];
 
-/// What is told of parts of a journal, one after another.
+/// The result of a start from parts of a journal, one after another.
 fn told_of(alloc: Global, parts: &[&[u8]]) -> Result<Found, Refused> {
     let mut octets = Vec::new(alloc);
     for part in parts {
@@ -104,8 +104,8 @@ fn told_of(alloc: Global, parts: &[&[u8]]) -> Result<Found, Refused> {
     told(alloc, &octets)
 }
 
-/// The index of the first case that is told otherwise. Zeros after the last batch are no damage, and octets are torn. A batch that is left
-/// out before one is damage. The first one again is torn, as its number isn't later.
+/// The index of the first case with another result. Zeros after the last batch are no damage, and other octets after it are torn. A batch that
+/// is left out before another one is damage. If the first batch occurs again, it is torn, since its number is not later.
 fn first_wrong_part(alloc: Global, octets: &[u8]) -> Option<usize> {
     let (Some(front), Some(first), Some(last)) = (
         octets.get(..FIRST),
@@ -128,9 +128,9 @@ fn first_wrong_part(alloc: Global, octets: &[u8]) -> Option<usize> {
     None
 }
 
-/// The index of the first case that is told otherwise. Behind the last batch a frame begins, with the mark, a length and a number, and in its other octets the mark may
-/// stand again: then it is damage, if the number is later. It is none where the mark stands alone, or isn't whole, as the sum is another; nor where the number is
-/// the next one, the first mark isn't whole, or the frame.
+/// The index of the first case with another result. After the last batch a frame starts, with the mark, a length and a number. If its other
+/// octets have the mark again, it is damage, provided that the number is later. It is no damage if there is no second mark in the frame, or
+/// only a part of it, since the sum is wrong; nor if the number is the next one, or if the first mark or the frame is incomplete.
 fn first_wrong_mark(alloc: Global, octets: &[u8]) -> Option<usize> {
     let cases: [(&[&[u8]], Result<Found, Refused>); 7] = [
         (

@@ -1,4 +1,4 @@
-//! What a head and frames have in them, put together by another program, whose sums are those of sha256sum.
+//! The content of a head and of frames, as built by another program, whose sums are those of sha256sum.
 use crate::journals::{BATCHES, END, bad_head, journal_of, recovers, salt, told};
 use journal::{
     HeadFault, Refused, put_update, read_all, read_frame, read_head, recover, write_frame,
@@ -6,9 +6,9 @@ use journal::{
 use std::alloc::{AllocError, Global};
 use std::test::Fail;
 
-/// The journal of the tests, in hexadecimal. Its head: the name; number 3; the random octets; how many octets the zone text has, and its sum;
-/// serial 7; the same of the text that all began from; the head's sum. Three frames: the mark, the length of the body, the number, the body, the
-/// sum.
+/// The journal of the tests, in hexadecimal. Its head: the name; number 3; the random octets; the length of the zone text, and its sum; serial
+/// 7; the same of the text from which the store was created; the sum of the head. Three frames: the mark, the length of the body, the number,
+/// the body, the sum.
 const JOURNAL: &str = "\
     646e7364206a6f75726e616c2c20320a\
     0000000000000003\
@@ -35,7 +35,7 @@ const JOURNAL: &str = "\
     0006666f75727468\
     bf6d4992d8d358fe5759e162378f5b6f9023fc661938bc90b5608e924964d924";
 
-/// The number, the serial, and how many octets the texts have of a head; None where it is none.
+/// The number and the serial of a head, and the lengths of its texts in octets. None if the octets are no head.
 fn numbers_in(octets: &[u8]) -> Option<[u64; 4]> {
     let (head, _, _) = read_head(octets).ok()?;
     Some([
@@ -46,7 +46,7 @@ fn numbers_in(octets: &[u8]) -> Option<[u64; 4]> {
     ])
 }
 
-// A journal is written as the other program has written it, and read so.
+// A journal is written as the other program wrote it, and is read from its octets.
 #[test]
 fn as_by_hand(rt: HostRuntime) -> Result<(), Fail> {
     let hand = hex::decode(rt.alloc(), JOURNAL)?;
@@ -57,8 +57,8 @@ fn as_by_hand(rt: HostRuntime) -> Result<(), Fail> {
     Ok(())
 }
 
-/// Whether a frame of number 5 is read under its own salt and number, and neither under another number nor another salt, nor as a
-/// first one.
+/// Whether a frame with number 5 is read with its own salt and number, and is not read with another number, with another salt, or as a first
+/// frame.
 fn reads(alloc: Global) -> Result<[bool; 5], AllocError> {
     let salt = [7; 32];
     let mut octets = write_frame(alloc, &salt, 5, b"a body")?;
@@ -80,7 +80,7 @@ fn one_salt_and_number(rt: HostRuntime) -> Result<(), AllocError> {
     Ok(())
 }
 
-/// The journal with a frame after it whose body is no batch: its second update has fewer octets than its length says.
+/// The journal with one more frame, whose body is no batch: its second update has fewer octets than its length says.
 fn with_no_batch(alloc: Global) -> Result<Vec<u8>, AllocError> {
     let mut octets = journal_of(alloc, &BATCHES)?;
     let salt = salt(alloc)?;
@@ -93,7 +93,7 @@ fn with_no_batch(alloc: Global) -> Result<Vec<u8>, AllocError> {
     Ok(octets)
 }
 
-// Such a journal, one over another zone text, and octets that are none.
+// Such a journal, a journal with another zone text, and octets that are no journal.
 #[test]
 fn refused_by_name(rt: HostRuntime) -> Result<(), AllocError> {
     let octets = with_no_batch(rt.alloc())?;
@@ -113,7 +113,7 @@ fn refused_by_name(rt: HostRuntime) -> Result<(), AllocError> {
     Ok(())
 }
 
-// Where a request for memory is refused, that is what is told, and nothing else.
+// If memory allocation fails, exactly this is reported.
 #[test]
 fn memory_is_refused(rt: HostRuntime) {
     if let Ok(octets) = journal_of(rt.alloc(), &BATCHES) {

@@ -1,10 +1,10 @@
-//! Journals for the tests, and what a start is told of octets.
+//! Journals for the tests, and the results of starts from octets.
 use journal::{
-    Head, HeadFault, Recovered, Refused, SUM, TextSum, put_update, recover, write_frame, write_head,
+    Head, HeadFault, Log, Recovered, Refused, SUM, TextSum, put_update, recover, write_frame,
+    write_head,
 };
-use journal_store::Log;
 use std::alloc::{AllocError, Global};
-use told_disks::ToldDisk;
+use told_disks::MemoryDisk;
 
 /// A zone text.
 pub(crate) const ZONE: &[u8] = b"example. 3600 IN SOA ns.example. host.example. 7 1 1 1 1\n";
@@ -26,22 +26,22 @@ pub(crate) fn salt(alloc: Global) -> Result<[u8; SUM], AllocError> {
     Ok(salt)
 }
 
-/// The updates of the batches of the tests, as octets that nobody reads.
+/// The updates of the batches of the tests, as octets that are not parsed.
 pub(crate) const BATCHES: [&[&[u8]]; 3] = [&[b"first"], &[b"", b"third update"], &[b"fourth"]];
 
-/// How many octets a head has.
+/// The length of a head, in octets.
 pub(crate) const HEAD: usize = 156;
 
-/// How many octets a frame has besides its body.
+/// The number of octets of a frame without its body.
 pub(crate) const FRAME: usize = 52;
 
-/// Where the first batch ends: a head, and the frame of a body of 7 octets.
+/// The end of the first batch: a head, and the frame of a body of 7 octets.
 pub(crate) const FIRST: usize = HEAD + (FRAME + 7);
 
-/// Where the last batch begins: the body before it has 16 octets.
+/// The start of the last batch: the body before it has 16 octets.
 pub(crate) const LAST: usize = FIRST + (FRAME + 16);
 
-/// Where it ends: its body has 8.
+/// The end of the last batch: its body has 8 octets.
 pub(crate) const END: usize = LAST + (FRAME + 8);
 
 /// A batch of these updates.
@@ -55,7 +55,7 @@ pub(crate) fn batch_of(alloc: Global, updates: &[&[u8]]) -> Result<Vec<u8>, Allo
     Ok(batch)
 }
 
-/// The journal of these batches, the first of them of number 0.
+/// The journal of these batches, the first of which has number 0.
 pub(crate) fn journal_of(alloc: Global, batches: &[&[&[u8]]]) -> Result<Vec<u8>, AllocError> {
     let (mut octets, salt) = write_head(alloc, &head_of_zone())?;
     for (number, updates) in batches.iter().enumerate() {
@@ -67,17 +67,20 @@ pub(crate) fn journal_of(alloc: Global, batches: &[&[&[u8]]]) -> Result<Vec<u8>,
     Ok(octets)
 }
 
-/// A log without a batch, on a disk whose next calls do what a plan says; None where one of the first two fails.
-pub(crate) fn empty_log(alloc: Global, plan: Vec<u8>) -> Result<Option<Log<ToldDisk>>, AllocError> {
+/// A log without a batch, on a disk whose next calls give the results of a plan. None if one of the first two calls fails.
+pub(crate) fn empty_log(
+    alloc: Global,
+    plan: Vec<u8>,
+) -> Result<Option<Log<MemoryDisk>>, AllocError> {
     let (head, salt) = write_head(alloc, &head_of_zone())?;
-    let disk = ToldDisk::of(alloc, &head)?.planned(plan);
+    let disk = MemoryDisk::of(alloc, &head)?.planned(plan);
     Ok(Log::resume(disk, &salt, 0, head.len() as u64).ok())
 }
 
 /// Their updates, in order.
 const UPDATES: [&[u8]; 4] = [b"first", b"", b"third update", b"fourth"];
 
-/// How many batches' updates these are, from the first on; None where they are no beginning of the batches.
+/// The number of batches that these updates make, from the first batch on. None if they are not the updates of the first batches.
 fn batches_in(updates: &[&[u8]]) -> Option<u64> {
     if UPDATES.get(..updates.len()) != Some(updates) {
         return None;
@@ -91,25 +94,25 @@ fn batches_in(updates: &[&[u8]]) -> Option<u64> {
     }
 }
 
-/// What a start has of octets, over the zone text of the tests.
+/// What a start recovers from octets, with the zone text of the tests.
 pub(crate) fn recovered(alloc: Global, octets: &[u8]) -> Result<Recovered<'_>, Refused> {
     recover(alloc, ZONE, octets)
 }
 
-/// What a start has of a journal of the tests.
+/// What a start recovers from a journal of the tests.
 #[derive(Clone, Copy, Debug, PartialEq, Eq)]
 pub(crate) struct Found {
-    /// How many batches' updates it has.
+    /// The number of batches whose updates it has.
     pub(crate) batches: Option<u64>,
     /// The number of the next batch.
     pub(crate) number: u64,
-    /// Where the last batch ends.
+    /// The position of the end of the last batch.
     pub(crate) end: usize,
-    /// Whether a torn one is after it.
+    /// Whether there is a torn batch after it.
     pub(crate) torn: bool,
 }
 
-/// So many batches, up to an octet.
+/// The result with `number` batches, up to the octet at `end`.
 pub(crate) fn recovers(number: u64, end: usize, torn: bool) -> Result<Found, Refused> {
     let batches = Some(number);
     Ok(Found {
@@ -120,7 +123,7 @@ pub(crate) fn recovers(number: u64, end: usize, torn: bool) -> Result<Found, Ref
     })
 }
 
-/// What a start is told of octets.
+/// The result of a start from octets.
 pub(crate) fn told(alloc: Global, octets: &[u8]) -> Result<Found, Refused> {
     let found = recovered(alloc, octets)?;
     Ok(Found {
@@ -131,7 +134,7 @@ pub(crate) fn told(alloc: Global, octets: &[u8]) -> Result<Found, Refused> {
     })
 }
 
-/// What it is told of a head that is none.
+/// The result for a head with a fault.
 pub(crate) fn bad_head(fault: HeadFault) -> Result<Found, Refused> {
     Err(Refused::BadHead(fault))
 }

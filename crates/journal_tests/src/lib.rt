@@ -1,4 +1,5 @@
-//! Tests of journals: octets turned and cut, crashes of a disk in memory, heads and frames against octets put together by hand.
+//! Tests of journals: flipped and missing octets, crashes of a disk in memory, and heads and frames compared with octets built by another
+//! program.
 #![tactic(auto)]
 
 #[cfg(test)]

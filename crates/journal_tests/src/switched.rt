@@ -1,25 +1,25 @@
-//! Logs that stop, and go on with another journal.
+//! Logs that stop, and continue with another journal.
 use crate::journals::{BATCHES, END, FIRST, batch_of, empty_log, journal_of, recovers, salt, told};
-use journal_store::{Log, LogFault};
+use journal::{Log, LogFault};
 use std::alloc::{AllocError, Global};
 use std::test::Fail;
-use told_disks::ToldDisk;
+use told_disks::MemoryDisk;
 
-/// Appends a batch: whether it is on the disk.
-fn append(alloc: Global, log: &mut Log<ToldDisk>, updates: &[&[u8]]) -> Result<bool, AllocError> {
+/// Appends a batch. Returns whether it is on the disk.
+fn append(alloc: Global, log: &mut Log<MemoryDisk>, updates: &[&[u8]]) -> Result<bool, AllocError> {
     let batch = batch_of(alloc, updates)?;
     Ok(batch.len() < 1 << 24 && log.append(alloc, &batch).is_ok())
 }
 
 /// A log of the tests, without a batch.
-fn begun(alloc: Global) -> Result<Log<ToldDisk>, Fail> {
+fn begun(alloc: Global) -> Result<Log<MemoryDisk>, Fail> {
     match empty_log(alloc, Vec::new(alloc))? {
         Some(log) => Ok(log),
         None => Err("no log".into()),
     }
 }
 
-// A log that has stopped appends nothing more, and has what it had on its disk.
+// A log that has stopped appends nothing more. Its disk has what it had.
 #[test]
 fn stopped(rt: HostRuntime) -> Result<(), Fail> {
     let alloc: Global = rt.alloc();
@@ -33,7 +33,7 @@ fn stopped(rt: HostRuntime) -> Result<(), Fail> {
     Ok(())
 }
 
-// It goes on with another journal, after the batches of that one.
+// It continues with another journal, after the batches of that journal.
 #[test]
 fn switched(rt: HostRuntime) -> Result<(), Fail> {
     let alloc: Global = rt.alloc();
@@ -41,7 +41,7 @@ fn switched(rt: HostRuntime) -> Result<(), Fail> {
     log.stop();
     let octets = journal_of(alloc, &BATCHES[..2])?;
     let len = octets.len() as u64;
-    log.switch(ToldDisk::of(alloc, &octets)?, &salt(alloc)?, 2, len);
+    log.switch(MemoryDisk::of(alloc, &octets)?, &salt(alloc)?, 2, len);
     let goes_on = [!log.is_stuck(), log.len() == len];
     let last = append(alloc, &mut log, BATCHES[2])?;
     assert_eq!(rt; (goes_on, last), ([true; 2], true));

@@ -1,7 +1,7 @@
-//! Cells of versions that are played in, and servers over them.
+//! Cells of versions in which tests run, and servers over them.
 ghost use Rattle.std.specs.Prelude.{◌≡◌, IfSome, vec_len};
 ghost use Rattle.std.specs.List.{All};
-ghost use Rattle.update_desk.specs.Right.{AreNamed};
+ghost use Rattle.zone_server.specs.Right.{AreNamed};
 
 use dns_engine::{
     FirstZone, Naming, NoEngine, SharedVersion, VersionCell, VersionPublisher, VersionReader,
@@ -11,33 +11,33 @@ use snapshot_cell::{Cell, NamedCell, NamedPublisher, NamedReader, Parts, Publish
 use std::alloc::Global;
 use std::marker::Brand;
 use std::sync::Wait;
-use zone_service::{Server, ServerLedgers, ServerName};
+use zone_server::{Server, ServerLedgers, ServerName};
 use zone_tree::{Version, Zone};
 
-/// A cell of versions that a type names, with its publisher and its readers.
+/// A cell of versions that is named by a type, with its publisher and its readers.
 pub struct NamedParts<Z: FirstZone, N: Naming> {
     /// The cell.
     pub cell: VersionCell<Z, N>,
-    /// The one who publishes.
+    /// The publisher.
     pub publisher: VersionPublisher<Z, N>,
-    /// Those who load.
+    /// The readers.
     pub readers: Vec<VersionReader<N>>,
 }
 
-/// What was played in a cell of versions.
+/// The result of a test in a cell of versions.
 #[derive(Drop)]
 pub struct Played<Z: FirstZone, N: Naming> {
-    /// Whether it went as it should; None where there was no memory for it.
+    /// Whether the test passes; None if memory allocation fails.
     pub told: Option<bool>,
-    /// The one who publishes.
+    /// The publisher.
     pub publisher: VersionPublisher<Z, N>,
-    /// Those who load.
+    /// The readers.
     pub readers: Vec<VersionReader<N>>,
 }
 
-/// What is played in a cell of versions in which a zone's first version alone is published.
+/// A test that runs in a cell of versions in which only the first version of a zone is published.
 pub trait Play {
-    /// Whether it goes as it should, with the publisher and two readers, which come back, and the ledgers of a server.
+    /// Runs the test with the publisher and two readers, which it returns, and the ledgers of a server. Returns whether it passes.
     fn play<R: Wait, Z: FirstZone, N: ServerName>(
         &self,
         rt: &R,
@@ -51,14 +51,14 @@ pub trait Play {
         requires named { AreNamed N.published N.reserved ledgers };
 }
 
-// Keeps what can't be ended, and waits for ever.
+// Keeps what cannot be closed, and waits forever.
 fn keep<R: Wait, K, T>(rt: &R, _kept: K) -> T {
     for _ in rt.forever() {}
     unreachable!()
 }
 
-/// The cell of versions that begins with a zone, with so many readers; None where there is no memory for it, or there would be too
-/// many.
+/// The cell of versions that starts with a zone, with this number of readers. None if memory allocation fails or the number of readers is over
+/// the limit.
 pub fn parts_of<Z: FirstZone>(
     alloc: Global,
     zone: Zone,
@@ -71,7 +71,7 @@ pub fn parts_of<Z: FirstZone>(
     limited_parts_of(alloc, zone, readers, u64::MAX)
 }
 
-/// The same, whose readers have so many grants, or 2^40 where that is less.
+/// The same, with readers that have `grants` grants, or 2^40 if that is less.
 pub fn limited_parts_of<Z: FirstZone>(
     alloc: Global,
     zone: Zone,
@@ -86,7 +86,7 @@ pub fn limited_parts_of<Z: FirstZone>(
     Cell::<SharedVersion, ZoneVersions<Z>>::new_limited(alloc, readers, first, grants).ok()
 }
 
-/// Readers, by the name of their cell, as many as there is room for.
+/// Converts readers to readers named by their cell, as many as the vector has room for.
 fn name_all<N: Naming>(
     mut readers: Vec<Reader<SharedVersion>>,
     mut named: Vec<VersionReader<N>>,
@@ -99,7 +99,7 @@ fn name_all<N: Naming>(
     named
 }
 
-/// Ends a cell that no type names. It doesn't return where a reader is missing, or an owner is out.
+/// Closes a cell that is not named by a type. Never returns if a reader is missing or an owner is still in use.
 fn end_unnamed<R: Wait, Z: FirstZone>(
     rt: &R,
     cell: Cell<SharedVersion, ZoneVersions<Z>>,
@@ -115,7 +115,7 @@ fn end_unnamed<R: Wait, Z: FirstZone>(
     }
 }
 
-/// A cell with its publisher and its readers, by its name; None where there is no memory for it: the cell is then ended.
+/// A cell with its publisher and its readers, named by a type. None if memory allocation fails; the cell is then closed.
 pub fn named_parts<R: Wait, Z: FirstZone, N: Naming>(
     rt: &R,
     alloc: Global,
@@ -141,7 +141,7 @@ pub fn named_parts<R: Wait, Z: FirstZone, N: Naming>(
     })
 }
 
-/// The version with which a cell ends. It doesn't return where a reader is missing, or an owner is out.
+/// Closes a cell and returns its last version. Never returns if a reader is missing or an owner is still in use.
 pub fn last_of<R: Wait, Z: FirstZone, N: Naming>(rt: &R, parts: NamedParts<Z, N>) -> SharedVersion {
     let NamedParts {
         cell,
@@ -154,12 +154,12 @@ pub fn last_of<R: Wait, Z: FirstZone, N: Naming>(rt: &R, parts: NamedParts<Z, N>
     }
 }
 
-/// Ends a cell. It doesn't return where a reader is missing, or an owner is out.
+/// Closes a cell. Never returns if a reader is missing or an owner is still in use.
 pub fn end<R: Wait, Z: FirstZone, N: Naming>(rt: &R, parts: NamedParts<Z, N>) {
     let _last = last_of(rt, parts);
 }
 
-/// The server of a cell, which keeps eight versions.
+/// A server over a cell, which keeps eight versions.
 pub fn server_of<'a, Z: FirstZone, N: ServerName>(
     alloc: Global,
     cell: &'a VersionCell<Z, N>,
@@ -173,7 +173,7 @@ pub fn server_of<'a, Z: FirstZone, N: ServerName>(
     Server::new(alloc, cell, publisher, reader, 8, ledgers)
 }
 
-/// What is played in a cell, which is then ended.
+/// Runs a test in a cell, then closes the cell. Returns whether the test passes; None if memory allocation fails.
 fn play_in<R: Wait, Z: FirstZone, N: ServerName, P: Play>(
     rt: &R,
     alloc: Global,
@@ -207,7 +207,7 @@ fn play_in<R: Wait, Z: FirstZone, N: ServerName, P: Play>(
     told
 }
 
-/// What is played in a cell that begins with the zone.
+/// Runs a test in a cell that starts with the zone, then closes the cell. Returns whether the test passes; None if memory allocation fails.
 fn play_from<R: Wait, Z: FirstZone, P: Play>(
     rt: &R,
     alloc: Global,
@@ -222,13 +222,12 @@ fn play_from<R: Wait, Z: FirstZone, P: Play>(
     play_in::<R, Z, Brand, P>(rt, alloc, parts, ledgers, play)
 }
 
-/// Whether what is played in a cell that begins with a zone goes as it should; None where there is no memory for it. The cell is
-/// ended.
+/// Runs a test in a cell that starts with a zone, then closes the cell. Returns whether the test passes; None if memory allocation fails.
 pub fn is_played<R: Wait, P: Play>(rt: &R, alloc: Global, zone: Zone, play: &P) -> Option<bool> {
     is_played_by(rt, alloc, zone, u64::MAX, play)
 }
 
-/// The same, whose readers have so many grants, or 2^40 where that is less.
+/// The same, with readers that have `grants` grants, or 2^40 if that is less.
 pub fn is_played_by<R: Wait, P: Play>(
     rt: &R,
     alloc: Global,

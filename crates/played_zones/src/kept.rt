@@ -1,15 +1,15 @@
-//! Who asks in tests, and a log of what is told of that.
+//! The addresses of clients in tests, and a log that keeps its lines.
 use std::alloc::Global;
 use std::net::{IpAddr, SocketAddr};
 use std::sync::{Mutex, Wait};
-use zone_service::{Event, ServiceLog};
+use zone_server::{Event, ServiceLog};
 
-/// Who asks from 192.0.2.7, by a port.
+/// The address of a client: 192.0.2.7, with a port.
 pub fn asker(port: u16) -> SocketAddr {
     SocketAddr::new(IpAddr::from([192, 0, 2, 7]), port)
 }
 
-/// A log that keeps the lines that it is told, each with a semicolon behind it.
+/// A log that keeps the lines of its events, each followed by a semicolon.
 #[derive(Drop)]
 pub struct Kept {
     lines: Mutex<String>,
@@ -23,14 +23,14 @@ impl ServiceLog for Kept {
 }
 
 impl Kept {
-    /// A log that has been told nothing.
+    /// An empty log.
     pub fn new(alloc: Global) -> Kept {
         Kept {
             lines: Mutex::new(String::new(alloc)),
         }
     }
 
-    /// Whether it was told these lines.
+    /// Whether the log's lines are exactly these.
     pub fn has<R: Wait>(&self, rt: &R, lines: &str) -> bool {
         self.lines.lock(rt).as_str() == lines
     }

@@ -1,6 +1,8 @@
-//! What tests of the running server stand on: zones of rows, cells of versions in which something is played, and a log that is kept.
+//! Support for tests of the running server: zones from tables of records, cells of versions for a test to run in, and a log that keeps its
+//! lines.
 //!
-//! [`is_played`] makes a cell in which a zone's first version alone is published, plays in it and ends it; [`server_of`] is its server.
+//! [`is_played`] makes a cell in which only the first version of a zone is published, runs a test in it and closes it; [`server_of`] makes a
+//! server over a cell.
 #![tactic(auto)]
 
 mod cells;

@@ -1,4 +1,4 @@
-//! Zones and octets of tables.
+//! Zones and octets from tables.
 ghost use Rattle.std.specs.Prelude.{◌≡◌, IfSome};
 
 use dns_name::Name;
@@ -6,21 +6,21 @@ use dns_rdata::{RData, RRset, RType, Ttl};
 use std::alloc::Global;
 use zone_tree::{Version, Zone};
 
-/// The octets that hexadecimal stands for.
+/// The octets that a hexadecimal text stands for.
 pub fn octets_of(alloc: Global, text: &str) -> Option<Vec<u8>> {
     hex::decode(alloc, text.as_bytes()).ok()
 }
 
-/// Data of a type, by their octets in hexadecimal.
+/// The RDATA of a type, from its octets in hexadecimal.
 fn data_of(alloc: Global, rtype: RType, text: &str) -> Option<RData> {
     let octets = octets_of(alloc, text)?;
     RData::from_wire(alloc, rtype, &octets).ok()
 }
 
-/// A set of one record: its owner, in full or below `example.test.`, its type's number, and the data's octets in hexadecimal.
+/// An RRset of one record: its owner, absolute or relative to `example.test.`, the number of its type, and its RDATA in hexadecimal.
 pub type SetRow = (&'static str, u16, &'static str);
 
-/// The set of a row.
+/// The RRset of a row.
 fn set_of(alloc: Global, row: &SetRow) -> Option<RRset> {
     let origin = Name::from_text(b"example.test.", &Name::root()).ok()?;
     let owner = Name::from_text(row.0.as_bytes(), &origin).ok()?;
@@ -28,7 +28,7 @@ fn set_of(alloc: Global, row: &SetRow) -> Option<RRset> {
     RRset::new(alloc, &owner, Ttl(3600), data).ok()
 }
 
-/// The sets of rows.
+/// The RRsets of rows.
 fn sets_of(alloc: Global, rows: &[SetRow]) -> Option<Vec<RRset>> {
     let mut sets = Vec::new(alloc);
     for row in rows {
@@ -37,7 +37,7 @@ fn sets_of(alloc: Global, rows: &[SetRow]) -> Option<Vec<RRset>> {
     Some(sets)
 }
 
-/// The zone of rows in canonical order, each a set.
+/// The zone of rows in canonical order, each of them an RRset.
 pub fn zone_of(alloc: Global, rows: &[SetRow]) -> Option<Zone> {
     let sets = sets_of(alloc, rows)?;
     Zone::new(alloc, sets).ok()
@@ -51,7 +51,7 @@ pub fn version_of(alloc: Global, rows: &[SetRow]) -> Option<Version>
     Some(Version::first(zone))
 }
 
-/// A zone of five sets, in canonical order.
+/// A zone of five RRsets, in canonical order.
 const ZONE: &[SetRow] = &[
     ("example.test.", 2, "036e7331076578616d706c65047465737400"),
     (
@@ -68,7 +68,7 @@ const ZONE: &[SetRow] = &[
     ),
 ];
 
-/// The zone of five sets; None where memory is refused.
+/// The zone of five RRsets; None if memory allocation fails.
 pub fn zone(alloc: Global) -> Option<Zone> {
     zone_of(alloc, ZONE)
 }

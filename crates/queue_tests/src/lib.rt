@@ -1,4 +1,4 @@
-//! Tests of what waits for a thread of its own: a queue that is full, one that is ended, and one that threads share.
+//! Tests of queues of work for another thread: a queue that is full, one that is ended, and one that threads share.
 #![tactic(auto)]
 
 #[cfg(test)]

@@ -4,23 +4,23 @@ use std::sync::{Mutex, Wait};
 use std::test::Fail;
 use std::thread::{self, Threads};
 use std::time::{Clock, Duration};
-use update_queue::{Most, Queue};
+use update_batches::{Most, Queue};
 
-/// How much waits at most.
+/// The limits of the queue.
 const MOST: Most = Most {
     items: 4,
     octets: 100,
 };
 
-/// How many are put.
+/// The number of items that are put.
 const PUT: u64 = 100;
 
-/// Whether these were taken, in this order.
+/// Whether `count` items were taken, in order, from `first` on.
 fn is_taken(taken: &[u64], first: u64, count: usize) -> bool {
     taken.len() == count && taken.iter().zip(first..PUT).all(|(item, n)| *item == n)
 }
 
-// What finds no room comes back; what waits is taken in its order, as much of it as there is room for.
+// An item that finds no room is returned. Queued items are taken in order, as many as there is room for.
 #[test]
 fn a_full_queue(rt: HostRuntime) -> Result<(), Fail> {
     let alloc: Global = rt.alloc();
@@ -39,7 +39,8 @@ fn a_full_queue(rt: HostRuntime) -> Result<(), Fail> {
     Ok(())
 }
 
-// What would make more octets wait than may comes back, however few wait; once some are taken there is room for as many octets as these had.
+// An item that would exceed the limit of octets is returned, however few items are queued. Once some are taken, there is room for as many
+// octets as they had.
 #[test]
 fn a_queue_full_of_octets(rt: HostRuntime) -> Result<(), Fail> {
     let alloc: Global = rt.alloc();
@@ -57,7 +58,7 @@ fn a_queue_full_of_octets(rt: HostRuntime) -> Result<(), Fail> {
     Ok(())
 }
 
-// Nothing is put into a queue that is ended; what waits is still taken, and then who takes is told.
+// Nothing can be put into a queue that is ended. Queued items are still taken; after that, `take` reports that the queue has ended.
 #[test]
 fn an_ended_queue(rt: HostRuntime) -> Result<(), Fail> {
     let alloc: Global = rt.alloc();
@@ -71,7 +72,7 @@ fn an_ended_queue(rt: HostRuntime) -> Result<(), Fail> {
     Ok(())
 }
 
-/// Puts numbers in their order, each once there is room for it, and ends the queue when who takes waits for more.
+/// Puts numbers in order, each once there is room for it, and ends the queue when the taking thread waits for more.
 fn put_all<R: Wait + Clock>(rt: &R, queue: &Queue<u64>) {
     for item in 0..PUT {
         for _ in rt.forever() {
@@ -84,7 +85,7 @@ fn put_all<R: Wait + Clock>(rt: &R, queue: &Queue<u64>) {
     queue.end(rt);
 }
 
-/// How many are taken until the queue is ended, where they come in their order; None else.
+/// The number of items that are taken until the queue is ended. None if they are not in order, or if memory allocation fails.
 fn take_all<R: Wait>(rt: &R, alloc: Global, queue: &Queue<u64>) -> Option<u64> {
     let mut taken: Vec<u64> = Vec::with_capacity(alloc, 3).ok()?;
     let mut next = 0u64;
@@ -103,7 +104,7 @@ fn take_all<R: Wait>(rt: &R, alloc: Global, queue: &Queue<u64>) -> Option<u64> {
     Some(next)
 }
 
-// Who takes waits until something is put, or the queue is ended, and gets all that is put, in its order.
+// The taking thread waits until something is put, or the queue is ended, and gets all items that are put, in order.
 #[test]
 fn a_queue_of_two_threads(rt: HostRuntime) -> Result<(), Fail> {
     let alloc: Global = rt.alloc();

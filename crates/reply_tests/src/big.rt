@@ -1,19 +1,19 @@
-//! A transfer of several messages that goes on from a place, beside the messages of the same one that are made at once.
-use conversation::OpenGate;
+//! A transfer of several messages that continues from a position, compared with the messages of the same transfer made all at once.
 use dns_engine::{FirstZone, VersionCell, VersionChain, VersionPublisher, VersionReader};
 use dns_message::{Parsed, is_update, parse_other, take_frame};
 use dns_name::Name;
 use dns_rdata::{RData, RRset, RType, Ttl};
 use played_zones::{Kept, Play, Played, asker, is_played, octets_of, server_of};
+use requests::OpenGate;
 use serve_core::{Peer, Transport, is_permitted, respond_to_peer, transfer_reply};
 use std::alloc::Global;
 use std::sync::Wait;
-use told_streams::{Tape, answer_tape};
-use zone_replies::Replies;
-use zone_service::{Server, ServerLedgers, ServerName};
+use told_streams::{MemoryStream, answer_stream};
+use zone_replies::ConnectionHandler;
+use zone_server::{Server, ServerLedgers, ServerName};
 use zone_tree::{Version, Zone};
 
-/// The set of an owner in full or below `example.test.`, of one record.
+/// An RRset of one record, whose owner is absolute or relative to `example.test.`.
 fn set_of(alloc: Global, owner: &str, rtype: u16, octets: &[u8]) -> Option<RRset> {
     let origin = Name::from_text(b"example.test.", &Name::root()).ok()?;
     let owner = Name::from_text(owner.as_bytes(), &origin).ok()?;
@@ -21,7 +21,7 @@ fn set_of(alloc: Global, owner: &str, rtype: u16, octets: &[u8]) -> Option<RRset
     RRset::new(alloc, &owner, Ttl(3600), data).ok()
 }
 
-/// A TXT of fifteen strings of 255 octets, and one of 200.
+/// A TXT record with fifteen strings of 255 octets, and one of 200.
 fn long_text(alloc: Global) -> Option<Vec<u8>> {
     let mut octets = Vec::new(alloc);
     for _string in 0..15 {
@@ -53,24 +53,24 @@ fn big_zone(alloc: Global) -> Option<Zone> {
     Zone::new(alloc, sets).ok()
 }
 
-/// AXFR, a query for the SOA, and AXFR again (RFC 5936, 2.1).
+/// An AXFR, a query for the SOA, and an AXFR again (RFC 5936, 2.1).
 const REQUESTS: &str =
     "001e123400000001000000000000076578616d706c6504746573740000fc0001001e123401000001000000000000076578616d706c6504746573740000060001001e123500000001000000000000076578616d706c6504746573740000fc0001";
 
-/// How many octets can be written.
+/// The number of octets that can be written.
 const ROOM: usize = 300_000;
 
-/// How many messages a transfer of the zone has at most.
+/// The maximum number of messages in a transfer of the zone.
 const MESSAGES: usize = 100;
 
-/// Puts a message's frame behind octets (RFC 1035, 4.2.2).
+/// Appends the frame of a message to octets (RFC 1035, 4.2.2).
 fn put_frame(message: &[u8], written: &mut Vec<u8>) -> Option<()> {
     let length = u16::try_from(message.len()).ok()?;
     written.extend_from_slice(&length.to_be_bytes()).ok()?;
     written.extend_from_slice(message).ok()
 }
 
-/// Puts the frames of the messages that a query gets in a version behind octets, all at once.
+/// Appends the frames of the messages that a query gets in a version to octets, all at once.
 fn put_replies(version: &Version, request: &[u8], peer: Peer, written: &mut Vec<u8>) -> Option<()> {
     let mut out = [0u8; 65_535];
     if is_update(request) {
@@ -107,20 +107,27 @@ fn at_once(alloc: Global, version: &Version, peer: Peer) -> Option<Vec<u8>> {
     Some(written)
 }
 
-/// What a connection writes, by a reader that comes back.
+/// The octets that a connection writes. It uses one of the readers and puts it back.
 fn by_places<R: Wait, Z: FirstZone, N: ServerName>(
     rt: &R,
     alloc: Global,
     server: &Server<'_, Z, N>,
     readers: &mut Vec<VersionReader<N>>,
     peer: Peer,
-) -> Option<Tape> {
-    let tape = Tape::new(alloc, octets_of(alloc, REQUESTS)?, ROOM, 1_000).ok()?;
+) -> Option<MemoryStream> {
+    let tape = MemoryStream::new(alloc, octets_of(alloc, REQUESTS)?, ROOM, 1_000).ok()?;
     let log = Kept::new(alloc);
-    let mut replies = Replies::new(alloc, server, readers.pop()?, &log, peer, asker(4711));
+    let mut replies = ConnectionHandler::new(
+        alloc,
+        server,
+        readers.pop()?,
+        &log,
+        peer,
+        asker(4711),
+    );
     let mut room = [0u8; 4_096];
     let mut out = [0u8; 65_535];
-    let (_end, tape) = answer_tape(
+    let (_end, tape) = answer_stream(
         rt,
         alloc,
         &mut replies,
@@ -133,7 +140,7 @@ fn by_places<R: Wait, Z: FirstZone, N: ServerName>(
     Some(tape)
 }
 
-/// Whether a connection writes the messages that are made at once, and more than two zones.
+/// Whether a connection writes the messages that are made all at once, and these are longer than two zones.
 fn is_same<R: Wait, Z: FirstZone, N: ServerName>(
     rt: &R,
     alloc: Global,
@@ -151,7 +158,7 @@ fn is_same<R: Wait, Z: FirstZone, N: ServerName>(
     Some(one.as_slice() == other.written() && one.len() > 200_000)
 }
 
-/// Both ways.
+/// The test with both ways to make the messages.
 struct BothWays;
 
 impl Play for BothWays {

@@ -1,20 +1,20 @@
-//! Updates that are handed to who judges them: one that waits is handed once, what another asker has under the same key is another one, and what would be too many
-//! octets beside those that wait is told at once.
-use connections::{Answering, Reply, Unmade};
+//! Updates that are submitted to the update thread. A queued update is submitted once, the same update from another client under the same key
+//! is another update, and an update that would make the queue exceed its limit of octets is answered at once.
 use dns_engine::{FirstZone, VersionCell, VersionPublisher, VersionReader};
 use played_zones::{Kept, Play, Played, asker, is_played, octets_of, server_of, zone};
 use serve_core::{Peer, Transport};
 use std::alloc::Global;
 use std::sync::Wait;
-use update_queue::{Most, Queue};
-use zone_replies::Replies;
-use zone_service::{Hand, Server, ServerLedgers, ServerName, Waiting, Way};
+use tcp_connections::{Handler, Reply, Unmade};
+use update_batches::{Most, Queue};
+use zone_replies::ConnectionHandler;
+use zone_server::{QueuedUpdate, ReplyTo, Server, ServerLedgers, ServerName, UpdateSender};
 
 /// An update that adds an address at `new` (RFC 2136, 2).
 const UPDATE: &str =
     "432128000001000000010000076578616d706c6504746573740000060001036e6577c00c0001000100000e100004c000020b";
 
-/// How much waits at most: of that update one alone, of 50 octets and one record.
+/// The limits of the queue: it has room for one such update, of 50 octets and one record.
 const MOST: Most = Most {
     items: 8,
     octets: 739,
@@ -23,7 +23,7 @@ const MOST: Most = Most {
 /// A query for the zone's SOA.
 const QUERY: &str = "123401000001000000000000076578616d706c6504746573740000060001";
 
-/// Who may update.
+/// A peer that is allowed to update.
 fn updater() -> Peer {
     Peer {
         may_update: true,
@@ -32,10 +32,10 @@ fn updater() -> Peer {
     }
 }
 
-/// Whether the reply to a request is made later, which a port's peer asks for on the connection under a key.
+/// Whether the reply to a request is made later. The request is from a port, on the connection with a key.
 fn is_later<R: Wait, Z: FirstZone, N: ServerName>(
     rt: &R,
-    replies: &mut Replies<'_, '_, Z, N, Kept>,
+    replies: &mut ConnectionHandler<'_, '_, Z, N, Kept>,
     port: u16,
     key: usize,
     request: &[u8],
@@ -49,26 +49,27 @@ fn is_later<R: Wait, Z: FirstZone, N: ServerName>(
     }
 }
 
-/// The key of the connection of the one update that waits; None where more do.
-fn one_key<R: Wait>(rt: &R, alloc: Global, queue: &Queue<Waiting>) -> Option<usize> {
+/// The key of the connection of the one queued update. None if more are queued.
+fn one_key<R: Wait>(rt: &R, alloc: Global, queue: &Queue<QueuedUpdate>) -> Option<usize> {
     let mut taken = Vec::with_capacity(alloc, 2).ok()?;
     if !queue.take(rt, &mut taken) || taken.len() > 1 {
         return None;
     }
     let waiting = taken.pop()?;
     match waiting.way {
-        Way::Connection { worker: 1, key, .. } => Some(key),
+        ReplyTo::Connection { worker: 1, key, .. } => Some(key),
         _ => None,
     }
 }
 
-/// Whether an update is handed once while it waits, and anew for another asker, on another connection, and after a query; and where one waits that leaves no room, not until
-/// that is taken. So one that were handed twice would find no room, and be told at once.
+/// Whether an update is submitted once while it is queued, and again for another client, on another connection, and after a query; and whether,
+/// while the queue has no room, it is not submitted until the queued update is taken. If one update were submitted twice, the second would find
+/// no room, and would be answered at once.
 fn is_handed_once<R: Wait, Z: FirstZone, N: ServerName>(
     rt: &R,
     alloc: Global,
-    queue: &Queue<Waiting>,
-    replies: &mut Replies<'_, '_, Z, N, Kept>,
+    queue: &Queue<QueuedUpdate>,
+    replies: &mut ConnectionHandler<'_, '_, Z, N, Kept>,
 ) -> Option<bool> {
     let (update, query) = (octets_of(alloc, UPDATE)?, octets_of(alloc, QUERY)?);
     let first = is_later(rt, replies, 4711, 0, &update)?;
@@ -84,7 +85,7 @@ fn is_handed_once<R: Wait, Z: FirstZone, N: ServerName>(
     Some(first && again && other && beside && asked && behind && full && room)
 }
 
-/// The same, by a reader that comes back.
+/// The same, with one of the readers, which is put back.
 fn is_handed<R: Wait, Z: FirstZone, N: ServerName>(
     rt: &R,
     alloc: Global,
@@ -93,8 +94,15 @@ fn is_handed<R: Wait, Z: FirstZone, N: ServerName>(
 ) -> Option<bool> {
     let queue = Queue::new(alloc, MOST).ok()?;
     let log = Kept::new(alloc);
-    let replies = Replies::new(alloc, server, readers.pop()?, &log, updater(), asker(4711));
-    let mut replies = replies.handing(Hand {
+    let replies = ConnectionHandler::new(
+        alloc,
+        server,
+        readers.pop()?,
+        &log,
+        updater(),
+        asker(4711),
+    );
+    let mut replies = replies.with_sender(UpdateSender {
         queue: &queue,
         worker: 1,
     });
@@ -103,10 +111,10 @@ fn is_handed<R: Wait, Z: FirstZone, N: ServerName>(
     is_handed
 }
 
-/// Updates that are handed.
-struct Handing;
+/// The test of updates that are submitted.
+struct Submitting;
 
-impl Play for Handing {
+impl Play for Submitting {
     fn play<R: Wait, Z: FirstZone, N: ServerName>(
         &self,
         rt: &R,
@@ -143,7 +151,7 @@ impl Play for Handing {
 #[test]
 fn an_update_that_waits_is_handed_once(rt: HostRuntime) {
     let told = match zone(rt.alloc()) {
-        Some(zone) => is_played(&rt, rt.alloc(), zone, &Handing),
+        Some(zone) => is_played(&rt, rt.alloc(), zone, &Submitting),
         None => None,
     };
     assert_eq!(rt; told, Some(true));

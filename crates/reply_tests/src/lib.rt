@@ -1,6 +1,6 @@
-//! What a running zone replies on connections: by a transfer of many messages, beside the messages of the same transfer that are made at once; and later, to updates that are handed
-//! to who judges them.
-//! Other requests, by the octets that the RFCs give for them, `serve_tests` has.
+//! Tests of the replies of a running zone on connections: a transfer of many messages, compared with the messages of the same transfer made all
+//! at once, and replies that are made later, to updates that are submitted to the update thread. Other requests, with the octets that the RFCs
+//! give for them, are tested in `serve_tests`.
 #![tactic(auto)]
 
 #[cfg(test)]

@@ -1,14 +1,14 @@
-//! Streams that end or fail at each place of two requests and their replies, frames too short for a header, and streams that find no grant left
-//! (RFC 1035, 4.1.1 and 4.2.2).
+//! Streams that end or fail at each position in two requests and their replies, frames too short for a header, and streams whose reader has no
+//! grants left (RFC 1035, 4.1.1 and 4.2.2).
 use crate::served::{Course, first_wrong, told};
 use crate::streams::{ALL, Row, TRANSFER};
-use conversation::{Counted, StreamEnd};
 use dns_engine::KEPT;
+use requests::{Counted, StreamEnd};
 use std::test::Fail;
-use told_streams::Tape;
+use told_streams::MemoryStream;
 
-/// A query for the address of www.example.test., in a frame, and ten octets of one that has 34; its reply has the alias and the address of
-/// its target.
+/// A query for the address of www.example.test., in a frame, followed by a frame with only ten of the 34 octets of a query. The reply to the
+/// first has the alias and the address of its target.
 const CUT: Row = Row {
     may: false,
     end: StreamEnd::Torn,
@@ -21,7 +21,7 @@ c00c0005000100000e10000603776562c010c02e0001000100000e100004c000020a",
     ..TRANSFER
 };
 
-/// The query twice, whose replies have 140 octets with their lengths.
+/// The query twice. The replies have 140 octets with their lengths.
 const TWICE: Row = Row {
     end: StreamEnd::Clean,
     input: "\
@@ -35,7 +35,7 @@ c00c0005000100000e10000603776562c010c02e0001000100000e100004c000020a",
     ..CUT
 };
 
-/// Frames of no octet, of one and of eleven, between two queries: they get no reply, and the stream goes on.
+/// Frames of no octets, of one octet and of eleven, between two queries. They get no reply, and the stream continues.
 const SHORT: Row = Row {
     input: "\
 0000\
@@ -47,7 +47,7 @@ const SHORT: Row = Row {
     ..TWICE
 };
 
-// Streams that end by themselves, by whatever many octets at once they come and go.
+// Streams that end cleanly or within a frame, for several numbers of octets in one read or write.
 #[test]
 fn streams_end_within_a_frame_and_after_it(rt: HostRuntime) {
     for step in [1usize, 2, 3, 34, 36, 70, 9999] {
@@ -60,7 +60,7 @@ fn streams_end_within_a_frame_and_after_it(rt: HostRuntime) {
     }
 }
 
-/// The first of the octets that hexadecimal stands for; none where it stands for fewer.
+/// The first octets of a hexadecimal text; the empty text if it has fewer.
 fn front_of(text: &'static str, octets: usize) -> &'static str {
     match text.split_at_checked(octets.saturating_mul(2)) {
         Some((front, _)) => front,
@@ -68,8 +68,8 @@ fn front_of(text: &'static str, octets: usize) -> &'static str {
     }
 }
 
-/// The query twice, on a stream that takes so many octets and no more, some at once or one by one; and on one of which so many calls go well after 36
-/// reads, an octet each, which are the first request: 70 writes, which are its reply, and then reads of the second one.
+/// The query twice, on a stream that takes `calls` octets and no more, several or one at a time; and on a stream on which `calls` calls succeed
+/// after the 36 reads, of one octet each, of the first request: 70 writes of its reply, then reads of the second request.
 fn failing(calls: u8) -> [Course; 3] {
     let room = usize::from(calls);
     let some = Row {
@@ -92,7 +92,7 @@ fn failing(calls: u8) -> [Course; 3] {
     ]
 }
 
-// A stream that takes no more, or whose write or read fails, ends by its device, and just the octets that it took are written.
+// A stream that takes no more octets, or whose write or read fails, ends with `Device`, and exactly the octets that it took are written.
 #[test]
 fn a_stream_that_fails_has_what_it_took(rt: HostRuntime) {
     for calls in 0..106u8 {
@@ -101,10 +101,10 @@ fn a_stream_that_fails_has_what_it_took(rt: HostRuntime) {
     }
 }
 
-// A write to a stream with room for one octet takes that; and each further one, which takes none, is a failure.
+// A write to a stream with room for one octet takes one octet. Each further write takes none and is counted as a failure.
 #[test]
 fn a_write_of_nothing_is_counted(rt: HostRuntime) -> Result<(), Fail> {
-    let tape = Tape::new(rt.alloc(), Vec::new(rt.alloc()), 1, 9)?;
+    let tape = MemoryStream::new(rt.alloc(), Vec::new(rt.alloc()), 1, 9)?;
     let mut stream = Counted::new(tape);
     let first = (stream.write(b"ab").unwrap_or(0), stream.faults);
     let second = (stream.write(b"b").is_err(), stream.faults);
@@ -113,7 +113,7 @@ fn a_write_of_nothing_is_counted(rt: HostRuntime) -> Result<(), Fail> {
     Ok(())
 }
 
-/// The query, a header that can't be read as one, and the query again, for which no grant is left.
+/// The query, a header without its question, and the query again, for which no grant is left.
 const QUERIES: Row = Row {
     end: StreamEnd::Spent,
     input: "\
@@ -127,7 +127,7 @@ c00c0005000100000e10000603776562c010c02e0001000100000e100004c000020a\
     ..TWICE
 };
 
-/// The zone in whole, twice, of which the second finds no grant left (RFC 5936, 2.2).
+/// Two full transfers, of which the second finds no grant left (RFC 5936, 2.2).
 const TRANSFERS: Row = Row {
     end: StreamEnd::Spent,
     input: "\
@@ -141,7 +141,7 @@ const TRANSFERS: Row = Row {
     ..TRANSFER
 };
 
-/// An update, and what it changed, twice, of which the second finds too few grants left (RFC 1995, 4; RFC 2136, 3).
+/// An update, and two incremental transfers of its changes, of which the second finds too few grants left (RFC 1995, 4; RFC 2136, 3).
 const CHANGES: Row = Row {
     end: StreamEnd::Spent,
     input: "\
@@ -158,14 +158,14 @@ const CHANGES: Row = Row {
     ..TRANSFER
 };
 
-/// The same, of which the first finds too few.
+/// The same, where the first transfer finds too few.
 const NO_CHANGES: Row = Row {
     written: "000c4321a8000000000000000000",
     ..CHANGES
 };
 
-/// Updates, of which the third and the fourth find no grant left for the version that they would make; the fifth changes nothing, and wants none. The SOA is then
-/// that of the second one.
+/// Updates, of which the third and the fourth find no grant left for the version that they would make. The fifth changes nothing and needs
+/// none. The SOA is then that of the second.
 const UPDATES: Row = Row {
     input: "\
 0032432128000001000000010000076578616d706c6504746573740000060001036e6577c00c0001000100000e100004c000024d\
@@ -191,10 +191,10 @@ update from 192.0.2.7:4711: NOERROR, serial 3 stays;",
     ..TRANSFER
 };
 
-/// Streams by how many grants the reader of the server and that of who asks have each, and whether they go as their rows say. Without a grant there is no
-/// server, whose engine takes one for the first version and one for each version more. A query takes one; a transfer two: one where it is seen
-/// to be permitted, and one where it is begun; one that tells what an update changed a third, for the version that the update made. What is
-/// written has no part of a reply for which they are too few (own).
+/// Streams by the number of grants that the server's reader and the connection's reader each have, and whether they go as their rows say.
+/// Without a grant there is no server: its engine takes one for the first version and one for each further version. A query takes one grant. A
+/// transfer takes two: one when its permission is checked, and one when it starts. An incremental transfer of the changes of an update takes a
+/// third, for the version that the update made. Nothing is written of a reply for which there are too few grants (own).
 const BY_GRANTS: &[(u64, Row, Option<bool>)] = &[
     (0, QUERIES, None),
     (1, QUERIES, Some(true)),

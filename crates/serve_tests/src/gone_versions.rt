@@ -1,12 +1,12 @@
-//! What a running server tells of versions that are there, and in whole of one that has gone (RFC 1995, 4; own).
+//! Replies to IXFR: incremental while the versions are there, and full once one of them has gone (RFC 1995, 4; own).
 use crate::served::{Course, told};
 use crate::streams::{self, ALL, Row, TRANSFER};
 use dns_engine::{FirstZone, VersionReader};
 use std::alloc::Global;
 use std::sync::Wait;
-use zone_service::{Server, ServerName};
+use zone_server::{Server, ServerName};
 
-/// An update that adds an address at `new`, and NOERROR.
+/// An update that adds an address at `new`, and the reply NOERROR.
 const FIRST_UPDATE: Row = Row {
     input: "\
 0032432128000001000000010000076578616d706c6504746573740000060001036e6577c00c0001000100000e100004c000024d",
@@ -15,8 +15,8 @@ const FIRST_UPDATE: Row = Row {
     ..TRANSFER
 };
 
-/// An update that adds another one, and an IXFR from serial 1, whose reply has what both updates changed: the version that the first one made is
-/// owned.
+/// An update that adds another one, and an IXFR from serial 1, whose reply has the changes of both updates: the version that the first update
+/// made has an owner.
 const WHILE_OWNED: Row = Row {
     input: "\
 0032432128000001000000010000076578616d706c6504746573740000060001036e6577c00c0001000100000e100004c000024e\
@@ -27,7 +27,7 @@ const WHILE_OWNED: Row = Row {
     ..TRANSFER
 };
 
-/// The same IXFR, once nobody owns that version: the reply has the zone in whole.
+/// The same IXFR, once that version has no owner: the reply is a full transfer.
 const ONCE_GONE: Row = Row {
     input: "\
 0040123400000001000000010000076578616d706c6504746573740000fb0001c00c0006000100000000001600000000000100000000000000000000000000000000",
@@ -45,7 +45,7 @@ c00c0006000100000e100018c02ac0300000000300001c2000000384001275000000012c",
     ..TRANSFER
 };
 
-/// Streams while the version between two updates is owned and once it isn't.
+/// Runs the streams while the version between two updates has an owner, and once it has none.
 pub(crate) fn go<R: Wait, Z: FirstZone, N: ServerName>(
     rt: &R,
     alloc: Global,
@@ -62,7 +62,7 @@ pub(crate) fn go<R: Wait, Z: FirstZone, N: ServerName>(
     Some((first?, owned?, buried, gone?) == (true, true, Some(1), true))
 }
 
-// What changed is told as long as the versions are there, whoever owns them, and in whole once one has gone (RFC 1995, 4).
+// The transfer is incremental while the versions are there, whatever owns them, and full once one of them has gone (RFC 1995, 4).
 #[test]
 fn a_version_is_told_as_long_as_it_is_there(rt: HostRuntime) {
     assert_eq!(rt;

@@ -1,7 +1,7 @@
-//! Tests of the running server: how many versions are told of after a start of a journal, updates that it publishes, while memory, grants and slots are
-//! wanted too, streams that `connections` serves by `zone_replies`, and datagrams and logs of `conversation` and `zone_service`. Zones, requests and
-//! replies are tables. What replies and transfers hold, tables of rows show; transfers of many messages `reply_tests`, jobs and connections
-//! `worker_tests`.
+//! Tests of the running server: how many versions incremental transfers reach back after a start from a journal, updates that it publishes
+//! (also when memory, grants or slots run out), streams that `tcp_connections` serves by `zone_replies`, and datagrams and logs of `requests`
+//! and `zone_server`. Zones, requests and replies are tables. Other tables of rows show the content of replies and transfers; transfers of many
+//! messages are tested in `reply_tests`, jobs and connections in `worker_tests`.
 #![tactic(auto)]
 
 #[cfg(test)]

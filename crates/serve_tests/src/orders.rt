@@ -1,16 +1,16 @@
-//! The order in which a gate is entered, a request answered and the gate left.
+//! The order in which a gate is entered, a request is answered and the gate is left.
 use crate::served::{Course, told};
 use crate::streams::{self, ALL, TRANSFER};
 use crate::trays::{self, TWO_UPDATES};
-use conversation::Gate;
 use dns_engine::{FirstZone, VersionReader};
+use requests::Gate;
 use std::alloc::Global;
 use std::sync::Wait;
 use std::sync::atomic::{AtomicU64, Ordering};
-use zone_service::{Event, Server, ServerName, ServiceLog};
+use zone_server::{Event, Server, ServerName, ServiceLog};
 
-/// The calls so far, in their order, each a digit: 1 where the gate is entered, 2 where the log is told of an update, which is answered then, 3 where the
-/// gate is left.
+/// The calls so far, in order, each a digit: 1 when the gate is entered, 2 when an update is logged (it is answered then), 3 when the gate is
+/// left.
 #[derive(Drop)]
 struct Calls {
     digits: AtomicU64,
@@ -49,7 +49,7 @@ const ON_A_STREAM: streams::Row = streams::Row {
     ..TRANSFER
 };
 
-/// Two updates on a stream, and two by datagrams.
+/// Two updates on a stream, and two in datagrams.
 pub(crate) fn go<R: Wait, Z: FirstZone, N: ServerName>(
     rt: &R,
     alloc: Global,
@@ -64,7 +64,7 @@ pub(crate) fn go<R: Wait, Z: FirstZone, N: ServerName>(
     Some(calls.digits.load(Ordering::SeqCst) == 123_123_123_123)
 }
 
-// Each request goes through the gate by itself, and is answered in it.
+// Each request passes the gate by itself, and is answered between its entry and its exit.
 #[test]
 fn the_gate_is_entered_before_the_answer(rt: HostRuntime) {
     assert_eq!(rt;

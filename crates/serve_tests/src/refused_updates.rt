@@ -1,5 +1,5 @@
-//! Updates and queries while memory is refused: what was published last stays, queries are answered by it, and the same update sent anew makes the
-//! next version.
+//! Updates and queries when memory allocation fails: the version published last stays, queries are answered from it, and the same update, sent
+//! again, makes the next version.
 use crate::served::{Course, told};
 use crate::slots::update_of;
 use crate::streams::ALL;
@@ -9,10 +9,10 @@ use serve_core::{Peer, Transport};
 use std::alloc::Global;
 use std::sync::Wait;
 use transfer_core::{ChainView, VersionList};
-use zone_service::{Now, Server, ServerName, answer_now};
+use zone_server::{Now, Server, ServerName, answer_now};
 use zone_tree::ZoneRead;
 
-/// The query for www.example.test., type A, and its reply: the alias and the address of its target (RFC 1035, 4.1).
+/// The query for the type A of www.example.test., and its reply: the alias and the address of its target (RFC 1035, 4.1).
 const QUERY: &[u8] =
     b"\x12\x34\x01\x00\x00\x01\x00\x00\x00\x00\x00\x00\x03www\x07example\x04test\x00\x00\x01\x00\x01";
 
@@ -44,7 +44,7 @@ pub(crate) fn ask_twice<Z: FirstZone, N: ServerName>(
     Some(first && second)
 }
 
-/// Whether the first version is still the last one: its number, its serial and its five sets, and its answer to the query.
+/// Whether the first version is still the last one: its number, its serial, its five RRsets, and its answer to the query.
 fn has_first<Z: FirstZone, N: ServerName>(
     server: &Server<'_, Z, N>,
     reader: &mut VersionReader<N>,
@@ -62,7 +62,8 @@ fn has_first<Z: FirstZone, N: ServerName>(
     is_first && is_answered(server, reader)
 }
 
-/// The code of an update, or, where it is SERVFAIL and all is as it was, that of the same update sent anew; None where there is no memory for it.
+/// The response code of an update. If that is SERVFAIL and nothing has changed, the code of the same update sent again. None if memory
+/// allocation fails.
 fn sent_anew<R: Wait, Z: FirstZone, N: ServerName>(
     rt: &R,
     alloc: Global,
@@ -78,7 +79,7 @@ fn sent_anew<R: Wait, Z: FirstZone, N: ServerName>(
     Some(code)
 }
 
-/// An update, sent anew where memory is refused, which is then published, and told of as what changed since the first version.
+/// An update, sent again if memory allocation fails. It is then published, and the versions since the first one have its changes.
 pub(crate) fn update_anew<R: Wait, Z: FirstZone, N: ServerName>(
     rt: &R,
     alloc: Global,
@@ -94,7 +95,7 @@ pub(crate) fn update_anew<R: Wait, Z: FirstZone, N: ServerName>(
     Some((code?, number, chain.is_whole(), chain.len()) == (Rcode::NoError, 1, true, 1))
 }
 
-/// Whether a course goes as it should; it is begun anew where there is no memory for it.
+/// Whether a course goes as expected. It is run again if memory allocation fails.
 fn told_anew<R: Wait>(rt: &R, alloc: Global, course: &Course) -> Option<bool> {
     match told(rt, alloc, ALL, 2, course) {
         Some(told) => Some(told),
@@ -102,19 +103,20 @@ fn told_anew<R: Wait>(rt: &R, alloc: Global, course: &Course) -> Option<bool> {
     }
 }
 
-// With any one growth refused, the version published last stays, with its answers, and the same update makes the next one once it is sent anew.
+// If any one allocation that grows memory fails, the version published last stays, with its answers, and the same update, sent again, makes
+// the next version.
 #[test]
 fn refused_growth(rt: HostRuntime) {
     assert_eq!(rt; told_anew(&rt, rt.alloc(), &Course::UpdateAnew), Some(true));
 }
 
-// With any one request for memory refused, no query is answered otherwise: none asks for any.
+// If any one allocation fails, queries are answered as before: they allocate nothing.
 #[test]
 fn answers_at_once_where_memory_is_refused(rt: HostRuntime) {
     assert_eq!(rt; told_anew(&rt, rt.alloc(), &Course::TwoQueries), Some(true));
 }
 
-// The same with all requests refused from one of them on: where there is a zone in its cell, its queries are answered.
+// The same if all allocations fail from some point on: once a zone is in its cell, its queries are answered.
 #[test]
 fn answers_at_once_where_memory_is_refused_ever_after(rt: HostRuntime) {
     assert!(rt; told(&rt, rt.alloc(), ALL, 2, &Course::TwoQueries) != Some(false));

@@ -1,35 +1,35 @@
-//! What a server tells of changes, over a cell that begins with what a journal's updates have made (RFC 1995, 4; own).
+//! Incremental transfers of a server over a cell that starts with the versions that the updates of a journal make (RFC 1995, 4; own).
 ghost use Rattle.std.specs.Prelude.{◌≡◌};
 ghost use Rattle.std.specs.List.{All};
 ghost use Rattle.dns_engine.specs.Versions.{IsFirst, AreNext};
-ghost use Rattle.update_desk.specs.Right.{AreNamed};
+ghost use Rattle.zone_server.specs.Right.{AreNamed};
 
 use crate::slots::update_of;
 use crate::streams::{self, Row, TRANSFER};
-use conversation::OpenGate;
 use dns_engine::{
     FirstZone, KEPT, SharedVersion, VersionCell, VersionPublisher, VersionReader, ZoneVersions,
 };
 use dns_rdata::Rcode;
 use played_zones::{NamedParts, last_of, named_parts, octets_of};
-use recovery::{Start, recover_zone};
+use requests::OpenGate;
 use snapshot_cell::{Cell, Parts};
 use std::alloc::Global;
 use std::marker::Brand;
 use std::process::Abort;
 use std::sync::Wait;
-use zone_service::{NoLog, Server, ServerLedgers, ServerName};
+use store_recovery::{Recovery, recover_zone};
+use zone_server::{NoLog, Server, ServerLedgers, ServerName};
 use zone_tree::Version;
 
-/// A zone text, of serial 1.
+/// A zone text, with serial 1.
 const ZONE: &[u8] =
     b"example.test. 3600 IN SOA ns1.example.test. admin.example.test. 1 7200 900 1209600 300
 example.test. 3600 IN NS ns1.example.test.
 ns1.example.test. 3600 IN A 192.0.2.1
 ";
 
-/// Ten updates of it (RFC 2136, 2), each of which adds an address at `new`, as they come on a stream: each after its length (RFC 1035, 4.2.2). So they
-/// stand in a journal's frame too. The serial goes from 1 to 11.
+/// Ten updates of it (RFC 2136, 2), each of which adds an address at `new`, in their form on a stream: each after its length (RFC 1035, 4.2.2).
+/// They have the same form in a frame of a journal. The serial goes from 1 to 11.
 const UPDATES: &str = "\
 0032432128000001000000010000076578616d706c6504746573740000060001036e6577c00c0001000100000e100004c000020b\
 0032432128000001000000010000076578616d706c6504746573740000060001036e6577c00c0001000100000e100004c000020c\
@@ -42,7 +42,7 @@ const UPDATES: &str = "\
 0032432128000001000000010000076578616d706c6504746573740000060001036e6577c00c0001000100000e100004c0000213\
 0032432128000001000000010000076578616d706c6504746573740000060001036e6577c00c0001000100000e100004c0000214";
 
-/// A journal of them, put together by Python: the head, what stands before the updates, and the sum after them.
+/// A journal of them, built with Python: the head, the octets before the updates, and the sum after them.
 const HEAD: &str = "\
 646e7364206a6f75726e616c2c20320a00000000000000017369787465656e206f63746574732e2e00000000000000a8ab638bb7ce898f9beee31da5f30b72e4b307b035d9c1eeeafd8b0a0005ffff\
 9a00000001000000000000000f278032eeecbdc02092f0ecada9e54ea83a4035196c8e09db8bae8234e8ff74132eb2af1ebaee5198a7e6717ac370c0330f7b13858e4cb06dfdbf9432435f8da8";
@@ -51,7 +51,7 @@ const LEAD: &str = "2eb2af1ebaee5198000002080000000000000000";
 
 const SUM: &str = "f75cfd18522dea0af41a3fb7fe7208642832c8f1674aaf8b1af2d70416b8c261";
 
-/// The updates on a stream of one who may update, and the reply to each: NOERROR.
+/// The updates on a stream of a peer that is allowed to update, and the reply to each: NOERROR.
 const TAKEN: Row = Row {
     input: UPDATES,
     written: "\
@@ -71,7 +71,7 @@ update from 192.0.2.7:4711: NOERROR, serial 10 to 11;",
     ..TRANSFER
 };
 
-/// IXFRs on a stream (RFC 1995, 3), of askers who hold the serials from 3 to 11, and of one who holds serial 2.
+/// IXFRs on a stream (RFC 1995, 3), of clients that have the serials from 3 to 11, and of one that has serial 2.
 const CHANGES: Row = Row {
     input: "\
 0040123400000001000000010000076578616d706c6504746573740000fb0001c00c0006000100000000001600000000000300000000000000000000000000000000\
@@ -87,7 +87,7 @@ const CHANGES: Row = Row {
     ..TRANSFER
 };
 
-/// A journal of these parts, in hexadecimal.
+/// A journal of these parts, given in hexadecimal.
 fn journal_of(alloc: Global, parts: &[&str]) -> Option<Vec<u8>> {
     let mut journal = Vec::new(alloc);
     for part in parts {
@@ -97,7 +97,7 @@ fn journal_of(alloc: Global, parts: &[&str]) -> Option<Vec<u8>> {
     Some(journal)
 }
 
-/// What is written on the stream of IXFRs, by a server that one of these readers asks, which comes back to them.
+/// The octets that a server writes on the stream of IXFRs. It uses one of the readers and puts it back.
 fn written<R: Wait, Z: FirstZone, N: ServerName>(
     rt: &R,
     alloc: Global,
@@ -108,11 +108,11 @@ fn written<R: Wait, Z: FirstZone, N: ServerName>(
     tape.written().to_vec(alloc).ok()
 }
 
-/// The codes of updates.
+/// The response codes of updates.
 type Codes = (Rcode, Rcode, Rcode);
 
-/// The codes of three updates, which a server is asked for by one of these readers, which comes back to them: one that adds an address, one that adds one that is there, and
-/// one of a peer that may not update.
+/// The response codes of three updates that a server gets: one that adds an address, one that adds an address that is there, and one from a
+/// peer that is not allowed to update. It uses one of the readers and puts it back.
 fn codes<R: Wait, Z: FirstZone, N: ServerName>(
     rt: &R,
     alloc: Global,
@@ -128,21 +128,21 @@ fn codes<R: Wait, Z: FirstZone, N: ServerName>(
     Some((first, second, third))
 }
 
-/// What a server does.
+/// The results of a server.
 #[derive(Drop)]
 struct Ran {
     /// Whether the first stream goes as its row says.
     is_taken: bool,
-    /// What is written on the second one.
+    /// The octets that are written on the second one.
     changes: Vec<u8>,
-    /// What three updates more get.
+    /// The response codes of three further updates.
     codes: Option<Codes>,
-    /// The number and the serial of the version with which the server's cell ends.
+    /// The number and the serial of the last version of the server's cell.
     last: (u64, u32),
 }
 
-/// The server of a cell, which keeps as many versions as it may: it publishes what updates make, where none is to be published before that; else these are published, and
-/// the right to publish more is given up.
+/// A server over a cell, which keeps as many versions as it may. If there are no later versions to publish first, it publishes those that
+/// updates make. Otherwise the later versions are published, and the right to publish more is dropped.
 fn server_after<'a, Z: FirstZone, N: ServerName>(
     alloc: Global,
     cell: &'a VersionCell<Z, N>,
@@ -164,8 +164,8 @@ fn server_after<'a, Z: FirstZone, N: ServerName>(
     }
 }
 
-/// What a server does with the updates of a row and with the IXFRs, that keeps as many versions as it may, over a cell in which these are first
-/// published after the first one.
+/// The results of a server for the updates of a row and for the IXFRs. The server keeps as many versions as it may, over a cell in which the
+/// later versions are published after the first one.
 fn written_in<R: Wait + Abort, Z: FirstZone, N: ServerName>(
     rt: &R,
     alloc: Global,
@@ -214,7 +214,7 @@ fn written_in<R: Wait + Abort, Z: FirstZone, N: ServerName>(
     }
 }
 
-/// The same over a cell that begins with a version.
+/// The same over a cell that starts with a version.
 fn written_from<R: Wait + Abort, Z: FirstZone>(
     rt: &R,
     alloc: Global,
@@ -238,19 +238,19 @@ fn written_from<R: Wait + Abort, Z: FirstZone>(
     written_in::<R, Z, Brand>(rt, alloc, parts, later, ledgers, updates)
 }
 
-/// The same over a cell that begins with what a start has of a journal over the zone text.
+/// The same over a cell that starts with the versions recovered from a journal over the zone text.
 fn written_after<R: Wait + Abort>(rt: &R, alloc: Global, journal: &[u8], updates: &Row) -> Ran {
     let Ok(start) = recover_zone(alloc, ZONE, journal) else {
         panic!(rt; "there is no start");
     };
-    let Start { newest, .. } = start;
+    let Recovery { newest, .. } = start;
     let (first, later) = newest.rebased();
     written_from::<R, Brand>(rt, alloc, first, later, updates)
 }
 
-// Who is at most eight versions back is told the same of what changed, by the server that took the updates and by the next one: from serial 3, the
-// SOAs that begin and end the reply, and of eight versions three records each; 4190 octets to all of them. Who is nine versions back is told by
-// the next server the zone in whole: two SOAs, NS, the address of its host, and ten at `new`.
+// A client that is at most eight versions behind gets the same changes from the server that accepted the updates and from the next one: for
+// serial 3, the SOAs that start and end the reply, and three records for each of eight versions; 4190 octets for all clients. A client that is
+// nine versions behind gets a full transfer from the next server: two SOAs, NS, the address of its host, and ten addresses at `new`.
 #[test]
 fn what_changed_is_told_after_a_restart(rt: HostRuntime) {
     let alloc = rt.alloc();
@@ -265,10 +265,11 @@ fn what_changed_is_told_after_a_restart(rt: HostRuntime) {
         before.changes.get(4198..4200),
     );
     assert!(rt; counts == (Some(&[0, 26]), Some(&[0, 14]), Some(&[0, 29])));
-    // The last version is left; the next server's are numbered from the oldest that is kept.
+    // The last version stays; the versions of the next server are numbered from the oldest that is kept.
     let ends = (before.is_taken, before.last, after.is_taken, after.last);
     assert_eq!(rt; ends, (true, (11, 12), true, (8, 11)));
-    // The first server makes one version more, of an address that is added. Where the right to publish is given up, an update that would make one gets SERVFAIL.
+    // The first server makes one more version, for an address that is added. Where the right to publish is dropped, an update that would make
+    // one gets SERVFAIL.
     let taken = (Rcode::NoError, Rcode::NoError, Rcode::Refused);
     let turned_away = (Rcode::ServFail, Rcode::NoError, Rcode::Refused);
     assert!(rt; (before.codes, after.codes) == (Some(taken), Some(turned_away)));

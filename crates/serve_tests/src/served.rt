@@ -1,29 +1,29 @@
-//! What is done over a running server, whose cell begins with the zone of five sets.
+//! Tests over a running server, whose cell starts with the zone of five RRsets.
 use crate::{gone_versions, orders, refused_updates, slots, streams, trays};
 use dns_engine::{FirstZone, KEPT, VersionCell, VersionPublisher, VersionReader};
 use played_zones::{Play, Played, is_played_by, zone};
 use std::alloc::Global;
 use std::sync::Wait;
-use zone_service::{Server, ServerLedgers, ServerName};
+use zone_server::{Server, ServerLedgers, ServerName};
 
-/// What is done over a server, by readers of its cell.
+/// A test over a server, with readers of its cell.
 #[derive(Clone, Copy)]
 pub(crate) enum Course {
-    /// A stream of a row.
+    /// The stream of a row.
     Stream(streams::Row),
-    /// Datagrams of a row.
+    /// The datagrams of a row.
     Datagrams(trays::Row),
-    /// What `gone_versions`, `orders` and `slots` do.
+    /// The tests of `gone_versions`, `orders` and `slots`.
     OwnedAWhile,
     FourUpdates,
     AllSlots,
-    /// What `refused_updates` does.
+    /// The tests of `refused_updates`.
     TwoQueries,
     UpdateAnew,
 }
 
 impl Course {
-    /// Whether it goes as it should, by readers of the server's cell, which come back; None where there is no memory for it.
+    /// Runs the test with readers of the server's cell, and puts them back. Returns whether it passes; None if memory allocation fails.
     fn go<R: Wait, Z: FirstZone, N: ServerName>(
         &self,
         rt: &R,
@@ -43,7 +43,7 @@ impl Course {
     }
 }
 
-/// A course over a server that keeps so many versions beside the last.
+/// A test over a server that keeps so many versions besides the last.
 #[derive(Clone, Copy)]
 struct Served {
     keep: usize,
@@ -86,8 +86,8 @@ impl Play for Served {
     }
 }
 
-/// Whether a course goes as it should over a server that keeps so many versions beside the last, where each reader has so many grants;
-/// None where there is no memory for it, or no server.
+/// Whether a test passes over a server that keeps `keep` versions besides the last, where each reader has `grants` grants. None if memory
+/// allocation fails or there is no server.
 pub(crate) fn told<R: Wait>(
     rt: &R,
     alloc: Global,
@@ -103,7 +103,8 @@ pub(crate) fn told<R: Wait>(
     is_played_by(rt, alloc, zone, grants, &served)
 }
 
-/// The first of courses that doesn't go as it should, each over a server of its own, which keeps as many versions as it may.
+/// The position of the first test that does not pass; None if all pass. Each runs over a server of its own, which keeps as many versions as it
+/// may.
 pub(crate) fn first_wrong<R: Wait>(
     rt: &R,
     alloc: Global,

@@ -4,10 +4,9 @@ use serve_core::Transport;
 use std::alloc::Global;
 use std::net::SocketAddr;
 use std::test::Fail;
-use update_desk::Serials;
-use zone_service::{Event, JobEnd, Losses};
+use zone_server::{Event, JobEnd, Losses, Serials};
 
-/// The end of the third worker's thread.
+/// The end of worker thread 3.
 fn end_of(transport: Transport, end: JobEnd) -> Event {
     Event::End {
         worker: 3,
@@ -16,7 +15,7 @@ fn end_of(transport: Transport, end: JobEnd) -> Event {
     }
 }
 
-/// Serials that an update finds and leaves.
+/// The serials before and after an update.
 fn serials(before: u32, after: u32) -> Option<Serials> {
     Some(Serials {
         before: Serial(before),
@@ -24,7 +23,7 @@ fn serials(before: u32, after: u32) -> Option<Serials> {
     })
 }
 
-/// The first of events whose line isn't the text beside it.
+/// The position of the first event whose line is not the text next to it.
 fn first_wrong(alloc: Global, lines: &[(Event, &str)]) -> Result<Option<usize>, Fail> {
     let mut at = 0usize;
     for (event, line) in lines {
@@ -37,7 +36,7 @@ fn first_wrong(alloc: Global, lines: &[(Event, &str)]) -> Result<Option<usize>, 
     Ok(None)
 }
 
-// How workers end, by UDP and TCP, and the telling of secondaries; and secondaries that answer no NOTIFY, or do again.
+// How worker threads end, for UDP and TCP, and how notifying ends; and secondaries that do not answer NOTIFY, or answer again.
 #[test]
 fn ends(rt: HostRuntime) -> Result<(), Fail> {
     let secondary = "192.0.2.7:53".parse::<SocketAddr>()?;
@@ -85,8 +84,8 @@ fn ends(rt: HostRuntime) -> Result<(), Fail> {
     Ok(())
 }
 
-// What updates get, by the codes of RFC 2136, 2.2, and which serials they find and leave; and which connections are lost: one kind by itself, and all of
-// them.
+// The results of updates, with the codes of RFC 2136, 2.2 and the serials before and after; and the connections that are lost: one kind alone,
+// and all kinds.
 #[test]
 fn updates_and_losses(rt: HostRuntime) -> Result<(), Fail> {
     let from = "[2001:db8::7]:4711".parse::<SocketAddr>()?;

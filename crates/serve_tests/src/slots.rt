@@ -1,4 +1,4 @@
-//! Slots that are used up: what is told then, and that what was published stays.
+//! Slots that are used up: the replies to updates then, and that the published versions stay.
 use crate::served::{Course, told};
 use crate::streams::ALL;
 use dns_engine::{FirstZone, VersionOwner, VersionReader};
@@ -8,13 +8,13 @@ use played_zones::octets_of;
 use std::alloc::Global;
 use std::collections::VecDeque;
 use std::sync::Wait;
-use zone_service::{Server, ServerName};
+use zone_server::{Server, ServerName};
 
-/// An update of `example.test.` (RFC 2136, 2) that adds an address of 192.0.2.0/24 at `new`, but for the address's last octet.
+/// An update of `example.test.` (RFC 2136, 2) that adds an address of 192.0.2.0/24 at `new`, without the last octet of the address.
 const UPDATE: &str =
     "432128000001000000010000076578616d706c6504746573740000060001036e6577c00c0001000100000e100004c00002";
 
-/// The update that adds the address of this last octet; None where memory is refused.
+/// The update that adds the address with this last octet. None if memory allocation fails.
 pub(crate) fn update_of(alloc: Global, last: u8) -> Option<Update> {
     let mut octets = octets_of(alloc, UPDATE)?;
     octets.push(last).ok()?;
@@ -24,7 +24,7 @@ pub(crate) fn update_of(alloc: Global, last: u8) -> Option<Update> {
     }
 }
 
-/// The code of the update that adds the address of this last octet, and the serial after it; None where memory is refused.
+/// The response code of the update that adds the address with this last octet, and the serial after it. None if memory allocation fails.
 fn told_of<R: Wait, Z: FirstZone, N: ServerName>(
     rt: &R,
     alloc: Global,
@@ -37,10 +37,10 @@ fn told_of<R: Wait, Z: FirstZone, N: ServerName>(
     Some((code, serials.after.0))
 }
 
-/// Owners of versions, the first one first.
+/// Owners of versions, in the order of the versions.
 type Owners<'a, Z, N> = VecDeque<VersionOwner<'a, Z, N>>;
 
-/// Owners of the first version and of 63 more, which updates make; None where one of them isn't made.
+/// Owners of the first version and of 63 more, which updates make. None if one of them is not made.
 fn hold_all<'a, R: Wait, Z: FirstZone, N: ServerName>(
     rt: &R,
     alloc: Global,
@@ -65,7 +65,8 @@ fn buried<Z: FirstZone, N: ServerName>(owner: Option<VersionOwner<'_, Z, N>>) ->
     owner?.release().buried()
 }
 
-/// Each slot has a version: of owners of all versions that of the 60th is let go, and then that of the first; only then one more update is taken.
+/// A version in each slot: with owners of all versions, that of version 60 is released, and then that of the first. Only then is one more
+/// update accepted.
 pub(crate) fn go<R: Wait, Z: FirstZone, N: ServerName>(
     rt: &R,
     alloc: Global,
@@ -82,7 +83,7 @@ pub(crate) fn go<R: Wait, Z: FirstZone, N: ServerName>(
     told
 }
 
-/// What one more update is told while all versions are owned, and after each release; and whether that is right.
+/// The replies to one more update, while all versions have owners and after each release. Returns whether they are as expected.
 fn goes_on<R: Wait, Z: FirstZone, N: ServerName>(
     rt: &R,
     alloc: Global,
@@ -92,7 +93,7 @@ fn goes_on<R: Wait, Z: FirstZone, N: ServerName>(
 ) -> Option<bool> {
     let full = told_of(rt, alloc, server, reader, 64)?;
     let sixtieth = buried(owners.remove(60));
-    // The history owns that version weakly, so that its slot isn't free.
+    // The history owns that version weakly, so its slot is not free.
     let still_full = told_of(rt, alloc, server, reader, 64)?;
     let first = buried(owners.pop_front());
     let taken = told_of(rt, alloc, server, reader, 64)?;
@@ -101,7 +102,7 @@ fn goes_on<R: Wait, Z: FirstZone, N: ServerName>(
     Some(is_right && full == refused && still_full == refused)
 }
 
-// With each version owned there is no slot for one more, and an update gets SERVFAIL until one is free (own).
+// While each version has an owner there is no slot for one more, and an update gets SERVFAIL until a slot is free (own).
 #[test]
 fn no_slot_until_a_version_is_let_go(rt: HostRuntime) {
     assert_eq!(rt;

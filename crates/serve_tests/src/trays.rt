@@ -1,15 +1,15 @@
-//! Requests as datagrams, by a device that lies in memory (RFC 1035, 4.2.1), by the octets that RFC 1035, 4 gives for them, put together by hand.
+//! Requests in datagrams held in memory (RFC 1035, 4.2.1), with the octets that RFC 1035, 4 gives for them, written by hand.
 use crate::served::{Course, first_wrong};
 use crate::streams::ALL;
-use conversation::{Allowed, Datagrams, DatagramsEnd, Gate, OpenGate};
 use dns_engine::{FirstZone, VersionReader};
 use played_zones::{asker, octets_of};
+use requests::{Allowed, Datagrams, DatagramsEnd, Gate, OpenGate};
 use serve_core::{Peer, Transport};
 use std::alloc::Global;
 use std::net::IpAddr;
 use std::sync::Wait;
-use told_streams::{Datagram, Tray, answer_tray};
-use zone_service::{Asked, NoLog, Server, ServerName, ServiceLog};
+use told_streams::{Datagram, MemoryDatagrams, answer_datagrams};
+use zone_server::{DatagramHandler, NoLog, Server, ServerName, ServiceLog};
 
 /// A query for an alias, and its reply: the alias and the address of its target (RFC 1035, 4.1).
 const WWW: &str = "12340100000100000000000003777777076578616d706c6504746573740000010001";
@@ -20,7 +20,7 @@ const WWW_REPLY: &str =
 /// Eleven octets, which get no reply.
 const SHORT: &str = "1234010000010000000000";
 
-/// An update that adds an address at `new`, and NOERROR (RFC 2136, 2.2 and 2.5.1).
+/// An update that adds an address at `new`, and the reply NOERROR (RFC 2136, 2.2 and 2.5.1).
 const UPDATE: &str =
     "432128000001000000010000076578616d706c6504746573740000060001036e6577c00c0001000100000e100004c000024d";
 
@@ -32,7 +32,7 @@ const NEW: &str = "123401000001000000000000036e6577076578616d706c650474657374000
 const NEW_REPLY: &str =
     "123485000001000100000000036e6577076578616d706c6504746573740000010001c00c0001000100000e100004c000024d";
 
-/// An IXFR by who holds serial 1, and REFUSED, 5, to a peer that may not have the zone (RFC 1995, 3).
+/// An IXFR from a client that has serial 1, and the reply REFUSED, 5, to a peer that is not allowed to have the zone (RFC 1995, 3).
 const CHANGES: &str =
     "123400000001000000010000076578616d706c6504746573740000fb0001c00c0006000100000000001600000000000100000000000000000000000000000000";
 
@@ -44,23 +44,23 @@ const WEB: &str = "00010100000100000000000003776562076578616d706c650474657374000
 const WEB_REPLY: &str =
     "00018500000100010000000003776562076578616d706c6504746573740000010001c00c0001000100000e100004c000020a";
 
-/// A query for a name that doesn't exist, whose reply has RCODE 3 and the SOA with the TTL of its MINIMUM (RFC 2308, 3).
+/// A query for a name that does not exist. The reply has RCODE 3 and the SOA with the TTL of its MINIMUM (RFC 2308, 3).
 const NOPE: &str = "000201000001000000000000046e6f7065076578616d706c6504746573740000010001";
 
 const NOPE_REPLY: &str =
     "000285030001000000010000046e6f7065076578616d706c6504746573740000010001c011000600010000012c0022036e7331c0110561646d696ec0110000000100001c2000000384001275000000012c";
 
-/// A header that says that there is a question, with none after it, and FORMERR, a header alone (RFC 1035, 4.1.1).
+/// A header that announces a question, with none after it, and the reply FORMERR, only a header (RFC 1035, 4.1.1).
 const HEADER: &str = "123401000001000000000000";
 
 const FORMERR: &str = "123481010000000000000000";
 
-/// A row of datagrams.
+/// A row for datagrams.
 #[derive(Clone, Copy)]
 pub(crate) struct Row {
-    /// Whether the peers may update and transfer.
+    /// Whether the peers are allowed to update and transfer.
     may: bool,
-    /// How many datagrams may be answered.
+    /// The maximum number of datagrams to answer.
     most: u64,
     /// Which sends fail, counted from 0.
     refused: &'static [u64],
@@ -68,9 +68,9 @@ pub(crate) struct Row {
     requests: &'static [&'static str],
     /// How the answering ends.
     end: DatagramsEnd,
-    /// How many failures are counted.
+    /// The number of failures that are counted.
     faults: u64,
-    /// What is sent: who gets it, by the place of the request, and the reply, in hexadecimal.
+    /// The replies that are sent: the position of the request whose client gets the reply, and the reply, in hexadecimal.
     sent: &'static [(u16, &'static str)],
 }
 
@@ -185,8 +185,8 @@ pub(crate) const TWO_UPDATES: Row = Row {
     sent: &[(0, UPDATED), (1, UPDATED)],
 };
 
-/// Datagrams by a reader of two grants: a query takes one, a header and what gets no reply take none; and an IXFR for what an update changed takes one more
-/// for the version that it made (own).
+/// Datagrams by a reader of two grants. A query takes one grant; a header alone and requests that get no reply take none. An IXFR for the
+/// changes of an update takes one more, for the version that the update made (own).
 const SPENT: &[Course] = &[
     Course::Datagrams(Row {
         may: false,
@@ -208,8 +208,8 @@ const SPENT: &[Course] = &[
     }),
 ];
 
-/// The tray of a row: a datagram for each request, from who asks by the port of its place.
-fn tray_of(alloc: Global, row: &Row) -> Option<Tray> {
+/// The datagrams of a row: one for each request, from a client whose port is its position.
+fn datagrams_of(alloc: Global, row: &Row) -> Option<MemoryDatagrams> {
     let mut datagrams = Vec::new(alloc);
     let mut place = 0u16;
     for request in row.requests {
@@ -221,10 +221,10 @@ fn tray_of(alloc: Global, row: &Row) -> Option<Tray> {
         place = place.wrapping_add(1);
     }
     let refused = row.refused.to_vec(alloc).ok()?;
-    Some(Tray::new(alloc, datagrams, refused))
+    Some(MemoryDatagrams::new(alloc, datagrams, refused))
 }
 
-/// Whether what was sent are these replies, each to who asked.
+/// Whether the datagrams sent are these replies, each to the client that sent the request.
 fn is_sent(alloc: Global, sent: &[Datagram], right: &[(u16, &str)]) -> Option<bool> {
     if sent.len() != right.len() {
         return Some(false);
@@ -238,8 +238,8 @@ fn is_sent(alloc: Global, sent: &[Datagram], right: &[(u16, &str)]) -> Option<bo
     Some(true)
 }
 
-/// How a row's datagrams end, and their tray, where a server is asked by one of these readers, which comes back to them. None where there is no memory for
-/// it, or no reader.
+/// Answers a row's datagrams from a server, with one of the readers, which it puts back. Returns how the answering ended, and the datagrams
+/// that are left and sent. None if memory allocation fails or there is no reader.
 pub(crate) fn serve<R: Wait, Z: FirstZone, N: ServerName, L: ServiceLog, G: Gate>(
     rt: &R,
     alloc: Global,
@@ -248,16 +248,16 @@ pub(crate) fn serve<R: Wait, Z: FirstZone, N: ServerName, L: ServiceLog, G: Gate
     row: &Row,
     log: &L,
     gate: &G,
-) -> Option<(DatagramsEnd, Tray)> {
-    let tray = tray_of(alloc, row)?;
+) -> Option<(DatagramsEnd, MemoryDatagrams)> {
+    let tray = datagrams_of(alloc, row)?;
     let reader = readers.pop()?;
     let peer = Peer::over(Transport::Udp, false);
-    let mut asked = Asked::new(alloc, server, reader, log, peer, asker(0));
+    let mut asked = DatagramHandler::new(alloc, server, reader, log, peer, asker(0));
     let mut request = [0u8; 65_535];
     let mut out = [0u8; 65_535];
     let own = [IpAddr::from([192, 0, 2, 7])];
     let allowed = Allowed::new(if row.may { &own } else { &[] });
-    let served = answer_tray(
+    let served = answer_datagrams(
         rt,
         &mut asked,
         tray,
@@ -284,8 +284,8 @@ pub(crate) fn go<R: Wait, Z: FirstZone, N: ServerName>(
     Some(is_sent && end == row.end && tray.faults() == row.faults)
 }
 
-// Replies in the order of their requests, each to who asked; a send that fails is counted, and the next request is answered; a receive
-// that fails ends it, and so does a query for which no grant is left.
+// The replies are in the order of their requests, each to the client that sent the request. A send that fails is counted, and the next request
+// is answered. A receive that fails ends the answering, and so does a query for which no grant is left.
 #[test]
 fn datagrams(rt: HostRuntime) {
     assert_eq!(rt; first_wrong(&rt, rt.alloc(), ALL, DATAGRAMS), None);

@@ -1,8 +1,8 @@
--- A job on either socket: its number, which of the two it is on, who may update and transfer by it, and how it has ended (own).
+-- A thread's job: its number, whether it takes datagrams, the addresses that may update and transfer by it, how it ended, and with which fault (own).
 use Rattle.std.specs.Prelude.{◌≡◌, ℕ, Bool, true, false, List, Option, None, Some}
 use Rattle.std.specs.declared.net.ip_addr.IpAddr.{IpAddr}
-use Rattle.zone_service.specs.declared.service_log.JobEnd.{JobEnd}
-use Rattle.zone_service.specs.declared.service_log.JobEnd.TheVariants.{Done, Device, Spent, NoMemory}
+use Rattle.zone_server.specs.declared.service_log.JobEnd.{JobEnd}
+use Rattle.zone_server.specs.declared.service_log.JobEnd.TheVariants.{Done, Device, Spent, NoMemory}
 use Rattle.serve_workers.specs.declared.service.ServeFault.{ServeFault}
 use Rattle.serve_workers.specs.declared.service.ServeFault.TheVariants.{Device as HasFailed, Spent as IsSpent, NoMemory as IsStarved}
 use Rattle.serve_workers.specs.declared.service.Sockets.{Sockets}
@@ -22,13 +22,13 @@ takes_datagrams (Datagrams job) = true
 takes_datagrams (Connections job) = false
 takes_datagrams (Secondaries job) = false
 
--- whether what is served is datagrams
+-- whether the sockets are of datagrams
 abbrev pub are_datagrams : Sockets → Bool
 are_datagrams (OfDatagrams socket) = true
 are_datagrams (OfConnections listeners) = false
 are_datagrams (OfSecondaries secondaries) = false
 
--- these addresses may update and transfer by the job, where it answers any
+-- the addresses that may update and transfer by the job are these; true of a job that notifies secondaries, which answers no requests
 abbrev pub HasRights : {C : Type 0} → List IpAddr → SocketJob C → Type 0
 HasRights addresses (Datagrams job) = job.job.allowed.addresses.now ≡ addresses
 HasRights addresses (Connections job) = job.plan.allowed.addresses.now ≡ addresses
@@ -40,7 +40,7 @@ end_of (Datagrams job) = job.end
 end_of (Connections job) = job.end
 end_of (Secondaries job) = job.end
 
--- why a zone isn't served any more, by a job's end; none of a job that has done what it might
+-- why a zone is no longer served, from a job's end; none where the job ended without a failure or hasn't ended
 abbrev pub fault_by : Option JobEnd → Option ServeFault
 fault_by None = None
 fault_by (Some (Done count)) = None

@@ -1,4 +1,4 @@
-//! Cells that are ended, once nobody is at them any more.
+//! Ends cells that are no longer in use.
 ghost use Rattle.std.specs.Prelude.{◌≡◌};
 ghost use Rattle.std.specs.List.{All};
 
@@ -8,7 +8,7 @@ use snapshot_cell::{
 };
 use std::sync::Wait;
 
-/// Ends a cell whose tokens have all come back, and drops the value published last. It is tried until nobody has an owner.
+/// Ends a cell whose tokens have all come back, and drops the value published last. Retries until no owner of a version is left.
 pub(crate) fn end_cell<R: Wait, T: Drop, C: Names<T>>(
     rt: &R,
     cell: Cell<T, C>,
@@ -33,7 +33,7 @@ pub(crate) fn end_cell<R: Wait, T: Drop, C: Names<T>>(
     unreachable!()
 }
 
-/// The same of a cell of a name.
+/// The same as [`end_cell`] for a named cell.
 pub(crate) fn end_named<R: Wait, T: Drop, C: Names<T>, N: Naming>(
     rt: &R,
     cell: NamedCell<T, C, N>,

@@ -1,25 +1,25 @@
-//! The jobs of threads, by their duties.
+//! Makes the jobs of threads from their specs.
 ghost use Rattle.std.specs.Prelude.{◌≡◌, ◌⊎◌, ◌↔◌, map, vec_len, IfOk, IfErr};
 ghost use Rattle.std.specs.List.{All};
 ghost use Rattle.std.specs.IoError.{error_kind};
 ghost use Rattle.serve_workers.specs.declared.service.ServeFault.{ServeFault as Fault};
 ghost use Rattle.serve_workers.specs.Numbers.{number_of, takes_datagrams, are_datagrams, HasRights};
 
-use crate::service::{Duty, Plan, ServeFault, Sockets};
+use crate::service::{Plan, ServeFault, Sockets, ThreadSpec};
 use crate::threads::{SocketJob, TcpJob};
 use crate::updates::Updates;
-use ready_sockets::{TcpPlace, Watch};
+use sockets::{TcpPlace, Watch};
 use std::alloc::Global;
 use std::io::{self, ErrorKind};
 use std::net::{Net, TcpListener};
 use std::sync::Wait;
 use std::time::Clock;
-use turns::Turns;
+use tcp_loop::EventLoop;
 use worker_jobs::{
-    ConnectionsJob, DatagramsJob, NotifyJob, Scratch, Standing, ToldKeys, WorkerSocket,
+    ConnectionsJob, DatagramsJob, NotifyJob, Scratch, StopFlag, WakeList, WorkerSocket,
 };
 
-/// Where connections come in at a listener, which is watched by its number.
+/// The place at which a listener's connections come in. It is watched under its number.
 fn place_of<C: Clock>(
     watch: &mut Watch<'_, C>,
     listener: TcpListener,
@@ -30,7 +30,7 @@ fn place_of<C: Clock>(
     Ok(place)
 }
 
-/// Where connections come in at listeners, each of them watched.
+/// The places at which listeners' connections come in, one for each listener. Each is watched under its number.
 fn places_of<C: Clock>(
     alloc: Global,
     watch: &mut Watch<'_, C>,
@@ -47,15 +47,15 @@ fn places_of<C: Clock>(
     Ok(places)
 }
 
-/// The job of a worker, by its number, on listeners that don't wait. An error where they can't be waited on.
+/// The job of the worker with a number on nonblocking listeners. An error where they can't be polled, or an allocation fails.
 fn tcp_job<'a, R: Clock + Net + Wait>(
     rt: &'a R,
     alloc: Global,
     worker: usize,
     listeners: Vec<TcpListener>,
     plan: Plan<'a>,
-    standing: Standing<'a>,
-    told: Option<&'a ToldKeys>,
+    standing: StopFlag<'a>,
+    told: Option<&'a WakeList>,
     scratch: Scratch,
 ) -> io::Result<TcpJob<'a, R>>
     ensures number { IfOk result (λ job. job.number ≡ worker) }
@@ -64,7 +64,7 @@ fn tcp_job<'a, R: Clock + Net + Wait>(
     let count = listeners.len();
     let mut watch = Watch::new(rt, alloc, rt)?;
     let places = places_of(alloc, &mut watch, listeners)?;
-    let turns = Turns::new(alloc, plan.places, count)?;
+    let turns = EventLoop::new(alloc, plan.places, count)?;
     let plan = plan.connections;
     let waker = watch.waker()?;
     let job = ConnectionsJob::new(worker, watch, places, turns, plan, standing, rt, scratch);
@@ -77,25 +77,25 @@ fn tcp_job<'a, R: Clock + Net + Wait>(
     }
 }
 
-/// The job of a thread, which is told keys of connections there, if it is. An error where its sockets can't be waited on.
+/// The job of a thread, which learns of ready connections by `told`, if it has one. An error where its sockets can't be polled, or an allocation fails.
 fn job_of<'a, R: Clock + Net + Wait>(
     rt: &'a R,
     alloc: Global,
-    duty: Duty<'a>,
+    duty: ThreadSpec<'a>,
     plan: Plan<'a>,
-    told: Option<&'a ToldKeys>,
+    told: Option<&'a WakeList>,
     scratch: Scratch,
 ) -> io::Result<SocketJob<'a, R>>
     ensures number { IfOk result (λ job. number_of job ≡ duty.entry.worker) }
     ensures kind { IfOk result (λ job. takes_datagrams job ≡ are_datagrams duty.entry.sockets) }
     ensures rights { IfOk result (λ job. HasRights plan.entry.connections.allowed.addresses.now job) }
 {
-    let Duty {
+    let ThreadSpec {
         worker,
         progress,
         sockets,
     } = duty;
-    let standing = Standing::new(plan.muster, progress);
+    let standing = StopFlag::new(plan.muster, progress);
     match sockets {
         Sockets::Datagrams(socket) => {
             let allowed = plan.connections.allowed;
@@ -114,7 +114,7 @@ fn job_of<'a, R: Clock + Net + Wait>(
     }
 }
 
-/// Why no job can be made: want of memory, or its sockets have failed.
+/// Why a job can't be made: no memory, or its sockets have failed.
 pub(crate) fn fault_of(fault: &io::Error) -> ServeFault
     ensures memory { (result ≡ Fault.NoMemory) ↔ (error_kind fault.now ≡ ErrorKind.OutOfMemory) }
     ensures device { (result ≡ Fault.NoMemory) ⊎ (result ≡ Fault.Device) }
@@ -126,11 +126,11 @@ pub(crate) fn fault_of(fault: &io::Error) -> ServeFault
     }
 }
 
-/// The jobs of threads, each told keys as these are told by its place.
+/// Makes the jobs of threads, in their order. Each learns of ready connections by the list that `updates` has for its place. Fails where an allocation or a socket fails.
 pub(crate) fn jobs_of<'a, R: Clock + Net + Wait>(
     rt: &'a R,
     alloc: Global,
-    duties: Vec<Duty<'a>>,
+    duties: Vec<ThreadSpec<'a>>,
     plan: Plan<'a>,
     updates: &'a Updates,
 ) -> Result<Vec<SocketJob<'a, R>>, ServeFault>

@@ -1,74 +1,73 @@
-//! Who judges updates, while threads hand them in (RFC 2136, 3).
+//! The update thread: it judges updates while other threads submit them (RFC 2136, 3).
 
-use crate::bringing::Bringing;
-use crate::service::Duty;
+use crate::reply_routes::ReplyRoutes;
+use crate::service::ThreadSpec;
 use crate::updates::Updates;
 use dns_engine::SharedVersion;
 use std::alloc::Global;
 use std::io;
 use std::sync::Wait;
-use update_job::{Faults, Publishing, Storing, UpdateJob};
-use update_queue::Most;
-use worker_jobs::{Meanwhile, Muster};
+use update_batches::{Faults, Most, UpdatePublisher, UpdateStore, UpdateThread};
+use worker_jobs::{MainTask, Shutdown};
 
-/// How updates are judged beside the threads that they come to.
+/// How the update thread judges the updates that the other threads submit.
 #[derive(Drop)]
-pub struct Handing<S: Storing<SharedVersion>, F> {
-    /// How many may wait, and how many octets of memory they may be counted for.
+pub struct UpdateConfig<S: UpdateStore<SharedVersion>, F> {
+    /// How many updates may wait at most, and the octets of memory that they may count for together.
     pub most: Most,
-    /// Where they are brought before they are told.
+    /// Where batches are stored before their updates get their replies.
     pub store: S,
-    /// Who notes why batches aren't there.
+    /// Notes why batches could not be stored.
     pub faults: F,
 }
 
-/// What updates are judged by.
+/// What the update thread needs to judge updates.
 #[derive(Drop)]
-pub(crate) struct Judging<'a, S: Storing<SharedVersion>, F> {
-    /// Those that wait.
+pub(crate) struct Judging<'a, S: UpdateStore<SharedVersion>, F> {
+    /// The updates that wait.
     pub(crate) updates: &'a Updates,
-    /// What brings the replies.
-    pub(crate) bringing: Bringing<'a>,
-    /// Where they are brought before they are told.
+    /// Brings the replies to the threads.
+    pub(crate) bringing: ReplyRoutes<'a>,
+    /// Where batches are stored before their updates get their replies.
     pub(crate) store: S,
-    /// Who notes why batches aren't there.
+    /// Notes why batches could not be stored.
     pub(crate) faults: F,
 }
 
-impl<'a, S: Storing<SharedVersion>, F: Drop> Judging<'a, S, F> {
-    /// What updates are judged by that threads with these duties hand in. An error where a socket can't be shared, or for want of memory.
+impl<'a, S: UpdateStore<SharedVersion>, F: Drop> Judging<'a, S, F> {
+    /// What is needed to judge the updates that the threads of these specs submit. An error where a socket can't be shared, or an allocation fails.
     pub(crate) fn new(
         alloc: Global,
-        handing: Handing<S, F>,
-        duties: &[Duty<'_>],
+        handing: UpdateConfig<S, F>,
+        duties: &[ThreadSpec<'_>],
         updates: &'a Updates,
     ) -> io::Result<Judging<'a, S, F>> {
-        let Handing { store, faults, .. } = handing;
+        let UpdateConfig { store, faults, .. } = handing;
         Ok(Judging {
             updates,
-            bringing: Bringing::new(alloc, duties, updates)?,
+            bringing: ReplyRoutes::new(alloc, duties, updates)?,
             store,
             faults,
         })
     }
 }
 
-/// Who judges updates until no thread hands in any more, and publishes what they make.
+/// Judges updates until no thread submits any more, and publishes the versions that they make.
 #[derive(Drop)]
-pub(crate) struct Judge<'a, 'b, P: Publishing, S: Storing<P::Version>, F>
+pub(crate) struct Judge<'a, 'b, P: UpdatePublisher, S: UpdateStore<P::Version>, F>
 where
     P::Asked: Drop,
 {
-    pub(crate) job: UpdateJob<'b, P, S>,
+    pub(crate) job: UpdateThread<'b, P, S>,
     pub(crate) faults: F,
-    pub(crate) muster: &'a Muster,
+    pub(crate) muster: &'a Shutdown,
 }
 
-impl<'a, 'b, P: Publishing, S: Storing<P::Version>, F: Drop> Judge<'a, 'b, P, S, F>
+impl<'a, 'b, P: UpdatePublisher, S: UpdateStore<P::Version>, F: Drop> Judge<'a, 'b, P, S, F>
 where
     P::Asked: Drop,
 {
-    /// What publishes, with which it judges no more.
+    /// Gives its publisher back. It judges no more updates.
     pub(crate) fn into_publishing(self) -> P {
         let Judge {
             job,
@@ -80,12 +79,12 @@ where
     }
 }
 
-impl<'a, 'b, P: Publishing, S: Storing<P::Version>, F: Faults<S::Fault> + Drop> Meanwhile
+impl<'a, 'b, P: UpdatePublisher, S: UpdateStore<P::Version>, F: Faults<S::Fault> + Drop> MainTask
     for Judge<'a, 'b, P, S, F>
 where
     P::Asked: Drop,
 {
-    // Secondaries are told of versions until this is over too.
+    // Secondaries are notified of versions until this has ended too.
     fn meanwhile<R: Wait>(&mut self, rt: &R) {
         self.job.serve(rt, &mut self.faults);
         self.muster.judged();

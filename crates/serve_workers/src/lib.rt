@@ -1,19 +1,19 @@
-//! The running server: workers on sockets, each on a thread of its own.
+//! The running server: workers that serve sockets on threads.
 //!
-//! [`serve_zone`] serves a zone on sockets. A worker has a thread for each of its sockets of datagrams, and one for all of its listeners (`worker_jobs`). All threads begin, or
-//! none; one that fails ends the server. Updates are judged on the thread that called, beside them, where they are handed to it ([`Handing`]).
+//! [`serve_zone`] serves a zone on sockets. A worker has one thread for each of its UDP sockets, and one for all of its TCP listeners (`worker_jobs`). Either all threads
+//! begin or none does. A thread that fails ends the server. The calling thread judges the updates that the other threads submit to it, while they run ([`UpdateConfig`]).
 #![tactic(auto)]
 
-mod bringing;
 mod ending;
 mod jobs;
 mod judge;
+mod reply_routes;
 mod service;
 mod threads;
 mod updates;
 
-pub use judge::Handing;
-pub use service::{Duty, Plan, ServeFault, Sockets, serve_zone};
-pub use turns::Plan as ConnectionPlan;
-pub use update_queue::Most;
-pub use worker_jobs::{Muster, NotifySocket, Progress, Secondaries};
+pub use judge::UpdateConfig;
+pub use service::{Plan, ServeFault, Sockets, ThreadSpec, serve_zone};
+pub use tcp_loop::Plan as ConnectionPlan;
+pub use update_batches::Most;
+pub use worker_jobs::{NotifySocket, Secondaries, Shutdown, WorkLimit};

@@ -1,15 +1,15 @@
-//! A zone served on sockets, by workers.
+//! Serves a zone on sockets, by workers.
 ghost use Rattle.std.specs.Prelude.{◌≡◌, ◌+◌, ◌<◌, ◌≤◌, [], true, false, map, vec_len, vec_capacity, None, Some, MatchOption};
 ghost use Rattle.std.specs.List.{All, Any};
 ghost use Rattle.dns_engine.specs.Held.{KEPT};
 ghost use Rattle.dns_engine.specs.Versions.{IsFirst, AreNext};
 ghost use Rattle.snapshot_cell.specs.declared.tokens.TheConstants.{READERS};
-ghost use Rattle.update_desk.specs.Right.{AreNamed};
+ghost use Rattle.zone_server.specs.Right.{AreNamed};
 ghost use Rattle.serve_workers.specs.Numbers.{end_of, fault_by};
 
 use crate::ending::{end_cell, end_named};
 use crate::jobs::{fault_of, jobs_of};
-use crate::judge::{Handing, Judge, Judging};
+use crate::judge::{Judge, Judging, UpdateConfig};
 use crate::threads::{SocketJob, run_threads};
 use crate::updates::Updates;
 use dns_engine::{
@@ -26,68 +26,68 @@ use std::net::{Net, TcpListener, UdpSocket};
 use std::sync::Wait;
 use std::thread::Threads;
 use std::time::Clock;
+use tcp_loop::Plan as ConnectionPlan;
 use thiserror::Error;
-use turns::Plan as ConnectionPlan;
-use update_job::{Faults, Storing, UpdateJob};
-use update_queue::Most;
-use update_teller::Teller;
-use worker_jobs::{Meanwhile, Muster, NotStarted, Progress, Secondaries};
-use zone_service::{JobEnd, PublishRight, Server, ServerLedgers, ServerName, ServiceLog};
+use update_batches::{Faults, Most, UpdateStore, UpdateThread};
+use worker_jobs::{MainTask, NotStarted, Secondaries, Shutdown, WorkLimit};
+use zone_server::{
+    JobEnd, PublishRight, Server, ServerLedgers, ServerName, ServerPublisher, ServiceLog,
+};
 
 /// How a zone is served.
 #[derive(Clone, Copy)]
 pub struct Plan<'a> {
-    /// What all threads share.
-    pub muster: &'a Muster,
-    /// How many versions are kept older than the last; at most `dns_engine::KEPT`.
+    /// The state of the server's shutdown, which all threads share.
+    pub muster: &'a Shutdown,
+    /// How many versions older than the last are kept. At most `dns_engine::KEPT`.
     pub keep: usize,
-    /// How many connections a worker may have open.
+    /// How many connections a worker may have open at most.
     pub places: usize,
-    /// How long connections may wait for their peers, and who may update and transfer.
+    /// How long connections may wait for their peers, and the addresses that may update and transfer.
     pub connections: ConnectionPlan<'a>,
 }
 
 /// What one thread serves.
 #[derive(Drop)]
 pub enum Sockets {
-    /// A socket on which datagrams come.
+    /// A UDP socket.
     Datagrams(UdpSocket),
-    /// Listeners at which connections come, which don't wait.
+    /// Nonblocking TCP listeners.
     Connections(Vec<TcpListener>),
-    /// The secondaries that are told of each version.
+    /// The secondaries that are notified of each version.
     Secondaries(Secondaries),
 }
 
 /// What one thread of a worker does.
 #[derive(Drop)]
-pub struct Duty<'a> {
+pub struct ThreadSpec<'a> {
     /// The worker's number, from 1.
     pub worker: usize,
-    /// What the worker's threads share.
-    pub progress: &'a Progress,
-    /// What it serves.
+    /// The worker's limit, which its threads share.
+    pub progress: &'a WorkLimit,
+    /// What the thread serves.
     pub sockets: Sockets,
 }
 
-/// Why a zone isn't served any more.
+/// Why a zone is no longer served.
 #[derive(Clone, Copy, Debug, Error)]
 pub enum ServeFault {
-    /// A thread was refused.
+    /// A thread could not be started.
     #[error("a thread can't be started")]
     NotStarted,
     /// A socket has failed.
     #[error("a socket has failed")]
     Device,
-    /// No version could be loaded, or those that a zone begins with couldn't be published.
+    /// No version could be loaded, or the zone's later versions could not be published at the start.
     #[error("no version could be loaded")]
     Spent,
-    /// A growth was refused.
+    /// An allocation failed.
     #[error("no memory")]
     NoMemory,
 }
 
 impl<C: Clock> SocketJob<'_, C> {
-    /// Why it has ended before it had done as much as it may; none where it had.
+    /// Why it failed. None where it ended without a failure, or hasn't ended.
     fn fault(&self) -> Option<ServeFault>
         ensures { result ≡ fault_by (end_of self.now) }
     {
@@ -106,12 +106,12 @@ impl<C: Clock> SocketJob<'_, C> {
     }
 }
 
-/// The updates that threads with these duties hand in, of which so much waits at most.
+/// The updates that the threads of these specs submit. At most `most` of them wait. Fails where an allocation fails.
 fn updates_for<R: Wait>(
     rt: &R,
     alloc: Global,
     most: Most,
-    duties: &[Duty<'_>],
+    duties: &[ThreadSpec<'_>],
     places: usize,
 ) -> Result<Updates, ServeFault> {
     match Updates::of(rt, alloc, most, duties, places) {
@@ -120,11 +120,11 @@ fn updates_for<R: Wait>(
     }
 }
 
-/// What updates are judged by that threads with these duties hand in.
-fn judging_for<'a, S: Storing<SharedVersion>, F: Drop>(
+/// What is needed to judge the updates that the threads of these specs submit. Fails where a socket can't be shared, or an allocation fails.
+fn judging_for<'a, S: UpdateStore<SharedVersion>, F: Drop>(
     alloc: Global,
-    handing: Handing<S, F>,
-    duties: &[Duty<'_>],
+    handing: UpdateConfig<S, F>,
+    duties: &[ThreadSpec<'_>],
     updates: &'a Updates,
 ) -> Result<Judging<'a, S, F>, ServeFault> {
     match Judging::new(alloc, handing, duties, updates) {
@@ -133,24 +133,24 @@ fn judging_for<'a, S: Storing<SharedVersion>, F: Drop>(
     }
 }
 
-/// Serves a zone on sockets, whose cell begins with a first version and with those behind it: its threads answer queries in the version that is
-/// published last, and hand updates on, each of which publishes the next version (RFC 1035, 4.2; RFC 2136, 3). Updates are judged in batches on the thread that this is
-/// called on, and none of the others waits for a disk. It ends once each worker has done what it may, or a thread has failed, and each update that was handed on is told;
-/// then its cell is ended too. The log is told once all threads have begun, of each change, of connections that are lost, and of each end of a thread.
+/// Serves a zone on sockets. Its cell begins with `first`, and then the versions of `later`. The threads answer queries from the version published last, and submit updates,
+/// each of which publishes the next version (RFC 1035, 4.2; RFC 2136, 3). The calling thread judges the updates in batches, and no other thread waits for a disk.
+/// Returns once each worker has reached its limit, or a thread has failed, and each submitted update has its reply. Then the cell is ended too. The log gets an event
+/// once all threads have begun, at each change, for each lost connection, and at the end of each thread.
 pub fn serve_zone<
     R: Net + Threads + Wait + Clock + Sync,
     Z: FirstZone + Send + Sync,
     L: ServiceLog + Sync,
-    S: Storing<SharedVersion>,
+    S: UpdateStore<SharedVersion>,
     F: Faults<S::Fault> + Drop,
 >(
     rt: &R,
     alloc: Global,
     first: SharedVersion,
     later: Vec<SharedVersion>,
-    duties: Vec<Duty<'_>>,
+    duties: Vec<ThreadSpec<'_>>,
     plan: Plan<'_>,
-    handing: Handing<S, F>,
+    handing: UpdateConfig<S, F>,
     log: &L,
 ) -> Result<(), ServeFault>
     requires first { IsFirst Z.zone first }
@@ -168,17 +168,19 @@ pub fn serve_zone<
         Err(NewFault::NoMemory) => return Err(ServeFault::NoMemory),
     };
     let ledgers = ServerLedgers::new();
-    serve_parts::<R, Z, Brand, L, S, F>(rt, alloc, parts, later, ledgers, jobs, plan, judging, log)
+    serve_with_readers::<R, Z, Brand, L, S, F>(
+        rt, alloc, parts, later, ledgers, jobs, plan, judging, log,
+    )
 }
 
-/// Serves the versions of a cell in which the first one alone is published, and these are to be published behind it, by jobs, with a reader for
-/// each, one for the engine and one for who judges updates, and ends the cell.
-fn serve_parts<
+/// Serves the versions of a cell in which only the first is published, and ends the cell. The versions of `later` are to be published after the first. Each job gets
+/// a reader, and so do the engine and the update thread. Fails with `NoMemory` where an allocation fails, and else as [`serve_with_engine`] does.
+fn serve_with_readers<
     R: Threads + Wait + Clock + Sync,
     Z: FirstZone + Send + Sync,
     N: ServerName + Send + Sync,
     L: ServiceLog + Sync,
-    S: Storing<SharedVersion>,
+    S: UpdateStore<SharedVersion>,
     F: Faults<S::Fault> + Drop,
 >(
     rt: &R,
@@ -223,21 +225,22 @@ fn serve_parts<
     let (cell, publisher) = (NamedCell::of(cell), NamedPublisher::of(publisher));
     let (own, reader) = (NamedReader::of(own), NamedReader::of(reader));
     let pairs = pairs_of(readers, jobs, pairs);
-    let (served, publisher, readers) = serve_cell::<R, Z, N, L, S, F>(
+    let (served, publisher, readers) = serve_with_engine::<R, Z, N, L, S, F>(
         rt, alloc, &cell, publisher, own, reader, later, ledgers, pairs, back, plan, judging, log,
     );
     end_named(rt, cell, publisher, readers);
     served
 }
 
-/// Serves the versions of a cell in which the first one alone is published, and these are to be published behind it, by workers, an engine with a reader of its
-/// `own`, and who judges updates, with readers of it. The cell's tokens come back: the publisher, and the readers in `back`, which has room for them.
-fn serve_cell<
+/// Serves the versions of a cell in which only the first is published, by workers with readers, an engine with its reader `own`, and the update thread with `reader`.
+/// The versions of `later` are to be published after the first. The cell's tokens come back: the publisher, and the readers in `back`, which has room for them.
+/// Fails with `Spent` where the versions of `later` can't be published, and else as [`serve_with_updates`] does.
+fn serve_with_engine<
     R: Threads + Wait + Clock + Sync,
     Z: FirstZone + Send + Sync,
     N: ServerName + Send + Sync,
     L: ServiceLog + Sync,
-    S: Storing<SharedVersion>,
+    S: UpdateStore<SharedVersion>,
     F: Faults<S::Fault> + Drop,
 >(
     rt: &R,
@@ -280,7 +283,7 @@ fn serve_cell<
                 reader: own,
             },
         ) => {
-            // A first version alone is always served.
+            // A zone with only its first version never fails so.
             prove!(0 < count);
             let readers = all_readers(pairs, reader, own, back);
             return (Err(ServeFault::Spent), publisher, readers);
@@ -292,7 +295,7 @@ fn serve_cell<
             },
         ) => unreachable!(),
     };
-    let served = serve_handing(
+    let served = serve_with_updates(
         rt,
         alloc,
         &server,
@@ -309,20 +312,20 @@ fn serve_cell<
     (served, publisher, back)
 }
 
-/// Serves the versions of a server's cell, by workers with readers, and by who judges updates with one. The readers are then put into `back`, which has room for them, and
-/// for one more.
-fn serve_handing<
+/// Serves the versions of a server's cell, by workers with readers, and the update thread with `reader`. The readers are then put into `back`, which has room for them and
+/// for one more. Fails with `NoMemory` where the update thread can't be made, and else as [`serve_on_threads`] does.
+fn serve_with_updates<
     R: Threads + Wait + Clock + Sync,
     Z: FirstZone + Send + Sync,
     N: ServerName + Send + Sync,
     L: ServiceLog + Sync,
-    S: Storing<SharedVersion>,
+    S: UpdateStore<SharedVersion>,
     F: Faults<S::Fault> + Drop,
 >(
     rt: &R,
     alloc: Global,
     server: &Server<'_, Z, N>,
-    muster: &Muster,
+    muster: &Shutdown,
     judging: Judging<'_, S, F>,
     reader: VersionReader<N>,
     right: PublishRight<N>,
@@ -341,8 +344,8 @@ fn serve_handing<
         store,
         faults,
     } = judging;
-    let teller = Teller::new(rt, server, reader, right, log, bringing);
-    let job = match UpdateJob::new(alloc, teller, store, updates.queue()) {
+    let teller = ServerPublisher::new(rt, server, reader, right, log, bringing);
+    let job = match UpdateThread::new(alloc, teller, store, updates.queue()) {
         Ok(job) => job,
         Err((teller, _)) => {
             put_readers(pairs, back);
@@ -356,24 +359,26 @@ fn serve_handing<
         faults,
         muster,
     };
-    let (served, judge) = serve_with(rt, alloc, server, muster, updates, judge, pairs, back, log);
+    let (served, judge) = serve_on_threads(
+        rt, alloc, server, muster, updates, judge, pairs, back, log,
+    );
     back.push_reserved(judge.into_publishing().into_parts().0);
     served
 }
 
-/// Serves the versions of a server's cell, by workers with readers, which are then put into `back`, which has room for them, and does what is done beside them. They hand
-/// updates on there.
-fn serve_with<
+/// Serves the versions of a server's cell, by workers with readers, and does the main task meanwhile. The workers submit their updates to `updates`. The readers are then put
+/// into `back`, which has room for them. Fails with `NotStarted` where not all threads could be started, and else with the fault of the first job that failed.
+fn serve_on_threads<
     R: Threads + Wait + Clock + Sync,
     Z: FirstZone + Send + Sync,
     N: ServerName + Send + Sync,
     L: ServiceLog + Sync,
-    M: Meanwhile,
+    M: MainTask,
 >(
     rt: &R,
     alloc: Global,
     server: &Server<'_, Z, N>,
-    muster: &Muster,
+    muster: &Shutdown,
     updates: &Updates,
     meanwhile: M,
     pairs: Vec<(VersionReader<N>, SocketJob<'_, R>)>,
@@ -403,7 +408,7 @@ fn serve_with<
     }
 }
 
-/// Why the first of the jobs that have failed has done so; none where none has.
+/// Why the first failed job has failed. None where no job has failed.
 fn fault_in<N: Naming, C: Clock>(
     pairs: &[(VersionReader<N>, SocketJob<'_, C>)],
 ) -> Option<ServeFault>
@@ -419,7 +424,7 @@ fn fault_in<N: Naming, C: Clock>(
     None
 }
 
-/// The reader of a pair, whose job is over.
+/// The reader of a pair. Its job is dropped.
 fn reader_of<N: Naming, C: Clock>(pair: (VersionReader<N>, SocketJob<'_, C>)) -> VersionReader<N>
     ensures { result ≡ pair.entry.0 }
 {
@@ -428,7 +433,7 @@ fn reader_of<N: Naming, C: Clock>(pair: (VersionReader<N>, SocketJob<'_, C>)) ->
     reader
 }
 
-/// Puts the readers of pairs into `back`, which has room for them.
+/// Puts the readers of pairs into `back`, which is empty and has room for them.
 fn put_readers<N: Naming, C: Clock>(
     pairs: Vec<(VersionReader<N>, SocketJob<'_, C>)>,
     back: &mut Vec<VersionReader<N>>,
@@ -443,7 +448,7 @@ fn put_readers<N: Naming, C: Clock>(
     }
 }
 
-/// The readers of pairs, and two more, in `back`, which has room for them.
+/// Gives the readers of pairs and two more in `back`, which is empty and has room for them.
 fn all_readers<N: Naming, C: Clock>(
     pairs: Vec<(VersionReader<N>, SocketJob<'_, C>)>,
     reader: VersionReader<N>,
@@ -460,7 +465,7 @@ fn all_readers<N: Naming, C: Clock>(
     back
 }
 
-/// The readers of a cell in their order, each with its job, in `pairs`, which has room for them.
+/// Gives the readers of a cell, in their order, each paired with its job, in `pairs`, which is empty and has room for them.
 fn pairs_of<'a, N: Naming, C: Clock>(
     readers: Vec<Reader<SharedVersion>>,
     jobs: Vec<SocketJob<'a, C>>,

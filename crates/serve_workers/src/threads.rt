@@ -1,48 +1,48 @@
-//! The threads of a server: each has a job on sockets, and who answers in it.
+//! The threads of a server. Each has a job on sockets, and a handler that answers its requests.
 ghost use Rattle.std.specs.Prelude.{◌≡◌, ◌≤◌, [], All, map, vec_len, vec_capacity, Some, IsSome, IfOk, IfErr};
-ghost use Rattle.conversation.specs.Served.{BeginsWith};
+ghost use Rattle.requests.specs.Served.{BeginsWith};
 ghost use Rattle.worker_jobs.specs.GivenBack.{Each};
 ghost use Rattle.serve_workers.specs.Numbers.{number_of, end_of};
-ghost use Rattle.serve_workers.specs.Seats.{seat_number, seat_seen, seat_end, pair_of};
+ghost use Rattle.serve_workers.specs.ThreadTasks.{task_number, task_seen, task_end, pair_of};
 
 use crate::updates::Updates;
 use dns_engine::{FirstZone, VersionReader};
-use ready_sockets::{TcpPeer, TcpPlace, Watch};
 use serve_core::{Peer, Transport};
+use sockets::{TcpPeer, TcpPlace, Watch};
 use std::alloc::Global;
 use std::sync::Wait;
 use std::thread::Threads;
 use std::time::Clock;
 use worker_jobs::{
-    ConnectionsJob, DatagramsJob, Meanwhile, Muster, NotStarted, NotifyJob, Work, WorkerSocket,
+    ConnectionsJob, DatagramsJob, MainTask, NotStarted, NotifyJob, Shutdown, Task, WorkerSocket,
     do_all, nobody,
 };
-use zone_replies::Replies;
-use zone_service::{Asked, Event, Hand, JobEnd, Server, ServerName, ServiceLog};
+use zone_replies::ConnectionHandler;
+use zone_server::{DatagramHandler, Event, JobEnd, Server, ServerName, ServiceLog, UpdateSender};
 
-/// A job on TCP connections of the system's.
+/// A job on the system's TCP connections.
 pub type TcpJob<'a, C> = ConnectionsJob<'a, TcpPeer, Watch<'a, C>, TcpPlace, C>;
 
 /// A thread's job on sockets.
 #[derive(Drop)]
 pub enum SocketJob<'a, C> {
-    /// Requests by datagrams.
+    /// Answers requests by UDP.
     Datagrams(DatagramsJob<'a, WorkerSocket<'a>>),
-    /// Connections.
+    /// Serves TCP connections.
     Connections(TcpJob<'a, C>),
-    /// The secondaries, which are told of each version.
+    /// Notifies the secondaries of each version.
     Secondaries(NotifyJob<'a, C>),
 }
 
-/// A job on a socket of datagrams, and who answers in it by a reader.
+/// A job on a UDP socket, and the handler that answers its requests with a reader.
 #[derive(Drop)]
-struct DatagramsSeat<'g, 's, Z: FirstZone, N: ServerName, L> {
-    asked: Asked<'g, 's, Z, N, L>,
+struct DatagramsTask<'g, 's, Z: FirstZone, N: ServerName, L> {
+    asked: DatagramHandler<'g, 's, Z, N, L>,
     job: DatagramsJob<'g, WorkerSocket<'g>>,
 }
 
-impl<'g, 's, Z: FirstZone, N: ServerName, L: ServiceLog> DatagramsSeat<'g, 's, Z, N, L> {
-    /// Does its job, and gives how that has ended.
+impl<'g, 's, Z: FirstZone, N: ServerName, L: ServiceLog> DatagramsTask<'g, 's, Z, N, L> {
+    /// Does the job, and returns how it ended.
     fn serve<R: Wait>(&mut self, rt: &R) -> JobEnd
         ensures number { self.new.job.number ≡ self.old.job.number }
         ensures seen { BeginsWith self.new.asked.reader.seen self.old.asked.reader.seen }
@@ -52,14 +52,14 @@ impl<'g, 's, Z: FirstZone, N: ServerName, L: ServiceLog> DatagramsSeat<'g, 's, Z
     }
 }
 
-/// A job on connections, and who answers in it by a reader.
+/// A job on connections, and the handler that answers their requests with a reader.
 #[derive(Drop)]
-struct ConnectionsSeat<'g, 's, Z: FirstZone, N: ServerName, L, C> {
-    replies: Replies<'g, 's, Z, N, L>,
+struct ConnectionsTask<'g, 's, Z: FirstZone, N: ServerName, L, C> {
+    replies: ConnectionHandler<'g, 's, Z, N, L>,
     job: TcpJob<'g, C>,
 }
 
-impl<'g, 's, Z: FirstZone, N: ServerName, L: ServiceLog, C: Clock> ConnectionsSeat<
+impl<'g, 's, Z: FirstZone, N: ServerName, L: ServiceLog, C: Clock> ConnectionsTask<
     'g,
     's,
     Z,
@@ -67,7 +67,7 @@ impl<'g, 's, Z: FirstZone, N: ServerName, L: ServiceLog, C: Clock> ConnectionsSe
     L,
     C,
 > {
-    /// Does its job, and gives how that has ended.
+    /// Does the job, and returns how it ended.
     fn serve<R: Wait>(&mut self, rt: &R, log: &L) -> JobEnd
         ensures number { self.new.job.number ≡ self.old.job.number }
         ensures seen { BeginsWith self.new.replies.reader.seen self.old.replies.reader.seen }
@@ -77,14 +77,14 @@ impl<'g, 's, Z: FirstZone, N: ServerName, L: ServiceLog, C: Clock> ConnectionsSe
     }
 }
 
-/// A job that tells secondaries, and who loads in it by a reader.
+/// A job that notifies secondaries, and the handler that loads versions for it with a reader.
 #[derive(Drop)]
-struct SecondariesSeat<'g, 's, Z: FirstZone, N: ServerName, L, C> {
-    asked: Asked<'g, 's, Z, N, L>,
+struct SecondariesTask<'g, 's, Z: FirstZone, N: ServerName, L, C> {
+    asked: DatagramHandler<'g, 's, Z, N, L>,
     job: NotifyJob<'g, C>,
 }
 
-impl<'g, 's, Z: FirstZone, N: ServerName, L: ServiceLog, C: Clock> SecondariesSeat<
+impl<'g, 's, Z: FirstZone, N: ServerName, L: ServiceLog, C: Clock> SecondariesTask<
     'g,
     's,
     Z,
@@ -92,7 +92,7 @@ impl<'g, 's, Z: FirstZone, N: ServerName, L: ServiceLog, C: Clock> SecondariesSe
     L,
     C,
 > {
-    /// Does its job, and gives how that has ended.
+    /// Does the job, and returns how it ended.
     fn serve<R: Wait>(&mut self, rt: &R, log: &L) -> JobEnd
         ensures number { self.new.job.number ≡ self.old.job.number }
         ensures seen { BeginsWith self.new.asked.reader.seen self.old.asked.reader.seen }
@@ -102,27 +102,27 @@ impl<'g, 's, Z: FirstZone, N: ServerName, L: ServiceLog, C: Clock> SecondariesSe
     }
 }
 
-/// To whom the thread at a place hands updates: its place is the number that replies are brought by.
-fn hand_at(updates: &Updates, place: usize) -> Hand<'_> {
-    Hand {
+/// The sender by which the thread at a place submits updates. Replies are routed to the thread by its place.
+fn sender_at(updates: &Updates, place: usize) -> UpdateSender<'_> {
+    UpdateSender {
         queue: updates.queue(),
         worker: place,
     }
 }
 
-/// A thread's job, and who answers in it by a reader.
+/// A thread's job, and its handler with a reader.
 #[derive(Drop)]
-enum Seat<'g, 's, Z: FirstZone, N: ServerName, L, C> {
-    /// On a socket of datagrams.
-    Datagrams(DatagramsSeat<'g, 's, Z, N, L>),
-    /// On listeners.
-    Connections(ConnectionsSeat<'g, 's, Z, N, L, C>),
-    /// On secondaries' sockets.
-    Secondaries(SecondariesSeat<'g, 's, Z, N, L, C>),
+enum ThreadTask<'g, 's, Z: FirstZone, N: ServerName, L, C> {
+    /// A job on a UDP socket.
+    Datagrams(DatagramsTask<'g, 's, Z, N, L>),
+    /// A job on TCP listeners.
+    Connections(ConnectionsTask<'g, 's, Z, N, L, C>),
+    /// A job that notifies secondaries.
+    Secondaries(SecondariesTask<'g, 's, Z, N, L, C>),
 }
 
-impl<'g, 's, Z: FirstZone, N: ServerName, L: ServiceLog, C: Clock> Seat<'g, 's, Z, N, L, C> {
-    /// A job with a reader, of the thread at a place, which hands updates to where they wait.
+impl<'g, 's, Z: FirstZone, N: ServerName, L: ServiceLog, C: Clock> ThreadTask<'g, 's, Z, N, L, C> {
+    /// Combines a job and a reader into the task of the thread at a place, which submits its updates to the queue of `updates`. A job that notifies secondaries submits none.
     fn of(
         alloc: Global,
         server: &'g Server<'s, Z, N>,
@@ -131,52 +131,52 @@ impl<'g, 's, Z: FirstZone, N: ServerName, L: ServiceLog, C: Clock> Seat<'g, 's, 
         place: usize,
         reader: VersionReader<N>,
         job: SocketJob<'g, C>,
-    ) -> Seat<'g, 's, Z, N, L, C>
+    ) -> ThreadTask<'g, 's, Z, N, L, C>
         ensures { pair_of result ≡ (reader, job.entry) }
     {
         let peer = Peer::over(Transport::Udp, false);
         match job {
             SocketJob::Datagrams(job) => {
-                let asked = Asked::new(alloc, server, reader, log, peer, nobody());
-                let asked = asked.handing(hand_at(updates, place));
-                Seat::Datagrams(DatagramsSeat { asked, job })
+                let asked = DatagramHandler::new(alloc, server, reader, log, peer, nobody());
+                let asked = asked.with_sender(sender_at(updates, place));
+                ThreadTask::Datagrams(DatagramsTask { asked, job })
             }
             SocketJob::Connections(job) => {
-                let replies = Replies::new(alloc, server, reader, log, peer, nobody());
-                let replies = replies.handing(hand_at(updates, place));
-                Seat::Connections(ConnectionsSeat { replies, job })
+                let replies = ConnectionHandler::new(alloc, server, reader, log, peer, nobody());
+                let replies = replies.with_sender(sender_at(updates, place));
+                ThreadTask::Connections(ConnectionsTask { replies, job })
             }
             SocketJob::Secondaries(job) => {
-                let asked = Asked::new(alloc, server, reader, log, peer, nobody());
-                Seat::Secondaries(SecondariesSeat { asked, job })
+                let asked = DatagramHandler::new(alloc, server, reader, log, peer, nobody());
+                ThreadTask::Secondaries(SecondariesTask { asked, job })
             }
         }
     }
 
-    /// The job and its reader.
+    /// Gives the reader and the job back.
     fn into_pair(self) -> (VersionReader<N>, SocketJob<'g, C>)
         ensures { result ≡ pair_of self.entry }
     {
         match self {
-            Seat::Datagrams(DatagramsSeat { asked, job }) => {
+            ThreadTask::Datagrams(DatagramsTask { asked, job }) => {
                 (asked.into_reader(), SocketJob::Datagrams(job))
             }
-            Seat::Connections(ConnectionsSeat { replies, job }) => {
+            ThreadTask::Connections(ConnectionsTask { replies, job }) => {
                 (replies.into_reader(), SocketJob::Connections(job))
             }
-            Seat::Secondaries(SecondariesSeat { asked, job }) => {
+            ThreadTask::Secondaries(SecondariesTask { asked, job }) => {
                 (asked.into_reader(), SocketJob::Secondaries(job))
             }
         }
     }
 
-    /// What is told of its end.
+    /// The event that is logged when its job has ended so.
     fn event_of(&self, end: JobEnd) -> Event {
         let worker = self.number();
         let transport = match self {
-            Seat::Datagrams(_) => Transport::Udp,
-            Seat::Connections(_) => Transport::Tcp,
-            Seat::Secondaries(_) => return Event::Untold { end },
+            ThreadTask::Datagrams(_) => Transport::Udp,
+            ThreadTask::Connections(_) => Transport::Tcp,
+            ThreadTask::Secondaries(_) => return Event::Untold { end },
         };
         Event::End {
             worker,
@@ -185,36 +185,36 @@ impl<'g, 's, Z: FirstZone, N: ServerName, L: ServiceLog, C: Clock> Seat<'g, 's, 
         }
     }
 
-    /// Does its job, and gives how that has ended.
+    /// Does the job, and returns how it ended.
     fn serve<R: Wait>(&mut self, rt: &R, log: &L) -> JobEnd
-        ensures number { seat_number self.new ≡ seat_number self.old }
-        ensures seen { BeginsWith (seat_seen self.new) (seat_seen self.old) }
-        ensures end { seat_end self.new ≡ Some result }
+        ensures number { task_number self.new ≡ task_number self.old }
+        ensures seen { BeginsWith (task_seen self.new) (task_seen self.old) }
+        ensures end { task_end self.new ≡ Some result }
     {
         match self {
-            Seat::Datagrams(seat) => seat.serve(rt),
-            Seat::Connections(seat) => seat.serve(rt, log),
-            Seat::Secondaries(seat) => seat.serve(rt, log),
+            ThreadTask::Datagrams(seat) => seat.serve(rt),
+            ThreadTask::Connections(seat) => seat.serve(rt, log),
+            ThreadTask::Secondaries(seat) => seat.serve(rt, log),
         }
     }
 
-    /// Its thread hands in no more updates, where any may come to it.
+    /// Notes that its thread submits no more updates. Nothing is noted for a thread that gets no updates.
     fn leave<R: Wait>(&self, rt: &R, updates: &Updates) {
         match self {
-            Seat::Datagrams(_) => updates.leave(rt),
-            Seat::Connections(_) => updates.leave(rt),
-            Seat::Secondaries(_) => {}
+            ThreadTask::Datagrams(_) => updates.leave(rt),
+            ThreadTask::Connections(_) => updates.leave(rt),
+            ThreadTask::Secondaries(_) => {}
         }
     }
 
-    /// Its job's number.
+    /// The number of its job.
     fn number(&self) -> usize
-        ensures { result ≡ seat_number self.now }
+        ensures { result ≡ task_number self.now }
     {
         match self {
-            Seat::Datagrams(seat) => seat.job.number,
-            Seat::Connections(seat) => seat.job.number,
-            Seat::Secondaries(seat) => seat.job.number,
+            ThreadTask::Datagrams(seat) => seat.job.number,
+            ThreadTask::Connections(seat) => seat.job.number,
+            ThreadTask::Secondaries(seat) => seat.job.number,
         }
     }
 }
@@ -222,13 +222,13 @@ impl<'g, 's, Z: FirstZone, N: ServerName, L: ServiceLog, C: Clock> Seat<'g, 's, 
 /// A thread of a server.
 #[derive(Drop)]
 struct ServerThread<'g, 's, Z: FirstZone, N: ServerName, L, C> {
-    seat: Seat<'g, 's, Z, N, L, C>,
-    muster: &'g Muster,
+    task: ThreadTask<'g, 's, Z, N, L, C>,
+    muster: &'g Shutdown,
     log: &'g L,
     updates: &'g Updates,
 }
 
-/// Whether a job has done what it might.
+/// Whether a job ended without a failure.
 fn is_done(end: JobEnd) -> bool {
     match end {
         JobEnd::Done(_) => true,
@@ -245,33 +245,33 @@ impl<
     N: ServerName + Send + Sync,
     L: ServiceLog + Sync,
     C: Clock + Sync,
-> Work for ServerThread<'g, 's, Z, N, L, C> {
-    ghost number = { λ thread. seat_number thread.seat };
+> Task for ServerThread<'g, 's, Z, N, L, C> {
+    ghost number = { λ thread. task_number thread.task };
 
-    ghost seen = { λ thread. seat_seen thread.seat };
+    ghost seen = { λ thread. task_seen thread.task };
 
-    ghost is_done = { λ thread. IsSome (seat_end thread.seat) };
+    ghost is_done = { λ thread. IsSome (task_end thread.task) };
 
-    // A thread that has not done what it might ends the server.
+    // A thread that fails ends the server.
     fn work<R: Wait>(&mut self, rt: &R) {
         if self.muster.begin() {
             self.log.tell(rt, Event::Serving);
         }
-        let end = self.seat.serve(rt, self.log);
-        self.seat.leave(rt, self.updates);
+        let end = self.task.serve(rt, self.log);
+        self.task.leave(rt, self.updates);
         self.muster.leave();
         if !is_done(end) {
             self.muster.end();
         }
-        self.log.tell(rt, self.seat.event_of(end));
+        self.log.tell(rt, self.task.event_of(end));
     }
 }
 
-/// Puts the threads of pairs into `threads`, which has room for them.
+/// Makes a thread of each pair and puts them into `threads`, which is empty and has room for them.
 fn put_threads<'g, 's, Z: FirstZone, N: ServerName, L: ServiceLog, C: Clock>(
     alloc: Global,
     server: &'g Server<'s, Z, N>,
-    muster: &'g Muster,
+    muster: &'g Shutdown,
     log: &'g L,
     updates: &'g Updates,
     pairs: Vec<(VersionReader<N>, SocketJob<'g, C>)>,
@@ -279,13 +279,13 @@ fn put_threads<'g, 's, Z: FirstZone, N: ServerName, L: ServiceLog, C: Clock>(
 )
     requires room { vec_len pairs ≤ vec_capacity threads.old }
     requires empty { threads.old.items ≡ [] }
-    ensures pairs { map (λ thread. pair_of thread.seat) threads.new.items ≡ pairs.entry.items }
+    ensures pairs { map (λ thread. pair_of thread.task) threads.new.items ≡ pairs.entry.items }
 {
     let mut place = 0usize;
     for (reader, job) in pairs {
-        let seat = Seat::of(alloc, server, log, updates, place, reader, job);
+        let seat = ThreadTask::of(alloc, server, log, updates, place, reader, job);
         threads.push_reserved(ServerThread {
-            seat,
+            task: seat,
             muster,
             log,
             updates,
@@ -294,24 +294,24 @@ fn put_threads<'g, 's, Z: FirstZone, N: ServerName, L: ServiceLog, C: Clock>(
     }
 }
 
-/// Puts the pairs of threads into `back`, which has room for them.
+/// Puts the pairs of threads into `back`, which is empty and has room for them.
 fn put_back<'g, Z: FirstZone, N: ServerName, L: ServiceLog, C: Clock>(
     done: Vec<ServerThread<'g, '_, Z, N, L, C>>,
     back: &mut Vec<(VersionReader<N>, SocketJob<'g, C>)>,
 )
     requires room { vec_len done ≤ vec_capacity back.old }
     requires empty { back.old.items ≡ [] }
-    ensures pairs { back.new.items ≡ map (λ thread. pair_of thread.seat) done.entry.items }
+    ensures pairs { back.new.items ≡ map (λ thread. pair_of thread.task) done.entry.items }
 {
-    for ServerThread { seat, .. } in done {
+    for ServerThread { task: seat, .. } in done {
         back.push_reserved(seat.into_pair());
     }
 }
 
-/// Does each job on a thread of its own, with a reader, and beside them what is done on this one, and waits for all; then gives the pairs back in their order: each
-/// job has ended, and what its reader has seen published begins with what it had seen. No job begins until each has its thread, and the log is told once all have begun.
-/// [`NotStarted`] where a thread was refused, or where there was no memory to keep track of them: no job has begun, nothing was done beside them, and the pairs come back
-/// as they were given.
+/// Does each job on a thread of its own, with a reader, and the main task on this one, and waits for all. Gives the pairs back in their order. Each job has ended, and
+/// what its reader has seen published begins with what it had seen before. No job begins until each has its thread, and the start is logged once all have begun.
+/// [`NotStarted`] where a thread was refused, or where there was no memory to track the threads. Then no job has begun, the main task wasn't done, and the pairs come back
+/// unchanged.
 pub(crate) fn run_threads<
     'g,
     's,
@@ -320,12 +320,12 @@ pub(crate) fn run_threads<
     N: ServerName + Send + Sync,
     L: ServiceLog + Sync,
     C: Clock + Sync,
-    M: Meanwhile,
+    M: MainTask,
 >(
     rt: &R,
     alloc: Global,
     server: &'g Server<'s, Z, N>,
-    muster: &'g Muster,
+    muster: &'g Shutdown,
     updates: &'g Updates,
     meanwhile: M,
     pairs: Vec<(VersionReader<N>, SocketJob<'g, C>)>,

@@ -1,24 +1,24 @@
-//! Updates that threads hand to who judges them (RFC 2136, 3; own).
+//! The updates that threads submit to the update thread (RFC 2136, 3; own).
 
-use crate::service::{Duty, Sockets};
+use crate::service::{Sockets, ThreadSpec};
 use std::alloc::{AllocError, Global};
 use std::sync::Wait;
 use std::sync::atomic::{AtomicUsize, Ordering};
-use update_queue::{Most, Queue};
-use worker_jobs::ToldKeys;
-use zone_service::Waiting;
+use update_batches::{Most, Queue};
+use worker_jobs::WakeList;
+use zone_server::QueuedUpdate;
 
-/// The updates that threads hand in, and what tells these the keys of connections whose replies can be had, by their places.
+/// The queue of the updates that threads submit, and for each thread, by its place, the list of its connections whose replies are ready.
 #[derive(Drop)]
 pub(crate) struct Updates {
-    queue: Queue<Waiting>,
-    /// How many threads may hand in more.
+    queue: Queue<QueuedUpdate>,
+    /// How many threads may still submit updates.
     left: AtomicUsize,
-    told: Vec<ToldKeys>,
+    told: Vec<WakeList>,
 }
 
-/// How many connections a thread may have that has a duty, of so many that a worker may have.
-fn most_of(duty: &Duty<'_>, places: usize) -> usize {
+/// How many connections the thread of a spec may have, where a worker may have `places`.
+fn most_of(duty: &ThreadSpec<'_>, places: usize) -> usize {
     match duty.sockets {
         Sockets::Connections(_) => places,
         Sockets::Datagrams(_) => 0,
@@ -26,8 +26,8 @@ fn most_of(duty: &Duty<'_>, places: usize) -> usize {
     }
 }
 
-/// Whether updates may come to a thread that has a duty.
-fn takes_updates(duty: &Duty<'_>) -> bool {
+/// Whether the thread of a spec may get updates.
+fn takes_updates(duty: &ThreadSpec<'_>) -> bool {
     match duty.sockets {
         Sockets::Connections(_) => true,
         Sockets::Datagrams(_) => true,
@@ -36,20 +36,20 @@ fn takes_updates(duty: &Duty<'_>) -> bool {
 }
 
 impl Updates {
-    /// Those of threads that have these duties, each with at most so many connections, of which none waits, and at most so much ever does. It takes the memory for
-    /// all.
+    /// Creates an empty queue of at most `most` for the threads of these specs, and their lists, where a thread that serves connections has at most `places` of them.
+    /// Allocates the memory for all of it. An error where an allocation fails. The queue is ended at once where no thread may get updates.
     pub(crate) fn of<R: Wait>(
         rt: &R,
         alloc: Global,
         most: Most,
-        duties: &[Duty<'_>],
+        duties: &[ThreadSpec<'_>],
         places: usize,
     ) -> Result<Updates, AllocError> {
         let queue = Queue::new(alloc, most)?;
         let mut told = Vec::new(alloc);
         let mut threads = 0usize;
         for duty in duties {
-            told.push(ToldKeys::new(alloc, most_of(duty, places))?)?;
+            told.push(WakeList::new(alloc, most_of(duty, places))?)?;
             if takes_updates(duty) {
                 threads = threads.saturating_add(1);
             }
@@ -61,17 +61,17 @@ impl Updates {
         Ok(Updates { queue, left, told })
     }
 
-    /// Those that wait.
-    pub(crate) fn queue(&self) -> &Queue<Waiting> {
+    /// The queue of the updates that wait.
+    pub(crate) fn queue(&self) -> &Queue<QueuedUpdate> {
         &self.queue
     }
 
-    /// What tells the thread of a place its keys, if it is told any.
-    pub(crate) fn told_at(&self, place: usize) -> Option<&ToldKeys> {
+    /// The list of ready connections of the thread at a place, if there is such a thread.
+    pub(crate) fn told_at(&self, place: usize) -> Option<&WakeList> {
         self.told.get(place)
     }
 
-    /// One of the threads hands in no more. Once none does, who judges them is told so, behind those that wait.
+    /// One of the threads submits no more updates. Once none does, this ends the queue, after the updates that wait in it.
     pub(crate) fn leave<R: Wait>(&self, rt: &R) {
         if self.left.fetch_sub(1, Ordering::SeqCst) <= 1 {
             self.queue.end(rt);

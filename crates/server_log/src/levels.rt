@@ -1,25 +1,25 @@
-//! How grave what standard error tells is, as journald takes it (sd-daemon(3)).
+//! The severity of lines on standard error, in journald's form (sd-daemon(3)).
 use std::env;
 use std::rt::Env;
-use store_compactor::CompactionEvent;
-use store_service::StoreEvent;
-use zone_service::{Event, JobEnd};
+use store_compaction::CompactionEvent;
+use store_server::StoreEvent;
+use zone_server::{Event, JobEnd};
 
-/// How grave a line is.
+/// The severity of a line.
 #[derive(Clone, Copy, Debug, PartialEq, Eq)]
 pub enum Level {
-    /// The zone isn't served, or updates aren't kept.
+    /// The zone is not served, or updates cannot be written.
     Error,
-    /// Something isn't as the operator may expect.
+    /// Something may differ from what the operator expects.
     Warning,
-    /// The server starts or ends, or something works again.
+    /// The server starts or stops, or something works again.
     Notice,
-    /// What the server does all the time.
+    /// Normal operation.
     Info,
 }
 
 impl Level {
-    /// What a line of this level begins with: nothing, or its number, where journald reads it.
+    /// The prefix of a line of this level: its number if journald reads the line, and else nothing.
     pub fn mark(self, in_journal: bool) -> &'static str {
         if !in_journal {
             return "";
@@ -32,12 +32,12 @@ impl Level {
         }
     }
 
-    /// What a line of this level begins with on standard error.
+    /// The prefix of a line of this level on standard error.
     pub fn mark_for<R: Env + AllocGlobal>(self, rt: &R) -> &'static str {
         self.mark(is_in_journal(rt))
     }
 
-    /// The level of what has happened to the service.
+    /// The level of an event of the service.
     pub fn of_event(event: &Event) -> Level {
         match event {
             Event::Update { .. } => Level::Info,
@@ -59,7 +59,7 @@ impl Level {
         }
     }
 
-    /// The level of what has happened to the store.
+    /// The level of an event of the store.
     pub fn of_store(event: &StoreEvent) -> Level {
         match event {
             StoreEvent::Failing(_) | StoreEvent::Compaction(CompactionEvent::Unknown(_)) => {

@@ -1,4 +1,4 @@
-//! The log of a running server: its lines with their levels, the thread that writes them to standard error, and what a service manager is notified of.
+//! The log of a running server: its lines and their levels, and the thread that writes them to standard error and notifies a service manager.
 #![tactic(auto)]
 
 mod levels;

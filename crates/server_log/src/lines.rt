@@ -1,4 +1,4 @@
-//! The lines of the log of a running server.
+//! The lines in the log of a running server.
 use crate::levels::Level;
 use dns_name::Name;
 use dns_rdata::Serial;
@@ -6,10 +6,10 @@ use notify::Large;
 use serve_workers::ServeFault;
 use std::fmt::{self, Display, Formatter};
 use std::net::SocketAddr;
-use store_service::StoreEvent;
-use zone_service::Event;
+use store_server::StoreEvent;
+use zone_server::Event;
 
-/// What is said of a zone at the root for which no origin was given.
+/// The warning for a zone whose apex is the root, if no origin was given.
 pub const ROOT_APEX: &str =
     "warning: the zone's apex is the root: names without a final dot are below it; --origin NAME gives another origin";
 
@@ -18,51 +18,51 @@ pub const ROOT_APEX: &str =
 pub enum LogLine {
     /// The zone is served.
     Listening {
-        /// The address and the port.
+        /// The address and port.
         address: SocketAddr,
         /// The zone's apex.
         apex: Name,
         /// The zone's serial.
         serial: Serial,
-        /// How many records the zone has.
+        /// The number of records in the zone.
         records: usize,
     },
-    /// An address for all of the machine's is listened on.
+    /// The server listens on a wildcard address.
     Wildcard(SocketAddr),
-    /// The limit of descriptors is lower than what all connections would need.
+    /// The limit on descriptors is lower than all connections would need.
     FewDescriptors {
         /// The limit.
         limit: usize,
-        /// What they would need.
+        /// The number that they would need.
         wanted: usize,
-        /// How many connections each worker has open at most for that reason.
+        /// The maximum number of open connections per worker that results.
         places: usize,
     },
-    /// The system keeps fewer octets of datagrams for a socket than were asked for.
+    /// The system's receive buffer for a socket has fewer octets than were requested.
     SmallBuffer {
-        /// How many it keeps.
+        /// The size of the buffer.
         kept: u32,
-        /// How many were asked for.
+        /// The size that was requested.
         wanted: u32,
     },
-    /// Secondaries are notified from addresses that routing picks.
+    /// Some secondaries are notified from addresses that routing picks.
     Routed,
     /// The apex is the root, and no origin was given.
     RootApex,
-    /// The zone has more than stock secondaries take.
+    /// The zone has more than stock secondaries accept.
     Large(Large),
-    /// Updates are lost at the program's end.
+    /// Updates are lost when the program exits.
     NoStore,
-    /// Something has happened.
+    /// An event of the service.
     Event(Event),
-    /// Something has happened to the store.
+    /// An event of the store.
     Store(StoreEvent),
-    /// The zone isn't served any more.
+    /// The zone is no longer served.
     Fault(ServeFault),
 }
 
 impl LogLine {
-    /// How grave it is.
+    /// The level of the line.
     pub fn level(&self) -> Level {
         match self {
             LogLine::Listening { .. } => Level::Notice,

@@ -6,32 +6,32 @@ use dns_rdata::Serial;
 use std::net::SocketAddr;
 use std::sync::Wait;
 use std::time::{Clock, Duration};
-use store_service::{StoreEvent, StoreLog};
-use zone_service::{Event, ServiceLog};
+use store_server::{StoreEvent, StoreLog};
+use zone_server::{Event, ServiceLog};
 
-/// How long the server's end waits at most for the lines that are left, in milliseconds (own).
+/// How long a server that stops waits, at most, for the remaining lines to be written, in milliseconds (own).
 const END_MILLIS: u64 = 1000;
 
-/// What is logged once all workers have begun.
+/// What is logged once all workers have started.
 #[derive(Drop)]
 pub struct Listening {
-    /// The addresses and the ports.
+    /// The addresses and ports.
     pub addresses: Vec<SocketAddr>,
     /// The zone's apex.
     pub apex: Name,
     /// The zone's serial.
     pub serial: Serial,
-    /// How many records the zone has.
+    /// The number of records in the zone.
     pub records: usize,
-    /// Whether updates may come, and are lost at the program's end.
+    /// Whether updates are possible, and are lost when the program exits.
     pub loses_updates: bool,
-    /// How many octets of datagrams the system keeps for a socket.
+    /// The size of the system's receive buffer for a socket, in octets.
     pub kept: u32,
-    /// How many were asked for.
+    /// The size that was requested.
     pub wanted: u32,
 }
 
-/// The log: its lines wait for a thread that writes them, so that a thread that adds one doesn't wait for standard error.
+/// The log. Its lines are queued for a thread that writes them, so that a thread that adds a line does not wait for standard error.
 #[derive(Drop)]
 pub struct Log {
     entries: Entries,
@@ -39,24 +39,24 @@ pub struct Log {
 }
 
 impl Log {
-    /// The log of a zone, whose entries a thread writes.
+    /// The log of a zone, whose entries another thread writes.
     pub fn new(entries: Entries, listening: Listening) -> Log {
         Log { entries, listening }
     }
 
-    /// Adds a line; where as many lines wait as may, it is counted as lost.
+    /// Adds a line. If the queue is full, the line is lost, and counted.
     pub fn add<R: Wait>(&self, rt: &R, line: LogLine) {
         self.entries.queue.add(rt, Entry::Line(line));
     }
 
-    /// Adds to the lines about peers what a request has met; the thread that writes is woken for the first since it wrote such lines.
+    /// Adds an event to the lines about clients. The writing thread is woken only for the first one since it last took these lines.
     fn add_of_peer<R: Wait>(&self, rt: &R, event: Event) {
         if self.entries.peers.lock(rt).add(event) {
             self.entries.queue.add(rt, Entry::Peers);
         }
     }
 
-    /// Ends the log. It waits a second at most for the lines that are left, and those that aren't written then are lost.
+    /// Closes the log. It waits at most a second for the remaining lines; lines not written by then are lost.
     pub fn end<R: Wait + Clock>(self, rt: &R) {
         self.entries.queue.add(rt, Entry::Stopping);
         let _ = self
@@ -65,7 +65,8 @@ impl Log {
             .close(rt, Duration::from_millis(END_MILLIS));
     }
 
-    /// Logs at which addresses the zone is served, whether its updates are lost, and whether the system keeps fewer datagrams than were asked for.
+    /// Logs the addresses on which the zone is served, whether its updates will be lost, and whether the system's receive buffer is smaller than
+    /// requested.
     fn add_listening<R: Wait>(&self, rt: &R) {
         let Listening {
             addresses,

@@ -1,20 +1,21 @@
-//! Lines about peers whose requests were refused, or signed where there are no keys: of each peer one at most once a second.
+//! Lines about clients whose requests were refused, or were signed although no keys are configured: at most one per client and kind of request in a
+//! second.
 use peer_groups::PeerGroup;
 use std::alloc::Global;
 use std::fmt::{self, Display, Formatter};
 use std::mem;
 use std::net::SocketAddr;
-use zone_service::Event;
+use zone_server::Event;
 
-/// How many lines are kept apart at most until they are written (own).
+/// The maximum number of separate lines that wait to be written (own).
 const MOST_LINES: usize = 64;
 
-/// A line about a peer's requests.
+/// A line about a client's requests.
 #[derive(Drop)]
 pub struct PeerLine {
-    /// What the first of them met.
+    /// The event of the first of them.
     first: Event,
-    /// How many more met the same.
+    /// How many more had the same event.
     more: u64,
 }
 
@@ -28,16 +29,16 @@ impl Display for PeerLine {
     }
 }
 
-/// Lines about peers' requests that wait to be written.
+/// Lines about clients' requests that wait to be written.
 #[derive(Drop)]
 pub struct PeerLines {
     lines: Vec<PeerLine>,
-    /// How many requests met something that no line tells, since there are too many lines.
+    /// The number of requests that have no line, because there are too many lines.
     others: u64,
 }
 
 impl PeerLines {
-    /// None.
+    /// No lines.
     pub fn new(alloc: Global) -> PeerLines {
         PeerLines {
             lines: Vec::new(alloc),
@@ -45,7 +46,8 @@ impl PeerLines {
         }
     }
 
-    /// Adds what a request has met, to the line of its peer where there is one; whether it is the first since the lines were taken.
+    /// Adds the event of a request: to the line of its client if there is one for the same kind of event, and else as a new line. Returns whether it
+    /// is the first since the lines were taken.
     pub fn add(&mut self, event: Event) -> bool {
         for line in self.lines.iter_mut() {
             if is_alike(&line.first, &event) {
@@ -64,14 +66,14 @@ impl PeerLines {
         is_first
     }
 
-    /// All lines, and how many requests met something that none of them tells; none is left.
+    /// Takes all lines, and the number of requests that have none; no line remains.
     pub fn take(&mut self, alloc: Global) -> (Vec<PeerLine>, u64) {
         let others = mem::replace(&mut self.others, 0);
         (mem::replace(&mut self.lines, Vec::new(alloc)), others)
     }
 }
 
-/// Whether two requests of one peer have met the same.
+/// Whether two events are alike: the same refusal, or signature, of the same kind of request of the same client.
 fn is_alike(one: &Event, other: &Event) -> bool {
     match (one, other) {
         (
@@ -93,7 +95,7 @@ fn is_alike(one: &Event, other: &Event) -> bool {
     }
 }
 
-/// Whether two addresses are one peer's.
+/// Whether two addresses count as one client.
 fn is_one_peer(one: SocketAddr, other: SocketAddr) -> bool {
     PeerGroup::of(one.ip()).is_same(PeerGroup::of(other.ip()))
 }

@@ -1,4 +1,4 @@
-//! The thread that writes the log to standard error, and notifies a service manager.
+//! The thread that writes the log to standard error and notifies a service manager.
 use crate::levels::{Level, is_in_journal};
 use crate::lines::LogLine;
 use crate::peer_lines::{PeerLine, PeerLines};
@@ -13,54 +13,53 @@ use std::sync::{Arc, Mutex, Wait};
 use std::thread::{self, Threads};
 use std::time::{Clock, Duration};
 use std::{env, mem};
-use update_desk::Serials;
-use zone_service::Event;
+use zone_server::{Event, Serials};
 
-/// How many lines wait at most to be written (own).
+/// The maximum number of entries that wait to be written (own).
 const MOST_WAITING: usize = 1024;
 
-/// How many seconds there are at least between two notifications of a service manager, and between two lines of one peer (own).
+/// The minimum number of seconds between two status notifications of a service manager, and between two writings of lines about clients (own).
 const LEAST_SECONDS: u64 = 1;
 
-/// What the log's thread takes.
+/// An entry for the log's thread.
 #[derive(Drop)]
 pub enum Entry {
     /// A line.
     Line(LogLine),
-    /// There are lines about peers.
+    /// There are lines about clients.
     Peers,
-    /// The zone is served: a service manager is notified.
+    /// The zone is served: the service manager is notified.
     Ready,
-    /// The server ends: a service manager is notified.
+    /// The server stops: the service manager is notified.
     Stopping,
 }
 
-/// What waits for the thread that writes it, and lines about peers.
+/// The queue for the writing thread, and the lines about clients.
 #[derive(Drop)]
 pub struct Shared {
     pub(crate) queue: LogQueue<Entry>,
     pub(crate) peers: Mutex<PeerLines>,
 }
 
-/// The same, of the log and its thread.
+/// The same, shared by the log and its thread.
 pub type Entries = Arc<Shared, Global>;
 
-/// Standard error, and a service manager. What can't be written is lost.
+/// Standard error and a service manager. What cannot be written is lost.
 #[derive(Drop)]
 struct ErrorLines<E> {
     rt: E,
     in_journal: bool,
     manager: Option<ServiceManager>,
-    /// The apex of the zone that is served, and its serial as it was logged last.
+    /// The apex of the zone that is served, and its serial as last logged.
     zone: Option<(Name, Serial)>,
-    /// Whether the service manager was notified of an older serial.
+    /// Whether the service manager was last notified of an older serial.
     is_stale: bool,
-    /// When it was notified, since the clock's beginning.
+    /// When it was last notified, on the monotonic clock.
     notified_at: Duration,
     shared: Entries,
-    /// Whether lines about peers wait.
+    /// Whether lines about clients wait.
     has_peers: bool,
-    /// When such lines were written, since the clock's beginning.
+    /// When such lines were last written, on the monotonic clock.
     peers_at: Duration,
 }
 
@@ -108,7 +107,8 @@ impl<E: Eprint + AllocGlobal + Wait + Clock> ErrorLines<E> {
         }
     }
 
-    /// Notifies the service manager of a serial that it doesn't have, a second after the last at the earliest; how long that is from now, where it is later.
+    /// Notifies the service manager of a serial that it does not have yet, at the earliest a second after the last notification. Returns the time
+    /// that is left until then, if any.
     fn follow_status(&mut self) -> Option<Duration> {
         if !self.is_stale || self.manager.is_none() {
             return None;
@@ -120,7 +120,7 @@ impl<E: Eprint + AllocGlobal + Wait + Clock> ErrorLines<E> {
         left
     }
 
-    /// Writes the lines about peers, a second after the last such lines at the earliest; how long that is from now, where it is later.
+    /// Writes the lines about clients, at the earliest a second after the last such lines. Returns the time that is left until then, if any.
     fn write_peers(&mut self) -> Option<Duration> {
         if !self.has_peers {
             return None;
@@ -135,7 +135,7 @@ impl<E: Eprint + AllocGlobal + Wait + Clock> ErrorLines<E> {
         left
     }
 
-    /// Writes lines about peers, and how many requests no line tells.
+    /// Writes lines about clients, and the number of requests that have no line.
     fn put_peers(&self, lines: &[PeerLine], others: u64) {
         let mark = Level::Warning.mark(self.in_journal);
         for line in lines {
@@ -148,7 +148,7 @@ impl<E: Eprint + AllocGlobal + Wait + Clock> ErrorLines<E> {
         }
     }
 
-    /// How much of a second is left since a time; None where it has passed.
+    /// How much of the minimum interval since a time is left; None if it has passed.
     fn left_of(&self, since: Duration) -> Option<Duration> {
         let least = Duration::from_secs(LEAST_SECONDS);
         let passed = match self.rt.monotonic() {
@@ -161,7 +161,7 @@ impl<E: Eprint + AllocGlobal + Wait + Clock> ErrorLines<E> {
         None
     }
 
-    /// Notes the serial that an update has left, if it is newer: lines of a batch come in any order.
+    /// Records the serial after an update if it is newer: the lines of a batch may come in any order.
     fn note_serial(&mut self, after: Serial) {
         if let Some((_, serial)) = &mut self.zone {
             if serial.less(after) {
@@ -171,7 +171,7 @@ impl<E: Eprint + AllocGlobal + Wait + Clock> ErrorLines<E> {
         }
     }
 
-    /// Notifies the service manager of a state, if there is one.
+    /// Notifies the service manager, if there is one, of a state.
     fn notify(&self, state: &str) {
         if let Some(manager) = &self.manager {
             manager.notify(state);
@@ -199,8 +199,8 @@ impl<E: Eprint + AllocGlobal + Wait + Clock> ErrorLines<E> {
     }
 }
 
-/// Starts the thread that writes the log and notifies the service manager that `NOTIFY_SOCKET` names, if it names one (sd_notify(3)); want of memory, or a thread that is
-/// refused, starts none.
+/// Starts the thread that writes the log and notifies the service manager named by `NOTIFY_SOCKET`, if it is set (sd_notify(3)). An error is lack of
+/// memory, or a thread that cannot be started; then no thread runs.
 pub fn start_entries<
     R: Env + Eprint + AllocGlobal + Net + Threads + Wait + Clock + Copy + Send + Drop + 'static,
 >(rt: &R) -> Result<Entries, AllocError> {
@@ -217,7 +217,7 @@ pub fn start_entries<
     };
     let in_journal = is_in_journal(rt);
     let rt = *rt;
-    // The thread isn't joined: one that standard error takes no line from would never end.
+    // The thread is not joined: if standard error accepts no lines, it would never end.
     let writer = thread::spawn(&rt, move || {
         let mut lines = ErrorLines {
             rt,

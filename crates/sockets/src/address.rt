@@ -1,17 +1,17 @@
-//! Addresses as the system takes them.
+//! Socket addresses in the form that system calls take.
 ghost use Rattle.std.specs.Prelude.{◌≡◌, ◌+◌, ◌≤◌, length};
 ghost use Rattle.mio.specs.SockAddr.{put as put_at, family_and_port as front_of, sockaddr, sockaddr_in, sockaddr_in6};
 
 use libc::net as c;
 use std::net::{SocketAddr, SocketAddrV4, SocketAddrV6};
 
-/// The octets of C's `sockaddr_in`.
+/// Size of C's `sockaddr_in` in octets.
 const V4_OCTETS: u32 = 16;
 
-/// The octets of C's `sockaddr_in6`.
+/// Size of C's `sockaddr_in6` in octets.
 const V6_OCTETS: u32 = 28;
 
-/// An address as C's `sockaddr_in` or `sockaddr_in6`, and how many octets that has.
+/// An address as C's `sockaddr_in` or `sockaddr_in6`, and its size in octets.
 pub(crate) fn address_octets(address: SocketAddr) -> ([u8; c::_SS_SIZE], u32)
     ensures octets { result ≡ sockaddr address }
     ensures size { result.1 ≤ 128 }
@@ -22,7 +22,7 @@ pub(crate) fn address_octets(address: SocketAddr) -> ([u8; c::_SS_SIZE], u32)
     }
 }
 
-/// Puts octets into an address, from a place on.
+/// Copies octets into an address, starting at index `at`.
 pub(crate) fn put(raw: &mut [u8; c::_SS_SIZE], at: usize, octets: &[u8])
     requires { at + length octets.now ≤ 128 }
     ensures { raw.new ≡ put_at raw.old at octets.now }
@@ -30,7 +30,7 @@ pub(crate) fn put(raw: &mut [u8; c::_SS_SIZE], at: usize, octets: &[u8])
     raw[at..at + octets.len()].copy_from_slice(octets);
 }
 
-/// The front of an address: its family in the machine's order, and its port in the network's.
+/// The first four octets of an address: the family in native byte order, then the port in network byte order.
 fn family_and_port(family: u16, port: u16) -> [u8; c::_SS_SIZE]
     ensures { result ≡ front_of family port }
 {
@@ -40,7 +40,7 @@ fn family_and_port(family: u16, port: u16) -> [u8; c::_SS_SIZE]
     raw
 }
 
-/// C's `sockaddr_in` of an address.
+/// An IPv4 address as C's `sockaddr_in`.
 fn v4_octets(address: SocketAddrV4) -> [u8; c::_SS_SIZE]
     ensures { result ≡ sockaddr_in address }
 {
@@ -49,7 +49,7 @@ fn v4_octets(address: SocketAddrV4) -> [u8; c::_SS_SIZE]
     raw
 }
 
-/// C's `sockaddr_in6` of an address.
+/// An IPv6 address as C's `sockaddr_in6`.
 fn v6_octets(address: SocketAddrV6) -> [u8; c::_SS_SIZE]
     ensures { result ≡ sockaddr_in6 address }
 {

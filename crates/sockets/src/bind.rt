@@ -1,4 +1,4 @@
-//! Sockets that are bound at an address and a port.
+//! Sockets bound to an address and a port.
 ghost use Rattle.std.specs.Prelude.{pos};
 ghost use Rattle.libc.specs.Net.{Family, Kind as IsKind};
 
@@ -11,19 +11,19 @@ use std::io;
 use std::net::{Net, SocketAddr, TcpListener, UdpSocket};
 use std::os::fd::{AsRawFd, OwnedFd};
 
-/// How many connections may wait to be accepted: as many as the system allows, which cuts the number to its own limit.
+/// How many connections may wait to be accepted. The system lowers this number to its own limit.
 const BACKLOG: i32 = i32::MAX;
 
-/// Which of the sockets at a port one is.
+/// Whether a socket is the first one at its port.
 #[derive(Clone, Copy)]
 pub enum Turn {
-    /// The first. It isn't bound where another one has the port, and others can share the port once it is.
+    /// The first socket. Binding it fails if another socket has the port. After it is bound, other sockets can share the port.
     First,
-    /// One more, beside those that share the port.
+    /// An additional socket, next to those that share the port.
     Another,
 }
 
-/// What a socket carries.
+/// What a socket transports.
 #[derive(Clone, Copy)]
 enum Carried {
     /// Datagrams (UDP).
@@ -33,8 +33,8 @@ enum Carried {
 }
 
 impl Carried {
-    /// The system's number for it, with two flags: a call that would wait fails in its place, and no other program inherits the
-    /// socket.
+    /// The socket type for the system call, with two flags: a call that would block fails instead, and no other program inherits
+    /// the socket.
     fn kind(self) -> i32
         ensures { IsKind result }
     {
@@ -45,16 +45,16 @@ impl Carried {
     }
 }
 
-/// A UDP socket at an address and a port. It doesn't wait: a call that would fails with `WouldBlock`. An error is the system's: of the
-/// first, "Address already in use" where another one has the port.
+/// Opens a UDP socket and binds it to an address and a port. The socket is non-blocking: a call that would block fails with `WouldBlock`.
+/// An error is the system's. For the first socket it is "Address already in use" if another socket has the port.
 pub fn bind_datagrams<R: Net>(_net: &R, address: SocketAddr, turn: Turn) -> io::Result<UdpSocket> {
     let socket = open(address, Carried::Datagrams)?;
     bind(&socket, address, turn)?;
     Ok(UdpSocket::from(socket))
 }
 
-/// A listener for TCP at an address and a port. It doesn't wait: an `accept` that would fails with `WouldBlock`. An error is the
-/// system's: of the first, "Address already in use" where another one has the port.
+/// Opens a TCP listener at an address and a port. The listener is non-blocking: an `accept` that would block fails with `WouldBlock`.
+/// An error is the system's. For the first socket it is "Address already in use" if another socket has the port.
 pub fn bind_listener<R: Net>(_net: &R, address: SocketAddr, turn: Turn) -> io::Result<TcpListener> {
     let socket = open(address, Carried::Connections)?;
     Choice::ReuseAddress.set(&socket)?;
@@ -63,7 +63,7 @@ pub fn bind_listener<R: Net>(_net: &R, address: SocketAddr, turn: Turn) -> io::R
     Ok(TcpListener::from(socket))
 }
 
-/// A socket of an address's family, which isn't bound. One of IPv6 leaves IPv4 alone.
+/// Opens a socket of an address's family without binding it. An IPv6 socket serves IPv6 only.
 fn open(address: SocketAddr, carried: Carried) -> io::Result<OwnedFd> {
     match address {
         SocketAddr::V4(_) => socket_of(c::AF_INET, carried),
@@ -75,19 +75,19 @@ fn open(address: SocketAddr, carried: Carried) -> io::Result<OwnedFd> {
     }
 }
 
-/// A socket of a family.
+/// Opens a socket of a family.
 fn socket_of(family: i32, carried: Carried) -> io::Result<OwnedFd>
     requires { Family family }
 {
-    // The call takes three numbers, and no memory of ours.
+    // The call takes three numbers and no memory of this program.
     let number = unsafe { c::socket(family, carried.kind(), 0) };
     check(number)?;
-    // The number is the system's answer of the line before, so that nothing else has it or closes it.
+    // The system has just returned this file descriptor, so nothing else owns or closes it.
     Ok(unsafe { OwnedFd::from_raw_fd(number) })
 }
 
-/// Binds a socket. The first lets others share its port once it is bound, so that what has the port already refuses it; one more has
-/// to be willing before.
+/// Binds a socket. The first socket allows others to share its port only after it is bound, so binding fails if another socket already
+/// has the port. An additional socket has to allow sharing before it is bound.
 fn bind(socket: &OwnedFd, address: SocketAddr, turn: Turn) -> io::Result<()> {
     match turn {
         Turn::First => {
@@ -101,9 +101,9 @@ fn bind(socket: &OwnedFd, address: SocketAddr, turn: Turn) -> io::Result<()> {
     }
 }
 
-/// Binds a socket, by its options as they are.
+/// Binds a socket without changing its options.
 fn bind_at(socket: &OwnedFd, address: SocketAddr) -> io::Result<()> {
     let (octets, size) = address_octets(address);
-    // C reads so many of the octets, which hold an address of that size.
+    // C reads `size` octets, and `octets` holds an address of that size.
     check(unsafe { c::bind(socket.as_raw_fd(), &octets, size) })
 }

@@ -1,4 +1,4 @@
-//! The options of a socket that are set before it is used.
+//! Socket options that are set before a socket is used.
 ghost use Rattle.std.specs.Prelude.{pos};
 ghost use Rattle.libc.specs.Net.{SockOption};
 
@@ -8,22 +8,22 @@ use std::io;
 use std::net::UdpSocket;
 use std::os::fd::{AsRawFd, OwnedFd};
 
-/// How many octets a number of the C type int has.
+/// Size of the C type int in octets.
 const INT_OCTETS: u32 = 4;
 
-/// An option that a socket has or hasn't.
+/// A socket option that is either on or off.
 #[derive(Clone, Copy)]
 pub(crate) enum Choice {
-    /// A port can be bound though connections that ended shortly before still hold it (SO_REUSEADDR).
+    /// The port can be bound even if recently closed connections still hold it (SO_REUSEADDR).
     ReuseAddress,
-    /// Others can bind the same port (SO_REUSEPORT).
+    /// Other sockets can bind the same port (SO_REUSEPORT).
     SharePort,
-    /// IPv6 alone is served, and the port of IPv4 is left to another (IPV6_V6ONLY; RFC 3493, 5.3).
+    /// The socket serves IPv6 only and leaves the IPv4 port to another socket (IPV6_V6ONLY; RFC 3493, 5.3).
     Ipv6Alone,
 }
 
 impl Choice {
-    /// The option's level and its name there.
+    /// The option's level, and its name at that level.
     fn level_and_name(self) -> (i32, i32)
         ensures { SockOption result.0 result.1 }
     {
@@ -34,22 +34,22 @@ impl Choice {
         }
     }
 
-    /// Gives a socket the option.
+    /// Turns the option on for a socket. An error is the system's.
     pub(crate) fn set(self, socket: &OwnedFd) -> io::Result<()> {
         let (level, name) = self.level_and_name();
         let mut on = [0; 16];
         on[..4].copy_from_slice(&1i32.to_ne_bytes());
-        // The option's value is the number 1, in the first 4 of the 16 octets that C may read.
+        // The option's value is the number 1, in the first 4 octets. C may read all 16 octets.
         check(unsafe { c::setsockopt(socket.as_raw_fd(), level, name, &on, INT_OCTETS) })
     }
 }
 
-/// Asks the system to keep so many octets of datagrams until they are read (SO_RCVBUF; socket(7)), and gives how many it keeps: at most
-/// `net.core.rmem_max`. An error is the system's.
+/// Asks the system to keep up to `octets` octets of datagrams until they are read (SO_RCVBUF; socket(7)). Returns how many octets it
+/// keeps, which is at most `net.core.rmem_max`. An error is the system's.
 pub fn keep_received(socket: &UdpSocket, octets: u32) -> io::Result<u32> {
     let mut value = [0; 16];
     value[..4].copy_from_slice(&octets.to_ne_bytes());
-    // C reads the number in the first 4 of the 16 octets.
+    // C reads the number from the first 4 of the 16 octets.
     check(unsafe {
         c::setsockopt(
             socket.as_raw_fd(),
@@ -71,6 +71,6 @@ pub fn keep_received(socket: &UdpSocket, octets: u32) -> io::Result<u32> {
         )
     })?;
     let [a, b, c, d, ..] = value;
-    // The system counts what it needs itself, as much again.
+    // The system reports twice the size, since it adds the same amount for its own use.
     Ok(u32::from_ne_bytes([a, b, c, d]) / 2)
 }

@@ -1,9 +1,9 @@
-//! The system's answers.
+//! Results of system calls.
 ghost use Rattle.std.specs.Prelude.{◌↔◌, pos, ◌≤ℤ◌, IsOk};
 
 use std::io;
 
-/// The error of the system's last call, if what it answered is negative (POSIX, errno).
+/// Checks the answer of the last system call. If it is negative, returns that call's error (POSIX, errno).
 pub(crate) fn check(answer: i32) -> io::Result<()>
     ensures { IsOk result ↔ (pos 0 ≤ℤ answer) }
 {

@@ -4,34 +4,34 @@ use journal::{Head, TextSum, put_update, write_frame, write_head};
 use master_file::read_zone;
 use std::alloc::Global;
 use std::test::Fail;
-use stores::begin_store;
+use store_recovery::begin_store;
 
-/// An A record of 192.0.2.1 at a.example, added by an update that Python put together (RFC 2136, 2).
+/// An update that adds an A record of 192.0.2.1 at a.example, built with Python (RFC 2136, 2).
 pub(crate) const ADD_A: &str =
     "000128000001000000010000076578616d706c6500000600010161076578616d706c6500000100010000012c0004c0000201";
 
-/// One of 192.0.2.2 at b.example.
+/// The same of 192.0.2.2 at b.example.
 pub(crate) const ADD_B: &str =
     "000128000001000000010000076578616d706c6500000600010162076578616d706c6500000100010000012c0004c0000202";
 
-/// One more of 192.0.2.3 at a.example.
+/// The same of 192.0.2.3 at a.example.
 pub(crate) const ADD_MORE: &str =
     "000128000001000000010000076578616d706c6500000600010161076578616d706c6500000100010000012c0004c0000203";
 
-/// All at b.example deleted.
+/// An update that deletes all records at b.example.
 pub(crate) const DELETE_B: &str =
     "000128000001000000010000076578616d706c6500000600010162076578616d706c650000ff00ff000000000000";
 
-/// All A records at a.example deleted.
+/// An update that deletes all A records at a.example.
 pub(crate) const DELETE_A: &str =
     "000128000001000000010000076578616d706c6500000600010161076578616d706c6500000100ff000000000000";
 
-/// A zone text, of serial 7.
+/// A zone text, with serial 7.
 pub(crate) const ZONE: &str = "example. 3600 IN SOA ns.example. host.example. 7 1 1 1 1
 example. 3600 IN NS ns.example.
 ";
 
-/// The head of a store that is begun from a zone text, which is written as it was given.
+/// The head of a store that is created from a zone text, which is written unchanged.
 pub(crate) fn head_of(alloc: Global, zone: &str) -> Result<Head, Fail> {
     let Ok(read) = read_zone(alloc, zone.as_bytes(), &Name::root()) else {
         return Err(Fail::from("no zone"));
@@ -56,7 +56,7 @@ fn batch_of(alloc: Global, messages: &[&str]) -> Result<Vec<u8>, Fail> {
     Ok(batch)
 }
 
-/// The journal of these batches, under the head of a store that is begun from a zone text.
+/// The journal of these batches, under the head of a store that is created from a zone text.
 pub(crate) fn journal_of(alloc: Global, zone: &str, batches: &[&[&str]]) -> Result<Vec<u8>, Fail> {
     let (mut octets, salt) = write_head(alloc, &head_of(alloc, zone)?)?;
     for (number, messages) in batches.iter().enumerate() {

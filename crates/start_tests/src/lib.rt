@@ -1,5 +1,5 @@
-//! Tests of starts: the versions that a zone text and a journal give, also of a store that is begun anew of a later version; want of memory; and, over a real folder, what
-//! a server goes on with.
+//! Tests of starts: the versions recovered from a zone text and a journal, also of a store that is created again at a later version; failed
+//! memory allocation; and, in a real directory, the state with which a server continues.
 #![tactic(auto)]
 
 #[cfg(test)]

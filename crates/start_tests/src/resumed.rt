@@ -1,13 +1,13 @@
-//! What a server goes on with.
+//! The state with which a server continues.
 use crate::journals::{ADD_A, ADD_B, ZONE, head_of, journal_of};
 use dns_name::Name;
 use std::alloc::Global;
 use std::fs;
 use std::test::Fail;
-use store_start::{Given, Started, start_store};
-use stores::Take;
+use store_recovery::Take;
+use store_server::{Given, Started, start_store};
 
-/// A start over a folder, at which the store is taken.
+/// A start from a directory, which chooses the store.
 fn started(rt: &HostRuntime, dir: &str) -> Result<Started, Fail> {
     let origin = Name::root();
     let given = Given {
@@ -21,7 +21,7 @@ fn started(rt: &HostRuntime, dir: &str) -> Result<Started, Fail> {
     }
 }
 
-/// Lays a store in a folder, with two batches and octets after them that are no frame: the octets of its journal before these.
+/// Writes a store to a directory, with two batches, and octets after them that are no frame. Returns the octets of its journal before these.
 fn lay_torn(rt: &HostRuntime, dir: &str) -> Result<Vec<u8>, Fail> {
     let _ = fs::remove_dir_all(rt, dir);
     fs::create_dir(rt, dir)?;
@@ -33,7 +33,8 @@ fn lay_torn(rt: &HostRuntime, dir: &str) -> Result<Vec<u8>, Fail> {
     Ok(whole)
 }
 
-/// What a server begins with, in a line: which is served, where a torn end is kept, the serials of its versions, and the updates that made them.
+/// The state with which a server starts, in one line: which is served, the file with a torn end, the serials of the versions, and the updates
+/// that made them.
 fn line_of(alloc: Global, started: &Started) -> Result<String, Fail> {
     let store = &started.store;
     let (served, torn, serial) = (&started.served, &started.torn, store.first.serial().0);
@@ -48,7 +49,8 @@ fn line_of(alloc: Global, started: &Started) -> Result<String, Fail> {
     Ok(line)
 }
 
-// A server goes on with the versions of a journal, and the updates that made them, as they were received; what stands torn after the last batch is cut off, and kept.
+// A server continues with the versions of a journal, and the updates that made them, as they were received. The torn end after the last batch
+// is cut off, and kept in a file.
 #[test]
 fn a_torn_journal_is_gone_on_with(rt: HostRuntime) -> Result<(), Fail> {
     let dir = "start_tests_torn";

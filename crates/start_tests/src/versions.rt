@@ -1,18 +1,18 @@
-//! The versions that starts have.
+//! The versions that starts recover.
 use crate::journals::{ADD_A, ADD_B, ADD_MORE, DELETE_A, DELETE_B, ZONE, journal_of};
 use master_file::{write_set, write_zone};
-use recovery::{Start, recover_zone};
 use std::alloc::{AllocError, Global};
 use std::test::Fail;
+use store_recovery::{Recovery, recover_zone};
 use zone_tree::Version;
 
-/// What a start has of a zone text and the journal of these batches.
-fn start_of(alloc: Global, zone: &str, batches: &[&[&str]]) -> Result<Start, Fail> {
+/// The start from a zone text and the journal of these batches.
+fn start_of(alloc: Global, zone: &str, batches: &[&[&str]]) -> Result<Recovery, Fail> {
     let journal = journal_of(alloc, zone, batches)?;
     Ok(recover_zone(alloc, zone.as_bytes(), &journal)?)
 }
 
-/// A version in a line: its number, its serial, and of how many sets it took out and put in records.
+/// Appends a version as one line: its number, its serial, and the number of RRsets of which it deleted and added records.
 fn put_line(alloc: Global, text: &mut String, version: &Version) -> Result<(), AllocError> {
     let (number, serial) = (version.number(), version.serial().0);
     let (gone, come) = match version.delta() {
@@ -22,8 +22,8 @@ fn put_line(alloc: Global, text: &mut String, version: &Version) -> Result<(), A
     text.push_str(format!(in alloc; "{number}: {serial} -{gone} +{come}\n")?.as_str())
 }
 
-/// The versions of a start in lines.
-fn lines_of(alloc: Global, start: &Start) -> Result<String, AllocError> {
+/// The versions of a start, one a line.
+fn lines_of(alloc: Global, start: &Recovery) -> Result<String, AllocError> {
     let mut text = String::new(alloc);
     for version in &start.newest.older {
         put_line(alloc, &mut text, version)?;
@@ -32,7 +32,7 @@ fn lines_of(alloc: Global, start: &Start) -> Result<String, AllocError> {
     Ok(text)
 }
 
-// The newest versions are there, each with what it changed; of fourteen updates the six oldest versions aren't.
+// The newest versions are there, each with its changes. Of fourteen updates the six oldest versions are not there.
 #[test]
 fn newest_versions(rt: HostRuntime) -> Result<(), Fail> {
     let alloc: Global = rt.alloc();
@@ -55,8 +55,8 @@ fn newest_versions(rt: HostRuntime) -> Result<(), Fail> {
     Ok(())
 }
 
-/// A version of the tests: what it changed of the one before, as the SOA before, the records that it took out, a line's end, and those that it put in; its zone; and the
-/// batches after it, of a batch within which it is made what is left of it.
+/// A version of the tests. `changed`: its changes to the one before, as the SOA before, the records that it deleted, an empty line, and the
+/// records that it added. `zone`: its zone. `after`: the batches after it; of the batch within which it is made, the rest.
 #[derive(Drop)]
 struct Place {
     changed: &'static str,
@@ -132,7 +132,7 @@ example. 3600 IN NS ns.example.
     },
 ];
 
-/// Puts a version after a text: its number, what it changed of the one before it, and its zone.
+/// Appends a version to a text: its number, its changes to the one before it, and its zone.
 fn put_version(alloc: Global, text: &mut String, version: &Version) -> Result<(), AllocError> {
     text.push_str(format!(in alloc; "version {}\n", version.number())?.as_str())?;
     if let Some(delta) = version.delta() {
@@ -148,8 +148,8 @@ fn put_version(alloc: Global, text: &mut String, version: &Version) -> Result<()
     text.push_str(&write_zone(alloc, version.zone())?)
 }
 
-/// The versions of a start.
-fn versions_of(alloc: Global, start: &Start) -> Result<String, AllocError> {
+/// The versions of a start, as text.
+fn versions_of(alloc: Global, start: &Recovery) -> Result<String, AllocError> {
     let mut text = String::new(alloc);
     for version in &start.newest.older {
         put_version(alloc, &mut text, version)?;
@@ -158,7 +158,7 @@ fn versions_of(alloc: Global, start: &Start) -> Result<String, AllocError> {
     Ok(text)
 }
 
-/// The versions of the tests from one on, the first of which has the number 0 and changed nothing.
+/// The versions of the tests from `first` on, as text. The first of them has the number 0 and no changes.
 fn versions_from(alloc: Global, first: usize) -> Result<String, AllocError> {
     let mut text = String::new(alloc);
     for (number, place) in PLACES.iter().skip(first).enumerate() {
@@ -171,7 +171,8 @@ fn versions_from(alloc: Global, first: usize) -> Result<String, AllocError> {
     Ok(text)
 }
 
-// A compaction after each number of five updates, also within a batch: a start of the store that is begun there has the versions after it, each with what it changed.
+// A compaction after each number of the five updates, also within a batch: a start from the store that is created there has the versions after
+// it, each with its changes.
 #[test]
 fn each_place(rt: HostRuntime) -> Result<(), Fail> {
     let alloc: Global = rt.alloc();

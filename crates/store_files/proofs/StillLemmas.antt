@@ -4,7 +4,7 @@ use Rattle.std.specs.List.{IsLastAndRest}
 use Rattle.std.proofs.lemmas.Bool.{cases_lt}
 use Rattle.std.proofs.lemmas.List.{get_or_append_left}
 use Rattle.std.proofs.Math.Seq.{take-append-add, take-append_seam, get_or-append_right, get_or-append_seam}
-use Rattle.journal_store.specs.Disk.{BeginsWith}
+use Rattle.journal.specs.Disk.{BeginsWith}
 use Rattle.store_files.specs.Still.{AreZerosBehind, IsInFront}
 
 -- the last of some octets isn't 0

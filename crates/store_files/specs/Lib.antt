@@ -1,3 +1,5 @@
+pub mod Calls
+pub mod File
 pub mod Names
 pub mod Still
 pub mod Store

@@ -1,6 +1,6 @@
 -- What was read of a journal, and stands there still (own).
 use Rattle.std.specs.Prelude.{◌≡◌, ℕ, List, ◌++◌, All}
-use Rattle.journal_store.specs.Disk.{BeginsWith}
+use Rattle.journal.specs.Disk.{BeginsWith}
 
 -- octets are these, and zeros behind them
 abbrev pub AreZerosBehind : List ℕ → List ℕ → Type 0

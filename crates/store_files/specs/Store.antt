@@ -1,11 +1,11 @@
 -- What is found of a store.
 use Rattle.std.specs.Prelude.{◌≡◌}
-use Rattle.file_disks.specs.File.{written, synced}
-use Rattle.store_files.specs.declared.open.Opened.{Opened}
-use Rattle.store_files.specs.declared.open.Opened.TheVariants.{Locked, Empty, NoJournal, NoText, Found}
+use Rattle.store_files.specs.File.{written, synced}
+use Rattle.store_files.specs.declared.open.OpenedFolder.{OpenedFolder}
+use Rattle.store_files.specs.declared.open.OpenedFolder.TheVariants.{Locked, Empty, NoJournal, NoText, Found}
 
 -- the octets that are given of a journal are those that its disk has, as it notes them
-abbrev pub IsAsNoted : Opened → Type 0
+abbrev pub IsAsNoted : OpenedFolder → Type 0
 IsAsNoted Locked = Unit {0}
 IsAsNoted (Empty lock) = Unit {0}
 IsAsNoted (NoJournal number) = Unit {0}

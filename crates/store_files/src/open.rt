@@ -2,11 +2,11 @@
 ghost use Rattle.std.specs.Prelude.{IfOk};
 ghost use Rattle.store_files.specs.Store.{IsAsNoted};
 
+use crate::file::FileDisk;
 use crate::files::there;
 use crate::names::{JOURNAL, LOCK, path_of};
 use crate::read::{Text, read_text};
 use crate::unbegun::lost_journal;
-use file_disks::FileDisk;
 use std::alloc::Global;
 use std::fs::{File, Files, OpenOptions, TryLockError};
 use std::io;
@@ -30,7 +30,7 @@ pub struct Pair {
 
 /// A store, as it is found.
 #[derive(Drop)]
-pub enum Opened {
+pub enum OpenedFolder {
     /// Another process holds it.
     Locked,
     /// No store was begun in it, or a crash has left a part of a first one, over which it can be begun (`begin_pair`).
@@ -43,33 +43,33 @@ pub enum Opened {
     Found(StoreLock, Pair),
 }
 
-/// Holds the store of a folder that is there, and reads it: its journal as the disk has it (`file_disks`). It takes memory.
+/// Holds the store of a folder that is there, and reads it: its journal as the disk has it (`store_files`). It takes memory.
 pub fn open_store<R: Files<File = File> + Alloc + Clone + Drop>(
     rt: &R,
     alloc: Global,
     dir: &str,
-) -> io::Result<Opened>
+) -> io::Result<OpenedFolder>
     ensures { IfOk result (λ opened. IsAsNoted opened) }
 {
     let Some(lock) = take_lock(rt, alloc, dir)? else {
-        return Ok(Opened::Locked);
+        return Ok(OpenedFolder::Locked);
     };
     let Some(file) = open_journal(rt, alloc, dir)? else {
         return match lost_journal(rt, alloc, dir)? {
-            Some(number) => Ok(Opened::NoJournal(number)),
-            None => Ok(Opened::Empty(lock)),
+            Some(number) => Ok(OpenedFolder::NoJournal(number)),
+            None => Ok(OpenedFolder::Empty(lock)),
         };
     };
     let (disk, journal) = FileDisk::read(alloc, file)?;
     match read_text(rt, alloc, dir, &journal)? {
-        Text::Gone(number) => Ok(Opened::NoText(number)),
+        Text::Gone(number) => Ok(OpenedFolder::NoText(number)),
         Text::There(text) => {
             let pair = Pair {
                 text,
                 journal,
                 disk,
             };
-            Ok(Opened::Found(lock, pair))
+            Ok(OpenedFolder::Found(lock, pair))
         }
     }
 }

@@ -1,11 +1,11 @@
 //! A zone text and a journal that replace those before them (own).
 ghost use Rattle.std.specs.Prelude.{◌≡◌, IfOk};
-ghost use Rattle.file_disks.specs.File.{written, synced};
+ghost use Rattle.store_files.specs.File.{written, synced};
 
+use crate::file::FileDisk;
 use crate::files::sync_folder;
 use crate::names::{FIRST_TEXT, JOURNAL, NEW_JOURNAL, path_of, text_path};
-use file_disks::FileDisk;
-use journal_store::Disk;
+use journal::Disk;
 use std::alloc::Global;
 use std::fs::{self, File, Files, OpenOptions};
 use std::io::{self, ErrorKind, Write};

@@ -1,20 +1,18 @@
-//! Folders, pairs that are written to them, and what is found there.
-use file_disks::FileDisk;
-use journal::{Head, SUM, TextSum, put_update, write_head};
-use journal_store::Log;
+//! Directories, pairs of files that are written to them, and what is found there.
+use journal::{Head, Log, SUM, TextSum, put_update, write_head};
 use std::alloc::{AllocError, Global};
 use std::io::ErrorKind;
 use std::test::Fail;
 use std::{fs, io};
-use store_files::{Opened, PairFault, open_store, read_store, write_pair};
+use store_files::{FileDisk, OpenedFolder, PairFault, open_store, read_store, write_pair};
 
-/// A folder without files.
+/// Makes a directory without files.
 pub fn make_folder(rt: &HostRuntime, dir: &str) -> io::Result<()> {
     let _ = fs::remove_dir_all(rt, dir);
     fs::create_dir(rt, dir)
 }
 
-/// A journal without updates, of the zone text of a number, and the salt of its frames.
+/// A journal without updates, for a zone text with a number, and the salt of its frames.
 pub fn begun(alloc: Global, number: u64, text: &[u8]) -> Result<(Vec<u8>, [u8; SUM]), AllocError> {
     let head = Head {
         number,
@@ -36,33 +34,33 @@ pub fn put_pair(rt: &HostRuntime, dir: &str, number: u64, text: &[u8]) -> Result
     }
 }
 
-/// A zone text in front of a journal.
+/// A zone text followed by a journal.
 pub fn joined(alloc: Global, text: &[u8], journal: &[u8]) -> Result<Vec<u8>, AllocError> {
     let mut octets = text.to_vec(alloc)?;
     octets.extend_from_slice(journal)?;
     Ok(octets)
 }
 
-/// A zone text in front of the journal without updates that names it by a number.
+/// A zone text followed by the journal without updates that names it by a number.
 pub fn pair_of(alloc: Global, number: u64, text: &[u8]) -> Result<Vec<u8>, AllocError> {
     let (journal, _) = begun(alloc, number, text)?;
     joined(alloc, text, &journal)
 }
 
-/// What is found of a store: its zone text in front of its journal, or in a word what else.
-fn octets_of(alloc: Global, opened: &Opened) -> Result<Vec<u8>, AllocError> {
+/// What opening a store finds: its zone text followed by its journal, or a word for each other result.
+fn octets_of(alloc: Global, opened: &OpenedFolder) -> Result<Vec<u8>, AllocError> {
     match opened {
-        Opened::Found(_, pair) => joined(alloc, &pair.text, &pair.journal),
-        Opened::Empty(_) => b"empty".to_vec(alloc),
-        Opened::Locked => b"locked".to_vec(alloc),
-        Opened::NoJournal(0) => b"no journal 0".to_vec(alloc),
-        Opened::NoJournal(_) => b"no other journal".to_vec(alloc),
-        Opened::NoText(3) => b"no text 3".to_vec(alloc),
-        Opened::NoText(_) => b"no other text".to_vec(alloc),
+        OpenedFolder::Found(_, pair) => joined(alloc, &pair.text, &pair.journal),
+        OpenedFolder::Empty(_) => b"empty".to_vec(alloc),
+        OpenedFolder::Locked => b"locked".to_vec(alloc),
+        OpenedFolder::NoJournal(0) => b"no journal 0".to_vec(alloc),
+        OpenedFolder::NoJournal(_) => b"no other journal".to_vec(alloc),
+        OpenedFolder::NoText(3) => b"no text 3".to_vec(alloc),
+        OpenedFolder::NoText(_) => b"no other text".to_vec(alloc),
     }
 }
 
-/// The same of a folder, which may not be there.
+/// The same for a directory, which may not exist.
 pub fn found(rt: &HostRuntime, dir: &str) -> io::Result<Vec<u8>> {
     match open_store(rt, rt.alloc(), dir) {
         Ok(opened) => Ok(octets_of(rt.alloc(), &opened)?),
@@ -71,7 +69,7 @@ pub fn found(rt: &HostRuntime, dir: &str) -> io::Result<Vec<u8>> {
     }
 }
 
-/// What who only reads a store finds of it: its zone text in front of its journal, or that one of them isn't there.
+/// What a reader of a store finds: its zone text followed by its journal, or that one of them does not exist.
 pub fn read(rt: &HostRuntime, dir: &str) -> io::Result<Vec<u8>> {
     match read_store(rt, rt.alloc(), dir) {
         Ok((text, journal)) => Ok(joined(rt.alloc(), &text, &journal)?),
@@ -80,7 +78,7 @@ pub fn read(rt: &HostRuntime, dir: &str) -> io::Result<Vec<u8>> {
     }
 }
 
-/// A store anew, whose text of six octets has the number 5, the log of its journal, and the salt of its frames.
+/// Makes a new store, whose text of six octets has number 5. Returns the log of its journal, and the salt of its frames.
 pub fn begun_log(rt: &HostRuntime, dir: &str) -> Result<(Log<FileDisk>, [u8; SUM]), Fail> {
     make_folder(rt, dir)?;
     let (head, salt) = begun(rt.alloc(), 5, b"a text")?;

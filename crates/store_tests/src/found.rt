@@ -1,10 +1,10 @@
-//! What is found of folders, and stores that are held.
+//! What is found in directories, and stores that are locked.
 use crate::folders::{found, make_folder, pair_of, put_pair, read};
 use std::fs;
 use std::test::Fail;
 use store_files::open_store;
 
-/// A folder: its files, what is found of it, and what who only reads finds.
+/// A directory: its files, the result of opening it, and what a reader finds.
 #[derive(Drop)]
 struct Case {
     files: &'static [(&'static str, &'static [u8])],
@@ -12,8 +12,8 @@ struct Case {
     told: &'static [u8],
 }
 
-/// Folders without a journal, also with what a crash has left of one, and with texts whose journal is lost; and one whose journal begins with no head, which is found with
-/// no text, whatever texts are there.
+/// Directories without a journal, also with the files of a pair that a crash interrupted, and with texts whose journal is lost; and one whose
+/// journal does not start with a head, which is found with an empty text, whatever texts are there.
 const CASES: [Case; 5] = [
     Case {
         files: &[],
@@ -42,7 +42,7 @@ const CASES: [Case; 5] = [
     },
 ];
 
-/// Lays files in a folder that has no others.
+/// Writes files to a directory that has no others.
 fn lay(rt: &HostRuntime, dir: &str, files: &[(&str, &[u8])]) -> Result<(), Fail> {
     make_folder(rt, dir)?;
     for (name, octets) in files {
@@ -52,7 +52,8 @@ fn lay(rt: &HostRuntime, dir: &str, files: &[(&str, &[u8])]) -> Result<(), Fail>
     Ok(())
 }
 
-// What is found of folders. A journal whose text is gone is told by the text's number, and isn't taken for an empty store. Where no folder is none is made.
+// What is found in directories. A journal whose text is missing is reported with the text's number, and is not taken for an empty store. Where
+// there is no directory, none is made.
 #[test]
 fn what_is_found(rt: HostRuntime) -> Result<(), Fail> {
     let dir = "store_tests_found";
@@ -71,7 +72,7 @@ fn what_is_found(rt: HostRuntime) -> Result<(), Fail> {
     Ok(())
 }
 
-// A second open is refused while the first holds the store, and finds it once that is dropped (flock(2)). Who only reads isn't refused.
+// A second open is refused while the first holds the lock, and finds the store once the lock is released (flock(2)). A reader is not refused.
 #[test]
 fn one_holds_a_store(rt: HostRuntime) -> Result<(), Fail> {
     let dir = "store_tests_held";

@@ -1,10 +1,10 @@
-//! What is kept beside a store.
+//! Files that are kept next to a store.
 use crate::folders::{make_folder, read};
 use std::fs;
 use std::test::Fail;
 use store_files::{keep_pair, keep_torn};
 
-// Torn ends are kept beside one another, each once, and so are pairs, each in a folder in which it is found again.
+// Torn ends are kept next to one another, each once. So are pairs, each in a directory of its own, in which it is found again.
 #[test]
 fn what_is_kept(rt: HostRuntime) -> Result<(), Fail> {
     let dir = "store_tests_kept";

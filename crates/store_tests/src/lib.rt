@@ -1,4 +1,4 @@
-//! Tests of `store_files`, over real folders: what is found of a store, and what a system does with its files.
+//! Tests of `store_files`, with real directories: what is found of a store, and what a system does with its files.
 #![tactic(auto)]
 
 #[cfg(test)]

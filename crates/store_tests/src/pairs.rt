@@ -4,7 +4,7 @@ use std::fs;
 use std::test::Fail;
 use store_files::{PairFault, begin_pair, is_in_place, write_pair};
 
-/// Leaves in a folder what a crash in front of the rename leaves of the pair of a number.
+/// Leaves in a directory what a crash before the rename leaves of the pair with a number.
 fn leave_half(rt: &HostRuntime, dir: &str, number: u64) -> Result<(), Fail> {
     let text = format!(in rt.alloc(); "{dir}/zone-{number}")?;
     fs::write(rt, text.as_str(), b"half of a text".as_slice())?;
@@ -13,7 +13,7 @@ fn leave_half(rt: &HostRuntime, dir: &str, number: u64) -> Result<(), Fail> {
     Ok(())
 }
 
-/// Begins the first store of a folder with a text: its zone text in front of its journal, as they are found.
+/// Creates the first store of a directory, with a text. Returns its zone text followed by its journal, as they are found.
 fn begin_first(rt: &HostRuntime, dir: &str, text: &[u8]) -> Result<Vec<u8>, Fail> {
     let (journal, _) = begun(rt.alloc(), 0, text)?;
     match begin_pair(rt, rt.alloc(), dir, text, &journal) {
@@ -22,7 +22,8 @@ fn begin_first(rt: &HostRuntime, dir: &str, text: &[u8]) -> Result<Vec<u8>, Fail
     }
 }
 
-// A first pair is begun over what a crash has left of one: the journal that names its text lies there before the text does. Then the folder has the pair.
+// A first pair is created over what a crash has left of one: the journal that names its text is there before the text is. Then the directory
+// has the pair.
 #[test]
 fn a_first_pair_is_begun(rt: HostRuntime) -> Result<(), Fail> {
     let dir = "store_tests_first";
@@ -44,8 +45,9 @@ fn a_first_pair_is_begun(rt: HostRuntime) -> Result<(), Fail> {
     Ok(())
 }
 
-// What is written is found, and the next pair replaces it, with its text beside the one before. A crash in front of the rename leaves the pair before, whatever is left
-// of the other one, and the next pair is written over that. One that can't be written leaves the one before too, and says so.
+// What is written is found, and the next pair replaces it, with its text next to the one before. A crash before the rename leaves the old
+// pair, whatever is left of the new one, and the next pair is written over that. A pair that cannot be written leaves the old one too, and
+// this is reported.
 #[test]
 fn pairs_are_found(rt: HostRuntime) -> Result<(), Fail> {
     let dir = "store_tests_pairs";
@@ -71,8 +73,8 @@ fn pairs_are_found(rt: HostRuntime) -> Result<(), Fail> {
     Ok(())
 }
 
-// A journal is in its place where its folder has that very file under its name: not where it is under another name, nor where a copy of it is there, nor where the
-// folder is gone; and it is again once it is back.
+// A journal is in place if its directory has that very file under its name. It is not in place if the file has another name, if a copy of it
+// is there, or if the directory is gone. It is in place again once the file is back.
 #[test]
 fn journals_are_in_place(rt: HostRuntime) -> Result<(), Fail> {
     let dir = "store_tests_place";

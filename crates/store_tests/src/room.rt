@@ -1,15 +1,14 @@
-//! Room behind the batches of a journal, which is made ahead.
+//! Room after the batches of a journal, which is allocated ahead.
 use crate::folders::{append, batch_of, begun_log};
-use journal::{SUM, read_all, write_frame};
-use journal_store::Log;
+use journal::{Log, SUM, read_all, write_frame};
 use std::alloc::{Allocator, Global};
 use std::fs::{self, File, Files, Metadata, OpenOptions};
 use std::io::{self, Seek, SeekFrom, Write};
 use std::sync::atomic::{AtomicU64, Ordering};
 use std::test::Fail;
-use store_files::{Opened, open_store, read_store};
+use store_files::{OpenedFolder, open_store, read_store};
 
-/// How many batches a journal has, and how many zeros stand behind them; it fails where other octets do.
+/// The number of batches of a journal, and the number of zeros after them. Fails if there are other octets after them.
 fn batches_and_zeros(
     alloc: Global,
     salt: &[u8; SUM],
@@ -24,9 +23,9 @@ fn batches_and_zeros(
     Ok((batches.len(), behind.len()))
 }
 
-// The file of a pair that is written is the store's journal: batches that are appended to it are read by the journal's name. Room is made behind the first one, the next
-// is written over its front, so that the file stays as long, and where a batch finds too little of it more is made. A log that goes on with the journal that the next
-// start finds has cut off its room, and makes it anew.
+// The file that is written with a pair is the store's journal: batches that are appended to it are read under the journal's name. Room is made
+// after the first batch. The next batch is written over the start of the room, so that the file keeps its length, and if a batch finds too
+// little room, more is made. A log that continues with the journal that the next start finds has cut off the room, and makes it again.
 #[test]
 fn batches_stand_in_room(rt: HostRuntime) -> Result<(), Fail> {
     let alloc = rt.alloc();
@@ -39,11 +38,11 @@ fn batches_stand_in_room(rt: HostRuntime) -> Result<(), Fail> {
         told.push(batches_and_zeros(alloc, &salt, &journal)?)?;
     }
     drop(log);
-    let Opened::Found(_, pair) = open_store(&rt, alloc, dir)? else {
+    let OpenedFolder::Found(_, pair) = open_store(&rt, alloc, dir)? else {
         return Err(Fail::from("no pair is found"));
     };
     told.push(batches_and_zeros(alloc, &salt, &pair.journal)?)?;
-    // The head and four frames, of 54 octets more than each of their updates.
+    // The head and four frames, each with 54 octets more than its update.
     let mut next = Log::resume(pair.disk, &salt, 4, 156 + 4 * 54 + 65_620)?;
     for _ in 0..2 {
         let journal = fs::read(&rt, "store_tests_room/journal")?;
@@ -64,7 +63,8 @@ fn batches_stand_in_room(rt: HostRuntime) -> Result<(), Fail> {
     Ok(())
 }
 
-/// Files, one of which is a journal with one batch and room behind it: whenever the text of its store is opened one more batch is written there.
+/// Files, one of which is a journal with one batch and room after it. Each time the text of its store is opened, one more batch is written to
+/// the journal.
 #[derive(Drop)]
 struct Beside<'a> {
     rt: &'a HostRuntime,
@@ -73,7 +73,7 @@ struct Beside<'a> {
 }
 
 impl Beside<'_> {
-    /// Writes the next batch, of 63 octets.
+    /// Writes the frame of the next batch, of 63 octets.
     fn write_next(&self) -> io::Result<()> {
         let number = self.number.fetch_add(1, Ordering::SeqCst);
         let batch = batch_of(self.rt.alloc(), b"an update")?;
@@ -138,7 +138,8 @@ impl Files for Beside<'_> {
     }
 }
 
-// Who reads a store while a batch is written over the front of the room reads what was there before, at once: between two reads of the journal it may always grow.
+// A reader of a store, while a batch is written over the start of the room, reads what was there before, at the first attempt: between two
+// reads of it, the journal may always grow.
 #[test]
 fn a_store_is_read_beside_an_append(rt: HostRuntime) -> Result<(), Fail> {
     let alloc = rt.alloc();

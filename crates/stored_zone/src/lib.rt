@@ -1,7 +1,7 @@
-//! The zone of a store, printed as it is written: what a start would serve, also beside a server that holds the store (own).
+//! Printing the zone of a store: the zone that a start would serve. It also works while a server holds the store (own).
 //!
-//! [`print_store`] prints the zone of a zone text and its journal, or, where batches that were on the disk are damaged, the zone in front of them. [`ToldFault`] says
-//! in a sentence why a store gives no start. No file is here.
+//! [`print_store`] prints the zone of a zone text and its journal, or, if batches that were already on the disk are damaged, the zone with those before them.
+//! [`ToldFault`] describes in a sentence why a store cannot be started from. Nothing here opens a file.
 #![tactic(auto)]
 
 mod print;

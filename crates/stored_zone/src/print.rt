@@ -1,28 +1,28 @@
-//! A store's zone, printed (own).
+//! Printing a store's zone (own).
 ghost use Rattle.std.specs.Prelude.{◌≡◌, [], IfOk, IfErr, OnOk};
 ghost use Rattle.std.specs.Io.Buffered.{writer_buffer, writer_contents};
 ghost use Rattle.stored_zone.specs.Printed.{IsPart, Prints, IsPrintFault};
 
 use commands::run_check;
-use recovery::{Start, StartFault, recover_before, recover_zone};
 use std::alloc::Global;
 use std::io::{self, BufWriter, Write};
+use store_recovery::{Recovery, StartFault, recover_before, recover_zone};
 
-/// How much of a store's journal is taken.
+/// How much of a store's journal is used.
 #[derive(Clone, Copy, Debug, PartialEq, Eq)]
 pub enum Part {
-    /// All of it, as a start takes it.
+    /// All of it, as at a start.
     Whole,
-    /// What stands in front of damage.
+    /// The part before damage.
     BeforeFault,
 }
 
 /// Why no zone is printed.
 #[derive(Debug, Drop)]
 pub enum PrintFault {
-    /// The store gives no start.
+    /// The store cannot be started from.
     NoStart(StartFault),
-    /// A device's fault, or want of memory.
+    /// An I/O error, or lack of memory.
     Device(io::Error),
 }
 
@@ -48,8 +48,8 @@ impl From<io::Error> for PrintFault {
     }
 }
 
-/// What a start has of a part of a store's journal.
-fn start_of(alloc: Global, text: &[u8], journal: &[u8], part: Part) -> Result<Start, PrintFault>
+/// Recovers the zone from a zone text and a part of its journal.
+fn start_of(alloc: Global, text: &[u8], journal: &[u8], part: Part) -> Result<Recovery, PrintFault>
     ensures started { IfOk result (λ start. IsPart part text.now journal.now start) }
     ensures refused { IfErr result (λ fault. IsPrintFault part text.now journal.now fault) }
 {
@@ -59,7 +59,8 @@ fn start_of(alloc: Global, text: &[u8], journal: &[u8], part: Part) -> Result<St
     }
 }
 
-/// Prints the zone that a start of a zone text and its journal serves, or that of the batches in front of damage: one record a line (RFC 1035, 5.1).
+/// Prints the zone that a start from a zone text and its journal would serve, or for [`Part::BeforeFault`] the zone with the updates before
+/// damage: one record per line (RFC 1035, 5.1).
 pub fn print_store<W: Write + Drop>(
     alloc: Global,
     text: &[u8],

@@ -1,12 +1,12 @@
-//! What is told of a store that gives no start (own).
+//! How the program reports a store that cannot be started from (own).
 use journal::{HeadFault, Refused};
-use recovery::{StartFault, UpdateFault};
 use std::fmt;
+use store_recovery::{StartFault, UpdateFault};
 
-/// Why a store gives no start, told with its folder: what is wrong, where, and what can be done.
+/// Why a store cannot be started from, printed with its directory: what is wrong, where, and what can be done.
 #[derive(Debug, Drop)]
 pub struct ToldFault<'a> {
-    /// The store's folder.
+    /// The store's directory.
     pub dir: &'a str,
     /// What is wrong.
     pub fault: StartFault,
@@ -31,7 +31,7 @@ impl fmt::Display for ToldFault<'_> {
     }
 }
 
-/// Tells why a journal is refused.
+/// Writes why a journal is refused.
 fn tell_journal<W: fmt::Write>(
     f: &mut fmt::Formatter<W>,
     dir: &str,
@@ -61,7 +61,7 @@ fn tell_journal<W: fmt::Write>(
     }
 }
 
-/// Tells why an update isn't taken again.
+/// Writes why an update cannot be replayed.
 fn tell_update<W: fmt::Write>(f: &mut fmt::Formatter<W>, fault: &UpdateFault) -> fmt::Result {
     match fault {
         UpdateFault::NotAnUpdate => write!(f, "is none"),

@@ -1,35 +1,34 @@
-//! Who keeps what is brought to those whose updates waited.
+//! A reply sender that keeps what it sends to clients whose updates were queued.
 ghost use Rattle.std.specs.Prelude.{None};
 
 use std::alloc::Global;
 use std::net::SocketAddr;
 use std::sync::Wait;
-use update_teller::Replying;
-use zone_service::AtSeat;
+use zone_server::{AtTicket, ReplySender};
 
 /// A datagram that was sent.
 #[derive(Drop)]
 pub(crate) struct Sent {
-    /// The number of the worker whose socket it was sent by.
+    /// The number of the worker thread whose socket sent it.
     pub worker: usize,
-    /// Who it went to.
+    /// The address that it went to.
     pub to: SocketAddr,
     /// Its octets.
     pub octets: Vec<u8>,
 }
 
-/// What was brought, as far as there was memory for it.
+/// What was sent, as far as there was memory for it.
 #[derive(Drop)]
 pub(crate) struct Bag {
     alloc: Global,
-    /// The keys of connections, each with the number of the worker that was told it.
+    /// The keys of the connections that were woken, each with the number of its worker thread.
     pub keys: Vec<(usize, usize)>,
     /// The datagrams.
     pub sent: Vec<Sent>,
 }
 
 impl Bag {
-    /// One to whom nothing was brought.
+    /// An empty bag.
     pub fn new(alloc: Global) -> Bag {
         Bag {
             alloc,
@@ -39,10 +38,10 @@ impl Bag {
     }
 }
 
-impl Replying for Bag {
+impl ReplySender for Bag {
     ghost brought = { λ bag. None };
 
-    fn tell<R: Wait>(&mut self, _rt: &R, worker: usize, key: usize, _told: AtSeat) {
+    fn tell<R: Wait>(&mut self, _rt: &R, worker: usize, key: usize, _told: AtTicket) {
         let _ = self.keys.push((worker, key));
     }
 

@@ -1,4 +1,4 @@
-//! Batches of updates that are published, and told.
+//! Batches of updates that are published and reported.
 use crate::bag::Bag;
 use crate::nowhere::Nowhere;
 use crate::servers::{goes, not_played};
@@ -9,47 +9,48 @@ use played_zones::{Kept, Play, Played, asker};
 use std::alloc::Global;
 use std::sync::Wait;
 use std::test::Fail;
-use update_desk::{Fetched, Serials};
-use update_job::UpdateJob;
-use update_queue::{Most, Queue};
-use update_teller::Teller;
-use zone_service::{PublishRight, Server, ServerLedgers, ServerName, Waiting, Way};
+use update_batches::{Most, Queue, UpdateThread};
+use zone_server::{
+    Poll, PublishRight, QueuedUpdate, ReplyTo, Serials, Server, ServerLedgers, ServerName,
+    ServerPublisher,
+};
 
-/// A batch of three updates: the first came by a datagram, the second on a connection, the third by a datagram, and is refused.
+/// A batch of three updates: the first came in a datagram, the second on a connection, the third in a datagram, and it is refused.
 #[derive(Drop)]
 struct Three;
 
-/// What came of that batch.
+/// The result of that batch.
 #[derive(Drop)]
 struct Outcome {
-    /// What was brought.
+    /// What the publisher sent.
     bag: Bag,
     /// The number of the version published last.
     number: u64,
-    /// What was told at the seat of the second.
-    fetched: Fetched,
+    /// The result at the ticket of the second update.
+    fetched: Poll,
 }
 
-/// The ways of their replies.
-fn ways(seat: usize) -> [Way; 3] {
+/// Where their replies go.
+fn ways(seat: usize) -> [ReplyTo; 3] {
     [
-        Way::Datagram {
+        ReplyTo::Datagram {
             worker: 3,
             to: asker(4711),
         },
-        Way::Connection {
+        ReplyTo::Connection {
             worker: 1,
             key: 70,
-            seat,
+            ticket: seat,
         },
-        Way::Datagram {
+        ReplyTo::Datagram {
             worker: 2,
             to: asker(4712),
         },
     ]
 }
 
-/// Whether each datagram is sent, to who asked, by the socket that his came on; and the key of the connection is told, no other.
+/// Whether each reply datagram went to the address of its client, by the socket that received the request, and only the connection's key was
+/// reported to its worker thread.
 fn are_brought(alloc: Global, bag: &Bag) -> Option<bool> {
     let [first, third] = bag.sent.as_slice() else {
         return Some(false);
@@ -62,9 +63,10 @@ fn are_brought(alloc: Global, bag: &Bag) -> Option<bool> {
     Some(to_whom && spelt && bag.keys.len() == 1 && bag.keys.first().copied() == Some((1, 70)))
 }
 
-/// Whether the second is told at its seat: NOERROR, in the version that the batch was begun with, or a later one, and its own serials.
-fn is_told(alloc: Global, fetched: &Fetched) -> Option<bool> {
-    let Fetched::Told(done) = fetched else {
+/// Whether the result of the second update is ready at its ticket: NOERROR, in the version in which the batch started or a later one, with its
+/// own serials.
+fn is_told(alloc: Global, fetched: &Poll) -> Option<bool> {
+    let Poll::Ready(done) = fetched else {
         return Some(false);
     };
     let is_own = matches!(
@@ -78,16 +80,16 @@ fn is_told(alloc: Global, fetched: &Fetched) -> Option<bool> {
     Some(about && is_second(alloc, done.asked.octets())?)
 }
 
-/// Whether all of it came as it should.
+/// Whether all results are as expected.
 fn is_right<R: Wait>(rt: &R, alloc: Global, outcome: &Outcome, log: &Kept) -> Option<bool> {
-    // A connection's worker tells the log of its update.
+    // The update that came on a connection is logged by the connection's worker thread.
     let lines =
         "update from 192.0.2.7:4711: NOERROR, serial 7 to 8;update from 192.0.2.7:4712: NOTZONE;";
     let brought = are_brought(alloc, &outcome.bag)? && is_told(alloc, &outcome.fetched)?;
     Some(brought && outcome.number == 2 && log.has(rt, lines))
 }
 
-/// Whether the batch is told as it should be, and the reader; None where memory is refused.
+/// Whether the batch is reported as expected, and the reader. None if memory allocation fails.
 fn tell_three<R: Wait, Z: FirstZone, N: ServerName>(
     rt: &R,
     alloc: Global,
@@ -101,7 +103,7 @@ fn tell_three<R: Wait, Z: FirstZone, N: ServerName>(
         items: 8,
         octets: 8,
     };
-    let Ok(queue) = Queue::<Waiting>::new(alloc, most) else {
+    let Ok(queue) = Queue::<QueuedUpdate>::new(alloc, most) else {
         return (None, Some(reader));
     };
     let (_, Some(seat)) = server.open(rt, &mut reader) else {
@@ -110,8 +112,8 @@ fn tell_three<R: Wait, Z: FirstZone, N: ServerName>(
     if put_all(rt, alloc, &queue, ways(seat)).is_none() {
         return (None, Some(reader));
     }
-    let teller = Teller::new(rt, server, reader, right, &log, Bag::new(alloc));
-    let mut job = match UpdateJob::new(alloc, teller, Nowhere, &queue) {
+    let teller = ServerPublisher::new(rt, server, reader, right, &log, Bag::new(alloc));
+    let mut job = match UpdateThread::new(alloc, teller, Nowhere, &queue) {
         Ok(job) => job,
         Err((teller, _)) => return (None, Some(teller.into_parts().0)),
     };
@@ -171,7 +173,7 @@ impl Play for Three {
     }
 }
 
-// Each update of a batch is told its code: by a datagram, with a line of the log, or at its seat, with the key of its connection.
+// The code of each update of a batch is reported: in a datagram, with a log line, or at its ticket, with the key of its connection.
 #[test]
 fn a_batch_is_told(rt: HostRuntime) -> Result<(), Fail> {
     let alloc: Global = rt.alloc();

@@ -1,4 +1,5 @@
-//! Tests of who publishes a server's batches of updates and tells of them: what is sent and told of each, the log, and what lies at seats (RFC 2136, 3.8).
+//! Tests of the publisher of a server's batches of updates: what it sends and reports for each update, the log, and the results at tickets (RFC
+//! 2136, 3.8).
 #![tactic(auto)]
 
 #[cfg(test)]

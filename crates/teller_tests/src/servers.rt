@@ -1,4 +1,4 @@
-//! Cells in whose servers batches are judged and told.
+//! Cells in whose servers batches are judged and reported.
 use dns_engine::{FirstZone, Naming, VersionPublisher, VersionReader};
 use dns_name::Name;
 use master_file::read_zone;
@@ -6,12 +6,12 @@ use played_zones::{Play, Played, is_played};
 use std::alloc::Global;
 use std::sync::Wait;
 
-/// The zone text of the tests, of serial 7.
+/// The zone text of the tests, with serial 7.
 const ZONE: &str = "example. 3600 IN SOA ns.example. host.example. 7 1 1 1 1
 example. 3600 IN NS ns.example.
 ";
 
-/// What comes back where there is no server.
+/// The result where there is no server, with the publisher and the readers.
 pub(crate) fn not_played<Z: FirstZone, N: Naming>(
     publisher: VersionPublisher<Z, N>,
     readers: Vec<VersionReader<N>>,
@@ -23,7 +23,7 @@ pub(crate) fn not_played<Z: FirstZone, N: Naming>(
     }
 }
 
-/// Whether it goes as it should; None where memory is refused.
+/// Runs a test. Returns whether it passes; None if memory allocation fails.
 pub(crate) fn goes<R: Wait, T: Play + Drop>(rt: &R, alloc: Global, run: T) -> Option<bool> {
     let zone = read_zone(alloc, ZONE.as_bytes(), &Name::root()).ok()?;
     is_played(rt, alloc, zone, &run)

@@ -1,7 +1,7 @@
-//! A disk that lies in memory and tells its octets, for logs of `journal_store` to be tried on: it fails when it is told to, and a crash of it
+//! A disk that lies in memory and tells its octets, for logs of `journal` to be tried on: it fails when it is told to, and a crash of it
 //! drops, keeps, or turns what wasn't synced.
 #![tactic(auto)]
 
-mod told;
+mod memory_disk;
 
-pub use told::{DiskFault, ToldDisk};
+pub use memory_disk::{DiskFault, MemoryDisk};

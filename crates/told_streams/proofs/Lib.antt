@@ -1,1 +1,1 @@
-pub mod TapeLemmas
+pub mod StreamLemmas

@@ -1,2 +1,2 @@
-pub mod Tape
-pub mod Tray
+pub mod MemoryStream
+pub mod MemoryDatagrams

@@ -1,31 +1,31 @@
-//! The requests that lie in memory, answered.
+//! Answering the requests of streams and datagrams held in memory.
 ghost use Rattle.std.specs.Prelude.{◌<◌, ◌≤◌, length, Some};
 ghost use Rattle.dns_message.specs.Message.{message_limit};
-ghost use Rattle.conversation.specs.Served.{EndsAs, Grows};
-ghost use Rattle.conversation.specs.Exchanged.{EndsBy};
-ghost use Rattle.connections.specs.Asked.{EachGrows};
-ghost use Rattle.told_streams.specs.Tape.{told as tape_told};
-ghost use Rattle.told_streams.specs.Tray.{told as tray_told};
+ghost use Rattle.requests.specs.Served.{EndsAs, Grows};
+ghost use Rattle.requests.specs.Exchanged.{EndsBy};
+ghost use Rattle.tcp_connections.specs.Asked.{EachGrows};
+ghost use Rattle.told_streams.specs.MemoryStream.{told as tape_told};
+ghost use Rattle.told_streams.specs.MemoryDatagrams.{told as tray_told};
 
-use crate::tape::Tape;
-use crate::tray::Tray;
-use connections::{Messages, serve_stream};
-use conversation::{Allowed, Answering, Counted, DatagramsEnd, Gate, StreamEnd, serve_udp};
+use crate::memory_datagrams::MemoryDatagrams;
+use crate::memory_stream::MemoryStream;
+use requests::{Allowed, Counted, DatagramsEnd, Gate, Handler, StreamEnd, serve_udp};
 use std::alloc::Global;
 use std::sync::Wait;
+use tcp_connections::{Messages, serve_stream};
 
-/// Answers the requests of a tape one after another, until it ends, and gives how it has ended, and the tape. What is written on it behind
-/// what was is the frames of the replies, in the order of the requests: where it ends by itself all of them, and nothing is left to be
-/// read; else a beginning of them (RFC 1035, 4.2.2). Nothing that was known is forgotten.
-pub fn answer_tape<R: Wait, M: Messages, A: connections::Answering<M>, G: Gate>(
+/// Answers the requests of a stream held in memory one after another until the stream ends. Returns how it ended, and the stream. What is
+/// written after the octets already there is the frames of the replies, in the order of the requests: all of them, with nothing left to be
+/// read, if the stream ends cleanly; otherwise a prefix of them (RFC 1035, 4.2.2). Nothing that was known is forgotten.
+pub fn answer_stream<R: Wait, M: Messages, A: tcp_connections::Handler<M>, G: Gate>(
     rt: &R,
     alloc: Global,
     answering: &mut A,
-    tape: Tape,
+    tape: MemoryStream,
     gate: &G,
     room: &mut [u8],
     out: &mut [u8],
-) -> (StreamEnd, Tape)
+) -> (StreamEnd, MemoryStream)
     requires room { 0 < length room.old }
     requires out { message_limit ≤ length out.old }
     ensures ends { EndsAs (A.is_reply (A.peer answering.old)) result.0 (A.seen answering.old (A.asker answering.old)) (tape_told tape) (A.seen answering.new (A.asker answering.old)) (Some (tape_told result.1)) }
@@ -36,19 +36,19 @@ pub fn answer_tape<R: Wait, M: Messages, A: connections::Answering<M>, G: Gate>(
     (end, stream.inner)
 }
 
-/// Answers the datagrams of a tray one after another, so many at most, and gives how that has ended, and the tray. What is sent is the
-/// replies in the order of the requests, each to who asked, who may update and transfer by its own address; but for those that fail to
-/// be sent, which are counted (RFC 1035, 4.2.1). Nothing that was known is forgotten.
-pub fn answer_tray<R: Wait, A: Answering, G: Gate>(
+/// Answers at most `most` datagrams held in memory, one after another. Returns how that ended, and the datagrams. The replies are sent in the
+/// order of the requests, each to the client that sent the request, which may update and transfer according to its own address. Replies whose
+/// send fails are left out, and are counted (RFC 1035, 4.2.1). Nothing that was known is forgotten.
+pub fn answer_datagrams<R: Wait, A: Handler, G: Gate>(
     rt: &R,
     answering: &mut A,
-    tray: Tray,
+    tray: MemoryDatagrams,
     allowed: Allowed<'_>,
     most: u64,
     gate: &G,
     request: &mut [u8],
     out: &mut [u8],
-) -> (DatagramsEnd, Tray)
+) -> (DatagramsEnd, MemoryDatagrams)
     requires request_room { message_limit ≤ length request.old }
     requires reply_room { message_limit ≤ length out.old }
     ensures ends { EndsBy A.is_reply allowed.entry.addresses.now result.0 (A.seen answering.old) (tray_told tray) tray.faults most (A.seen answering.new) (Some (tray_told result.1)) result.1.faults }

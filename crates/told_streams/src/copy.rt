@@ -1,7 +1,7 @@
-//! Octets that are copied from one buffer to another.
+//! Copying octets from one buffer to another.
 ghost use Rattle.std.specs.Prelude.{◌≡◌, length, take, min};
 
-/// Copies octets to the front of a buffer, as many as fit, `most` of them at most, and gives how many that is.
+/// Copies octets to the start of a buffer, as many as fit, at most `most`. Returns the number copied.
 pub(crate) fn copy_front(octets: &[u8], most: usize, buf: &mut [u8]) -> usize
     ensures count { result ≡ min most (min (length buf.old) (length octets.now)) }
     ensures copied { take result buf.new ≡ take result octets.now }

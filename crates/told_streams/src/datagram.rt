@@ -6,7 +6,7 @@ use crate::copy::copy_front;
 use std::marker::Model;
 use std::net::SocketAddr;
 
-/// A datagram: its octets, 65,535 at most, and who sent it, or whom it goes to.
+/// A datagram: its octets, at most 65,535, and the address of its sender or of its receiver.
 #[derive(Drop)]
 pub struct Datagram {
     octets: Vec<u8>,
@@ -16,7 +16,7 @@ pub struct Datagram {
 impl Model for Datagram {
     ghost use Rattle.std.specs.Prelude.{◌≤◌, length};
     ghost use Rattle.dns_message.specs.Message.{message_limit};
-    ghost use Rattle.conversation.specs.Datagrams.{Datagram};
+    ghost use Rattle.requests.specs.Datagrams.{Datagram};
 
     ghost Value = { Datagram };
 
@@ -26,7 +26,7 @@ impl Model for Datagram {
 }
 
 impl Datagram {
-    /// A datagram of these octets.
+    /// A datagram of these octets, from or to this address.
     pub fn new(octets: Vec<u8>, address: SocketAddr) -> Datagram
         requires { length octets.items ≤ message_limit }
         ensures { result ≡ (octets.items, address) }
@@ -41,14 +41,14 @@ impl Datagram {
         self.octets.as_slice()
     }
 
-    /// Who sent it, or whom it goes to.
+    /// The address of the sender or of the receiver.
     pub fn address(&self) -> SocketAddr
         ensures { result ≡ self.now.1 }
     {
         self.address
     }
 
-    /// Copies its octets to the front of a buffer that has room for any, and gives how many they are.
+    /// Copies its octets to the start of a buffer that has room for any datagram. Returns their number.
     pub(crate) fn copy_to(&self, buf: &mut [u8]) -> usize
         requires { message_limit ≤ length buf.old }
         ensures bound { result ≤ length buf.new }

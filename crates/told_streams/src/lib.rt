@@ -1,18 +1,18 @@
-//! Streams and datagrams that lie in memory and tell their octets, for `connections` and `conversation` to answer: over them it is told
-//! what is written.
+//! Streams and datagrams held in memory, whose octets contracts can name, for `tcp_connections` and `requests` to answer. Contracts over them
+//! say what is written.
 //!
-//! [`answer_tape`] answers the requests of a [`Tape`] by `connections::serve_stream`, and its contract says of what lies there before
-//! and after that it ends as a stream should (`EndsAs`): what is written is the frames of the replies, in order (RFC 1035, 4.2.2).
-//! [`answer_tray`] answers the datagrams of a [`Tray`] by `conversation::serve_udp` (`EndsBy`; RFC 1035, 4.2.1).
+//! [`answer_stream`] answers the requests of a [`MemoryStream`] by `tcp_connections::serve_stream`. Its contract says that the stream, given
+//! its octets before and after, ends as it should (`EndsAs`): the frames of the replies are written, in order (RFC 1035, 4.2.2).
+//! [`answer_datagrams`] answers the datagrams of a [`MemoryDatagrams`] by `requests::serve_udp` (`EndsBy`; RFC 1035, 4.2.1).
 #![tactic(auto)]
 
 mod answer;
 mod copy;
 mod datagram;
-mod tape;
-mod tray;
+mod memory_datagrams;
+mod memory_stream;
 
-pub use answer::{answer_tape, answer_tray};
+pub use answer::{answer_datagrams, answer_stream};
 pub use datagram::Datagram;
-pub use tape::Tape;
-pub use tray::Tray;
+pub use memory_datagrams::MemoryDatagrams;
+pub use memory_stream::MemoryStream;

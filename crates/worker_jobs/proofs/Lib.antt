@@ -2,4 +2,4 @@ pub mod SendLemmas
 pub mod EachLemmas
 pub mod ListLemmas
 pub mod TurnedLemmas
-pub mod ToldLemmas
+pub mod WokenLemmas

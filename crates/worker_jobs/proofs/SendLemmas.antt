@@ -14,19 +14,19 @@ use Rattle.snapshot_cell.specs.declared.named.Naming as naming
 use Rattle.dns_engine.proofs.SendLemmas as engine
 use Rattle.dns_engine.specs.declared.versions.FirstZone.{Ghosts}
 use Rattle.dns_message.specs.contracts.query.Query as query
-use Rattle.ready_sockets.specs.contracts.peer.TcpPeer as peer
-use Rattle.ready_sockets.specs.contracts.place.TcpPlace as place
-use Rattle.ready_sockets.specs.contracts.watch.Watch as watch
+use Rattle.sockets.specs.contracts.peer.TcpPeer as peer
+use Rattle.sockets.specs.contracts.place.TcpPlace as place
+use Rattle.sockets.specs.contracts.watch.Watch as watch
 use Rattle.wire_names.specs.contracts.write.NameWriter as names
-use Rattle.update_desk.specs.declared.right.ServerName as server_names
-use Rattle.zone_service.proofs.SendLemmas.{server_sync, hand_send}
-use Rattle.zone_service.specs.contracts.asked.Asked as asked
+use Rattle.zone_server.specs.declared.right.ServerName as server_names
+use Rattle.zone_server.proofs.ServerSendLemmas.{server_sync, sender_send}
+use Rattle.zone_server.specs.contracts.datagram_handler.DatagramHandler as asked
 use Rattle.zone_replies.specs.contracts.transfer.Transfer as transfer
 use Rattle.worker_jobs.specs.contracts.connections_job.ConnectionsJob as connections
-use Rattle.worker_jobs.specs.contracts.hearing.Hearing as hearing
+use Rattle.worker_jobs.specs.contracts.waking_poll.WakingPoll as hearing
 use Rattle.worker_jobs.specs.contracts.notify_job.NotifyJob as telling
-use Rattle.worker_jobs.specs.contracts.told_keys.State as state
-use Rattle.worker_jobs.specs.contracts.told_keys.ToldKeys as keys
+use Rattle.worker_jobs.specs.contracts.wake_list.State as state
+use Rattle.worker_jobs.specs.contracts.wake_list.WakeList as keys
 use Rattle.worker_jobs.specs.contracts.workers.Worker as worker
 
 query_send : IsSend (query.the_field).row
@@ -47,19 +47,19 @@ peer_send = search (crossing.crosses, sendable) depth 60 fits 20000
 place_send : IsSend place.the_row
 place_send = search (crossing.crosses, sendable) depth 60 fits 20000
 
-told_send : IsSend state.the_row
-told_send = search (option.the_field_send, option.the_send, crossing.crosses, sendable) depth 60 fits 20000
+woken_send : IsSend state.the_row
+woken_send = search (option.the_field_send, option.the_send, crossing.crosses, sendable) depth 60 fits 20000
 
-pub told_sync : IsSync keys.the_row
-told_sync = recorded_sync (keys.the_field).row _ _ (keys.the_type).to_one (struct_sync (shape (keys.the_type)) (mutex.the_sync _ told_send, tt))
+pub woken_sync : IsSync keys.the_row
+woken_sync = recorded_sync (keys.the_field).row _ _ (keys.the_type).to_one (struct_sync (shape (keys.the_type)) (mutex.the_sync _ woken_send, tt))
 
-hearing_send : (a : NamedLft) (P : RattleType) → IsSend P → IsSend (hearing.the_field a P).row
-hearing_send a P polls = search (told_sync, option.the_field_send, option.the_send, crossing.crosses, sendable) depth 60 fits 20000
+waking_send : (a : NamedLft) (P : RattleType) → IsSend P → IsSend (hearing.the_field a P).row
+waking_send a P polls = search (woken_sync, option.the_field_send, option.the_send, crossing.crosses, sendable) depth 60 fits 20000
 
 connections_send : (a : NamedLft) (S P L C : RattleType) → IsSend S → IsSend P → IsSend L → IsSync C → IsSend (connections.the_field a S P L C).row
 connections_send a S P L C peers polls places ticks =
     struct_send (shape (connections.the_type a S P L C))
-    (search (crossing.crosses, sendable) depth 60 fits 20000, (hearing_send a P polls, (search (crossing.crosses, sendable) depth 60 fits 20000, (search (transfer_send, global.the_field_send, crossing.crosses, sendable) depth 60 fits 20000, (search (crossing.crosses, sendable) depth 60 fits 20000, (search (crossing.crosses, sendable) depth 60 fits 20000, (search (crossing.crosses, sendable) depth 60 fits 20000, (search (crossing.crosses, sendable) depth 60 fits 20000, (search (crossing.crosses, sendable) depth 60 fits 20000, (search (crossing.crosses, sendable) depth 60 fits 20000, (search (crossing.crosses, sendable) depth 60 fits 20000, (search (crossing.crosses, sendable) depth 60 fits 20000, tt))))))))))))
+    (search (crossing.crosses, sendable) depth 60 fits 20000, (waking_send a P polls, (search (crossing.crosses, sendable) depth 60 fits 20000, (search (transfer_send, global.the_field_send, crossing.crosses, sendable) depth 60 fits 20000, (search (crossing.crosses, sendable) depth 60 fits 20000, (search (crossing.crosses, sendable) depth 60 fits 20000, (search (crossing.crosses, sendable) depth 60 fits 20000, (search (crossing.crosses, sendable) depth 60 fits 20000, (search (crossing.crosses, sendable) depth 60 fits 20000, (search (crossing.crosses, sendable) depth 60 fits 20000, (search (crossing.crosses, sendable) depth 60 fits 20000, (search (crossing.crosses, sendable) depth 60 fits 20000, tt))))))))))))
 
 pub tcp_send : (a : NamedLft) (C : RattleType) → IsSync C → IsSend (connections.the_field a peer.the_row (watch.the_row a C) place.the_row C).row
 tcp_send a C ticks = connections_send a peer.the_row (watch.the_row a C) place.the_row C peer_send (watch_send a C ticks) place_send ticks
@@ -67,12 +67,12 @@ tcp_send a C ticks = connections_send a peer.the_row (watch.the_row a C) place.t
 pub telling_send : (a : NamedLft) (C : RattleType) → IsSync C → IsSend (telling.the_field a C).row
 telling_send a C ticks = search (global.the_field_send, crossing.crosses, sendable) depth 60 fits 20000
 
-pub asked_send : (a b : NamedLft) (T N L : RattleType) (g : Ghosts T.Denot) (n : naming.Ghosts N.Denot) (s : server_names.Ghosts N.Denot) → IsSync L → IsSend (asked.the_field a b T N L n g s).row
-asked_send a b T N L g n s hears =
+pub datagram_handler_send : (a b : NamedLft) (T N L : RattleType) (g : Ghosts T.Denot) (n : naming.Ghosts N.Denot) (s : server_names.Ghosts N.Denot) → IsSync L → IsSend (asked.the_field a b T N L n g s).row
+datagram_handler_send a b T N L g n s hears =
     struct_send (shape (asked.the_type a b T N L n g s))
-    (shr_send _ _ _ (server_sync b T N g n s), (search (cell.crosses, crossing.crosses, sendable) depth 60 fits 20000, (search (crossing.crosses, sendable) depth 60 fits 20000, (search (global.the_field_send, sendable) depth 60 fits 20000, (search (crossing.crosses, sendable) depth 60 fits 20000, (search (crossing.crosses, sendable) depth 60 fits 20000, (search (query_send, sendable) depth 60 fits 20000, (search (names_send, sendable) depth 60 fits 20000, (search (hand_send, option.the_field_send, option.the_send, crossing.crosses, sendable) depth 60 fits 20000, tt)))))))))
+    (shr_send _ _ _ (server_sync b T N g n s), (search (cell.crosses, crossing.crosses, sendable) depth 60 fits 20000, (search (crossing.crosses, sendable) depth 60 fits 20000, (search (global.the_field_send, sendable) depth 60 fits 20000, (search (crossing.crosses, sendable) depth 60 fits 20000, (search (crossing.crosses, sendable) depth 60 fits 20000, (search (query_send, sendable) depth 60 fits 20000, (search (names_send, sendable) depth 60 fits 20000, (search (sender_send, option.the_field_send, option.the_send, crossing.crosses, sendable) depth 60 fits 20000, tt)))))))))
 
 pub worker_send : (a b : NamedLft) (T N J G L : RattleType) (g : Ghosts T.Denot) (n : naming.Ghosts N.Denot) (s : server_names.Ghosts N.Denot) → IsSend J → IsSync G → IsSync L → IsSend (worker.the_row a b T N J G L n g s)
 worker_send a b T N J G L g n s sends shares hears =
     recorded_send (worker.the_field a b T N J G L n g s).row _ _ (worker.the_type a b T N J G L n g s).to_one
-    (struct_send (shape (worker.the_type a b T N J G L n g s)) (asked_send a b T N L g n s hears, (sends, (search (crossing.crosses, sendable) depth 60 fits 20000, (search (crossing.crosses, sendable) depth 60 fits 20000, tt)))))
+    (struct_send (shape (worker.the_type a b T N J G L n g s)) (datagram_handler_send a b T N L g n s hears, (sends, (search (crossing.crosses, sendable) depth 60 fits 20000, (search (crossing.crosses, sendable) depth 60 fits 20000, tt)))))

@@ -1,4 +1,4 @@
 pub mod GivenBack
 pub mod Ended
 pub mod Lost
-pub mod Told
+pub mod WokenKeys

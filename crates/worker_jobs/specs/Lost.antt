@@ -1,9 +1,10 @@
--- Which connections an operator is told of (own).
+-- The lost connections that the log reports (own).
 use Rattle.std.specs.Prelude.{◌+◌, ◌-◌, ◌^◌, min}
-use Rattle.turns.specs.declared.tally.Tally.{Tally}
-use Rattle.zone_service.specs.declared.service_log.Losses.{Losses}
+use Rattle.tcp_loop.specs.declared.tally.Tally.{Tally}
+use Rattle.zone_server.specs.declared.service_log.Losses.{Losses}
 
--- those of all that are counted: they failed, or wanted memory or a version, or their peers took too long or too slowly, or they got no place or gave theirs
+-- the lost ones of all that are counted: connections that failed, or had no memory or no version, or whose peers took too long or too slowly, or that got
+-- no place or gave theirs up
 abbrev pub lost_of : Tally → Losses
 lost_of tally = record {
   failed = tally.ends.device;
@@ -17,7 +18,7 @@ lost_of tally = record {
   no_room = tally.no_room;
 }
 
--- those that there are more than before
+-- the losses since an earlier count, by cause
 abbrev pub lost_since : Losses → Losses → Losses
 lost_since before now = record {
   failed = now.failed - before.failed;

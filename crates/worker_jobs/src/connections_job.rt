@@ -1,47 +1,47 @@
 //! A worker's job on connections (RFC 7766, 6.2).
 ghost use Rattle.std.specs.Prelude.{◌≡◌, ◌⊎◌, Some};
-ghost use Rattle.connections.specs.Asked.{EachGrows};
-ghost use Rattle.turns.specs.Steps.{Turned};
+ghost use Rattle.tcp_connections.specs.Asked.{EachGrows};
+ghost use Rattle.tcp_loop.specs.Steps.{Turned};
 ghost use Rattle.worker_jobs.specs.Ended.{end_by};
 ghost use Rattle.worker_jobs.specs.Lost.{lost_of, lost_since};
 
-use crate::hearing::Hearing;
-use crate::progress::Standing;
+use crate::progress::StopFlag;
 use crate::scratch::Scratch;
-use crate::told_keys::ToldKeys;
-use connections::{Answering, Blocking};
+use crate::wake_list::WakeList;
+use crate::waking_poll::WakingPoll;
 use crossbeam_utils::CachePadded;
 use std::alloc::Global;
 use std::sync::Wait;
 use std::time::{Clock, Duration};
-use turns::{Arrivals, Plan, Readiness, Remote, Tally, TurnEnd, Turns};
+use tcp_connections::{Blocking, Handler};
+use tcp_loop::{Arrivals, EventLoop, Plan, Readiness, Remote, Tally, TurnEnd};
 use zone_replies::Transfer;
-use zone_service::{Event, JobEnd, Losses, ServiceLog};
+use zone_server::{Event, JobEnd, Losses, ServiceLog};
 
-/// How many seconds pass at least between two lines on connections that are lost (own).
+/// The shortest time between two log lines on lost connections, in seconds (own).
 const SILENCE: u64 = 1;
 
-/// A worker's job on connections: turns over those that come at places.
+/// A worker's job on connections: an event loop over those that its listeners accept.
 #[derive(Drop)]
 pub struct ConnectionsJob<'a, S: Drop, P, L, C> {
     /// The number of its worker.
     pub number: usize,
-    poll: Hearing<'a, P>,
+    poll: WakingPoll<'a, P>,
     places: Vec<L>,
-    turns: Turns<S, Transfer>,
+    turns: EventLoop<S, Transfer>,
     plan: Plan<'a>,
-    standing: Standing<'a>,
+    standing: StopFlag<'a>,
     clock: &'a C,
-    /// Which connections were lost when that was told last, and when it was.
+    /// The losses when they were last logged, and the time of that.
     told: Losses,
     told_at: Duration,
-    /// How many connections that ended are counted.
+    /// How many ended connections are counted in the work limit.
     counted: u64,
     end: Option<JobEnd>,
     scratch: CachePadded<Scratch>,
 }
 
-/// How many connections are lost so far.
+/// The connections lost so far, by cause.
 fn losses_in(tally: Tally) -> Losses
     ensures { result ≡ lost_of tally }
 {
@@ -58,7 +58,7 @@ fn losses_in(tally: Tally) -> Losses
     }
 }
 
-/// How many more there are than before.
+/// The losses since an earlier count, by cause.
 fn losses_since(before: Losses, now: Losses) -> Losses
     ensures { result ≡ lost_since before now }
 {
@@ -75,7 +75,7 @@ fn losses_since(before: Losses, now: Losses) -> Losses
     }
 }
 
-/// How a job ends of which no more turn can be taken.
+/// The end of a job that can't take another turn.
 fn end_of(end: TurnEnd) -> JobEnd
     ensures { result ≡ end_by end }
 {
@@ -85,7 +85,7 @@ fn end_of(end: TurnEnd) -> JobEnd
     }
 }
 
-/// How many connections have ended.
+/// The number of connections that have ended.
 fn ended_in(tally: Tally) -> u64 {
     tally.ends.total().saturating_add(tally.evicted)
 }
@@ -97,15 +97,15 @@ impl<
     L: Arrivals<Stream = S>,
     C: Clock,
 > ConnectionsJob<'a, S, P, L, C> {
-    /// The job of a worker, by its number: turns over the connections that come at places, which the poll watches. The clock is what lines of
-    /// the log are held back by.
+    /// The job of the worker with this number: an event loop over the connections that the listeners in `places` accept, which the poll watches. The
+    /// clock limits the rate of log lines.
     pub fn new(
         number: usize,
         poll: P,
         places: Vec<L>,
-        turns: Turns<S, Transfer>,
+        turns: EventLoop<S, Transfer>,
         plan: Plan<'a>,
-        standing: Standing<'a>,
+        standing: StopFlag<'a>,
         clock: &'a C,
         scratch: Scratch,
     ) -> ConnectionsJob<'a, S, P, L, C>
@@ -115,7 +115,7 @@ impl<
     {
         ConnectionsJob {
             number,
-            poll: Hearing::new(poll),
+            poll: WakingPoll::new(poll),
             places,
             turns,
             plan,
@@ -129,8 +129,8 @@ impl<
         }
     }
 
-    /// The same, where others tell which connections' replies can be had.
-    pub fn hearing(self, alloc: Global, told: &'a ToldKeys) -> ConnectionsJob<'a, S, P, L, C>
+    /// The same job, where other threads tell which connections' replies are ready.
+    pub fn hearing(self, alloc: Global, told: &'a WakeList) -> ConnectionsJob<'a, S, P, L, C>
         ensures number { result.number ≡ self.entry.number }
         ensures plan { result.plan ≡ self.entry.plan }
         ensures turns { result.turns ≡ self.entry.turns }
@@ -140,14 +140,14 @@ impl<
         hearing
     }
 
-    /// How it has ended; none where it hasn't yet.
+    /// How the job has ended. None where it hasn't yet.
     pub fn end(&self) -> Option<JobEnd>
         ensures { result ≡ self.now.end }
     {
         self.end
     }
 
-    /// Counts the connections that have ended.
+    /// Counts the connections that have ended in the work limit, each once.
     fn count(&mut self, tally: Tally)
         ensures number { self.new.number ≡ self.old.number }
         ensures plan { self.new.plan ≡ self.old.plan }
@@ -160,7 +160,7 @@ impl<
         }
     }
 
-    /// Tells of connections that are lost, once a second at most.
+    /// Logs the connections lost since the last such line, at most once a second.
     fn tell<R: Wait, O: ServiceLog>(&mut self, rt: &R, log: &O, tally: Tally)
         ensures told { (self.new.told ≡ self.old.told) ⊎ (self.new.told ≡ lost_of tally) }
         ensures number { self.new.number ≡ self.old.number }
@@ -182,9 +182,9 @@ impl<
         log.tell(rt, Event::Lost { worker, losses });
     }
 
-    /// Takes a turn, unless the worker is over; an end where it is, or the turn is the last.
-    #[tactic(auto, using(connections::proofs::AskedLemmas::each_itself))]
-    fn turn<R: Wait, A: Answering<Transfer>, O: ServiceLog>(
+    /// Takes a turn of the event loop, unless the worker is to end. Gives an end where the worker is to end, or where no more turns can be taken.
+    #[tactic(auto, using(tcp_connections::proofs::AskedLemmas::each_itself))]
+    fn turn<R: Wait, A: Handler<Transfer>, O: ServiceLog>(
         &mut self,
         rt: &R,
         answering: &mut A,
@@ -200,7 +200,7 @@ impl<
         }
         self.poll.hear(rt);
         let Scratch { request, reply } = &mut *self.scratch;
-        let taken = self.turns.turn(
+        let taken = self.turns.poll_once(
             rt,
             &mut self.poll,
             self.plan,
@@ -218,9 +218,9 @@ impl<
         }
     }
 
-    /// Serves connections by turns until the worker is over, or no more turn can be taken: in each, connections take places, each of them is
-    /// answered as the peer of its own address, on its own stream, and those whose peers take too long are ended (RFC 7766, 6.2).
-    pub fn serve<R: Wait, A: Answering<Transfer>, O: ServiceLog>(
+    /// Serves connections in turns until the worker is to end, or no more turns can be taken. Each turn accepts connections, answers each as the
+    /// peer of its own address, on its own stream, and ends those whose peers take too long (RFC 7766, 6.2).
+    pub fn serve<R: Wait, A: Handler<Transfer>, O: ServiceLog>(
         &mut self,
         rt: &R,
         answering: &mut A,

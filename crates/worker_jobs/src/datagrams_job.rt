@@ -1,28 +1,28 @@
-//! A worker's job on a socket of datagrams (RFC 1035, 4.2.1).
+//! A worker's job on a UDP socket (RFC 1035, 4.2.1).
 ghost use Rattle.std.specs.Prelude.{◌≡◌, ◌-◌, ◌^◌, Some, IfSome};
-ghost use Rattle.zone_service.specs.declared.service_log.JobEnd.{JobEnd as EndOfJob};
-ghost use Rattle.conversation.specs.Served.{Grows};
+ghost use Rattle.zone_server.specs.declared.service_log.JobEnd.{JobEnd as EndOfJob};
+ghost use Rattle.requests.specs.Served.{Grows};
 ghost use Rattle.worker_jobs.specs.Ended.{EndsSo, JobEndsBy};
 
-use crate::progress::Standing;
+use crate::progress::StopFlag;
 use crate::scratch::Scratch;
 use crate::udp_job::UdpJob;
-use conversation::{Allowed, Answering, Datagrams, OpenGate};
+use requests::{Allowed, Datagrams, Handler, OpenGate};
 use std::sync::Wait;
-use zone_service::JobEnd;
+use zone_server::JobEnd;
 
-/// A worker's job on datagrams: to answer those that come until the worker is over.
+/// A worker's job on datagrams: answers them as they come, until the worker is to end.
 #[derive(Drop)]
 pub struct DatagramsJob<'a, D> {
     /// The number of its worker.
     pub number: usize,
     job: UdpJob<'a, D>,
-    standing: Standing<'a>,
+    standing: StopFlag<'a>,
     end: Option<JobEnd>,
 }
 
-/// How a job has ended, by how its datagrams have: where none can be received any more, one that was to end has done what it might.
-fn end_of(end: JobEnd, standing: Standing<'_>) -> JobEnd
+/// The end of a job, from the end of its datagrams: the same, but done instead of failed where the thread was to end.
+fn end_of(end: JobEnd, standing: StopFlag<'_>) -> JobEnd
     ensures { EndsSo end result }
 {
     match end {
@@ -39,12 +39,12 @@ fn end_of(end: JobEnd, standing: Standing<'_>) -> JobEnd
 }
 
 impl<'a, D: Datagrams> DatagramsJob<'a, D> {
-    /// The job of a worker, by its number, on datagrams, of which none can be received once the worker is over.
+    /// The job of the worker with this number, on datagrams, of which none can be received once the worker is to end.
     pub fn new(
         number: usize,
         datagrams: D,
         allowed: Allowed<'a>,
-        standing: Standing<'a>,
+        standing: StopFlag<'a>,
         scratch: Scratch,
     ) -> DatagramsJob<'a, D>
         ensures number { result.number ≡ number }
@@ -59,16 +59,16 @@ impl<'a, D: Datagrams> DatagramsJob<'a, D> {
         }
     }
 
-    /// How it has ended; none where it hasn't yet.
+    /// How the job has ended. None where it hasn't yet.
     pub fn end(&self) -> Option<JobEnd>
         ensures { result ≡ self.now.end }
     {
         self.end
     }
 
-    /// Answers the datagrams that come until none can be received any more, and gives how that ended; fewer where no version can be loaded. Each
-    /// peer may update and transfer by its own address (RFC 1035, 4.2.1).
-    pub fn serve<R: Wait, A: Answering>(&mut self, rt: &R, answering: &mut A) -> JobEnd
+    /// Answers datagrams as they come, until none can be received any more or no version can be loaded, and gives how that ended. Each peer may
+    /// update and transfer by its own address (RFC 1035, 4.2.1).
+    pub fn serve<R: Wait, A: Handler>(&mut self, rt: &R, answering: &mut A) -> JobEnd
         ensures served { IfSome (D.datagrams self.old.job.datagrams) (λ o. (end : EndOfJob) × EndsSo end result × JobEndsBy A.is_reply self.old.job.allowed.addresses.now end (A.seen answering.old) o (D.failed self.old.job.datagrams) self.old.job.most (A.seen answering.new) (D.datagrams self.new.job.datagrams) (D.failed self.new.job.datagrams)) }
         ensures grows { Grows (A.seen answering.new) (A.seen answering.old) }
         ensures end { self.new.end ≡ Some result }

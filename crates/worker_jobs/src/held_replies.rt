@@ -1,16 +1,16 @@
-//! Replies that are held back, to be sent one behind another (own).
+//! Replies that are held back, to be sent one after another (own).
 
 use crate::worker_socket::is_sent;
 use std::alloc::{AllocError, Global};
 use std::net::{SocketAddr, UdpSocket};
 
-/// How many replies are held back at most (own).
+/// The most replies that are held back (own).
 pub(crate) const MOST: u32 = 16;
 
-/// How many octets they have together at most (own).
+/// The most octets that they have together (own).
 const ROOM: usize = 16_384;
 
-/// Replies, in the order in which they are to be sent: their octets, one's behind another's, and of each how many these are and whom it goes to.
+/// Replies, in the order in which they are to be sent: the octets of all, one reply after another, and the length and the recipient of each.
 #[derive(Drop)]
 pub(crate) struct HeldReplies {
     octets: Vec<u8>,
@@ -18,7 +18,7 @@ pub(crate) struct HeldReplies {
 }
 
 impl HeldReplies {
-    /// No reply, with the room for those that are held back at most.
+    /// Holds no reply yet, and has room for the most that may be held back.
     pub(crate) fn new(alloc: Global) -> Result<HeldReplies, AllocError> {
         Ok(HeldReplies {
             octets: Vec::with_capacity(alloc, ROOM)?,
@@ -26,7 +26,7 @@ impl HeldReplies {
         })
     }
 
-    /// Puts a reply behind the others, and gives whether it has; not where there is no room for it.
+    /// Adds a reply after the others. False where there is no room for it.
     pub(crate) fn hold(&mut self, octets: &[u8], to: SocketAddr) -> bool {
         if octets.len() > ROOM.saturating_sub(self.octets.len()) {
             return false;
@@ -41,7 +41,7 @@ impl HeldReplies {
         true
     }
 
-    /// Sends each reply, in their order, and gives how many weren't sent in whole. Then none is held.
+    /// Sends the replies in their order, and gives how many weren't sent in whole. Then no reply is held.
     pub(crate) fn send(&mut self, socket: &UdpSocket) -> u64 {
         let mut lost: u64 = 0;
         let mut rest = self.octets.as_slice();

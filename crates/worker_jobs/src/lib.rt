@@ -1,31 +1,31 @@
-//! The jobs of a server's threads, and threads that do jobs.
+//! The jobs of a server's threads, and the threads that run them.
 //!
-//! A [`DatagramsJob`] answers the datagrams of a socket, a [`ConnectionsJob`] takes turns over the connections that come to a worker's listeners, and a [`NotifyJob`] tells
-//! secondaries of versions. The threads of a server know of each other by a [`Muster`], and those of a worker by its [`Progress`]. A worker can be told by other threads that
-//! a reply on one of its connections can be had ([`ToldKeys`]). [`run_workers`] does jobs of any kind, each on a thread of its own, and [`do_all`] works of any kind. What is
-//! answered, and what is written then, `conversation`, `turns` and `zone_service` have.
+//! A [`DatagramsJob`] answers the datagrams of a socket, a [`ConnectionsJob`] runs the event loop over the connections of a worker's listeners, and a [`NotifyJob`] notifies
+//! secondaries of new versions. The threads of a server share a [`Shutdown`], and those of a worker its [`WorkLimit`]. With a [`WakeList`], other threads wake a worker when the
+//! reply on one of its connections is ready. [`run_workers`] runs jobs of any kind, each on a thread of its own, and [`do_all`] tasks of any kind. What is
+//! answered, and what is then written, is in the crates `requests`, `tcp_loop` and `zone_server`.
 #![tactic(auto)]
 
 mod connections_job;
 mod datagrams_job;
-mod hearing;
 mod held_replies;
 mod interrupted;
 mod notify_job;
 mod progress;
 mod scratch;
-mod told;
-mod told_keys;
 mod udp_job;
+mod wake_list;
+mod waking_poll;
+mod woken_keys;
 mod worker_socket;
 mod workers;
 
 pub use connections_job::ConnectionsJob;
 pub use datagrams_job::DatagramsJob;
 pub use notify_job::{NotifyJob, NotifySocket, Secondaries};
-pub use progress::{Muster, Progress, Standing};
+pub use progress::{Shutdown, StopFlag, WorkLimit};
 pub use scratch::Scratch;
-pub use told_keys::ToldKeys;
 pub use udp_job::UdpJob;
+pub use wake_list::WakeList;
 pub use worker_socket::{WorkerSocket, is_sent};
-pub use workers::{Idle, Job, Meanwhile, NotStarted, Work, do_all, nobody, run_workers};
+pub use workers::{Job, MainTask, NoMainTask, NotStarted, Task, do_all, nobody, run_workers};

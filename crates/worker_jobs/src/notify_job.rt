@@ -1,9 +1,9 @@
-//! The worker that tells secondaries of each version (RFC 1996, 3).
+//! The worker that notifies secondaries of each version (RFC 1996, 3).
 ghost use Rattle.std.specs.Prelude.{◌≡◌, ◌≤◌, length, Some, IfOk, IfSome};
-ghost use Rattle.conversation.specs.Served.{Grows};
+ghost use Rattle.requests.specs.Served.{Grows};
 
 use crate::interrupted::is_interrupted;
-use crate::progress::Muster;
+use crate::progress::Shutdown;
 use dns_name::Name;
 use notify::{Due, Heard, MAX_NOTIFY, Notifier};
 use rand_chacha::ChaCha20Rng;
@@ -13,21 +13,21 @@ use std::net::{SocketAddr, UdpSocket};
 use std::sync::Wait;
 use std::time::{Clock, Duration};
 use std::{io, thread};
-use zone_service::{Event, JobEnd, NextTurn, Notifying, ServiceLog};
+use zone_server::{Event, JobEnd, NextTurn, Notifying, ServiceLog};
 
-/// How long the worker waits at most before it looks again, in milliseconds, since nobody tells it of a newer version (own).
+/// The longest wait before the worker checks for a newer version, in milliseconds, since no thread notifies it of one (own).
 const LONGEST_LOOK: u64 = 100;
 
-/// How many turns it makes at most before it waits: no more are due at one time (own).
+/// The most turns that it takes before it waits. No more are due at one time (own).
 const MOST_TURNS: usize = 256;
 
-/// How many datagrams it takes at most from a secondary's socket before it goes on (own).
+/// The most datagrams that it takes from a secondary's socket before it continues (own).
 const MOST_REPLIES: usize = 16;
 
-/// How many IDs 16 bits tell (RFC 1035, 4.1.1).
+/// The number of 16-bit IDs (RFC 1035, 4.1.1).
 const IDS: u32 = 65_536;
 
-/// A secondary's socket, which takes datagrams from its address alone.
+/// The socket for a secondary, which receives datagrams only from its address.
 #[derive(Drop)]
 pub struct NotifySocket {
     address: SocketAddr,
@@ -35,7 +35,7 @@ pub struct NotifySocket {
 }
 
 impl NotifySocket {
-    /// A socket that sends to a secondary at this address and takes its replies alone, and doesn't wait for them.
+    /// A socket that sends to a secondary at this address, receives only its replies, and doesn't block.
     pub fn new(socket: UdpSocket, address: SocketAddr) -> io::Result<NotifySocket> {
         socket.connect(address)?;
         socket.set_nonblocking(true)?;
@@ -47,8 +47,8 @@ impl NotifySocket {
         self.address
     }
 
-    /// The next datagram that has come, as far as it fits into a buffer: how many octets it has there. None where none has. That one was
-    /// refused (ICMP) counts as none that came (RFC 1996, 3.6; own).
+    /// Receives the next datagram that has come, as far as it fits into a buffer, and gives how many octets it has there. None where none has
+    /// come. A report that a NOTIFY was refused (ICMP) is skipped (RFC 1996, 3.6; own).
     fn receive(&self, buf: &mut [u8]) -> Option<usize>
         ensures { IfSome result (λ len. len ≤ length buf.new) }
     {
@@ -66,18 +66,18 @@ impl NotifySocket {
     }
 }
 
-/// The secondaries of a zone, and what is wanted to tell them.
+/// The secondaries of a zone, and what is needed to notify them.
 #[derive(Drop)]
 pub struct Secondaries {
     /// Their sockets.
     pub sockets: Vec<NotifySocket>,
     /// The zone's apex.
     pub apex: Name,
-    /// What the IDs of NOTIFYs are drawn by, which nobody else knows.
+    /// The secret seed of the random IDs of NOTIFYs.
     pub seed: [u8; 32],
 }
 
-/// The job that tells secondaries of each version, by the worker's number.
+/// The job that notifies secondaries of each version, with its worker's number.
 #[derive(Drop)]
 pub struct NotifyJob<'a, C> {
     /// The number of its worker.
@@ -87,19 +87,19 @@ pub struct NotifyJob<'a, C> {
     apex: Name,
     ids: ChaCha20Rng,
     clock: &'a C,
-    muster: &'a Muster,
+    muster: &'a Shutdown,
     sent: u64,
     end: Option<JobEnd>,
 }
 
 impl<'a, C: Clock> NotifyJob<'a, C> {
-    /// The job of a worker, by its number: to tell secondaries until the other threads have ended. `AllocError` where a growth was refused.
+    /// The job of the worker with this number: notifies secondaries until the other threads have ended. `AllocError` where there is no memory.
     pub fn new(
         alloc: Global,
         number: usize,
         secondaries: Secondaries,
         clock: &'a C,
-        muster: &'a Muster,
+        muster: &'a Shutdown,
     ) -> Result<NotifyJob<'a, C>, AllocError>
         ensures { IfOk result (λ job. job.number ≡ number) }
     {
@@ -125,14 +125,15 @@ impl<'a, C: Clock> NotifyJob<'a, C> {
         })
     }
 
-    /// How it has ended; none where it hasn't yet.
+    /// How the job has ended. None where it hasn't yet.
     pub fn end(&self) -> Option<JobEnd>
         ensures { result ≡ self.now.end }
     {
         self.end
     }
 
-    /// Does what is due, and gives when to look again.
+    /// Does what is due, and gives how long to wait before the next look, in milliseconds. None where nothing is due before a newer
+    /// version is published. Fails where no version can be loaded.
     fn do_due<R: Wait, A: Notifying, L: ServiceLog>(
         &mut self,
         rt: &R,
@@ -162,7 +163,7 @@ impl<'a, C: Clock> NotifyJob<'a, C> {
         Ok(Some(0))
     }
 
-    /// Sends a NOTIFY to a secondary. What can't be sent is lost, as what is lost on the way (RFC 1996, 3.6).
+    /// Sends a NOTIFY to a secondary. One that can't be sent is lost, like one lost in transit (RFC 1996, 3.6).
     fn send(&self, to: SocketAddr, octets: &[u8]) {
         for socket in self.sockets.iter() {
             if socket.address == to {
@@ -171,8 +172,8 @@ impl<'a, C: Clock> NotifyJob<'a, C> {
         }
     }
 
-    /// Tells what is due, and takes what has come; then waits until something may be due. An end where no version can be loaded, or where the
-    /// other threads had ended before: what they published last is told once more then.
+    /// Sends what is due, takes the replies that have come, and then waits until something may be due. Gives an end where no version can be loaded,
+    /// or where the server was to end or the other threads had ended before this call. What was published last is still sent then.
     fn look<R: Wait, A: Notifying, L: ServiceLog>(
         &mut self,
         rt: &R,
@@ -202,7 +203,7 @@ impl<'a, C: Clock> NotifyJob<'a, C> {
         None
     }
 
-    /// Tells the secondaries of each version until the other threads have ended, or no version can be loaded (RFC 1996, 3).
+    /// Notifies the secondaries of each version until the other threads have ended, or no version can be loaded (RFC 1996, 3).
     pub fn serve<R: Wait, A: Notifying, L: ServiceLog>(
         &mut self,
         rt: &R,
@@ -223,7 +224,7 @@ impl<'a, C: Clock> NotifyJob<'a, C> {
     }
 }
 
-/// Takes what has come from the secondaries of a zone at an apex.
+/// Takes the replies that have come from the secondaries of the zone at an apex.
 fn take_replies<R: Wait, L: ServiceLog>(
     rt: &R,
     sockets: &[NotifySocket],
@@ -245,7 +246,7 @@ fn take_replies<R: Wait, L: ServiceLog>(
     }
 }
 
-/// What a clock shows, in milliseconds; 0 where it can't be read.
+/// The time that a clock shows, in milliseconds. 0 where it can't be read.
 fn millis_of<C: Clock>(clock: &C) -> u64 {
     match clock.monotonic() {
         Ok(time) => u64::try_from(time.as_millis()).unwrap_or(u64::MAX),

@@ -1,12 +1,12 @@
-//! What the threads of a server know of each other.
+//! What the threads of a server share: when they have begun, and when they are to end.
 ghost use Rattle.std.specs.Prelude.{◌≡◌};
 
 use crossbeam_utils::CachePadded;
 use std::sync::atomic::{AtomicBool, AtomicU64, AtomicUsize, Ordering};
 
-/// What all threads of a server share: how many have begun and have ended, whether the server is to end, and whether updates are judged beside them.
+/// Shared by all threads of a server: how many have begun and have ended, whether the server is to end, and whether the update thread judges updates.
 #[derive(Drop)]
-pub struct Muster {
+pub struct Shutdown {
     threads: usize,
     begun: AtomicUsize,
     ended: AtomicUsize,
@@ -14,12 +14,12 @@ pub struct Muster {
     is_judging: AtomicBool,
 }
 
-impl Muster {
-    /// That of so many threads, of which none has begun.
-    pub fn new(threads: usize) -> Muster
+impl Shutdown {
+    /// For this number of threads, of which none has begun.
+    pub fn new(threads: usize) -> Shutdown
         ensures { result.threads ≡ threads }
     {
-        Muster {
+        Shutdown {
             threads,
             begun: AtomicUsize::new(0),
             ended: AtomicUsize::new(0),
@@ -28,33 +28,33 @@ impl Muster {
         }
     }
 
-    /// One more thread has begun. Whether all have by this.
+    /// Counts a thread that has begun. True where all have begun with this one.
     pub fn begin(&self) -> bool {
         self.begun.fetch_add(1, Ordering::SeqCst).saturating_add(1) == self.threads
     }
 
-    /// One more thread has ended.
+    /// Counts a thread that has ended.
     pub fn leave(&self) {
         self.ended.fetch_add(1, Ordering::SeqCst);
     }
 
-    /// Updates are judged beside the threads from now on.
+    /// From now on the update thread judges updates.
     pub fn judge(&self) {
         self.is_judging.store(true, Ordering::SeqCst);
     }
 
-    /// They are no more.
+    /// From now on the update thread judges no updates.
     pub fn judged(&self) {
         self.is_judging.store(false, Ordering::SeqCst);
     }
 
-    /// Whether all threads but one have ended, and no update is judged beside them.
+    /// Whether all threads but one have ended, and the update thread judges no updates.
     pub(crate) fn has_one_left(&self) -> bool {
         self.ended.load(Ordering::SeqCst).saturating_add(1) >= self.threads
             && !self.is_judging.load(Ordering::SeqCst)
     }
 
-    /// The server is to end, since a thread has ended for a reason of its own.
+    /// From now on the server is to end, because a thread has ended for a reason of its own.
     pub fn end(&self) {
         self.is_ending.store(true, Ordering::SeqCst);
     }
@@ -65,25 +65,25 @@ impl Muster {
     }
 }
 
-/// What the threads of a worker share: how much it may do, and what it has done.
+/// Shared by the threads of a worker: how much it may do, and how much it has done.
 #[derive(Drop)]
-pub struct Progress {
+pub struct WorkLimit {
     most: u64,
     done: CachePadded<AtomicU64>,
 }
 
-impl Progress {
-    /// That of a worker that may receive so many requests by datagrams, or end connections, together.
-    pub fn new(most: u64) -> Progress
+impl WorkLimit {
+    /// The limit of a worker: how many requests it may receive over UDP, and connections it may end, in all.
+    pub fn new(most: u64) -> WorkLimit
         ensures { result.most ≡ most }
     {
-        Progress {
+        WorkLimit {
             most,
             done: CachePadded::new(AtomicU64::new(0)),
         }
     }
 
-    /// So many more are done.
+    /// Counts `count` more as done.
     pub(crate) fn add(&self, count: u64) {
         self.done.fetch_add(count, Ordering::SeqCst);
     }
@@ -93,26 +93,26 @@ impl Progress {
         self.done.load(Ordering::SeqCst)
     }
 
-    /// Whether as much is done as may be.
+    /// Whether the limit is reached.
     pub(crate) fn is_done(&self) -> bool {
         self.done() >= self.most
     }
 }
 
-/// What a thread knows of the others: those of its worker, and all.
+/// Tells a thread whether to end, from the limit of its worker and the shutdown of the server.
 #[derive(Clone, Copy)]
-pub struct Standing<'a> {
-    pub(crate) muster: &'a Muster,
-    pub(crate) progress: &'a Progress,
+pub struct StopFlag<'a> {
+    pub(crate) muster: &'a Shutdown,
+    pub(crate) progress: &'a WorkLimit,
 }
 
-impl<'a> Standing<'a> {
-    /// That of a thread of a worker.
-    pub fn new(muster: &'a Muster, progress: &'a Progress) -> Standing<'a> {
-        Standing { muster, progress }
+impl<'a> StopFlag<'a> {
+    /// For a thread of a worker.
+    pub fn new(muster: &'a Shutdown, progress: &'a WorkLimit) -> StopFlag<'a> {
+        StopFlag { muster, progress }
     }
 
-    /// Whether the thread is to end: its worker has done as much as it may, or the server is to end.
+    /// Whether the thread is to end: its worker has reached its limit, or the server is to end.
     pub(crate) fn is_over(self) -> bool {
         self.progress.is_done() || self.muster.is_ending()
     }

@@ -1,11 +1,11 @@
-//! The buffers of a worker.
+//! A worker's buffers.
 ghost use Rattle.std.specs.Prelude.{◌≡◌, length};
 ghost use Rattle.dns_message.specs.Message.{message_limit};
 
 use dns_message::MAX_LIMIT;
 use std::alloc::{AllocError, Global};
 
-/// A worker's buffers, which are made once, so that no request takes memory for its octets.
+/// A worker's buffers for a request and a reply. They are allocated once, so that no request needs memory for its octets.
 #[derive(Drop)]
 pub struct Scratch {
     pub(crate) request: Vec<u8>,

@@ -1,18 +1,18 @@
-//! Workers that take datagrams (RFC 1035, 4.2.1).
+//! A worker's job that answers datagrams (RFC 1035, 4.2.1).
 ghost use Rattle.std.specs.Prelude.{◌≡◌, Some, IfSome, IsSome};
-ghost use Rattle.zone_service.specs.declared.service_log.JobEnd.{JobEnd as EndOfJob};
-ghost use Rattle.conversation.specs.Served.{Grows};
+ghost use Rattle.zone_server.specs.declared.service_log.JobEnd.{JobEnd as EndOfJob};
+ghost use Rattle.requests.specs.Served.{Grows};
 ghost use Rattle.worker_jobs.specs.Ended.{job_end, JobEndsBy};
 
 use crate::scratch::Scratch;
 use crate::workers::Job;
-use conversation::{Allowed, Answering, Datagrams, DatagramsEnd, Gate, serve_udp};
 use crossbeam_utils::CachePadded;
+use requests::{Allowed, Datagrams, DatagramsEnd, Gate, Handler, serve_udp};
 use serve_core::Transport;
 use std::sync::Wait;
-use zone_service::{Event, JobEnd, ServiceLog};
+use zone_server::{Event, JobEnd, ServiceLog};
 
-/// How a job has ended that answers so many requests.
+/// The end of a job that answers at most `most` requests, from the end of its datagrams.
 fn job_end_of(end: DatagramsEnd, most: u64) -> JobEnd
     ensures { result ≡ job_end end most }
 {
@@ -23,7 +23,7 @@ fn job_end_of(end: DatagramsEnd, most: u64) -> JobEnd
     }
 }
 
-/// A worker's job on datagrams: to answer those that come, so many.
+/// A worker's job on datagrams: answers a given number of them, as they come.
 #[derive(Drop)]
 pub struct UdpJob<'a, D> {
     number: usize,
@@ -35,7 +35,7 @@ pub struct UdpJob<'a, D> {
 }
 
 impl<'a, D: Datagrams> UdpJob<'a, D> {
-    /// The job of a worker, by its number: to answer so many requests by datagrams.
+    /// The job of the worker with this number: answers `most` requests over UDP.
     pub fn new(
         number: usize,
         datagrams: D,
@@ -57,16 +57,16 @@ impl<'a, D: Datagrams> UdpJob<'a, D> {
         }
     }
 
-    /// How it has ended; none where it hasn't yet.
+    /// How the job has ended. None where it hasn't yet.
     pub fn end(&self) -> Option<JobEnd>
         ensures { result ≡ self.now.end }
     {
         self.end
     }
 
-    /// Answers the datagrams that come, so many, and gives how that ended; fewer where one can't be received, or no version can be
-    /// loaded. Each peer may update and transfer by its own address (RFC 1035, 4.2.1).
-    pub fn serve<R: Wait, A: Answering, G: Gate>(
+    /// Answers the job's number of datagrams as they come, and gives how that ended. It answers fewer where one can't be received, or no
+    /// version can be loaded. Each peer may update and transfer by its own address (RFC 1035, 4.2.1).
+    pub fn serve<R: Wait, A: Handler, G: Gate>(
         &mut self,
         rt: &R,
         answering: &mut A,
@@ -99,7 +99,7 @@ impl<D: Datagrams + Send + Drop> Job for UdpJob<'_, D> {
 
     ghost is_done = { λ job. IsSome job.end };
 
-    fn run<R: Wait, A: Answering, G: Gate, L: ServiceLog>(
+    fn run<R: Wait, A: Handler, G: Gate, L: ServiceLog>(
         &mut self,
         rt: &R,
         answering: &mut A,

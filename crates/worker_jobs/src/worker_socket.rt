@@ -1,32 +1,31 @@
-//! A worker's socket of datagrams (RFC 1035, 4.2.1).
+//! A worker's UDP socket (RFC 1035, 4.2.1).
 //!
-//! While few datagrams come it waits for each, and sends its reply at once: two calls of the system a query. Where more are there already, it takes
-//! them without waiting, and sends their replies one behind another once none is left, or a few have come: who asks is then woken once for
-//! many replies.
+//! While few datagrams come, it waits for each and sends its reply at once: two system calls per query. Where more are already there, it takes them
+//! without waiting, and sends their replies in a row once none is left, or a few have come. A client is then woken once for many replies.
 ghost use Rattle.std.specs.Prelude.{◌≡◌, ◌≢◌, ◌≤◌, None, length, IfOk, IfErr, IfSome};
 ghost use Rattle.std.specs.IoError.{error_kind};
 ghost use Rattle.std.specs.Io.{WritesAtMost};
-ghost use Rattle.conversation.specs.Datagrams.{count_of};
+ghost use Rattle.requests.specs.Datagrams.{count_of};
 
 use crate::held_replies::{HeldReplies, MOST};
 use crate::interrupted::is_interrupted;
-use crate::progress::Standing;
-use conversation::Datagrams;
+use crate::progress::StopFlag;
+use requests::Datagrams;
 use std::alloc::Global;
 use std::io::{self, ErrorKind};
 use std::net::{SocketAddr, UdpSocket};
 use std::time::Duration;
 
-/// How many seconds a datagram is waited for, until the thread looks whether it is to end (own).
+/// How long to wait for a datagram before the thread checks whether it is to end, in seconds (own).
 const LOOK: u64 = 1;
 
-/// How many datagrams are waited for, one behind another, until it is tried whether one is there already (own).
+/// How many datagrams are waited for, one after another, before the socket tries to receive without waiting (own).
 const WAITS: u32 = 32;
 
-/// A datagram of more octets may take long, so that no reply is held back beside it (own).
+/// A datagram of more octets may take long to answer, so no reply is held back meanwhile (own).
 const LONG: usize = 512;
 
-/// Whether a receiving has only taken too long, or was interrupted, so that it is begun again.
+/// Whether a receive only timed out or was interrupted, so that it is tried again.
 fn is_passing(fault: &io::Error) -> bool {
     match fault.kind() {
         ErrorKind::WouldBlock => true,
@@ -36,7 +35,7 @@ fn is_passing(fault: &io::Error) -> bool {
     }
 }
 
-/// Sends a datagram, and gives how many of its octets are sent. A sending that a signal interrupts is begun again.
+/// Sends a datagram, and gives how many of its octets were sent. A send that a signal interrupts is tried again.
 fn send_to(socket: &UdpSocket, octets: &[u8], to: SocketAddr) -> io::Result<usize>
     ensures bound { WritesAtMost result octets.now }
     ensures again { IfErr result (λ fault. error_kind fault ≢ ErrorKind.Interrupted) }
@@ -54,7 +53,7 @@ fn send_to(socket: &UdpSocket, octets: &[u8], to: SocketAddr) -> io::Result<usiz
     Err(io::Error::from(ErrorKind::TimedOut))
 }
 
-/// Sends a reply, and gives whether it is sent in whole.
+/// Sends a reply, and gives whether all of it was sent.
 pub fn is_sent(socket: &UdpSocket, octets: &[u8], to: SocketAddr) -> bool {
     match send_to(socket, octets, to) {
         Ok(sent) => sent == octets.len(),
@@ -65,30 +64,30 @@ pub fn is_sent(socket: &UdpSocket, octets: &[u8], to: SocketAddr) -> bool {
 /// How datagrams are received.
 #[derive(Clone, Copy)]
 enum Mode {
-    /// Each is waited for, as so many were before it.
+    /// Waits for each datagram. The number is how many were waited for in a row.
     Waiting(u32),
-    /// None is waited for; so many have come since replies were sent last.
+    /// Takes datagrams without waiting. The number is how many have come since replies were last sent.
     Taking(u32),
 }
 
-/// A worker's socket of datagrams, with the count of its failures.
+/// A worker's UDP socket, with the count of its failures.
 #[derive(Drop)]
 pub struct WorkerSocket<'a> {
     socket: UdpSocket,
-    standing: Standing<'a>,
+    standing: StopFlag<'a>,
     mode: Mode,
     held: HeldReplies,
-    /// How many replies that were held back failed to be sent, and aren't counted yet.
+    /// How many replies failed to be sent, and aren't counted yet.
     lost: u64,
     faults: u64,
 }
 
 impl<'a> WorkerSocket<'a> {
-    /// A socket of a worker's thread, which waits for datagrams from now on; with no failure counted yet.
+    /// The socket of a worker thread, which waits for datagrams from now on. No failure is counted yet.
     pub fn new(
         alloc: Global,
         socket: UdpSocket,
-        standing: Standing<'a>,
+        standing: StopFlag<'a>,
     ) -> io::Result<WorkerSocket<'a>>
         ensures { IfOk result (λ socket. socket.faults ≡ 0) }
     {
@@ -119,7 +118,7 @@ impl<'a> WorkerSocket<'a> {
         self.lost = self.lost.saturating_add(lost);
     }
 
-    /// Before a datagram is received: where many have been waited for, the next isn't; where many have been taken, their replies are sent.
+    /// Prepares for the next receive: after `WAITS` datagrams that were waited for, the next isn't. After `MOST` that were taken, their replies are sent.
     fn prepare(&mut self) -> io::Result<()>
         ensures { self.new.faults ≡ self.old.faults }
     {
@@ -137,7 +136,7 @@ impl<'a> WorkerSocket<'a> {
         Ok(())
     }
 
-    /// A datagram of so many octets has come.
+    /// Counts a datagram of `len` octets that has come. Where it is long, the replies that are held back are sent first.
     fn note(&mut self, len: usize)
         ensures { self.new.faults ≡ self.old.faults }
     {
@@ -150,7 +149,7 @@ impl<'a> WorkerSocket<'a> {
         }
     }
 
-    /// None has come: the next one is waited for, once the replies that are held back are sent.
+    /// Called where no datagram has come: sends the replies that are held back, and has the next datagram waited for.
     fn wait(&mut self) -> io::Result<()>
         ensures { self.new.faults ≡ self.old.faults }
     {
@@ -162,8 +161,8 @@ impl<'a> WorkerSocket<'a> {
         Ok(())
     }
 
-    /// Receives a datagram to the front of a buffer, and gives how many octets it has there and who sent it; none where the socket has failed, or
-    /// the thread is to end.
+    /// Receives a datagram at the front of a buffer, and gives how many octets it has there and its sender's address. None where the socket has
+    /// failed, or the thread is to end.
     fn next(&mut self, buf: &mut [u8]) -> Option<(usize, SocketAddr)>
         ensures bound { IfSome result (λ received. received.0 ≤ length buf.new) }
         ensures same { self.new.faults ≡ self.old.faults }
@@ -191,7 +190,7 @@ impl Datagrams for WorkerSocket<'_> {
 
     ghost failed = { λ socket. socket.faults };
 
-    // A thread that is to end is told by a receiving that fails.
+    // Once the thread is to end, the receive fails.
     fn receive(&mut self, buf: &mut [u8]) -> Option<(usize, SocketAddr)> {
         match self.next(buf) {
             Some(received) => {
@@ -205,7 +204,7 @@ impl Datagrams for WorkerSocket<'_> {
         }
     }
 
-    // A failure of one that was held back is counted by a later call.
+    // The failure of a reply that was held back is counted by a later call.
     fn send(&mut self, octets: &[u8], to: SocketAddr) {
         let is_held = match self.mode {
             Mode::Taking(_) => self.held.hold(octets, to),

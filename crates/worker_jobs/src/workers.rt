@@ -1,11 +1,11 @@
-//! Workers: jobs, each on a thread of its own.
+//! Worker threads: each runs one job.
 ghost use Rattle.std.specs.Prelude.{◌≡◌, ℕ, ◌≤◌, true, false, [], List, All, map, vec_len, vec_capacity, IfOk, IfErr, MatchResult};
 ghost use Rattle.zone_tree.specs.Version.{Version};
-ghost use Rattle.conversation.specs.Served.{BeginsWith, Grows};
+ghost use Rattle.requests.specs.Served.{BeginsWith, Grows};
 ghost use Rattle.worker_jobs.specs.GivenBack.{Each, IsReturned};
 
-use conversation::{Answering, Gate};
 use dns_engine::{FirstZone, VersionReader};
+use requests::{Gate, Handler};
 use serve_core::{Peer, Transport};
 use snapshot_cell::Naming;
 use std::alloc::Global;
@@ -13,19 +13,18 @@ use std::net::{Ipv4Addr, SocketAddr, SocketAddrV4};
 use std::snapshot::Snapshot;
 use std::sync::{OnceLock, OnceToken, Wait};
 use std::thread::{self, Promise, PromisedHandle, Scope, Threads};
-use zone_service::{Asked, Server, ServerName, ServiceLog};
+use zone_server::{DatagramHandler, Server, ServerName, ServiceLog};
 
-/// What a worker does.
+/// The job of a worker thread.
 pub trait Job: Send + Drop {
-    /// The job's number, which stays.
+    /// The job's number, which never changes.
     ghost number: { Self → ℕ };
 
     /// What holds of a job that has been done.
     ghost is_done: { Self → Type 0 };
 
-    /// Does it, by one who answers each peer that it is turned to. Each request goes through the gate; the log is told how the job
-    /// ends.
-    fn run<R: Wait, A: Answering, G: Gate, L: ServiceLog>(
+    /// Does the job, with a handler that answers each peer that it is turned to. Each request passes the gate. Logs how the job ends.
+    fn run<R: Wait, A: Handler, G: Gate, L: ServiceLog>(
         &mut self,
         rt: &R,
         answering: &mut A,
@@ -37,52 +36,51 @@ pub trait Job: Send + Drop {
         ensures grows { Grows (A.seen answering.new) (A.seen answering.old) };
 }
 
-/// Not all jobs could be started, since a thread was refused, or there was no memory to keep track of them: the pairs come back, and
-/// none of the jobs has begun.
+/// Not all jobs could be started: a thread was refused, or there was no memory to track the jobs. The pairs come back, and no job has begun.
 #[derive(Drop)]
 pub struct NotStarted<N: Naming, J>(pub Vec<(VersionReader<N>, J)>);
 
-/// What is done on a thread.
-pub trait Work: Send + Drop {
-    /// The work's number, which stays.
+/// A task for a thread.
+pub trait Task: Send + Drop {
+    /// The task's number, which never changes.
     ghost number: { Self → ℕ };
 
     /// The versions that its reader has seen published, the first one first.
     ghost seen: { Self → List Version };
 
-    /// What holds of a work that has been done.
+    /// What holds of a task that has been done.
     ghost is_done: { Self → Type 0 };
 
-    /// Does it.
+    /// Does the task.
     fn work<R: Wait>(&mut self, rt: &R)
         ensures number { number self.new ≡ number self.old }
         ensures done { is_done self.new }
         ensures grows { BeginsWith (seen self.new) (seen self.old) };
 }
 
-/// What is done beside works, on the thread that waits for them.
-pub trait Meanwhile: Drop {
-    /// Does it, once each work has its thread.
+/// A task for the thread that waits for the others.
+pub trait MainTask: Drop {
+    /// Does the task, once each other task has its thread.
     fn meanwhile<R: Wait>(&mut self, rt: &R);
 }
 
-/// Nothing is done beside works.
+/// No task for the thread that waits.
 #[derive(Clone, Copy)]
-pub struct Idle;
+pub struct NoMainTask;
 
-impl Meanwhile for Idle {
+impl MainTask for NoMainTask {
     fn meanwhile<R: Wait>(&mut self, _rt: &R) {}
 }
 
-/// Nobody's address.
+/// An address of no peer: 0.0.0.0, port 0.
 pub fn nobody() -> SocketAddr {
     SocketAddr::V4(SocketAddrV4::new(Ipv4Addr::new(0, 0, 0, 0), 0))
 }
 
-/// A job with who answers in it by a reader, and the gate and the log that it is done with.
+/// A job with its handler, which has a reader, and with its gate and log.
 #[derive(Drop)]
 struct Worker<'g, 's, Z: FirstZone, N: ServerName, J, G, L> {
-    asked: Asked<'g, 's, Z, N, L>,
+    asked: DatagramHandler<'g, 's, Z, N, L>,
     job: J,
     gate: &'g G,
     log: &'g L,
@@ -96,7 +94,7 @@ impl<
     J: Job,
     G: Gate + Sync,
     L: ServiceLog + Sync,
-> Work for Worker<'g, 's, Z, N, J, G, L> {
+> Task for Worker<'g, 's, Z, N, J, G, L> {
     ghost number = { λ worker. J.number worker.job };
 
     ghost seen = { λ worker. worker.asked.reader.seen };
@@ -108,26 +106,26 @@ impl<
     }
 }
 
-/// A work that its thread gives back, and what the thread was told: whether the works may be done.
+/// A task that its thread gives back, and the value that the thread read from the lock: whether the tasks may be done.
 #[derive(Drop)]
 struct Returned<'m, W> {
     work: W,
     told: OnceToken<'m, bool>,
 }
 
-/// A work that is given to a thread, and what tells the thread whether the works may be done.
+/// A task that is given to a thread, and the lock that tells the thread whether the tasks may be done.
 #[derive(Drop)]
 struct Given<'m, W> {
     may: &'m OnceLock<bool>,
     work: Snapshot<W>,
 }
 
-impl<'m, W: Work> Promise<Returned<'m, W>> for Given<'m, W> {
+impl<'m, W: Task> Promise<Returned<'m, W>> for Given<'m, W> {
     ghost kept_by = { λ given back. IsReturned W.number W.seen W.is_done given.may.now.id given.work.value back.told.of back.told.value back.work };
 }
 
-/// Does a work once all threads have been started; not at all where one was refused.
-fn do_one<'m, R: Wait, W: Work>(rt: &R, may: &'m OnceLock<bool>, mut work: W) -> Returned<'m, W>
+/// Does a task once all threads have been started. Doesn't do it where a thread was refused.
+fn do_one<'m, R: Wait, W: Task>(rt: &R, may: &'m OnceLock<bool>, mut work: W) -> Returned<'m, W>
     ensures { IsReturned W.number W.seen W.is_done may.entry.now.id work result.told.of result.told.value result.work }
 {
     may.wait(rt);
@@ -138,11 +136,11 @@ fn do_one<'m, R: Wait, W: Work>(rt: &R, may: &'m OnceLock<bool>, mut work: W) ->
     Returned { work, told }
 }
 
-/// A work whose thread is started, or that is given back since its thread was refused.
+/// A task whose thread has been started, or one that is given back because its thread was refused.
 type Begun<'m, W> = Result<PromisedHandle<Returned<'m, W>, Given<'m, W>>, Returned<'m, W>>;
 
-/// Starts a thread for a work. Where it is refused, no work may be done from then on.
-fn begin<'s, E, R: Threads + Wait + Sync, W: Work + 's>(
+/// Starts a thread for a task. Where the thread is refused, no task may be done from then on.
+fn begin<'s, E, R: Threads + Wait + Sync, W: Task + 's>(
     rt: &'s R,
     scope: &'s Scope<'s, E>,
     may: &'s OnceLock<bool>,
@@ -166,8 +164,8 @@ fn begin<'s, E, R: Threads + Wait + Sync, W: Work + 's>(
     }
 }
 
-/// Starts a thread for each work, and puts what has begun into `begun`, which has room for it.
-fn begin_all<'s, E, R: Threads + Wait + Sync, W: Work + 's>(
+/// Starts a thread for each task, and appends the started tasks to `begun`, which has room for them.
+fn begin_all<'s, E, R: Threads + Wait + Sync, W: Task + 's>(
     rt: &'s R,
     scope: &'s Scope<'s, E>,
     may: &'s OnceLock<bool>,
@@ -188,8 +186,8 @@ fn begin_all<'s, E, R: Threads + Wait + Sync, W: Work + 's>(
     begun
 }
 
-/// Waits for a work.
-fn end<'s, R: Threads, W: Work>(rt: &R, begun: Begun<'s, W>) -> Returned<'s, W>
+/// Waits for a task.
+fn end<'s, R: Threads, W: Task>(rt: &R, begun: Begun<'s, W>) -> Returned<'s, W>
     ensures { MatchResult begun.entry
         (λ handle. IsReturned W.number W.seen W.is_done handle.promise.may.now.id handle.promise.work.value result.told.of result.told.value result.work)
         (λ back. result ≡ back) }
@@ -200,8 +198,8 @@ fn end<'s, R: Threads, W: Work>(rt: &R, begun: Begun<'s, W>) -> Returned<'s, W>
     }
 }
 
-/// Waits for each work, and puts what comes back into `returned`, which has room for it.
-fn end_all<'s, R: Threads, W: Work>(
+/// Waits for each task, and appends what comes back to `returned`, which has room for it.
+fn end_all<'s, R: Threads, W: Task>(
     rt: &R,
     begun: Vec<Begun<'s, W>>,
     mut returned: Vec<Returned<'s, W>>,
@@ -220,8 +218,8 @@ fn end_all<'s, R: Threads, W: Work>(
     returned
 }
 
-/// Puts the works that came back into `done`, which has room for them.
-fn works_of<'s, W: Work>(
+/// Appends the tasks that came back to `done`, which has room for them.
+fn tasks_of<'s, W: Task>(
     told: &OnceToken<'s, bool>,
     returned: Vec<Returned<'s, W>>,
     mut done: Vec<W>,
@@ -240,8 +238,8 @@ fn works_of<'s, W: Work>(
     done
 }
 
-/// Does what is done beside works, where they are done.
-fn do_beside<R: Wait, M: Meanwhile>(rt: &R, may: bool, meanwhile: M) -> M {
+/// Does the main task, where the other tasks may be done.
+fn do_beside<R: Wait, M: MainTask>(rt: &R, may: bool, meanwhile: M) -> M {
     let mut beside = meanwhile;
     if may {
         beside.meanwhile(rt);
@@ -249,10 +247,9 @@ fn do_beside<R: Wait, M: Meanwhile>(rt: &R, may: bool, meanwhile: M) -> M {
     beside
 }
 
-/// Does each work on a thread of a scope, and beside them what is done on this one, and waits for all; then gives the works back in their order. The threads are
-/// told by a lock whether the works may be done. False where a thread was refused, or where there is no memory to keep track of them: none of the works has then begun,
-/// and nothing is done beside them.
-fn do_in<'s, E, R: Threads + Wait + Sync, W: Work + 's, M: Meanwhile>(
+/// Does each task on a thread of a scope, and the main task on this one, and waits for all. Gives the tasks back in their order. A lock tells the threads whether the
+/// tasks may be done. False where a thread was refused, or where there is no memory to track the tasks. Then no task has begun, and the main task isn't done.
+fn do_in<'s, E, R: Threads + Wait + Sync, W: Task + 's, M: MainTask>(
     rt: &'s R,
     alloc: Global,
     scope: &'s Scope<'s, E>,
@@ -280,13 +277,13 @@ fn do_in<'s, E, R: Threads + Wait + Sync, W: Work + 's, M: Meanwhile>(
     let started = *may.value(&told);
     let beside = do_beside(rt, started, meanwhile);
     let returned = end_all(rt, begun, returned);
-    let done = works_of(&told, returned, done);
+    let done = tasks_of(&told, returned, done);
     (started, done, beside)
 }
 
-/// Does each work on a thread of its own, and beside them what is done on this one, and waits for all; then gives the works back in their order. False where a
-/// thread was refused, or where there is no memory to keep track of them: none of the works has then begun, and nothing is done beside them.
-pub fn do_all<R: Threads + Wait + Sync, W: Work, M: Meanwhile>(
+/// Does each task on a thread of its own, and the main task on this one, and waits for all. Gives the tasks back in their order. False where a thread was
+/// refused, or where there is no memory to track the tasks. Then no task has begun, and the main task isn't done.
+pub fn do_all<R: Threads + Wait + Sync, W: Task, M: MainTask>(
     rt: &R,
     alloc: Global,
     works: Vec<W>,
@@ -310,7 +307,7 @@ pub fn do_all<R: Threads + Wait + Sync, W: Work, M: Meanwhile>(
     )
 }
 
-/// Puts the workers of pairs into `works`, which has room for them.
+/// Makes a worker of each pair, and appends it to `works`, which has room for them.
 fn put_workers<'g, 's, Z: FirstZone, N: ServerName, J: Drop, G, L: ServiceLog>(
     alloc: Global,
     server: &'g Server<'s, Z, N>,
@@ -326,7 +323,7 @@ fn put_workers<'g, 's, Z: FirstZone, N: ServerName, J: Drop, G, L: ServiceLog>(
     for (reader, job) in pairs {
         let peer = Peer::over(Transport::Udp, false);
         works.push_reserved(Worker {
-            asked: Asked::new(alloc, server, reader, log, peer, nobody()),
+            asked: DatagramHandler::new(alloc, server, reader, log, peer, nobody()),
             job,
             gate,
             log,
@@ -334,7 +331,7 @@ fn put_workers<'g, 's, Z: FirstZone, N: ServerName, J: Drop, G, L: ServiceLog>(
     }
 }
 
-/// Puts the pairs of workers into `back`, which has room for them.
+/// Makes a pair of each worker, and appends it to `back`, which has room for them.
 fn put_pairs<Z: FirstZone, N: ServerName, J: Drop, G, L: ServiceLog>(
     done: Vec<Worker<'_, '_, Z, N, J, G, L>>,
     back: &mut Vec<(VersionReader<N>, J)>,
@@ -348,9 +345,9 @@ fn put_pairs<Z: FirstZone, N: ServerName, J: Drop, G, L: ServiceLog>(
     }
 }
 
-/// Does each job on a thread of its own, with a reader, and waits for all; then gives the pairs back in their order: each job with the
-/// reader that it was given, of which what it has seen published begins with what it had seen. No job begins until each has its
-/// thread. [`NotStarted`] where a thread was refused, or where there was no memory to keep track of them: no job has begun, and the
+/// Does each job on a thread of its own, with a reader, and waits for all. Gives the pairs back in their order: each job with the
+/// reader that it was given. The versions that a reader has seen published begin with those that it had seen. No job begins until each has its
+/// thread. [`NotStarted`] where a thread was refused, or where there was no memory to track the jobs. Then no job has begun, and the
 /// pairs come back as they were given.
 pub fn run_workers<
     'g,
@@ -382,7 +379,7 @@ pub fn run_workers<
         return Err(NotStarted(pairs));
     };
     put_workers(alloc, server, gate, log, pairs, &mut works);
-    let (started, done, _) = do_all(rt, alloc, works, Idle);
+    let (started, done, _) = do_all(rt, alloc, works, NoMainTask);
     put_pairs(done, &mut back);
     if started {
         Ok(back)

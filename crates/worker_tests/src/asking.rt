@@ -1,9 +1,9 @@
-//! What clients of a server are replied (RFC 1035, 4.2): datagrams that lie in a socket together, as much as a worker may answer, and updates, each of which is told its
-//! code by who judges them, and seen by a query that comes after its reply (RFC 2136, 3).
+//! The replies that clients of a server get (RFC 1035, 4.2): to datagrams that are in a socket together, as many as a worker may answer, and to
+//! updates, whose code comes from the update thread. A query sent after the reply to an update sees its effect (RFC 2136, 3).
 
 use crate::ending::{BEGUN, HOST, add_worker, served, sockets};
 use crate::frames::{QUERY, REPLY, frame_of};
-use serve_workers::Progress;
+use serve_workers::WorkLimit;
 use std::alloc::Global;
 use std::io::{self, Read, Write};
 use std::net::{Net, OpenStream, Shutdown, SocketAddr, TcpListener, UdpSocket};
@@ -25,15 +25,15 @@ const HOST_QUERY: &[u8] =
 const FOUND: &[u8] =
     b"\x85\x00\x00\x01\x00\x01\x00\x00\x00\x00\x04host\x07example\x04test\x00\x00\x01\x00\x01\xc0\x0c\x00\x01\x00\x01\x00\x00\x00\x3c\x00\x04\xc0\x00\x02\x07";
 
-/// What is asked with an ID, and what that is replied, both after the ID.
+/// A request with an ID, and the reply to it. Both messages are without the ID.
 #[derive(Clone, Copy)]
-struct Asked {
+struct Exchange {
     id: u16,
     message: &'static [u8],
     reply: &'static [u8],
 }
 
-/// Which sockets a worker has.
+/// The sockets of a worker.
 #[derive(Clone, Copy)]
 enum Takes {
     Datagrams,
@@ -41,47 +41,48 @@ enum Takes {
     Both,
 }
 
-/// What is asked of a server.
+/// The requests to a server.
 struct Case {
-    /// What is tried.
+    /// What is tested.
     name: &'static str,
-    /// Which sockets its worker has, and how much it may do.
+    /// The sockets of its worker, and the maximum number of requests that it may answer.
     takes: Takes,
     most: u64,
-    /// Whether a worker that may do nothing is beside its threads.
+    /// Whether there is one more worker, which may answer nothing.
     has_idle: bool,
-    /// What is asked by datagrams before the server begins, and what once that is replied: each with so many IDs, from its own on.
-    datagrams: [(Asked, u16); 2],
-    /// What is asked on a connection before the server begins, if anything is; no more is asked on it then.
-    stream: &'static [Asked],
+    /// The requests sent as datagrams before the server starts, and those sent once the first are answered: each with this number of IDs, from
+    /// its own on.
+    datagrams: [(Exchange, u16); 2],
+    /// The requests on a connection, sent before the server starts, if there are any. The client sends no more on it after them.
+    stream: &'static [Exchange],
 }
 
-const WWW: Asked = Asked {
+const WWW: Exchange = Exchange {
     id: 0,
     message: QUERY,
     reply: REPLY,
 };
 
-const LATER: Asked = Asked {
+const LATER: Exchange = Exchange {
     id: 40,
     message: QUERY,
     reply: REPLY,
 };
 
-const ADDS: Asked = Asked {
+const ADDS: Exchange = Exchange {
     id: 7,
     message: UPDATE,
     reply: TOLD,
 };
 
-const ADDED: Asked = Asked {
+const ADDED: Exchange = Exchange {
     id: 8,
     message: HOST_QUERY,
     reply: FOUND,
 };
 
 const CASES: [Case; 8] = [
-    // Those after the first 32 are taken without waiting, and the last replies of these are sent when the worker ends.
+    // The datagrams after the first 32 are received without waiting, and the last of their replies are sent when the worker ends.
     Case {
         name: "all that came before a worker ends are replied",
         takes: Takes::Datagrams,
@@ -90,7 +91,7 @@ const CASES: [Case; 8] = [
         datagrams: [(WWW, 100), (WWW, 0)],
         stream: &[],
     },
-    // The last 8 of 40 are taken without waiting, and none of their replies waits for the datagram that comes after them.
+    // The last 8 of 40 are received without waiting, and none of their replies waits for the next datagram.
     Case {
         name: "none waits for the next datagram",
         takes: Takes::Datagrams,
@@ -123,7 +124,7 @@ const CASES: [Case; 8] = [
         datagrams: [(WWW, 1), (WWW, 0)],
         stream: &[LATER],
     },
-    // The reply is sent by who judges.
+    // The update thread sends the reply.
     Case {
         name: "an update by a datagram is told, and seen by a query after its reply",
         takes: Takes::Datagrams,
@@ -132,7 +133,7 @@ const CASES: [Case; 8] = [
         datagrams: [(ADDS, 1), (ADDED, 1)],
         stream: &[],
     },
-    // The reply is written by its worker, who is woken.
+    // The worker thread writes the reply; it is woken for this.
     Case {
         name: "an update on a connection is told before the next request",
         takes: Takes::Connections,
@@ -151,7 +152,7 @@ const CASES: [Case; 8] = [
     },
 ];
 
-/// A client's socket that is connected to a server's, and waits for a datagram for two seconds at most.
+/// A client's socket that is connected to a server's, and waits at most two seconds for a datagram.
 fn client_of<R: Net>(rt: &R, server: &UdpSocket) -> io::Result<UdpSocket> {
     let client = UdpSocket::bind(rt, SocketAddr::from((HOST, 0)))?;
     client.connect(server.local_addr()?)?;
@@ -159,8 +160,8 @@ fn client_of<R: Net>(rt: &R, server: &UdpSocket) -> io::Result<UdpSocket> {
     Ok(client)
 }
 
-/// Asks by datagrams, with so many IDs.
-fn ask(alloc: Global, client: &UdpSocket, round: (Asked, u16)) -> io::Result<()> {
+/// Sends requests as datagrams, with `count` IDs.
+fn ask(alloc: Global, client: &UdpSocket, round: (Exchange, u16)) -> io::Result<()> {
     let (asked, count) = round;
     for more in 0..count {
         let frame = frame_of(alloc, asked.id.saturating_add(more), asked.message)?;
@@ -169,8 +170,8 @@ fn ask(alloc: Global, client: &UdpSocket, round: (Asked, u16)) -> io::Result<()>
     Ok(())
 }
 
-/// Whether the replies come to what was asked with so many IDs, in their order.
-fn are_replied(alloc: Global, client: &UdpSocket, round: (Asked, u16)) -> io::Result<bool> {
+/// Whether the replies to requests with `count` IDs arrive, in order.
+fn are_replied(alloc: Global, client: &UdpSocket, round: (Exchange, u16)) -> io::Result<bool> {
     let (asked, count) = round;
     for more in 0..count {
         let frame = frame_of(alloc, asked.id.saturating_add(more), asked.reply)?;
@@ -183,12 +184,12 @@ fn are_replied(alloc: Global, client: &UdpSocket, round: (Asked, u16)) -> io::Re
     Ok(true)
 }
 
-/// A connection on which all is asked, if anything is.
+/// A connection on which all requests are sent, if there are any.
 fn connection_of<R: Net>(
     rt: &R,
     alloc: Global,
     server: &TcpListener,
-    stream: &[Asked],
+    stream: &[Exchange],
 ) -> io::Result<Option<R::Stream>> {
     if stream.is_empty() {
         return Ok(None);
@@ -201,8 +202,8 @@ fn connection_of<R: Net>(
     Ok(Some(client))
 }
 
-/// Whether the replies to all that was asked have come on a connection that has ended, in their order, and no more.
-fn has_replies<S: Read>(alloc: Global, client: &mut S, stream: &[Asked]) -> io::Result<bool> {
+/// Whether exactly the replies to all requests arrive, in order, on a connection that has ended.
+fn has_replies<S: Read>(alloc: Global, client: &mut S, stream: &[Exchange]) -> io::Result<bool> {
     let mut frames = Vec::new(alloc);
     for asked in stream {
         frames.extend_from_slice(&frame_of(alloc, asked.id, asked.reply)?)?;
@@ -212,7 +213,8 @@ fn has_replies<S: Read>(alloc: Global, client: &mut S, stream: &[Asked]) -> io::
     Ok(octets == frames)
 }
 
-/// Whether what a case asks first is replied, and then the rest, which is asked whatever came of the first. The case is told by its place, which a thread can be given.
+/// Whether the first requests of a case are answered, and then the others, which are sent in any case. The case is given by its index, which
+/// can be moved into a thread.
 fn are_told(alloc: Global, client: &UdpSocket, at: usize) -> bool {
     let Some(case) = CASES.get(at) else {
         return false;
@@ -223,7 +225,7 @@ fn are_told(alloc: Global, client: &UdpSocket, at: usize) -> bool {
     is_first && is_asked && are_replied(alloc, client, then).unwrap_or(false)
 }
 
-/// Whether a zone is served as a case says, on those of the sockets that its worker has, and each thread does what it may.
+/// Whether a zone is served as a case says, on those of the sockets that its worker has, and each thread reaches its limit.
 fn is_served<R: Net + Threads + Wait + Clock + Sync>(
     rt: &R,
     alloc: Global,
@@ -236,7 +238,7 @@ fn is_served<R: Net + Threads + Wait + Clock + Sync>(
         Takes::Connections => (None, Some(listener)),
         Takes::Both => (Some(datagrams), Some(listener)),
     };
-    let (progress, idle) = (Progress::new(case.most), Progress::new(0));
+    let (progress, idle) = (WorkLimit::new(case.most), WorkLimit::new(0));
     let mut duties = Vec::new(alloc);
     add_worker(alloc, 1, &progress, own, &mut duties)?;
     if case.has_idle {
@@ -248,7 +250,7 @@ fn is_served<R: Net + Threads + Wait + Clock + Sync>(
     Ok(served(rt, alloc, duties) == Some(want))
 }
 
-/// Whether all that is asked in a case, at a place, is replied, by a server that ends then.
+/// Whether all requests of the case with index `at` are answered, by a server that ends after that.
 fn is_answered<R: Net + Threads + Wait + Clock + Sync>(
     rt: &R,
     alloc: Global,

@@ -1,54 +1,56 @@
-//! A zone served by workers on sockets of the system's, and what that comes to: each thread has done what it may, or all end since one of them has failed.
+//! A zone served by worker threads on sockets of the system, and how that ends: each thread has reached its limit, or all end since one of them
+//! has failed.
 
 use crate::nowhere::{NoFaults, Nowhere};
-use conversation::Allowed;
 use dns_engine::SharedVersion;
-use links::Limits;
 use played_zones::zone;
+use requests::Allowed;
 use serve_workers::{
-    ConnectionPlan, Duty, Handing, Most, Muster, Plan, Progress, ServeFault, Sockets, serve_zone,
+    ConnectionPlan, Most, Plan, ServeFault, Shutdown, Sockets, ThreadSpec, UpdateConfig, WorkLimit,
+    serve_zone,
 };
 use sockets::{Turn, bind_datagrams, bind_listener};
 use std::alloc::Global;
 use std::io;
 use std::marker::Brand;
-use std::net::{IpAddr, Net, Shutdown, SocketAddr, TcpListener, TcpStream, UdpSocket};
+use std::net::{IpAddr, Net, Shutdown as Close, SocketAddr, TcpListener, TcpStream, UdpSocket};
 use std::os::fd::OwnedFd;
 use std::sync::Wait;
 use std::sync::atomic::{AtomicU64, Ordering};
 use std::thread::Threads;
 use std::time::Clock;
-use zone_service::{Event, JobEnd, ServiceLog};
+use tcp_connections::Limits;
+use zone_server::{Event, JobEnd, ServiceLog};
 use zone_tree::Version;
 
-/// This host's address, from which updates may come.
+/// The address of this host, from which updates are allowed.
 pub(crate) const HOST: [u8; 4] = [127, 0, 0, 1];
 
 /// A second, in nanoseconds.
 const SECOND: u64 = 1_000_000_000;
 
-/// What each thread that has done what it might adds to the sum of what a server comes to.
+/// Added to a server's sum for each thread that has reached its limit.
 pub(crate) const DONE: u64 = 1;
 
-/// What each thread that has failed adds.
+/// Added for each thread that has failed.
 const FAILED: u64 = 10;
 
-/// What it adds that all threads have begun.
+/// Added when all threads have started.
 pub(crate) const BEGUN: u64 = 100;
 
-/// What the server's end adds where a thread was refused.
+/// Added at the server's end if a thread could not be started.
 pub(crate) const NOT_STARTED: u64 = 1_000;
 
-/// What it adds where there was no memory.
+/// Added if memory allocation failed.
 const NO_MEMORY: u64 = 2_000;
 
-/// What it adds where a socket has failed.
+/// Added if a socket has failed.
 pub(crate) const DEVICE: u64 = 3_000;
 
-/// What it adds where no version could be loaded.
+/// Added if no version could be loaded.
 const SPENT: u64 = 4_000;
 
-/// A log that adds up what it is told of threads.
+/// A log that adds up the events of threads.
 #[derive(Drop)]
 struct Summed {
     sum: AtomicU64,
@@ -69,7 +71,7 @@ impl ServiceLog for Summed {
     }
 }
 
-/// What a server's end adds.
+/// The number added for a server's end.
 fn reason_of(served: Result<(), ServeFault>) -> u64 {
     match served {
         Ok(()) => 0,
@@ -80,7 +82,7 @@ fn reason_of(served: Result<(), ServeFault>) -> u64 {
     }
 }
 
-/// A socket for datagrams and a listener, each at a port of its own that the system picks.
+/// A socket for datagrams and a listener, each on a port of its own that the system chooses.
 pub(crate) fn sockets<R: Net>(rt: &R) -> io::Result<(UdpSocket, TcpListener)> {
     let any = SocketAddr::from((HOST, 0));
     let datagrams = bind_datagrams(rt, any, Turn::First)?;
@@ -88,24 +90,24 @@ pub(crate) fn sockets<R: Net>(rt: &R) -> io::Result<(UdpSocket, TcpListener)> {
     Ok((datagrams, listener))
 }
 
-/// Ends a listener's listening, under whoever has it too: no connection can be taken any more (Linux, accept(2)).
+/// Shuts a listener down for all its owners: no more connections can be accepted (Linux, accept(2)).
 fn break_listener(listener: &TcpListener) -> io::Result<()> {
     let same = TcpStream::from(OwnedFd::from(listener.try_clone()?));
-    same.shutdown(Shutdown::Both)
+    same.shutdown(Close::Both)
 }
 
-/// Puts what a worker's threads do on its sockets, by its number, after `duties`.
+/// Appends the specifications of a worker's threads, for its sockets and with its number, to `duties`.
 pub(crate) fn add_worker<'a>(
     alloc: Global,
     worker: usize,
-    progress: &'a Progress,
+    progress: &'a WorkLimit,
     own: (Option<UdpSocket>, Option<TcpListener>),
-    duties: &mut Vec<Duty<'a>>,
+    duties: &mut Vec<ThreadSpec<'a>>,
 ) -> io::Result<()> {
     let (datagrams, listener) = own;
     if let Some(socket) = datagrams {
         let sockets = Sockets::Datagrams(socket);
-        duties.push(Duty {
+        duties.push(ThreadSpec {
             worker,
             progress,
             sockets,
@@ -113,7 +115,7 @@ pub(crate) fn add_worker<'a>(
     }
     if let Some(listener) = listener {
         let sockets = Sockets::Connections(Vec::from_array(alloc, [listener])?);
-        duties.push(Duty {
+        duties.push(ThreadSpec {
             worker,
             progress,
             sockets,
@@ -122,18 +124,18 @@ pub(crate) fn add_worker<'a>(
     Ok(())
 }
 
-/// Serves a zone by threads that have these duties, and gives the sum of what that comes to. Updates are judged beside them. None where
-/// the threads are too many, or there is no memory for the zone.
+/// Serves a zone by threads with these specifications, and an update thread. Returns the server's sum. None if there are too many threads, or
+/// no memory for the zone.
 pub(crate) fn served<R: Net + Threads + Wait + Clock + Sync>(
     rt: &R,
     alloc: Global,
-    duties: Vec<Duty<'_>>,
+    duties: Vec<ThreadSpec<'_>>,
 ) -> Option<u64> {
     let threads = duties.len();
     if threads > 8 {
         return None;
     }
-    let muster = Muster::new(threads);
+    let muster = Shutdown::new(threads);
     let host = [IpAddr::from(HOST)];
     let plan = Plan {
         muster: &muster,
@@ -155,7 +157,7 @@ pub(crate) fn served<R: Net + Threads + Wait + Clock + Sync>(
         return None;
     };
     let later = Vec::new(alloc);
-    let handing = Handing {
+    let handing = UpdateConfig {
         most: Most {
             items: 8,
             octets: 1 << 20,
@@ -172,13 +174,14 @@ pub(crate) fn served<R: Net + Threads + Wait + Clock + Sync>(
     Some(reason_of(end).saturating_add(log.sum.load(Ordering::SeqCst)))
 }
 
-/// What the threads of two workers do, each with a progress of its own; the second one's listener is broken, where that is asked for.
+/// The specifications of the threads of two workers, each with a limit of its own. With `is_broken`, the listener of the second one is shut
+/// down.
 fn duties_of<'a, R: Net>(
     rt: &R,
     alloc: Global,
-    progresses: &'a [Progress],
+    progresses: &'a [WorkLimit],
     is_broken: bool,
-) -> io::Result<Vec<Duty<'a>>> {
+) -> io::Result<Vec<ThreadSpec<'a>>> {
     let mut duties = Vec::new(alloc);
     let mut worker = 0usize;
     for progress in progresses {
@@ -193,20 +196,21 @@ fn duties_of<'a, R: Net>(
     Ok(duties)
 }
 
-/// Serves a zone by two workers, each of which may do so much, and gives the sum of what that comes to. None where there were no sockets, or no memory for what it begins
-/// with.
+/// Serves a zone by two workers, each of which may answer `most` requests, and returns the server's sum. None if there are no sockets, or no
+/// memory for the start.
 pub(crate) fn served_by_two<R: Net + Threads + Wait + Clock + Sync>(
     rt: &R,
     alloc: Global,
     most: u64,
     is_broken: bool,
 ) -> Option<u64> {
-    let progresses = [Progress::new(most), Progress::new(most)];
+    let progresses = [WorkLimit::new(most), WorkLimit::new(most)];
     let duties = duties_of(rt, alloc, &progresses, is_broken).ok()?;
     served(rt, alloc, duties)
 }
 
-// Workers that may do nothing have done so at once. Where a thread fails, the others end too, whatever they might still do, and the server's end tells why.
+// Workers that may do nothing reach their limit at once. If a thread fails, the others end too, whatever their limits, and the server's end
+// gives the reason.
 #[test]
 fn a_server_ends_with_its_threads(rt: HostRuntime) {
     let cases = [

@@ -1,12 +1,13 @@
-//! Two workers, of which one waits in the gate for the other: each first on a datagram, then on a stream that gives and takes an octet at a time.
+//! Two workers, one of which waits in the gate for the other: first on a datagram each, then on a stream each that reads and writes one octet
+//! at a time.
 ghost use Rattle.std.specs.Prelude.{◌≡◌};
 ghost use Rattle.std.specs.List.{All};
-ghost use Rattle.update_desk.specs.Right.{AreNamed};
+ghost use Rattle.zone_server.specs.Right.{AreNamed};
 
 use crate::frames::{QUERY, REPLY, frame_of};
-use conversation::{Allowed, Answering, Gate};
 use dns_engine::{FirstZone, SharedVersion, VersionReader, ZoneVersions};
 use played_zones::{NamedParts, asker, end, named_parts, parts_of, server_of, zone};
+use requests::{Allowed, Gate, Handler};
 use serve_core::{Peer, Transport};
 use snapshot_cell::Parts;
 use std::alloc::Global;
@@ -15,19 +16,19 @@ use std::process::Abort;
 use std::sync::Wait;
 use std::sync::atomic::{AtomicU64, Ordering};
 use std::thread::{self, Threads};
-use told_streams::{Datagram, Tape, Tray, answer_tape, answer_tray};
+use told_streams::{Datagram, MemoryDatagrams, MemoryStream, answer_datagrams, answer_stream};
 use worker_jobs::{Job, run_workers};
-use zone_replies::Replies;
-use zone_service::{NoLog, Server, ServerLedgers, ServerName, ServiceLog};
+use zone_replies::ConnectionHandler;
+use zone_server::{NoLog, Server, ServerLedgers, ServerName, ServiceLog};
 use zone_tree::Zone;
 
-/// After how many turns a call that is held gives up.
+/// The number of iterations after which a call that is held gives up.
 const TURNS: u64 = 10_000_000;
 
-/// How many octets can be written on a stream.
+/// The number of octets that can be written on a stream.
 const ROOM: usize = 9_999;
 
-/// A gate of two workers' calls: the first that enters is held until the other one leaves, and so is the first of the next two.
+/// A gate for the calls of two workers: the first call that enters is held until the other one leaves, and so is the first of the next two.
 #[derive(Drop)]
 struct HoldingGate {
     entered: AtomicU64,
@@ -55,7 +56,7 @@ impl Gate for HoldingGate {
     }
 }
 
-/// A gate that is entered with each request, and not left.
+/// A gate that is entered at each request, and not left.
 #[derive(Drop)]
 struct Entrance<'g, G> {
     gate: &'g G,
@@ -69,15 +70,15 @@ impl<G: Gate> Gate for Entrance<'_, G> {
     fn leave(&self) {}
 }
 
-/// The job of a worker, by its number: one datagram, then one stream, which is answered by a reader of its own.
+/// The job of a worker, by its number: one datagram, then one stream, which is answered with a reader of its own.
 #[derive(Drop)]
 struct BothJob<'g, 's, Z: FirstZone, N: ServerName> {
     number: u16,
     alloc: Global,
     server: &'g Server<'s, Z, N>,
     reader: Option<VersionReader<N>>,
-    tape: Option<Tape>,
-    tray: Option<Tray>,
+    tape: Option<MemoryStream>,
+    tray: Option<MemoryDatagrams>,
 }
 
 impl<'g, 's, Z: FirstZone + Send + Sync, N: ServerName + Send + Sync> Job
@@ -86,9 +87,9 @@ impl<'g, 's, Z: FirstZone + Send + Sync, N: ServerName + Send + Sync> Job
 
     ghost is_done = { λ _. Unit {0} };
 
-    // On the stream the gate is left once the reply is written.
-    #[tactic(auto, using(conversation::proofs::TurnLemmas::grows_itself))]
-    fn run<R: Wait, A: Answering, G: Gate, L: ServiceLog>(
+    // For the stream, the gate is left after the reply is written.
+    #[tactic(auto, using(requests::proofs::TurnLemmas::grows_itself))]
+    fn run<R: Wait, A: Handler, G: Gate, L: ServiceLog>(
         &mut self,
         rt: &R,
         answering: &mut A,
@@ -106,7 +107,7 @@ impl<'g, 's, Z: FirstZone + Send + Sync, N: ServerName + Send + Sync> Job
         };
         let mut request = [0u8; 65_535];
         let mut reply = [0u8; 65_535];
-        let (_end, tray) = answer_tray(
+        let (_end, tray) = answer_datagrams(
             rt,
             answering,
             tray,
@@ -118,11 +119,18 @@ impl<'g, 's, Z: FirstZone + Send + Sync, N: ServerName + Send + Sync> Job
         );
         let log = NoLog;
         let peer = Peer::over(Transport::Tcp, false);
-        let mut replies = Replies::new(self.alloc, self.server, reader, &log, peer, asker(4711));
+        let mut replies = ConnectionHandler::new(
+            self.alloc,
+            self.server,
+            reader,
+            &log,
+            peer,
+            asker(4711),
+        );
         let entrance = Entrance { gate };
         let mut room = [0u8; 4_096];
         let mut out = [0u8; 65_535];
-        let (_end, tape) = answer_tape(
+        let (_end, tape) = answer_stream(
             rt,
             self.alloc,
             &mut replies,
@@ -139,7 +147,7 @@ impl<'g, 's, Z: FirstZone + Send + Sync, N: ServerName + Send + Sync> Job
 }
 
 impl<Z: FirstZone, N: ServerName> BothJob<'_, '_, Z, N> {
-    /// Whether the datagram, which went to who asked, and the stream have the message of a frame, and no more.
+    /// Whether the one datagram sent, which must go to the client that sent the request, and the stream have exactly the message of a frame.
     fn has(&self, frame: &[u8]) -> bool {
         let (Some(tray), Some(tape)) = (&self.tray, &self.tape) else {
             return false;
@@ -153,18 +161,19 @@ impl<Z: FirstZone, N: ServerName> BothJob<'_, '_, Z, N> {
     }
 }
 
-/// A datagram with the message of a frame, to be received; None where there is no memory for it, or it is too long.
-fn tray_of(alloc: Global, frame: &[u8]) -> Option<Tray> {
+/// A datagram with the message of a frame, to be received. None if memory allocation fails or the message is too long.
+fn datagrams_of(alloc: Global, frame: &[u8]) -> Option<MemoryDatagrams> {
     let octets = frame.get(2..)?.to_vec(alloc).ok()?;
     if octets.len() > 65_535 {
         return None;
     }
     let mut datagrams = Vec::new(alloc);
     datagrams.push(Datagram::new(octets, asker(4711))).ok()?;
-    Some(Tray::new(alloc, datagrams, Vec::new(alloc)))
+    Some(MemoryDatagrams::new(alloc, datagrams, Vec::new(alloc)))
 }
 
-/// The jobs of workers 1 and 2 with a reader each, on a datagram and a stream of the query with the worker's number as its ID, which take a reader each too.
+/// The jobs of workers 1 and 2, each with a reader, and with one more for its stream. Each has a datagram and a stream with the query, whose ID
+/// is the worker's number.
 fn pairs_of<'g, 's, Z: FirstZone, N: ServerName>(
     alloc: Global,
     server: &'g Server<'s, Z, N>,
@@ -173,8 +182,8 @@ fn pairs_of<'g, 's, Z: FirstZone, N: ServerName>(
     let mut pairs = Vec::new(alloc);
     for number in 1..3u16 {
         let frame = frame_of(alloc, number, QUERY).ok()?;
-        let tray = Some(tray_of(alloc, &frame)?);
-        let tape = Some(Tape::new(alloc, frame, ROOM, 1).ok()?);
+        let tray = Some(datagrams_of(alloc, &frame)?);
+        let tape = Some(MemoryStream::new(alloc, frame, ROOM, 1).ok()?);
         let reader = readers.pop();
         let job = BothJob {
             number,
@@ -189,7 +198,7 @@ fn pairs_of<'g, 's, Z: FirstZone, N: ServerName>(
     Some(pairs)
 }
 
-/// Whether all was answered by jobs 1 and 2, in this order, each by its own reply.
+/// Whether the jobs are 1 and 2, in this order, and each has the reply to its own request.
 fn are_replied<Z: FirstZone, N: ServerName>(
     alloc: Global,
     pairs: &[(VersionReader<N>, BothJob<'_, '_, Z, N>)],
@@ -205,7 +214,7 @@ fn are_replied<Z: FirstZone, N: ServerName>(
     Some(number == 2)
 }
 
-/// The readers of jobs that are done.
+/// The readers of jobs that have ended.
 fn readers_of<Z: FirstZone, N: ServerName>(
     alloc: Global,
     pairs: Vec<(VersionReader<N>, BothJob<'_, '_, Z, N>)>,
@@ -219,7 +228,7 @@ fn readers_of<Z: FirstZone, N: ServerName>(
     Some(readers)
 }
 
-/// All is answered by two workers, of which the first to be asked waits for the other: their readers.
+/// Answers all requests by two workers, of which the first to get a request waits for the other. Returns their readers.
 fn serve<R: Wait + Threads + Sync + Abort, Z: FirstZone + Send + Sync, N: ServerName + Send + Sync>(
     rt: &R,
     alloc: Global,
@@ -240,7 +249,7 @@ fn serve<R: Wait + Threads + Sync + Abort, Z: FirstZone + Send + Sync, N: Server
     readers_of(alloc, pairs).expect(rt, "memory")
 }
 
-/// It is answered over a cell in which a zone's first version alone is published, which is then ended.
+/// The same over a cell in which only the first version of a zone is published. The cell is then closed.
 fn serve_in<
     R: Wait + Threads + Sync + Abort,
     Z: FirstZone + Send + Sync,
@@ -278,7 +287,7 @@ fn serve_in<
     );
 }
 
-/// It is answered over a cell that begins with the zone, with a reader for the server and two for each worker.
+/// The same over a cell that starts with the zone, with a reader for the server and two for each worker.
 fn serve_from<R: Wait + Threads + Sync + Abort, Z: FirstZone + Send + Sync>(
     rt: &R,
     alloc: Global,
@@ -293,8 +302,8 @@ fn serve_from<R: Wait + Threads + Sync + Abort, Z: FirstZone + Send + Sync>(
     serve_in::<R, Z, Brand>(rt, alloc, parts, ledgers);
 }
 
-// The first datagram's query waits in the gate until the other one has been answered, and the first stream's until the other one's reply is written: each worker has a
-// thread of its own, however slow its stream is.
+// The query of the first datagram waits in the gate until the other one has been answered, and that of the first stream until the reply on the
+// other one is written: each worker has a thread of its own, however slow its stream is.
 #[test]
 fn gate_two_workers(rt: HostRuntime) {
     let zone = zone(rt.alloc()).expect(&rt, "a zone");

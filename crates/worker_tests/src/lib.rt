@@ -1,5 +1,5 @@
-//! Tests of the workers of `serve_workers`: jobs side by side, each on a datagram and a stream; a job on connections over a poll that is made up; a server on sockets of
-//! the system's, what its clients are replied, and how it ends.
+//! Tests of the workers of `serve_workers`: jobs side by side, each on a datagram and a stream; a job on connections over a simulated poll; and
+//! a server on sockets of the system, with the replies that its clients get, and how it ends.
 #![tactic(auto)]
 
 #[cfg(test)]

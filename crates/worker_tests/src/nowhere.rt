@@ -1,16 +1,15 @@
-//! A store that keeps nothing, and who notes nothing.
+//! A store that keeps nothing, and a fault log that notes nothing.
 use dns_engine::SharedVersion;
-use journal_store::LogFault;
+use journal::LogFault;
 use std::alloc::Global;
 use std::sync::Wait;
-use update_group::Group;
-use update_job::{Faults, Storing};
+use update_batches::{Batch, Faults, UpdateStore};
 
-/// Where updates are brought that are lost at the program's end.
+/// A store for updates that do not survive the end of the program.
 #[derive(Clone, Copy)]
 pub(crate) struct Nowhere;
 
-impl Storing<SharedVersion> for Nowhere {
+impl UpdateStore<SharedVersion> for Nowhere {
     type Fault = ();
 
     ghost writes = { λ _ _ _. Unit {0} };
@@ -23,13 +22,13 @@ impl Storing<SharedVersion> for Nowhere {
         &mut self,
         _rt: &R,
         _alloc: Global,
-        _group: &mut Group<SharedVersion>,
+        _group: &mut Batch<SharedVersion>,
     ) -> Option<LogFault<()>> {
         None
     }
 }
 
-/// Who notes nothing of batches.
+/// Notes no faults of batches.
 #[derive(Clone, Copy)]
 pub(crate) struct NoFaults;
 

@@ -1,7 +1,8 @@
-//! A server whose memory is refused while it begins, runs and ends, and one of which a thread is.
+//! A server that runs out of memory while it starts, runs or ends, and one whose threads cannot all be started.
 use crate::ending::{BEGUN, DEVICE, DONE, NOT_STARTED, served_by_two};
 
-// With any one request for memory refused, a server either ends as it should, or hasn't begun or has ended for want of memory, and another one begins in its place.
+// If any one allocation fails, a server ends as expected, or does not start or ends for lack of memory; then another server can start in its
+// place.
 #[test]
 fn a_server_begins_anew_where_memory_is_refused(rt: HostRuntime) {
     let mut sum = served_by_two(&rt, rt.alloc(), 0, false).unwrap_or(NOT_STARTED);
@@ -11,7 +12,7 @@ fn a_server_begins_anew_where_memory_is_refused(rt: HostRuntime) {
     assert!(rt; sum == BEGUN + 4 * DONE);
 }
 
-// With any one thread refused no other does anything, all have ended when that is told, and another server begins in its place.
+// If any one thread cannot be started, the others do nothing, all have ended when this is reported, and another server can start in its place.
 #[test]
 fn a_server_begins_anew_where_a_thread_is_refused(rt: HostRuntime) {
     let mut sum = served_by_two(&rt, rt.alloc(), 0, false).unwrap_or(DEVICE);

@@ -1,11 +1,9 @@
-//! A worker's job on connections over a poll that is made up: when it ends, what a log is told of connections that are lost, and how often a request is asked for that is
-//! answered later.
+//! A worker's job on connections over a simulated poll: when it ends, what is logged of connections that are lost, and how often the handler
+//! gets a request that is answered later.
 ghost use Rattle.std.specs.Prelude.{None, ⊤, [], ◌-◌, ◌^◌};
 
-use connections::{Answering, Blocking, Fault, Reply, Unmade};
-use conversation::Allowed;
-use links::Limits;
 use played_zones::{Kept, asker};
+use requests::Allowed;
 use serve_core::{Peer, Transport};
 use std::alloc::Global;
 use std::io;
@@ -13,10 +11,11 @@ use std::net::SocketAddr;
 use std::sync::Wait;
 use std::sync::atomic::{AtomicU64, Ordering};
 use std::time::{Clock, Duration};
-use turns::{Arrivals, NotWatched, Plan, Readiness, Refusal, Remote, Turns};
-use worker_jobs::{ConnectionsJob, Muster, Progress, Scratch, Standing, ToldKeys};
+use tcp_connections::{Blocking, Fault, Handler, Limits, Reply, Unmade};
+use tcp_loop::{Arrivals, EventLoop, NotWatched, Plan, Readiness, Refusal, Remote};
+use worker_jobs::{ConnectionsJob, Scratch, Shutdown, StopFlag, WakeList, WorkLimit};
 use zone_replies::Transfer;
-use zone_service::JobEnd;
+use zone_server::JobEnd;
 
 /// Two seconds, in nanoseconds.
 const LIMIT: u64 = 2_000_000_000;
@@ -24,7 +23,7 @@ const LIMIT: u64 = 2_000_000_000;
 /// The frame of a request of two octets.
 const FRAME: [u8; 4] = [0, 2, 7, 7];
 
-/// What comes of a connection's reads.
+/// The result of a connection's reads.
 #[derive(Clone, Copy)]
 enum Comes {
     /// Nothing yet.
@@ -37,7 +36,7 @@ enum Comes {
     Failure,
 }
 
-/// A connection.
+/// A connection of the tests.
 #[derive(Clone, Copy)]
 struct Comer {
     comes: Comes,
@@ -55,7 +54,7 @@ impl Remote for Comer {
 impl Blocking for Comer {
     ghost octets = { λ _. None };
 
-    // As many as are counted.
+    // The largest count.
     ghost faults = { λ _. 2 ^ 64 - 1 };
 
     ghost would_block = { λ _. ⊤ };
@@ -81,7 +80,7 @@ impl Blocking for Comer {
     }
 }
 
-/// Connections that come one at a turn, the last one first.
+/// Connections that arrive one in each turn, the last one first.
 #[derive(Drop)]
 struct Comers {
     left: Vec<Comer>,
@@ -100,7 +99,7 @@ impl Arrivals for Comers {
     }
 }
 
-/// A poll that tells these keys at each turn, whose time goes on by so many nanoseconds; after so many turns it fails.
+/// A poll that reports these keys in each turn, and whose time advances by `pace` nanoseconds. It fails after `left` turns.
 #[derive(Drop)]
 struct Poll {
     keys: &'static [usize],
@@ -126,7 +125,7 @@ impl<S: Blocking> Readiness<S> for Poll {
     }
 }
 
-/// A clock that goes on by so many milliseconds whenever it is read.
+/// A clock that advances by `step` milliseconds each time it is read.
 #[derive(Drop)]
 struct Steps {
     read: AtomicU64,
@@ -144,17 +143,17 @@ impl Clock for Steps {
     }
 }
 
-/// One who answers later, counts how often one is asked, and may tell the key of the first one's connection.
+/// A handler that answers later and counts the requests. With `tells`, it wakes the key of the first request's connection.
 #[derive(Drop)]
 struct Putting<'a> {
     peer: Peer,
     asker: usize,
     asked: u32,
-    told: &'a ToldKeys,
+    told: &'a WakeList,
     tells: bool,
 }
 
-impl Answering<Transfer> for Putting<'_> {
+impl Handler<Transfer> for Putting<'_> {
     ghost seen = { λ _ _. record { published = []; buried = [] } };
 
     ghost peer = { λ putting. putting.peer };
@@ -167,13 +166,13 @@ impl Answering<Transfer> for Putting<'_> {
 
     ghost spent = { λ _. ⊥ };
 
-    #[tactic(auto, using(connections::proofs::AskedLemmas::each_itself))]
+    #[tactic(auto, using(tcp_connections::proofs::AskedLemmas::each_itself))]
     fn turn_to(&mut self, other: Peer, _from: SocketAddr, key: usize) {
         self.peer = other;
         self.asker = key;
     }
 
-    #[tactic(auto, using(connections::proofs::AskedLemmas::each_itself))]
+    #[tactic(auto, using(tcp_connections::proofs::AskedLemmas::each_itself))]
     fn reply<R: Wait>(
         &mut self,
         rt: &R,
@@ -188,25 +187,25 @@ impl Answering<Transfer> for Putting<'_> {
     }
 }
 
-/// A job on connections, and what comes of it.
+/// A job on connections, and its expected result.
 struct Case {
-    /// What is tried.
+    /// What is tested.
     name: &'static str,
-    /// The connections that come, the last one first.
+    /// The connections that arrive, the last one first.
     comers: &'static [Comes],
-    /// How many may end.
+    /// The number of connections that may end.
     most: u64,
-    /// How many turns are taken at most.
+    /// The maximum number of turns.
     turns: u32,
-    /// What the poll tells at each turn, and by how many nanoseconds its time goes on.
+    /// The keys that the poll reports in each turn, and by how many nanoseconds its time advances.
     keys: &'static [usize],
     pace: u64,
-    /// By how many milliseconds the log's clock goes on.
+    /// By how many milliseconds the log's clock advances.
     step: u64,
-    /// Whether the job hears which replies can be had, and whether the first is told so.
+    /// Whether the job uses a wake list for replies that are ready, and whether the key of the first request is put on it.
     hears: bool,
     tells: bool,
-    /// How the job ends, by `end_of`; what the log is told; how often requests are asked for.
+    /// How the job ends, by `end_of`; what is logged; how often the handler gets a request.
     end: u64,
     lines: &'static str,
     asked: u32,
@@ -215,7 +214,7 @@ struct Case {
 /// The end of a job whose poll fails.
 const DEVICE: u64 = 1_000;
 
-/// How a job ends: how many connections have ended by then, or `DEVICE` and more.
+/// How a job ends, as a number: the number of connections that have ended, or `DEVICE` and more.
 fn end_of(end: JobEnd) -> u64 {
     match end {
         JobEnd::Done(count) => count,
@@ -225,7 +224,7 @@ fn end_of(end: JobEnd) -> u64 {
     }
 }
 
-/// Every key under 8, and that of the first place.
+/// Each key below 8, and that of the first listener.
 const EACH: &[usize] = &[0, 1, 2, 3, 4, 5, 6, 7, usize::MAX];
 
 const CASES: [Case; 5] = [
@@ -301,7 +300,7 @@ const CASES: [Case; 5] = [
     },
 ];
 
-/// The place at which these connections come.
+/// The simulated listener on which these connections arrive.
 fn places_of(alloc: Global, comers: &[Comes]) -> Option<Vec<Comers>> {
     let from = asker(4711);
     let mut left = Vec::new(alloc);
@@ -312,12 +311,12 @@ fn places_of(alloc: Global, comers: &[Comes]) -> Option<Vec<Comers>> {
     Vec::from_array(alloc, [Comers { left, has_come }]).ok()
 }
 
-/// The job of a case, which is told of keys where the case says so.
+/// The job of a case, with the wake list if the case says so.
 fn heard<'a>(
     job: ConnectionsJob<'a, Comer, Poll, Comers, Steps>,
     alloc: Global,
     case: &Case,
-    told: &'a ToldKeys,
+    told: &'a WakeList,
 ) -> ConnectionsJob<'a, Comer, Poll, Comers, Steps> {
     if case.hears {
         job.hearing(alloc, told)
@@ -326,21 +325,21 @@ fn heard<'a>(
     }
 }
 
-/// What the job of a case shares with others.
+/// The state that the job of a case shares with others.
 #[derive(Drop)]
 struct Shared {
-    told: ToldKeys,
-    muster: Muster,
-    progress: Progress,
+    told: WakeList,
+    muster: Shutdown,
+    progress: WorkLimit,
     clock: Steps,
 }
 
-/// What the job of a case shares with others; None where there is no memory for it.
+/// The state that the job of a case shares with others. None if memory allocation fails.
 fn shared_for(alloc: Global, case: &Case) -> Option<Shared> {
     Some(Shared {
-        told: ToldKeys::new(alloc, 8).ok()?,
-        muster: Muster::new(1),
-        progress: Progress::new(case.most),
+        told: WakeList::new(alloc, 8).ok()?,
+        muster: Shutdown::new(1),
+        progress: WorkLimit::new(case.most),
         clock: Steps {
             read: AtomicU64::new(2),
             step: case.step,
@@ -373,22 +372,22 @@ fn job_of<'a>(
         3,
         poll,
         places_of(alloc, case.comers)?,
-        Turns::new(alloc, 8, 1).ok()?,
+        EventLoop::new(alloc, 8, 1).ok()?,
         plan,
-        Standing::new(&shared.muster, &shared.progress),
+        StopFlag::new(&shared.muster, &shared.progress),
         &shared.clock,
         Scratch::new(alloc).ok()?,
     );
     Some(heard(job, alloc, case, &shared.told))
 }
 
-/// Whether the job of a case ends as it should, with what is told and asked; None where there is no memory for it.
+/// Whether the job of a case ends as expected, with the expected log lines and number of requests. None if memory allocation fails.
 fn is_done<R: Wait>(rt: &R, alloc: Global, case: &Case) -> Option<bool> {
     let shared = shared_for(alloc, case)?;
     is_done_with(rt, alloc, case, &shared)
 }
 
-/// The same over what the job shares.
+/// The same over the shared state.
 fn is_done_with<'a, R: Wait>(
     rt: &R,
     alloc: Global,

@@ -1,5 +1,5 @@
 pub mod GoingLemmas
 pub mod RepliedLemmas
-pub mod TakenLemmas
-pub mod TakenReplies
+pub mod PendingLemmas
+pub mod PendingRepliedLemmas
 pub mod SendLemmas

@@ -4,15 +4,15 @@ use Rattle.dns_rdata.specs.Record.{Record}
 use Rattle.zone_tree.specs.Version.{Version}
 use Rattle.snapshot_cell.specs.Tokens.{ReaderState}
 use Rattle.serve_core.specs.declared.peer.Peer.{Peer}
-use Rattle.conversation.specs.Served.{Learned, Grows}
-use Rattle.connections.specs.Kept.{messages_of}
-use Rattle.connections.specs.declared.answering.Reply.{Reply}
-use Rattle.zone_service.specs.Known.{learned_by}
-use Rattle.zone_service.specs.Replied.{IsReplied, IsServed}
-use Rattle.zone_service.specs.declared.answer.Served.{Served}
-use Rattle.zone_service.specs.declared.answer.Served.TheVariants.{Reply as ServedAs, Updated, Transfer, Spent as IsSpent}
-use Rattle.zone_service.proofs.NowLemmas.{load_grows, told_grows, vain_grows, seen_grows}
-use Rattle.zone_service.proofs.ReplyLemmas.{still_replied}
+use Rattle.requests.specs.Served.{Learned, Grows}
+use Rattle.tcp_connections.specs.Kept.{messages_of}
+use Rattle.tcp_connections.specs.declared.handler.Reply.{Reply}
+use Rattle.zone_server.specs.Known.{learned_by}
+use Rattle.zone_server.specs.Replied.{IsReplied, IsServed}
+use Rattle.zone_server.specs.declared.answer.Served.{Served}
+use Rattle.zone_server.specs.declared.answer.Served.TheVariants.{Reply as ServedAs, Updated, Transfer, Spent as IsSpent}
+use Rattle.zone_server.proofs.NowLemmas.{load_grows, told_grows, vain_grows, seen_grows}
+use Rattle.zone_server.proofs.ReplyLemmas.{still_replied}
 
 module _ {M : Type 0} (first : List Record) (peer : Peer) (left : M → List (List ℕ)) (request out : List ℕ) where
   -- a reply that is in these messages is that in the messages that it is

@@ -12,11 +12,11 @@ use Rattle.snapshot_cell.specs.declared.named.Naming as naming
 use Rattle.dns_engine.specs.declared.versions.FirstZone.{Ghosts}
 use Rattle.dns_message.specs.contracts.query.Query as query
 use Rattle.wire_names.specs.contracts.write.NameWriter as names
-use Rattle.update_desk.specs.declared.right.ServerName as server_names
-use Rattle.zone_service.proofs.SendLemmas.{server_sync, hand_send}
-use Rattle.zone_replies.specs.contracts.replies.Replies as replies
-use Rattle.zone_replies.specs.contracts.replies.Replies.TheInside as inside
-use Rattle.zone_replies.specs.contracts.taken.TakenUp as taken
+use Rattle.zone_server.specs.declared.right.ServerName as server_names
+use Rattle.zone_server.proofs.ServerSendLemmas.{server_sync, sender_send}
+use Rattle.zone_replies.specs.contracts.connection_handler.ConnectionHandler as replies
+use Rattle.zone_replies.specs.contracts.connection_handler.ConnectionHandler.TheInside as inside
+use Rattle.zone_replies.specs.contracts.pending_updates.PendingUpdates as taken
 
 query_send : IsSend (query.the_field).row
 query_send = search (array_vec.the_send, option.the_field_send, crossing.crosses, sendable) depth 60 fits 20000
@@ -24,15 +24,15 @@ query_send = search (array_vec.the_send, option.the_field_send, crossing.crosses
 names_send : IsSend names.the_row
 names_send = search (array_vec.the_send, crossing.crosses, sendable) depth 60 fits 20000
 
-taken_send : (N : RattleType) (n : naming.Ghosts N.Denot) → IsSend (taken.the_row N n)
-taken_send N n = search (cell.crosses, option.the_field_send, option.the_send, crossing.crosses, sendable) depth 60 fits 20000
+pending_send : (N : RattleType) (n : naming.Ghosts N.Denot) → IsSend (taken.the_row N n)
+pending_send N n = search (cell.crosses, option.the_field_send, option.the_send, crossing.crosses, sendable) depth 60 fits 20000
 
 module _ (a b : NamedLft) (T N L : RattleType) (g : Ghosts T.Denot) (n : naming.Ghosts N.Denot) (s : server_names.Ghosts N.Denot) (hears : IsSync L) where
   inside_send : IsSend (inside.the_row a b T N L n g s)
   inside_send =
       recorded_send (inside.the_field a b T N L n g s).row _ _ (inside.the_type a b T N L n g s).to_one
       (struct_send (shape (inside.the_type a b T N L n g s))
-      (shr_send _ _ _ (server_sync b T N g n s), (search (cell.crosses, crossing.crosses, sendable) depth 60 fits 20000, (search (crossing.crosses, sendable) depth 60 fits 20000, (search (global.the_field_send, sendable) depth 60 fits 20000, (search (crossing.crosses, sendable) depth 60 fits 20000, (search (crossing.crosses, sendable) depth 60 fits 20000, (search (crossing.crosses, sendable) depth 60 fits 20000, (search (query_send, sendable) depth 60 fits 20000, (search (names_send, sendable) depth 60 fits 20000, (search (hand_send, option.the_field_send, option.the_send, crossing.crosses, sendable) depth 60 fits 20000, (taken_send N n, tt))))))))))))
+      (shr_send _ _ _ (server_sync b T N g n s), (search (cell.crosses, crossing.crosses, sendable) depth 60 fits 20000, (search (crossing.crosses, sendable) depth 60 fits 20000, (search (global.the_field_send, sendable) depth 60 fits 20000, (search (crossing.crosses, sendable) depth 60 fits 20000, (search (crossing.crosses, sendable) depth 60 fits 20000, (search (crossing.crosses, sendable) depth 60 fits 20000, (search (query_send, sendable) depth 60 fits 20000, (search (names_send, sendable) depth 60 fits 20000, (search (sender_send, option.the_field_send, option.the_send, crossing.crosses, sendable) depth 60 fits 20000, (pending_send N n, tt))))))))))))
 
-  pub replies_send : IsSend (replies.the_row a b T N L n g s)
-  replies_send = search (inside_send, sendable) depth 60 fits 20000
+  pub connection_handler_send : IsSend (replies.the_row a b T N L n g s)
+  connection_handler_send = search (inside_send, sendable) depth 60 fits 20000

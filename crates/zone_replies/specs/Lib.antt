@@ -1,4 +1,4 @@
 pub mod Left
 pub mod Going
-pub mod Taken
+pub mod PendingUpdates
 pub mod State

@@ -1,23 +1,23 @@
--- Who answers on connections, and the updates that are taken up on them, as contracts see them (own).
+-- The handler of connections, and the updates that are pending on them, as contracts see them (own).
 use Rattle.std.specs.Prelude.{ℕ, Bool, List, Option}
 use Rattle.std.specs.declared.net.socket_addr.SocketAddr.{SocketAddr}
 use Rattle.zone_tree.specs.Version.{Version}
 use Rattle.snapshot_cell.specs.Tokens.{ReaderState}
 use Rattle.serve_core.specs.declared.peer.Peer.{Peer}
 
--- an update that is taken up: where its peer asks from, the seat at which its reply will be, the number of the version that was published last then, and
+-- a pending update: the address of its peer, the ticket for its result, the number of the last version that was published when it was submitted, and
 -- what the reader knew before
-pub record TakenState : Type 0 where
+pub record PendingState : Type 0 where
   pub from : SocketAddr
-  pub seat : ℕ
+  pub ticket : ℕ
   pub number : ℕ
   pub known : ReaderState Version
 
--- who answers: its reader, who asks and under which key, the updates that are taken up, by the keys of their connections, and whether it hands updates to
--- who judges them
-pub record RepliesState : Type 0 where
+-- the handler: its reader, the current peer and the key of its connection, the pending updates by the keys of their connections, and whether it submits
+-- updates to the update thread
+pub record HandlerState : Type 0 where
   pub reader : ReaderState Version
   pub peer : Peer
   pub asker : ℕ
-  pub taken : List (Option TakenState)
+  pub taken : List (Option PendingState)
   pub hands : Bool

@@ -1,13 +1,13 @@
-//! What a running zone replies to the requests of connections, in bounded memory.
+//! Replies to the requests of connections, from a running zone and in bounded memory.
 //!
-//! [`Replies`] is a server as one who answers connections: queries and updates by one message, and a transfer by a [`Transfer`], which owns
-//! its versions and makes its messages one after another, whenever the connection has taken the one before. Where updates are to last it hands those of peers that may to who judges them, and answers them later: while
-//! one waits, what is known on its connection is what was known when it was taken up.
+//! A [`ConnectionHandler`] answers a query or an update with one message, and a transfer with a [`Transfer`], which owns its versions and makes each message once the connection
+//! has taken the one before. Where updates must survive a restart, it submits those of peers that may update to the update thread, and answers them later. While an update is
+//! pending, what is known on its connection is what was known when it was submitted.
 #![tactic(auto)]
 
-mod replies;
-mod taken;
+mod connection_handler;
+mod pending_updates;
 mod transfer;
 
-pub use replies::Replies;
+pub use connection_handler::ConnectionHandler;
 pub use transfer::Transfer;

@@ -1,4 +1,4 @@
-//! A transfer that goes on whenever its connection has taken a message (RFC 1995, 4; RFC 5936, 2.2).
+//! A transfer that makes its next message once its connection has taken the one before (RFC 1995, 4; RFC 5936, 2.2).
 ghost use Rattle.std.specs.Prelude.{◌≡◌, ◌≤◌, true, [], ◌∷◌, length, take, IfSome, MatchOption};
 ghost use Rattle.transfer_core.specs.Packed.{packed, octets_of, listed};
 ghost use Rattle.serve_core.specs.Heading.{reply_opt};
@@ -7,29 +7,30 @@ ghost use Rattle.zone_tree.specs.Zone.{soa_of};
 ghost use Rattle.dns_engine.specs.Chain.{changes_by};
 ghost use Rattle.zone_replies.specs.Left.{messages_of_records, messages_from};
 
-use connections::Messages;
 use dns_engine::{SharedVersion, VersionChain};
 use dns_message::Query;
 use serve_core::{reply_opt, transfer_start};
+use tcp_connections::Messages;
 use transfer_core::{
     ChainView, MAX_MESSAGE, Packer, Place, TransferRecords, answer_count, records_at,
 };
 use zone_tree::Version;
 
-/// A transfer over a stream that a query asks for: its version and those since the asker's, which it owns beside their cell, and its place in
-/// their list. Its messages are made anew from there.
+/// A full or incremental transfer over a stream. It owns its version and those since the client's, apart from their cell, and has a place in their
+/// list of records. Each message is made from that place on.
 #[derive(Drop)]
 pub struct Transfer {
     version: SharedVersion,
     chain: VersionChain,
     query: Query,
-    /// Whether a message is sent.
+    /// Whether a message has been made.
     is_begun: bool,
-    /// What of the list is left.
+    /// The place of the first record that is left.
     place: Place,
 }
 
-/// The messages of what is left of a list that a query asks for: the first of all has the question, and an OPT where the query has one.
+/// The messages for the records that are left of the list that a query asks for. The first message of the transfer has the question,
+/// and an OPT where the query has one.
 fn packer_of<'a, C: ChainView>(
     query: &'a Query,
     is_begun: bool,
@@ -43,8 +44,8 @@ fn packer_of<'a, C: ChainView>(
     Packer::new(query.head, &query.question, reply_opt(query.edns), list)
 }
 
-/// Writes the next message of a transfer from a place on to the front of `out`, and gives how many octets it has, and the place behind it; None
-/// where there is no message. It takes no memory, and no more steps than a search for an owner, and as the message has records.
+/// Writes the next message of a transfer, from a place on, at the front of `out`. Gives its length in octets, at most `MAX_MESSAGE`, and the place
+/// after it; None where no message is left. It allocates nothing. Its work is at most one search for an owner and the records of the message.
 fn write_from(
     version: &Version,
     chain: &VersionChain,
@@ -77,7 +78,7 @@ impl Transfer {
     ghost use Rattle.dns_engine.specs.Chain.{changes_by};
     ghost use Rattle.zone_replies.specs.Going.{transfer_left};
 
-    /// The transfer that a query asks for in a version, by those since the asker's, of which no message is sent.
+    /// The transfer that a query asks for in a version, with the chain of versions since the client's. No message has been made.
     pub fn new(version: SharedVersion, chain: VersionChain, query: Query) -> Transfer
         ensures { transfer_left result ≡ octets_of (packed query.head query.question (reply_opt query.edns) (list_for version.zone (changes_by (soa_of version.zone) chain) query)) }
     {

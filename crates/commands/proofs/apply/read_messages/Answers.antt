@@ -1,7 +1,7 @@
 use Rattle.std.proofs.Common.{◌≡◌, ◌<◌, ap, ◌∙◌, length, arith}
 use Rattle.std.specs.Io.BufRead.{strip_last}
 use Rattle.commands.specs.Apply.{message_on}
-use Rattle.line_io.proofs.LinesLemmas.{IfSome-each}
+use Rattle.commands.proofs.LinesLemmas.{IfSome-each}
 use Rattle.commands.proofs.ApplyLemmas.{messages-start, messages-line, messages-end}
 use Rattle.commands.proofs.apply.read_messages.Goals as goal
 

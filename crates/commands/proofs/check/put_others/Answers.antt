@@ -2,8 +2,8 @@ use Rattle.std.proofs.Common.{List, filter, flat_map, sym, ap, ◌∙◌}
 use Rattle.dns_rdata.specs.Record.{Record}
 use Rattle.master_file.specs.WrittenZone.{record_line, is_other}
 use Rattle.master_file.proofs.ZoneTextLemmas.{other_lines, set_in_front, soa_in_front}
-use Rattle.line_io.proofs.LinesLemmas.{IsWritten-start, Appends-written}
-use Rattle.line_io.proofs.PartsLemmas.{IsWritten-front, IsWritten-same, Begins-front, Writes-refused}
+use Rattle.commands.proofs.LinesLemmas.{IsWritten-start, Appends-written}
+use Rattle.commands.proofs.PartsLemmas.{IsWritten-front, IsWritten-same, Begins-front, Writes-refused}
 use Rattle.commands.proofs.check.put_others.Goals as goal
 
 pub loop-set-init : goal.loop-set-init

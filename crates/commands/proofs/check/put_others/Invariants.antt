@@ -1,7 +1,7 @@
 use Rattle.std.proofs.Common.{filter, flat_map}
 use Rattle.master_file.specs.WrittenZone.{record_line, is_other}
 use Rattle.master_file.proofs.ZoneTextLemmas.{other_lines}
-use Rattle.line_io.proofs.LinesLemmas.{IsWritten}
+use Rattle.commands.proofs.LinesLemmas.{IsWritten}
 use Rattle.commands.proofs.check.put_others.Given as goal
 
 -- all lines are written but those of the sets that are left

@@ -3,8 +3,8 @@ use Rattle.std.proofs.lemmas.Grind.{flat_map-append}
 use Rattle.dns_rdata.specs.Record.{Record}
 use Rattle.zone_tree.specs.Zone.{soa_of}
 use Rattle.master_file.specs.WrittenZone.{record_line, is_other}
-use Rattle.line_io.specs.Lines.{Begins, Writes}
-use Rattle.line_io.proofs.PartsLemmas.{Begins-first, Writes-behind, Writes-refused}
+use Rattle.commands.specs.Lines.{Begins, Writes}
+use Rattle.commands.proofs.PartsLemmas.{Begins-first, Writes-behind, Writes-refused}
 use Rattle.commands.proofs.check.run_check.Goals as goal
 
 pub returns-in_err-put_set : goal.returns-in_err-put_set

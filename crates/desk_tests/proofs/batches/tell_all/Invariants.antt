@@ -1,6 +1,6 @@
 -- Those that are still to be told have the verdicts that are left.
 use Rattle.std.specs.Vec.Iter.{into_iter_items}
-use Rattle.update_desk.specs.Done.{AreDone}
+use Rattle.zone_server.specs.UpdateResult.{AreDone}
 use Rattle.desk_tests.proofs.batches.tell_all.Given as goal
 
 abbrev pub invariant-loop-one : goal.invariant-loop-one

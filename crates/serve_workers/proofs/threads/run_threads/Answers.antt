@@ -4,7 +4,7 @@ use denote.Param.{param}
 use denote.Param.Send.{param_send, arg_send, sendable}
 use Rattle.std.proofs.Common.{IsSome}
 use Rattle.serve_workers.specs.Numbers.{end_of}
-use Rattle.serve_workers.specs.Seats.{pair_of}
+use Rattle.serve_workers.specs.ThreadTasks.{pair_of}
 use Rattle.serve_workers.proofs.SendLemmas.{thread_send}
 use Rattle.worker_jobs.proofs.EachLemmas.{numbers_along, each_put, all_put}
 use Rattle.serve_workers.proofs.threads.run_threads.Goals as goal
@@ -20,7 +20,7 @@ pub returns-then-started-clause-numbers : goal.returns-then-started-clause-numbe
 returns-then-started-clause-numbers g c = numbers_along _ _ _ _ _ _ c.put_back.ensures.pairs c.do_all-started.ensures.numbers c.put_threads.ensures.pairs
 
 pub returns-then-started-clause-done : goal.returns-then-started-clause-done
-returns-then-started-clause-done g c = all_put (λ pair. IsSome (end_of pair.1)) (λ thread. pair_of thread.seat) _ _ c.put_back.ensures.pairs (c.do_all-started.ensures.done c.if-started.true)
+returns-then-started-clause-done g c = all_put (λ pair. IsSome (end_of pair.1)) (λ thread. pair_of thread.task) _ _ c.put_back.ensures.pairs (c.do_all-started.ensures.done c.if-started.true)
 
 pub returns-then-started-clause-seen : goal.returns-then-started-clause-seen
 returns-then-started-clause-seen g c = each_put _ _ _ _ _ _ c.put_back.ensures.pairs c.do_all-started.ensures.seen c.put_threads.ensures.pairs

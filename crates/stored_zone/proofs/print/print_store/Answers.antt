@@ -1,7 +1,7 @@
 use Rattle.std.proofs.Common.{List, subst}
 use Rattle.std.specs.Io.Buffered.{writer_contents}
 use Rattle.std.specs.Io.KnownBytes.{Appends}
-use Rattle.line_io.proofs.LinesLemmas.{Appends-kept}
+use Rattle.commands.proofs.LinesLemmas.{Appends-kept}
 use Rattle.dns_rdata.specs.Record.{Record}
 use Rattle.master_file.specs.WrittenZone.{zone_text}
 use Rattle.stored_zone.proofs.print.print_store.Goals as goal

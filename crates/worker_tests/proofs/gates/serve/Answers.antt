@@ -11,8 +11,8 @@ use Rattle.std.proofs.option.Option.TheSendSync as option
 use Rattle.snapshot_cell.proofs.SendLemmas as cell
 use Rattle.snapshot_cell.specs.declared.named.Naming as naming
 use Rattle.dns_engine.specs.declared.versions.FirstZone.{Ghosts}
-use Rattle.update_desk.specs.declared.right.ServerName as server_names
-use Rattle.zone_service.proofs.SendLemmas.{server_sync}
+use Rattle.zone_server.specs.declared.right.ServerName as server_names
+use Rattle.zone_server.proofs.ServerSendLemmas.{server_sync}
 use Rattle.worker_tests.specs.contracts.gates.BothJob as job
 use Rattle.worker_tests.proofs.gates.serve.Goals as goal
 

@@ -1,8 +1,8 @@
 -- One turn more has been taken.
 use Rattle.std.proofs.Common.{refl, ◌∙◌, subst}
-use Rattle.connections.proofs.AskedLemmas.{each_itself, each_more}
-use Rattle.turns.specs.Steps.{Turned, unturned}
-use Rattle.turns.specs.declared.worker.Plan.{Plan}
+use Rattle.tcp_connections.proofs.AskedLemmas.{each_itself, each_more}
+use Rattle.tcp_loop.specs.Steps.{Turned, unturned}
+use Rattle.tcp_loop.specs.declared.worker.Plan.{Plan}
 use Rattle.worker_jobs.proofs.TurnedLemmas.{turned_more}
 use Rattle.worker_jobs.proofs.connections_job.ConnectionsJob.serve.Goals as goal
 
@@ -12,7 +12,7 @@ loop-init g c = record { grows = each_itself _; turned = unturned; number = refl
 pub loop-preserved : goal.loop-preserved
 loop-preserved g c =
     let turned = subst
-    (λ (p : Plan). Turned g.S.Remote.origin g.S.Blocking.octets g.A.Answering.is_reply p.allowed.addresses.now p.limits (g.A.Answering.seen c.loop.answering) c.loop.self.turns.links (g.A.Answering.seen c.turn.new.answering) c.turn.new.self.turns.links)
+    (λ (p : Plan). Turned g.S.Remote.origin g.S.Blocking.octets g.A.Handler.is_reply p.allowed.addresses.now p.limits (g.A.Handler.seen c.loop.answering) c.loop.self.turns.links (g.A.Handler.seen c.turn.new.answering) c.turn.new.self.turns.links)
     c.loop.invariant.plan
     c.turn.ensures.turned in record {
       grows = each_more _ _ _ c.loop.invariant.grows c.turn.ensures.grows;
@@ -27,7 +27,7 @@ returns-in-Some-turn-clause-grows g c = each_more _ _ _ c.loop.invariant.grows c
 pub returns-in-Some-turn-clause-turned : goal.returns-in-Some-turn-clause-turned
 returns-in-Some-turn-clause-turned g c =
     let turned = subst
-    (λ (p : Plan). Turned g.S.Remote.origin g.S.Blocking.octets g.A.Answering.is_reply p.allowed.addresses.now p.limits (g.A.Answering.seen c.loop.answering) c.loop.self.turns.links (g.A.Answering.seen c.turn.new.answering) c.turn.new.self.turns.links)
+    (λ (p : Plan). Turned g.S.Remote.origin g.S.Blocking.octets g.A.Handler.is_reply p.allowed.addresses.now p.limits (g.A.Handler.seen c.loop.answering) c.loop.self.turns.links (g.A.Handler.seen c.turn.new.answering) c.turn.new.self.turns.links)
     c.loop.invariant.plan
     c.turn.ensures.turned in
     turned_more _ _ _ _ _ _ _ _ _ _ _ c.loop.invariant.turned turned

@@ -1,13 +1,13 @@
 -- Turns have been taken so far.
 use Rattle.std.proofs.Common.{◌≡◌}
-use Rattle.connections.specs.Asked.{EachGrows}
-use Rattle.turns.specs.Steps.{Turned}
+use Rattle.tcp_connections.specs.Asked.{EachGrows}
+use Rattle.tcp_loop.specs.Steps.{Turned}
 use Rattle.worker_jobs.proofs.connections_job.ConnectionsJob.serve.Given as goal
 
 abbrev pub invariant-loop : goal.invariant-loop
 invariant-loop g l = record {
-  grows : EachGrows (g.A.Answering.seen l.answering) (g.A.Answering.seen l.initial.answering);
-  turned : Turned g.S.Remote.origin g.S.Blocking.octets g.A.Answering.is_reply l.initial.self.plan.allowed.addresses.now l.initial.self.plan.limits (g.A.Answering.seen l.initial.answering) l.initial.self.turns.links (g.A.Answering.seen l.answering) l.self.turns.links;
+  grows : EachGrows (g.A.Handler.seen l.answering) (g.A.Handler.seen l.initial.answering);
+  turned : Turned g.S.Remote.origin g.S.Blocking.octets g.A.Handler.is_reply l.initial.self.plan.allowed.addresses.now l.initial.self.plan.limits (g.A.Handler.seen l.initial.answering) l.initial.self.turns.links (g.A.Handler.seen l.answering) l.self.turns.links;
   number : l.self.number ≡ l.initial.self.number;
   plan : l.self.plan ≡ l.initial.self.plan;
 }

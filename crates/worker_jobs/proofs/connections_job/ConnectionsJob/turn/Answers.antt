@@ -1,6 +1,6 @@
 -- A turn is taken, and what is counted and told of it leaves its connections.
 use Rattle.std.proofs.Common.{◌∙◌}
-use Rattle.turns.specs.Steps.{unturned}
+use Rattle.tcp_loop.specs.Steps.{unturned}
 use Rattle.worker_jobs.proofs.TurnedLemmas.{one_turned}
 use Rattle.worker_jobs.proofs.connections_job.ConnectionsJob.turn.Goals as goal
 
@@ -8,7 +8,7 @@ pub returns-then-is_over-clause-turned : goal.returns-then-is_over-clause-turned
 returns-then-is_over-clause-turned g c = unturned
 
 pub returns-in-Ok-clause-turned : goal.returns-in-Ok-clause-turned
-returns-in-Ok-clause-turned g c = one_turned _ _ _ _ _ _ _ _ _ _ _ c.turn-taken.ensures.turned (c.tell.ensures.turns ∙ c.count.ensures.turns)
+returns-in-Ok-clause-turned g c = one_turned _ _ _ _ _ _ _ _ _ _ _ c.poll_once-taken.ensures.turned (c.tell.ensures.turns ∙ c.count.ensures.turns)
 
 pub returns-in-Err-clause-turned : goal.returns-in-Err-clause-turned
-returns-in-Err-clause-turned g c = one_turned _ _ _ _ _ _ _ _ _ _ _ c.turn-taken.ensures.turned (c.tell.ensures.turns ∙ c.count.ensures.turns)
+returns-in-Err-clause-turned g c = one_turned _ _ _ _ _ _ _ _ _ _ _ c.poll_once-taken.ensures.turned (c.tell.ensures.turns ∙ c.count.ensures.turns)

@@ -1,6 +1,6 @@
 -- One turn more has been taken.
 use Rattle.std.proofs.Common.{rules}
-use Rattle.conversation.proofs.TurnLemmas.{grows_more}
+use Rattle.requests.proofs.TurnLemmas.{grows_more}
 use Rattle.worker_jobs.proofs.notify_job.NotifyJob.do_due.Goals as goal
 use Rattle.worker_jobs.proofs.notify_job.NotifyJob.do_due.Goals.{in-Due-Silent, in-Due-Send}
 

@@ -1,10 +1,10 @@
 -- Turns have been taken so far.
 use Rattle.std.proofs.Common.{◌≡◌}
-use Rattle.conversation.specs.Served.{Grows}
+use Rattle.requests.specs.Served.{Grows}
 use Rattle.worker_jobs.proofs.notify_job.NotifyJob.do_due.Given as goal
 
 abbrev pub invariant-loop : goal.invariant-loop
 invariant-loop g l = record {
-  grows : Grows (g.A.Answering.seen l.answering) (g.A.Answering.seen l.initial.answering);
+  grows : Grows (g.A.Handler.seen l.answering) (g.A.Handler.seen l.initial.answering);
   number : l.self.number ≡ l.initial.self.number;
 }

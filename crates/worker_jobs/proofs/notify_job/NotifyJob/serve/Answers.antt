@@ -1,6 +1,6 @@
 -- It has looked once more.
 use Rattle.std.proofs.Common.{refl, ◌∙◌}
-use Rattle.conversation.proofs.TurnLemmas.{grows_itself, grows_more}
+use Rattle.requests.proofs.TurnLemmas.{grows_itself, grows_more}
 use Rattle.worker_jobs.proofs.notify_job.NotifyJob.serve.Goals as goal
 
 pub loop-init : goal.loop-init

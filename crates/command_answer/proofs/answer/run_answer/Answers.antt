@@ -1,7 +1,0 @@
-use Rattle.command_answer.specs.Versions.{begun}
-use Rattle.command_answer.proofs.LinesLemmas.{Begins-none}
-use Rattle.line_io.proofs.LinesLemmas.{IfSome-each, OnErr-each}
-use Rattle.command_answer.proofs.answer.run_answer.Goals as goal
-
-pub returns-in_err-buffers-clause-err : goal.returns-in_err-buffers-clause-err
-returns-in_err-buffers-clause-err g c = OnErr-each _ _ (IfSome-each _ _ (λ input e. Begins-none c.args.transport (begun c.args.zone) input _))

@@ -1,4 +1,0 @@
-pub mod Trail
-pub mod Marked
-pub mod End
-pub mod Writer

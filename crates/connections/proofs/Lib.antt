@@ -1,6 +1,0 @@
-pub mod QueueLemmas
-pub mod FrameLemmas
-pub mod ToldLemmas
-pub mod GoingLemmas
-pub mod PassLemmas
-pub mod AskedLemmas

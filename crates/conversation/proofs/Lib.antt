@@ -1,3 +1,0 @@
-pub mod AllowedLemmas
-pub mod TurnLemmas
-pub mod ExchangeLemmas

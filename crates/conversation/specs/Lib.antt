@@ -1,6 +1,0 @@
-pub mod Octets
-pub mod Allowed
-pub mod Datagrams
-pub mod Exchanged
-pub mod Served
-pub mod Turns

@@ -1,2 +1,0 @@
-pub mod Disk
-pub mod Log

@@ -1,9 +1,0 @@
--- The connections under the keys so far are told.
-use Rattle.std.proofs.Common.{take, is_some}
-use Rattle.std.specs.List.{count_by}
-use Rattle.peer_groups.specs.Survey.{IsSurvey}
-use Rattle.links.specs.Places.{is_of}
-use Rattle.links.proofs.crowds.candidates.Given as goal
-
-abbrev pub invariant-loop-key : goal.invariant-loop-key
-invariant-loop-key g l = IsSurvey (count_by is_some (take l.key l.links.slots)) (λ group. count_by (is_of group) (take l.key l.links.slots)) l.survey

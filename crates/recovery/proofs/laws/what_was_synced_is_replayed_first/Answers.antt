@@ -1,5 +1,0 @@
-use Rattle.recovery.proofs.StoreLemmas.{synced_taken}
-use Rattle.recovery.proofs.laws.what_was_synced_is_replayed_first.Goals as goal
-
-pub returns : goal.returns
-returns c = synced_taken

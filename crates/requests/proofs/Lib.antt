@@ -1,0 +1,3 @@
+pub mod AllowedLemmas
+pub mod ExchangeLemmas
+pub mod TurnLemmas

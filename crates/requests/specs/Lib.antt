@@ -1,0 +1,6 @@
+pub mod Allowed
+pub mod Datagrams
+pub mod Exchanged
+pub mod Octets
+pub mod Served
+pub mod Turns

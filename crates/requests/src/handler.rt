@@ -1,0 +1,45 @@
+//! Who answers requests that come as datagrams.
+ghost use Rattle.std.specs.Prelude.{◌≡◌, ℕ, ◌≤◌, List, length, IfOk, IfSome};
+ghost use Rattle.dns_message.specs.Message.{message_limit};
+ghost use Rattle.zone_tree.specs.Version.{Version};
+ghost use Rattle.requests.specs.Octets.{messages_in};
+ghost use Rattle.requests.specs.Datagrams.{by_datagram};
+ghost use Rattle.requests.specs.Served.{Learned, Grows};
+ghost use Rattle.serve_core.specs.declared.peer.Peer.{Peer as PeerAsking};
+
+use serve_core::Peer;
+use snapshot_cell::Spent;
+use std::net::SocketAddr;
+use std::sync::Wait;
+
+/// Who answers requests that come as datagrams. Contracts know of it which versions it has seen published and buried, as far as it tells
+/// them, and what a reply to a request is.
+pub trait Handler {
+    /// What is known of the versions: those published, and the numbers of those buried.
+    ghost seen: { Self → Learned Version };
+
+    /// Who asks.
+    ghost peer: { Self → PeerAsking };
+
+    /// What the messages of a reply to a request are, by who asks, by what is known before the reply, and by what is when it is made.
+    ghost is_reply: { PeerAsking → Learned Version → Learned Version → List ℕ → List (List ℕ) → Type 0 };
+
+    /// Turns to another peer, who asks from an address.
+    fn turn_to(&mut self, other: Peer, from: SocketAddr)
+        ensures other { peer self.new ≡ other }
+        ensures grows { Grows (seen self.new) (seen self.old) };
+
+    /// Answers a request: writes the one message of the reply to the front of a buffer, and gives how many octets it has; None where
+    /// there is no reply. [`Spent`] where no version can be loaded.
+    fn answer<R: Wait>(
+        &mut self,
+        rt: &R,
+        request: &[u8],
+        out: &mut [u8],
+    ) -> Result<Option<usize>, Spent>
+        requires { message_limit ≤ length out.old }
+        ensures same { peer self.new ≡ peer self.old }
+        ensures grows { Grows (seen self.new) (seen self.old) }
+        ensures bound { IfOk result (λ len. IfSome len (λ n. (n ≤ message_limit) × (n ≤ length out.new))) }
+        ensures reply { IfOk result (λ len. is_reply (by_datagram (peer self.old)) (seen self.old) (seen self.new) request.now (messages_in len out.new)) };
+}

@@ -1,0 +1,129 @@
+//! Requests as datagrams, answered one after another (RFC 1035, 4.2.1).
+ghost use Rattle.std.specs.Prelude.{◌≡◌, ◌≤◌, length, IfSome, OnOk, OnErr};
+ghost use Rattle.dns_message.specs.Message.{message_limit};
+ghost use Rattle.requests.specs.Served.{Grows};
+ghost use Rattle.requests.specs.Exchanged.{RepliesTo, TurnsBy, EndsBy};
+ghost use Rattle.requests.specs.Datagrams.{by_datagram};
+
+use crate::allowed::Allowed;
+use crate::datagrams::Datagrams;
+use crate::gate::Gate;
+use crate::handler::Handler;
+use serve_core::Transport;
+use snapshot_cell::Spent;
+use std::net::SocketAddr;
+use std::sync::Wait;
+
+/// How the answering of datagrams ends.
+#[derive(Clone, Copy, PartialEq, Eq)]
+pub enum DatagramsEnd {
+    /// As many are answered as may be.
+    Done,
+    /// By a datagram that couldn't be received.
+    Device,
+    /// No version could be loaded.
+    Spent,
+}
+
+/// Answers a request that came as a datagram: its reply goes to who sent it, and a send that fails is counted. [`Spent`] where no
+/// version can be loaded; nothing is then sent.
+fn reply<R: Wait, A: Handler, D: Datagrams>(
+    rt: &R,
+    answering: &mut A,
+    datagrams: &mut D,
+    request: &[u8],
+    from: SocketAddr,
+    out: &mut [u8],
+) -> Result<(), Spent>
+    requires { message_limit ≤ length out.old }
+    ensures grows { Grows (A.seen answering.new) (A.seen answering.old) }
+    ensures replied { OnOk result (RepliesTo A.is_reply (by_datagram (A.peer answering.old)) (A.seen answering.old) request.now from (A.seen answering.new) (D.datagrams datagrams.old) (D.failed datagrams.old) (D.datagrams datagrams.new) (D.failed datagrams.new)) }
+    ensures spent { OnErr result (D.datagrams datagrams.new ≡ D.datagrams datagrams.old) }
+    ensures same { OnErr result (D.failed datagrams.new ≡ D.failed datagrams.old) }
+{
+    match answering.answer(rt, request, out) {
+        Ok(Some(len)) => {
+            datagrams.send(&out[..len], from);
+            Ok(())
+        }
+        Ok(None) => Ok(()),
+        Err(spent) => Err(spent),
+    }
+}
+
+/// Receives a datagram and answers it; how the answering ends where it does so by this.
+fn turn<R: Wait, A: Handler, D: Datagrams, G: Gate>(
+    rt: &R,
+    answering: &mut A,
+    datagrams: &mut D,
+    allowed: Allowed<'_>,
+    gate: &G,
+    request: &mut [u8],
+    out: &mut [u8],
+) -> Option<DatagramsEnd>
+    requires request_room { message_limit ≤ length request.old }
+    requires reply_room { message_limit ≤ length out.old }
+    ensures grows { Grows (A.seen answering.new) (A.seen answering.old) }
+    ensures turns { IfSome (D.datagrams datagrams.old) (λ o. TurnsBy A.is_reply allowed.entry.addresses.now result (A.seen answering.old) o (D.failed datagrams.old) (A.seen answering.new) (D.datagrams datagrams.new) (D.failed datagrams.new)) }
+{
+    let Some((len, from)) = datagrams.receive(request) else {
+        return Some(DatagramsEnd::Device);
+    };
+    answering.turn_to(allowed.peer(from, Transport::Udp), from);
+    gate.enter();
+    let replied = reply(rt, answering, datagrams, &request[..len], from, out);
+    gate.leave();
+    match replied {
+        Ok(()) => {}
+        Err(_) => return Some(DatagramsEnd::Spent),
+    }
+    None
+}
+
+/// Answers requests that come as datagrams one after another, so many; fewer where one can't be received, or no version can be loaded.
+fn answer_all<R: Wait, A: Handler, D: Datagrams, G: Gate>(
+    rt: &R,
+    answering: &mut A,
+    datagrams: &mut D,
+    allowed: Allowed<'_>,
+    most: u64,
+    gate: &G,
+    request: &mut [u8],
+    out: &mut [u8],
+) -> DatagramsEnd
+    requires request_room { message_limit ≤ length request.old }
+    requires reply_room { message_limit ≤ length out.old }
+    ensures grows { Grows (A.seen answering.new) (A.seen answering.old) }
+    ensures answered { IfSome (D.datagrams datagrams.old) (λ o. EndsBy A.is_reply allowed.entry.addresses.now result (A.seen answering.old) o (D.failed datagrams.old) most (A.seen answering.new) (D.datagrams datagrams.new) (D.failed datagrams.new)) }
+{
+    for _done in 0..most {
+        match turn(rt, answering, datagrams, allowed, gate, request, out) {
+            Some(end) => return end,
+            None => {}
+        }
+    }
+    DatagramsEnd::Done
+}
+
+/// Answers requests that come as datagrams one after another, so many; fewer where one can't be received, or no version can be loaded.
+/// Over datagrams that tell themselves, what is sent is the replies in the order of the requests, each to who asked, who may update
+/// and transfer by its own address; but for those that fail to be sent, which are counted (RFC 1035, 4.2.1). None is held back at the end.
+pub fn serve_udp<R: Wait, A: Handler, D: Datagrams, G: Gate>(
+    rt: &R,
+    answering: &mut A,
+    datagrams: &mut D,
+    allowed: Allowed<'_>,
+    most: u64,
+    gate: &G,
+    request: &mut [u8],
+    out: &mut [u8],
+) -> DatagramsEnd
+    requires request_room { message_limit ≤ length request.old }
+    requires reply_room { message_limit ≤ length out.old }
+    ensures grows { Grows (A.seen answering.new) (A.seen answering.old) }
+    ensures answered { IfSome (D.datagrams datagrams.old) (λ o. EndsBy A.is_reply allowed.entry.addresses.now result (A.seen answering.old) o (D.failed datagrams.old) most (A.seen answering.new) (D.datagrams datagrams.new) (D.failed datagrams.new)) }
+{
+    let end = answer_all(rt, answering, datagrams, allowed, most, gate, request, out);
+    datagrams.flush();
+    end
+}

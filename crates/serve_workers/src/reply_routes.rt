@@ -1,0 +1,74 @@
+//! Brings the replies of updates that waited back to their threads (RFC 2136, 3.8).
+ghost use Rattle.std.specs.Prelude.{None};
+
+use crate::service::{Sockets, ThreadSpec};
+use crate::updates::Updates;
+use std::alloc::Global;
+use std::io;
+use std::net::{SocketAddr, UdpSocket};
+use std::sync::Wait;
+use worker_jobs::{WakeList, is_sent};
+use zone_server::{AtTicket, ReplySender};
+
+/// How replies get to a thread.
+#[derive(Drop)]
+enum Path<'a> {
+    /// The thread gets the keys of its connections whose replies are ready, and fetches the replies.
+    Keys(&'a WakeList),
+    /// The replies are sent by its UDP socket.
+    Socket(UdpSocket),
+    /// The thread gets no replies, since it gets no updates.
+    Nowhere,
+}
+
+/// The routes by which replies get to threads, by the threads' places.
+#[derive(Drop)]
+pub(crate) struct ReplyRoutes<'a> {
+    paths: Vec<Path<'a>>,
+}
+
+/// How replies get to the thread of a spec at a place. An error where its socket can't be shared.
+fn path_to<'a>(duty: &ThreadSpec<'_>, updates: &'a Updates, place: usize) -> io::Result<Path<'a>> {
+    match &duty.sockets {
+        Sockets::Datagrams(socket) => Ok(Path::Socket(socket.try_clone()?)),
+        Sockets::Connections(_) => match updates.told_at(place) {
+            Some(keys) => Ok(Path::Keys(keys)),
+            None => Ok(Path::Nowhere),
+        },
+        Sockets::Secondaries(_) => Ok(Path::Nowhere),
+    }
+}
+
+impl<'a> ReplyRoutes<'a> {
+    /// Makes the routes to the threads of these specs, which submit their updates to `updates`. An error where a socket can't be shared, or an allocation fails.
+    pub(crate) fn new(
+        alloc: Global,
+        duties: &[ThreadSpec<'_>],
+        updates: &'a Updates,
+    ) -> io::Result<ReplyRoutes<'a>> {
+        let mut paths = Vec::new(alloc);
+        let mut place = 0usize;
+        for duty in duties {
+            let path = path_to(duty, updates, place)?;
+            paths.push(path)?;
+            place = place.saturating_add(1);
+        }
+        Ok(ReplyRoutes { paths })
+    }
+}
+
+impl ReplySender for ReplyRoutes<'_> {
+    ghost brought = { λ _. None };
+
+    fn tell<R: Wait>(&mut self, rt: &R, worker: usize, key: usize, _told: AtTicket) {
+        if let Some(Path::Keys(keys)) = self.paths.get(worker) {
+            keys.tell(rt, key);
+        }
+    }
+
+    fn send(&mut self, worker: usize, to: SocketAddr, octets: &[u8]) {
+        if let Some(Path::Socket(socket)) = self.paths.get(worker) {
+            let _ = is_sent(socket, octets, to);
+        }
+    }
+}

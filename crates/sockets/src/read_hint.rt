@@ -1,0 +1,54 @@
+//! What is known about a connection without a system call (Linux, epoll(7)).
+
+use std::alloc::{AllocError, Global};
+use std::sync::Arc;
+use std::sync::atomic::{AtomicBool, Ordering};
+
+/// State shared by a connection and the watch that waits for it.
+///
+/// A read that returns fewer octets than its buffer holds has read all octets that had arrived, and the system reports later octets with a new
+/// event. So there is no read before that event. After the peer has closed its side there are no more events, and each read asks the system.
+#[derive(Drop)]
+struct ReadState {
+    is_empty: AtomicBool,
+    is_closed: AtomicBool,
+}
+
+/// A reference to this state, held by the connection or by the watch.
+#[derive(Drop)]
+pub(crate) struct ReadHint {
+    told: Arc<ReadState, Global>,
+}
+
+impl ReadHint {
+    /// Two references to the state of a connection about which nothing is known. Fails if there is no memory.
+    pub(crate) fn pair(alloc: Global) -> Result<(ReadHint, ReadHint), AllocError> {
+        let told = ReadState {
+            is_empty: AtomicBool::new(false),
+            is_closed: AtomicBool::new(false),
+        };
+        let told = Arc::new(alloc, told).map_err(AllocError::from)?;
+        let same = Arc::try_clone(&told)?;
+        Ok((ReadHint { told }, ReadHint { told: same }))
+    }
+
+    /// Records that the connection was reported ready. `is_closed` says whether its peer has closed its side.
+    pub(crate) fn tell(&self, is_closed: bool) {
+        if is_closed {
+            self.told.is_closed.store(true, Ordering::SeqCst);
+        }
+        self.told.is_empty.store(false, Ordering::SeqCst);
+    }
+
+    /// Records that a read has read all octets that had arrived, unless the peer has closed its side.
+    pub(crate) fn note_empty(&self) {
+        if !self.told.is_closed.load(Ordering::SeqCst) {
+            self.told.is_empty.store(true, Ordering::SeqCst);
+        }
+    }
+
+    /// Whether it is known that a read would find nothing.
+    pub(crate) fn is_empty(&self) -> bool {
+        self.told.is_empty.load(Ordering::SeqCst)
+    }
+}

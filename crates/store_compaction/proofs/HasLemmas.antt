@@ -1,0 +1,163 @@
+-- What a store has stays through what is done with it.
+use Rattle.std.proofs.Common.{◌≡◌, ℕ, List, [], ◌∷◌, ◌++◌, Option, None, Some, take, drop, length, refl, sym, ap, ◌∙◌, subst, append_assoc, take-append-drop}
+use Rattle.std.specs.Prelude.{All, MatchOption}
+use Rattle.std.proofs.lemmas.List.Elements.{All-nil, All-cons}
+use Rattle.dns_rdata.specs.Record.{Record}
+use Rattle.dns_message.specs.declared.update.Update.{Update}
+use Rattle.zone_tree.specs.Version.{Version}
+use Rattle.update_core.specs.Act.{act, replay}
+use Rattle.std.specs.Prelude.{unwrap_or}
+use Rattle.dns_engine.specs.Replayed.{EachChanges}
+use Rattle.journal.specs.Batch.{IsShort}
+use Rattle.journal.specs.Recovered.{updates_in}
+use Rattle.update_batches.specs.declared.batch.Batch.{Batch}
+use Rattle.update_batches.specs.Engine.{IsLast}
+use Rattle.update_batches.specs.Batch.{newest_of, versions_of, IsBatch}
+use Rattle.update_batches.proofs.BatchLemmas.{last_once}
+use Rattle.update_batches.specs.Stored.{AreWritten}
+use Rattle.update_batches.specs.Journal.{AreMadeBy}
+use Rattle.store_recovery.specs.Replay.{AreRead}
+use Rattle.store_compaction.specs.RecentUpdates.{TrailState, last_in}
+use Rattle.store_compaction.specs.Writer.{trail_of}
+use Rattle.store_compaction.proofs.MadeLemmas.{changes_both, replay_both, read_both}
+use Rattle.store_compaction.proofs.JudgedLemmas.{last_more}
+use Rattle.store_compaction.specs.Kept.{CompactedState, IsAt, IsTended, IsKept, HasMore, IsStored}
+use Rattle.store_compaction.specs.Has.{IsWrittenBy, HasUpdates}
+
+-- octets that make versions are short, and read as the updates that make them
+written_short : (first : Version) (versions : List Version) (octets : List (List ℕ)) → AreWritten IsWrittenBy first versions octets → All IsShort octets
+written_short first [] [] are = All-nil IsShort
+written_short first [] (one ∷ octets) are = absurd are
+written_short first (next ∷ versions) [] are = absurd are
+written_short first (next ∷ versions) (one ∷ octets) are = All-cons IsShort one octets are.0.0 (written_short next versions octets are.1)
+
+written_made : (first : Version) (versions : List Version) (octets : List (List ℕ)) → AreWritten IsWrittenBy first versions octets → AreMadeBy first versions octets
+written_made first [] [] are = tt
+written_made first [] (one ∷ octets) are = absurd are
+written_made first (next ∷ versions) [] are = absurd are
+written_made first (next ∷ versions) (one ∷ octets) are = (are.0.1, written_made next versions octets are.1)
+
+-- the first of updates that each change a zone do
+changes_first : (zone : List Record) (updates more : List Update) → EachChanges zone (updates ++ more) → EachChanges zone updates
+changes_first zone [] more each = tt
+changes_first zone (update ∷ updates) more each = (each.0, each.1, changes_first (unwrap_or (act zone update) zone) updates more each.2)
+
+-- messages after others that are read
+read_rest : (messages later : List (List ℕ)) (updates more : List Update) → AreRead messages updates → AreRead (messages ++ later) (updates ++ more) → AreRead later more
+read_rest [] later [] more are all = all
+read_rest [] later (update ∷ updates) more are all = absurd are
+read_rest (message ∷ messages) later [] more are all = absurd are
+read_rest (message ∷ messages) later (update ∷ updates) more are all = read_rest messages later updates more are.1 all.1
+
+module _ {F : Type 0} where
+  -- of a store that stands
+  pub has_begun : (text : List ℕ) (batches : List (List (List ℕ))) (zone : List Record) (updates : List Update) (k : ℕ) (store : CompactedState F) (published : List Version)
+      → IsAt text batches zone updates k store → IsLast published (last_in (trail_of store.writer)) → HasUpdates zone store published (updates_in batches)
+  has_begun text batches zone updates k store published at last = record {
+    in_text = [];
+    in_journal = updates;
+    are_read = at.end.store.read;
+    each = at.end.store.taken;
+    text = text;
+    batches = batches;
+    k = k;
+    stands = at;
+    last = last;
+  }
+
+  -- through what is done between two batches
+  pub has_tended : (before after : CompactedState F) → IsTended before after → (zone : List Record) (published : List Version) (updates : List (List ℕ))
+      → HasUpdates zone before published updates → HasUpdates zone after published updates
+  has_tended before after tended zone published updates has =
+      let from = (tended.stands has.text has.batches (replay zone has.in_text) has.in_journal has.k has.stands).0 in
+      let parts : (has.in_text ++ take from.n has.in_journal) ++ drop from.n has.in_journal ≡ has.in_text ++ has.in_journal =
+      append_assoc has.in_text (take from.n has.in_journal) (drop from.n has.in_journal) ∙ ap (λ (l : List Update). has.in_text ++ l) (take-append-drop from.n has.in_journal) in
+      record {
+        in_text = has.in_text ++ take from.n has.in_journal;
+        in_journal = drop from.n has.in_journal;
+        are_read = subst (λ (l : List Update). AreRead updates l) (sym parts) has.are_read;
+        each = subst (λ (l : List Update). EachChanges zone l) (sym parts) has.each;
+        text = from.text;
+        batches = from.batches;
+        k = from.k;
+        stands = subst (λ (z : List Record). IsAt from.text from.batches z (drop from.n has.in_journal) from.k after)
+            (sym (replay_both zone has.in_text (take from.n has.in_journal))) from.stands;
+        last = subst (λ (t : TrailState). IsLast published (last_in t)) (sym tended.trail) has.last;
+      }
+
+  -- of a store that stays
+  has_kept : (before after : CompactedState F) → IsKept before after → (zone : List Record) (published : List Version) (updates : List (List ℕ))
+      → HasUpdates zone before published updates → HasUpdates zone after published updates
+  has_kept before after kept zone published updates has = record {
+    in_text = has.in_text;
+    in_journal = has.in_journal;
+    are_read = has.are_read;
+    each = has.each;
+    text = has.text;
+    batches = has.batches;
+    k = has.k;
+    stands = kept.stands has.text has.batches (replay zone has.in_text) has.in_journal has.k has.stands;
+    last = subst (λ (t : TrailState). IsLast published (last_in t)) (sym kept.trail) has.last;
+  }
+
+  -- with one batch more
+  has_stored : (before after : CompactedState F) (versions : List Version) (octets : List (List ℕ)) → IsStored before after versions octets
+      → (zone : List Record) (published : List Version) (updates : List (List ℕ)) (first : Version) → HasUpdates zone before published updates → IsLast published first
+      → AreWritten IsWrittenBy first versions octets → HasUpdates zone after (published ++ versions) (updates ++ octets)
+  has_stored before after versions octets stored zone published updates first has last written =
+      let old : TrailState = trail_of before.writer in
+      let same : first ≡ last_in old = last_once published first (last_in old) last has.last in
+      let short : All IsShort octets = written_short first versions octets written in
+      let made : AreMadeBy (last_in old) versions octets = subst (λ (v : Version). AreMadeBy v versions octets) same (written_made first versions octets written) in
+      let with : HasMore has.text has.batches (replay zone has.in_text) has.in_journal octets after =
+      stored.stands short made has.text has.batches (replay zone has.in_text) has.in_journal has.k has.stands in
+      let store = with.stands.end.store in
+      let ends = (stored.last has.stands.end.made short made).1 in
+      let parts : has.in_text ++ (has.in_journal ++ with.more) ≡ (has.in_text ++ has.in_journal) ++ with.more = sym (append_assoc has.in_text has.in_journal with.more) in
+      let all : AreRead (updates_in has.batches ++ octets) (has.in_journal ++ with.more) =
+      subst (λ (l : List (List ℕ)). AreRead l (has.in_journal ++ with.more)) with.all_are store.read in
+      record {
+        in_text = has.in_text;
+        in_journal = has.in_journal ++ with.more;
+        are_read = subst (λ (l : List Update). AreRead (updates ++ octets) l) (sym parts)
+            (read_both updates octets (has.in_text ++ has.in_journal) with.more has.are_read
+            (read_rest (updates_in has.batches) octets has.in_journal with.more has.stands.end.store.read all));
+        each = changes_both zone has.in_text (has.in_journal ++ with.more) (changes_first zone has.in_text has.in_journal has.each) store.taken;
+        text = has.text;
+        batches = with.all;
+        k = with.k;
+        stands = with.stands;
+        last = subst (λ (v : Version). IsLast (published ++ versions) v) (sym ends) (last_more published (last_in old) versions has.last);
+      }
+
+  -- a group that is stored, or isn't
+  pub has_appended : {X : Type 0} (result : Option X) (group : Batch Version) (before after : CompactedState F)
+      → MatchOption result ((updates : List (List ℕ)) → IsBatch group updates → IsStored before after (versions_of group) updates) (λ _. IsKept before after)
+      → MatchOption result
+      ((updates : List (List ℕ)) → IsBatch group updates → (zone : List Record) (published : List Version) (stood : List (List ℕ)) (last : Version) → HasUpdates zone before published stood
+      → IsLast published last → AreWritten IsWrittenBy last (versions_of group) updates → HasUpdates zone after (published ++ versions_of group) (stood ++ updates))
+      (λ _. (zone : List Record) (published : List Version) (stood : List (List ℕ)) → HasUpdates zone before published stood → HasUpdates zone after published stood)
+  has_appended None group before after stored = λ updates batch. has_stored before after (versions_of group) updates (stored updates batch)
+  has_appended (Some fault) group before after kept = has_kept before after kept
+
+  -- nothing is there to store
+  pub has_none : (group : Batch Version) (store : CompactedState F) → ((updates : List (List ℕ)) → IsBatch group updates → IsStored store store (versions_of group) updates)
+      → (updates : List (List ℕ)) → IsBatch group updates → (zone : List Record) (published : List Version) (stood : List (List ℕ)) (last : Version) → HasUpdates zone store published stood
+      → IsLast published last → AreWritten IsWrittenBy last (versions_of group) updates → HasUpdates zone store (published ++ versions_of group) (stood ++ updates)
+  has_none group store stored updates batch = has_stored store store (versions_of group) updates (stored updates batch)
+
+  -- after a crash: what a start has of it is these updates replayed, and some that were written and not told as lasting
+  pub has_recovered : (zone : List Record) (store : CompactedState F) (published : List Version) (updates : List (List ℕ)) (started : List Record)
+      → (has : HasUpdates zone store published updates)
+      → (more : List Update) × EachChanges (replay zone has.in_text) (has.in_journal ++ more) × (started ≡ replay (replay zone has.in_text) (has.in_journal ++ more))
+      → (all : List Update) × (more : List Update) × AreRead updates all × EachChanges zone (all ++ more) × (started ≡ replay zone (all ++ more))
+  has_recovered zone store published updates started has crash =
+      let more = crash.0 in
+      let parts : has.in_text ++ (has.in_journal ++ more) ≡ (has.in_text ++ has.in_journal) ++ more = sym (append_assoc has.in_text has.in_journal more) in (
+        has.in_text ++ has.in_journal,
+        more,
+        has.are_read,
+        subst (λ (l : List Update). EachChanges zone l) parts
+            (changes_both zone has.in_text (has.in_journal ++ more) (changes_first zone has.in_text has.in_journal has.each) crash.1),
+        crash.2 ∙ (sym (replay_both zone has.in_text (has.in_journal ++ more)) ∙ ap (λ (l : List Update). replay zone l) parts),
+      )

@@ -1,0 +1,12 @@
+pub mod CrashLemmas
+pub mod EndLemmas
+pub mod HasLemmas
+pub mod JudgedLemmas
+pub mod KeptLemmas
+pub mod LawLemmas
+pub mod MadeLemmas
+pub mod MarkedLemmas
+pub mod RecentLemmas
+pub mod SendLemmas
+pub mod StandsLemmas
+pub mod ZonesLemmas

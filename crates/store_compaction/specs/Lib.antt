@@ -1,0 +1,10 @@
+pub mod End
+pub mod Files
+pub mod Has
+pub mod Kept
+pub mod Marked
+pub mod RecentUpdates
+pub mod Stands
+pub mod TextWriter
+pub mod Threads
+pub mod Writer

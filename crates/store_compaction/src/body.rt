@@ -1,0 +1,11 @@
+//! The bytes of a batch (own).
+ghost use Rattle.std.specs.Prelude.{◌<◌, length};
+ghost use Rattle.journal.specs.Frame.{body_limit};
+
+/// The bytes of a batch.
+#[derive(Drop)]
+pub(crate) struct Body {
+    /// The bytes.
+    pub(crate) octets: Vec<u8>,
+    ghost short: { length octets.items < body_limit },
+}

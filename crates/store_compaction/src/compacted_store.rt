@@ -1,0 +1,182 @@
+//! A store that is compacted while updates continue (RFC 2136, 3.5; own).
+use crate::event::Notes;
+use crate::next_due::{begin_next, is_due};
+use crate::placed::{Placed, put_in_place};
+use crate::text_writer::TextWriter;
+use crate::writer::StoreWriter;
+use dns_engine::SharedVersion;
+use journal::LogFault;
+use std::alloc::Global;
+use std::fs::{File, Files};
+use std::io::{self, ErrorKind};
+use std::marker::Model;
+use std::sync::Wait;
+use store_files::{FileDisk, is_in_place};
+use update_batches::{Batch, UpdateStore};
+
+/// The reason for refusing to append to a journal that a start would not find (own).
+const MISPLACED: &str =
+    "the store's directory has no journal, or another one: it was moved or removed";
+
+/// A store in a directory, compacted between two batches. Contracts see its writer and the requested zone text.
+#[derive(Drop)]
+pub struct CompactedStore<
+    R: Files<File = File> + Alloc + Clone + Drop,
+    T: TextWriter,
+    N: Notes + Drop,
+> {
+    files: R,
+    dir: String,
+    writer: StoreWriter<FileDisk>,
+    texts: T,
+    notes: N,
+    /// The journal size, in bytes, above which it is compacted.
+    most: u64,
+    /// The journal's size, in bytes, just after the last compaction.
+    had: u64,
+    /// Whether the last zone text failed. If so, the next one is started a few seconds later.
+    failed: bool,
+}
+
+impl<R: Files<File = File> + Alloc + Clone + Drop, T: TextWriter, N: Notes + Drop> Model
+    for CompactedStore<R, T, N> {
+    ghost use Rattle.std.specs.declared.io.Error.{Error as IoError};
+    ghost use Rattle.store_compaction.specs.Kept.{CompactedState};
+
+    ghost Value = { CompactedState IoError };
+
+    ghost view = { λ a. record { writer = a.writer; wanted = T.wanted a.texts } };
+}
+
+impl<R: Files<File = File> + Alloc + Clone + Drop, T: TextWriter, N: Notes + Drop> CompactedStore<
+    R,
+    T,
+    N,
+> {
+    ghost use Rattle.std.specs.Prelude.{◌≡◌};
+    ghost use Rattle.store_compaction.specs.Kept.{IsTended, IsKept};
+
+    /// The store in a directory, with its writer, the writer of its zone texts, and the receiver of its events. A journal of more than `most` bytes is compacted.
+    pub fn new(
+        files: R,
+        dir: String,
+        writer: StoreWriter<FileDisk>,
+        texts: T,
+        notes: N,
+        most: u64,
+    ) -> CompactedStore<R, T, N>
+        ensures { result ≡ record { writer = writer; wanted = T.wanted texts } }
+    {
+        CompactedStore {
+            files,
+            dir,
+            writer,
+            texts,
+            notes,
+            most,
+            had: 0,
+            failed: false,
+        }
+    }
+
+    /// The store's writer.
+    pub fn writer(&self) -> &StoreWriter<FileDisk>
+        ensures { result.now ≡ self.now.writer }
+    {
+        &self.writer
+    }
+
+    /// Why nothing may be appended to the journal although its log is not stuck: the store's directory was moved or removed, or has another journal, so a start would not find
+    /// this one. None if a start would find it, or if the log is stuck.
+    fn misplaced(&self, alloc: Global) -> Option<io::Error> {
+        if self.writer.log().is_stuck() {
+            return None;
+        }
+        match is_in_place(&self.files, alloc, &self.dir, self.writer.log().disk()) {
+            Ok(true) => None,
+            Ok(false) => Some(io::Error::new(ErrorKind::NotFound, MISPLACED)),
+            Err(fault) => Some(fault),
+        }
+    }
+
+    /// Puts the journal of the zone text in place once that text is on disk.
+    fn finish<W: Wait>(&mut self, rt: &W, alloc: Global)
+        ensures { IsTended self.old self.new }
+    {
+        let placed = put_in_place(
+            rt,
+            &self.files,
+            alloc,
+            &self.dir,
+            &mut self.writer,
+            &mut self.texts,
+            &mut self.notes,
+        );
+        match placed {
+            Placed::Nothing => {}
+            Placed::Failed => self.failed = true,
+            Placed::Done => {
+                self.failed = false;
+                self.had = self.writer.log().len();
+            }
+        }
+    }
+
+    /// Starts the next zone text if one is due and none is being written.
+    fn start<W: Wait>(&mut self, rt: &W, alloc: Global)
+        ensures { IsKept self.old self.new }
+    {
+        if self.texts.is_writing() || !is_due(&self.writer, self.most, self.had) {
+            return;
+        }
+        let begun = begin_next(
+            rt,
+            alloc,
+            &mut self.writer,
+            &mut self.texts,
+            &mut self.notes,
+            self.failed,
+        );
+        self.failed = !begun;
+    }
+}
+
+impl<R: Files<File = File> + Alloc + Clone + Drop, T: TextWriter, N: Notes + Drop> UpdateStore<
+    SharedVersion,
+> for CompactedStore<R, T, N> {
+    ghost use Rattle.store_compaction.specs.Has.{IsWrittenBy, HasUpdates};
+
+    type Fault = io::Error;
+
+    ghost writes = { IsWrittenBy };
+
+    ghost has = { HasUpdates };
+
+    fn tend<W: Wait>(&mut self, rt: &W, alloc: Global) {
+        if self.misplaced(alloc).is_some() {
+            return;
+        }
+        self.finish(rt, alloc);
+        self.start(rt, alloc);
+    }
+
+    fn append<W: Wait>(
+        &mut self,
+        rt: &W,
+        alloc: Global,
+        group: &mut Batch<SharedVersion>,
+    ) -> Option<LogFault<io::Error>> {
+        if group.versions().is_empty() {
+            return None;
+        }
+        if self.writer.log().is_stuck() {
+            group.give_up();
+            return Some(LogFault::Stuck);
+        }
+        if let Some(fault) = self.misplaced(alloc) {
+            group.give_up();
+            return Some(LogFault::Disk(fault));
+        }
+        self.writer.append(rt, alloc, group)
+    }
+}

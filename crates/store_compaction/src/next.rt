@@ -1,0 +1,42 @@
+//! A zone text and a journal that replace the store's (own).
+use dns_engine::SharedVersion;
+use journal::{Disk, Log, SUM};
+
+/// The next zone text of a store: the text of a version, with a number that no text of the store had before.
+#[derive(Drop)]
+pub struct NextText {
+    /// The version.
+    pub version: SharedVersion,
+    /// The number.
+    pub number: u64,
+}
+
+/// A journal that replaces another, as it is to be on disk.
+#[derive(Drop)]
+pub struct NextJournal {
+    pub(crate) octets: Vec<u8>,
+    pub(crate) salt: [u8; SUM],
+    pub(crate) number: u64,
+}
+
+impl NextJournal {
+    ghost use Rattle.std.specs.Prelude.{◌≡◌, ℕ, List};
+    ghost use Rattle.journal.specs.declared.heads.Head.{Head};
+    ghost use Rattle.journal.specs.Log.{Holds};
+    ghost use Rattle.store_compaction.specs.Marked.{IsNextJournal};
+
+    /// The bytes of the journal.
+    pub fn octets(&self) -> &[u8]
+        ensures { result.now ≡ self.now.octets.items }
+    {
+        &self.octets
+    }
+
+    /// Continues a log with this journal once it is the store's, on the disk that has its bytes. A stuck log continues too. Never fails.
+    pub fn switch<D: Disk>(&self, log: &mut Log<D>, disk: D)
+        ensures { (head : Head) (bodies : List (List ℕ)) → IsNextJournal head bodies self.now → D.written disk ≡ self.now.octets.items
+            → D.synced disk ≡ self.now.octets.items → Holds D.written D.synced head log.new bodies }
+    {
+        log.switch(disk, &self.salt, self.number, self.octets.len() as u64);
+    }
+}

@@ -1,0 +1,16 @@
+-- What a file as a disk tells.
+use Rattle.std.specs.Prelude.{ℕ, List}
+use Rattle.store_files.specs.Calls.{written_by, synced_by, lost_by}
+use Rattle.store_files.specs.declared.file.FileDisk.{FileDisk}
+
+-- the octets as they are, by its calls
+abbrev pub written : FileDisk → List ℕ
+written disk = written_by disk.calls.calls
+
+-- those that are on the disk, by its calls
+abbrev pub synced : FileDisk → List ℕ
+synced disk = synced_by disk.calls.calls
+
+-- how many of its syncs and cuts have failed
+abbrev pub lost : FileDisk → ℕ
+lost disk = lost_by disk.calls.calls

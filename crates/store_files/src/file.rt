@@ -1,0 +1,159 @@
+//! A file as a disk (own).
+ghost use Rattle.std.specs.Prelude.{◌≡◌, [], IfOk};
+ghost use Rattle.store_files.specs.File.{written, synced};
+
+use crate::list::CallList;
+use journal::Disk;
+use std::alloc::Global;
+use std::fs::{self, File, Files};
+use std::io::{self, ErrorKind, Read, Seek, SeekFrom, Write};
+use std::os::fd::AsRawFd;
+use std::os::unix::fs::MetadataExt;
+
+/// It was begun with these octets.
+const BEGUN: u64 = 0;
+
+/// These octets were appended.
+const APPENDED: u64 = 1;
+
+/// All octets were brought to the disk.
+const SYNCED: u64 = 2;
+
+/// What stood behind so many octets was cut off.
+const CUT: u64 = 3;
+
+/// That was tried, and failed.
+pub const NOT_CUT: u64 = 4;
+
+/// All octets were to be brought to the disk, which failed.
+pub const NOT_SYNCED: u64 = 5;
+
+/// How many octets of room are made at once behind what is appended: zeros, with which a sync needn't bring the file's new length to the disk each time (own).
+const ROOM: u64 = 65_536;
+
+/// A file as a disk. That its name is in its folder, on the disk, is for who made it to see to.
+#[derive(Drop)]
+pub struct FileDisk {
+    file: File,
+    /// Where its octets end.
+    end: u64,
+    /// How long the file is: behind its octets is room.
+    len: u64,
+    calls: CallList,
+}
+
+impl FileDisk {
+    /// A file without octets, on the disk: those that it had are cut off.
+    pub fn empty(file: File) -> io::Result<FileDisk>
+        ensures { IfOk result (λ disk. (written disk ≡ []) × (synced disk ≡ [])) }
+    {
+        file.set_len(0)?;
+        file.sync_all()?;
+        let mut calls = CallList::new();
+        calls.note(&[BEGUN, 0], &[]);
+        Ok(FileDisk {
+            file,
+            end: 0,
+            len: 0,
+            calls,
+        })
+    }
+
+    /// A file that stands, and its octets as the disk has them: it is brought to the disk, and the kernel lets go of its pages, which a failed
+    /// sync may have left other than the disk has them, before it is read. It takes memory.
+    pub fn read(alloc: Global, file: File) -> io::Result<(FileDisk, Vec<u8>)>
+        ensures { IfOk result (λ r. (written r.0 ≡ r.1.items) × (synced r.0 ≡ r.1.items)) }
+    {
+        file.sync_all()?;
+        let advised = libc::posix_fadvise(file.as_raw_fd(), 0, 0, libc::POSIX_FADV_DONTNEED);
+        if advised != 0 {
+            return Err(io::Error::from_raw_os_error(advised));
+        }
+        let mut file = file;
+        file.seek(SeekFrom::Start(0))?;
+        let mut octets = Vec::new(alloc);
+        file.read_to_end(&mut octets)?;
+        let mut calls = CallList::new();
+        calls.note(&[BEGUN, 0], &octets);
+        let len = octets.len() as u64;
+        let disk = FileDisk {
+            file,
+            end: len,
+            len,
+            calls,
+        };
+        Ok((disk, octets))
+    }
+
+    /// Whether a path leads to this very file, by the numbers that the system has for both (stat(2)): false where it leads to another one, or nowhere.
+    pub fn is_at<R: Files>(&self, files: &R, path: &str) -> io::Result<bool> {
+        let own = self.file.metadata()?;
+        match fs::metadata(files, path) {
+            Ok(found) => Ok(found.dev() == own.dev() && found.ino() == own.ino()),
+            Err(error) if error.kind() == ErrorKind::NotFound => Ok(false),
+            Err(error) => Err(error),
+        }
+    }
+
+    /// Writes octets behind all that it has, in room that is made ahead; those that it is begun with have none behind them.
+    fn write_behind(&mut self, octets: &[u8]) -> io::Result<()>
+        ensures { self.new.calls ≡ self.old.calls }
+    {
+        let end = self.end.saturating_add(octets.len() as u64);
+        if self.len < end && self.end > 0 {
+            self.make_long(end.saturating_add(ROOM))?;
+        }
+        self.file.seek(SeekFrom::Start(self.end))?;
+        self.file.write_all(octets)?;
+        self.end = end;
+        Ok(())
+    }
+
+    /// Makes the file so long.
+    fn make_long(&mut self, len: u64) -> io::Result<()>
+        ensures { self.new.calls ≡ self.old.calls }
+    {
+        self.file.set_len(len)?;
+        self.len = len;
+        Ok(())
+    }
+}
+
+impl Disk for FileDisk {
+    ghost use Rattle.store_files.specs.File.{written as file_written, synced as file_synced, lost as file_lost};
+
+    type Fault = io::Error;
+
+    ghost written = { file_written };
+
+    ghost synced = { file_synced };
+
+    ghost lost = { file_lost };
+
+    fn append(&mut self, octets: &[u8]) -> io::Result<()> {
+        self.write_behind(octets)?;
+        self.calls.note(&[APPENDED, 0], octets);
+        Ok(())
+    }
+
+    fn sync(&mut self) -> io::Result<()> {
+        let synced = self.file.sync_data();
+        match synced {
+            Ok(()) => self.calls.note(&[SYNCED, 0], &[]),
+            Err(_) => self.calls.note(&[NOT_SYNCED, 0], &[]),
+        }
+        synced
+    }
+
+    fn cut(&mut self, len: u64) -> io::Result<()> {
+        let told = self.make_long(len);
+        match told {
+            Ok(()) => {
+                self.end = len;
+                self.calls.note(&[CUT, len], &[]);
+            }
+            Err(_) => self.calls.note(&[NOT_CUT, len], &[]),
+        }
+        told
+    }
+}

@@ -1,0 +1,13 @@
+pub mod BeforeLemmas
+pub mod BegunLemmas
+pub mod BehindLemmas
+pub mod ChoiceLemmas
+pub mod CompactedLemmas
+pub mod CutLemmas
+pub mod FolderLemmas
+pub mod HeldLemmas
+pub mod ReadLemmas
+pub mod RebasedLemmas
+pub mod ReplayLemmas
+pub mod StartLemmas
+pub mod StoreLemmas

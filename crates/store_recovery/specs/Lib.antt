@@ -1,0 +1,12 @@
+pub mod Before
+pub mod Begun
+pub mod Behind
+pub mod Choice
+pub mod Choosing
+pub mod Folder
+pub mod Private
+pub mod Rebased
+pub mod Replay
+pub mod Start
+pub mod Store
+pub use Rattle.dns_engine.specs.Held

@@ -1,0 +1,91 @@
+-- What messages make of a zone, one upon the other, as an engine makes it that takes them (RFC 2136, 3).
+use Rattle.std.specs.Prelude.{◌≡◌, ℕ, ◌+◌, true, List, [], ◌∷◌, take, slice_get, None, Some, unwrap_or, ⊤}
+use Rattle.dns_rdata.specs.Record.{Record}
+use Rattle.dns_message.specs.declared.query.Parsed.TheVariants.{Update as Asks}
+use Rattle.dns_message.specs.declared.update.Update.{Update}
+use Rattle.dns_message.specs.Request.{reads}
+use Rattle.zone_tree.specs.Zone.{soa_of}
+use Rattle.zone_tree.specs.Change.{left_out}
+use Rattle.zone_tree.specs.Version.{Version, Changes}
+use Rattle.update_core.specs.Verdict.{verdict}
+use Rattle.update_core.specs.Act.{act, replay}
+use Rattle.update_core.specs.Applied.{code_of}
+use Rattle.dns_engine.specs.Versions.{Makes}
+use Rattle.dns_engine.specs.Held.{Held, KEPT, held_with}
+use Rattle.dns_engine.specs.Replayed.{EachChanges}
+use Rattle.store_recovery.specs.declared.fault.StartFault.{StartFault}
+use Rattle.store_recovery.specs.declared.fault.StartFault.TheVariants.{Update as NotTaken, NoMemory}
+use Rattle.store_recovery.specs.declared.fault.UpdateFault.{UpdateFault}
+use Rattle.store_recovery.specs.declared.fault.UpdateFault.TheVariants.{NotAnUpdate, Refused, ChangesNothing}
+use Rattle.store_recovery.specs.declared.recent_versions.RecentVersions.{RecentVersions}
+
+-- a message is read as this update (RFC 2136, 2)
+pub record IsRead (message : List ℕ) (update : Update) : Type 0 where
+  pub is : reads message ≡ Asks update
+
+-- messages are read as these updates, in order
+abbrev pub AreRead : List (List ℕ) → List Update → Type 0
+AreRead [] [] = Unit {0}
+AreRead (message ∷ messages) (update ∷ updates) = IsRead message update × AreRead messages updates
+AreRead _ _ = ⊥
+
+-- what a zone changed of the one before it (RFC 1995, 4)
+abbrev pub changes_from : List Record → List Record → Changes
+changes_from before after = record { old_soa = soa_of before; deletions = left_out before after; additions = left_out after before }
+
+-- the first version of a zone
+abbrev pub first_version : List Record → Version
+first_version zone = record { number = 0; zone = zone; changes = None }
+
+-- the version with a zone behind another one
+abbrev pub version_behind : Version → List Record → Version
+version_behind version zone = record { number = version.number + 1; zone = zone; changes = Some (changes_from version.zone zone) }
+
+-- the version that an update makes behind another one
+abbrev pub version_by : Version → Update → Version
+version_by version update = version_behind version (unwrap_or (act version.zone update) version.zone)
+
+-- what an engine holds when it is made: the first version, which alone is published
+abbrev pub begun : List Record → Held
+begun zone = record { published = first_version zone ∷ []; last = first_version zone; keep = KEPT; older = [] }
+
+-- what it holds once it has taken updates, one after another
+abbrev pub held_from : Held → List Update → Held
+held_from held [] = held
+held_from held (update ∷ updates) = held_from (held_with held (version_by held.last update)) updates
+
+-- a message makes of a version the next one
+pub record IsMade (version : Version) (message : List ℕ) (next : Version) : Type 0 where
+  pub update : Update
+  pub read : IsRead message update
+  pub makes : Makes update version next
+
+-- messages are replayed on a zone: each is an update that is taken and changes what those before it leave, and the newest versions are those that an
+-- engine of this zone holds which has taken them
+pub record IsReplayed (zone : List Record) (messages : List (List ℕ)) (newest : RecentVersions) : Type 0 where
+  pub updates : List Update
+  pub read : AreRead messages updates
+  pub taken : EachChanges zone updates
+  pub last : newest.last ≡ (held_from (begun zone) updates).last
+  pub older : newest.older.items ≡ (held_from (begun zone) updates).older
+
+-- why a message makes no next version of a zone: it is read as no update; a rule or a limit gives the update this code; it is taken, and changes nothing
+abbrev pub IsUpdateFault : List Record → List ℕ → UpdateFault → Type 0
+IsUpdateFault zone message NotAnUpdate = (update : Update) → IsRead message update → ⊥
+IsUpdateFault zone message (Refused code) = (update : Update) × IsRead message update × (code_of zone update true ≡ Some code)
+IsUpdateFault zone message ChangesNothing = (update : Update) × IsRead message update × (verdict zone update true ≡ None) × (act zone update ≡ Some zone)
+
+-- the message at a place isn't taken, and those before it are
+pub record IsNotTaken (zone : List Record) (messages : List (List ℕ)) (place : ℕ) (fault : UpdateFault) : Type 0 where
+  pub before : List Update
+  pub read : AreRead (take place messages) before
+  pub taken : EachChanges zone before
+  pub message : List ℕ
+  pub stands : slice_get messages place ≡ Some message
+  pub why : IsUpdateFault (replay zone before) message fault
+
+-- why messages aren't replayed on a zone
+abbrev pub IsReplayFault : List Record → List (List ℕ) → StartFault → Type 0
+IsReplayFault zone messages (NotTaken place fault) = IsNotTaken zone messages place fault
+IsReplayFault zone messages NoMemory = ⊤
+IsReplayFault zone messages _ = ⊥

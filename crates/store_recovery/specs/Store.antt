@@ -1,0 +1,25 @@
+-- What a server has on its disk: a zone text, and the journal of the updates that it took since (own).
+use Rattle.std.specs.Prelude.{◌≡◌, ℕ, List, [], All, map, Ok}
+use Rattle.dns_rdata.specs.Record.{Record}
+use Rattle.dns_message.specs.declared.update.Update.{Update}
+use Rattle.zone_tree.specs.Version.{zone_serial}
+use Rattle.master_file.specs.ZoneText.{zone_of_text}
+use Rattle.journal.specs.declared.heads.Head.{Head}
+use Rattle.journal.specs.Batch.{batch_of, IsShort}
+use Rattle.journal.specs.Frame.{Fit}
+use Rattle.journal.specs.Head.{IsHead, IsText}
+use Rattle.journal.specs.Recovered.{updates_in}
+use Rattle.dns_engine.specs.Replayed.{EachChanges}
+use Rattle.store_recovery.specs.Replay.{AreRead}
+
+-- a zone text and batches under a head that says which text it is: the text is a zone, and their updates are taken in it, one after another, each of
+-- which changes what those before it leave
+pub record IsStore (text : List ℕ) (head : Head) (batches : List (List (List ℕ))) (zone : List Record) (updates : List Update) : Type 0 where
+  pub is_head : IsHead head
+  pub same_text : IsText head.text text
+  pub is_zone : zone_of_text [] text ≡ Ok zone
+  pub serial : zone_serial zone ≡ head.serial
+  pub short : All (All IsShort) batches
+  pub fit : Fit 0 (map batch_of batches)
+  pub read : AreRead (updates_in batches) updates
+  pub taken : EachChanges zone updates

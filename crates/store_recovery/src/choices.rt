@@ -1,0 +1,125 @@
+//! Which is served at a start (own).
+ghost use Rattle.std.specs.Prelude.{◌≡◌, ◌≢◌, ◌⊎◌, false, Some, IfOk, IfErr};
+ghost use Rattle.master_file.specs.Fault.{no_memory};
+ghost use Rattle.store_recovery.specs.Choice.{IsChoice, IsChoiceFault};
+ghost use Rattle.store_recovery.specs.declared.choices.Take.TheVariants.{Store as TheStore};
+ghost use Rattle.store_recovery.specs.Choosing.{by_serial, taken_zone, of_zones, IsWithoutZone};
+
+use dns_name::Name;
+use dns_rdata::Serial;
+use journal::TextSum;
+use master_file::{Cause, FileFault, read_zone};
+use std::alloc::Global;
+use zone_tree::{Zone, ZoneRead};
+
+/// What the operator takes, of a store and the zone text that he names, where that is another one than the store was begun from.
+#[derive(Clone, Copy, Debug, PartialEq, Eq)]
+pub enum Take {
+    /// The store: of the text no more is looked at than its zone's apex.
+    Store,
+    /// The zone text, whose serial has to be greater than the store's: a new store is begun from it.
+    Zone,
+}
+
+/// Which is served at a start.
+#[derive(Drop)]
+pub enum Choice {
+    /// The store: the zone text is the one that it was begun from.
+    Same,
+    /// The store, which is taken.
+    Store,
+    /// The zone text, which is taken: its zone.
+    Zone(Zone),
+    /// The store, though the zone text is another one: its zone has this serial, which isn't greater than that of the store's last version.
+    StoreThoughOther(Serial),
+    /// Neither, until one of them is taken: the zone text is another one, and its zone has this serial, which is greater.
+    RefuseNewer(Serial),
+    /// Neither: the zone text is taken, and its zone has this serial, which isn't greater than that of the store's last version, so that secondaries would not
+    /// see the change (RFC 1982, 3.2; RFC 1996, 4.5).
+    RefuseNotNewer(Serial),
+    /// Neither, whatever is taken: the zone text is a zone of this apex, which is another one than the store's.
+    RefuseOtherApex(Name),
+}
+
+/// Which is served at a start: a store that was begun from the text `begun` and whose last version has the zone `last`, or the zone text that the operator names,
+/// in which names are relative to the origin; with what he takes of the two, if anything. Apexes are compared as names are (RFC 4343, 3), and serials as RFC 1982, 3.2
+/// says. Where the text is the one that the store was begun from, or the store is taken, nothing but its zone's apex is looked at, if it is a zone.
+///
+/// The fault is that of a text that is no zone, is another one than the store was begun from, and is to be compared with it; or `NoMemory`, at line 0, where a growth
+/// was refused.
+pub fn choose(
+    alloc: Global,
+    begun: &TextSum,
+    last: &Zone,
+    text: &[u8],
+    origin: &Name,
+    taken: Option<Take>,
+) -> Result<Choice, FileFault>
+    ensures chosen { IfOk result (λ choice. IsChoice begun.now last.now origin.now text.now taken choice) }
+    ensures fault { IfErr result (λ fault. IsChoiceFault begun.now origin.now text.now taken fault) }
+{
+    let same = begun.is_of(text);
+    match read_zone(alloc, text, origin) {
+        Ok(zone) => Ok(of_zones(last, zone, same, taken)),
+        Err(fault) => without_zone(fault, same, taken),
+    }
+}
+
+/// Which is served of a store whose last version has the zone `last` and a text of this zone, by whether the text is the one that the store was begun from, and what is
+/// taken.
+fn of_zones(last: &Zone, zone: Zone, same: bool, taken: Option<Take>) -> Choice
+    ensures { result ≡ of_zones last.now zone same taken }
+{
+    let apex = zone.apex().copy();
+    if apex != *last.apex() {
+        return Choice::RefuseOtherApex(apex);
+    }
+    if same {
+        return Choice::Same;
+    }
+    match taken {
+        Some(Take::Store) => Choice::Store,
+        Some(Take::Zone) => taken_zone(last.serial(), zone),
+        None => by_serial(last.serial(), zone.serial()),
+    }
+}
+
+/// Which is served where a text has this fault: the store, where the text is the one that it was begun from, or it is taken; but nothing where memory is wanted.
+fn without_zone(fault: FileFault, same: bool, taken: Option<Take>) -> Result<Choice, FileFault>
+    ensures chosen { IfOk result (λ choice. (fault ≢ no_memory) × IsWithoutZone same taken choice) }
+    ensures fault { IfErr result (λ told. (told ≡ fault) × ((fault ≡ no_memory) ⊎ ((same ≡ false) × (taken ≢ Some TheStore)))) }
+{
+    if fault.line == 0 && fault.cause == Cause::NoMemory {
+        return Err(fault);
+    }
+    if same {
+        return Ok(Choice::Same);
+    }
+    match taken {
+        Some(Take::Store) => Ok(Choice::Store),
+        Some(Take::Zone) | None => Err(fault),
+    }
+}
+
+/// Which is served where a text is taken, whose zone this is: the zone, if its serial is greater than that of the store's last version (RFC 1982, 3.2).
+fn taken_zone(last: Serial, zone: Zone) -> Choice
+    ensures { result ≡ taken_zone last.0 zone }
+{
+    let given = zone.serial();
+    if last.less(given) {
+        Choice::Zone(zone)
+    } else {
+        Choice::RefuseNotNewer(given)
+    }
+}
+
+/// Which is served where nothing is taken, by the serial of the store's last version and that of another text's zone (RFC 1982, 3.2).
+fn by_serial(last: Serial, given: Serial) -> Choice
+    ensures { result ≡ by_serial last.0 given }
+{
+    if last.less(given) {
+        Choice::RefuseNewer(given)
+    } else {
+        Choice::StoreThoughOther(given)
+    }
+}

@@ -1,0 +1,90 @@
+//! Laws of stores: each is the contract of a function that does nothing.
+ghost use Rattle.std.specs.Prelude.{◌≡◌, ◌≢◌, ◌+◌, ◌≤◌, ℕ, List, [], Option, Some, length, take, drop, map, All};
+ghost use Rattle.dns_name.specs.Name.{Name};
+ghost use Rattle.dns_rdata.specs.Record.{Record};
+ghost use Rattle.dns_message.specs.declared.update.Update.{Update};
+ghost use Rattle.update_core.specs.Act.{replay};
+ghost use Rattle.master_file.specs.declared.fault.FileFault.{FileFault};
+ghost use Rattle.master_file.specs.Fault.{no_memory};
+ghost use Rattle.journal.specs.declared.heads.Head.{Head};
+ghost use Rattle.journal.specs.declared.heads.TextSum.{TextSum};
+ghost use Rattle.journal.specs.Batch.{batch_of, IsShort};
+ghost use Rattle.journal.specs.Frame.{Fit};
+ghost use Rattle.journal.specs.Head.{IsText};
+ghost use Rattle.journal.specs.Recovered.{journal_of};
+ghost use Rattle.store_recovery.specs.declared.fault.StartFault.{StartFault};
+ghost use Rattle.store_recovery.specs.declared.fault.StartFault.TheVariants.{NoMemory};
+ghost use Rattle.store_recovery.specs.declared.start.Recovery.{Recovery};
+ghost use Rattle.store_recovery.specs.Start.{IsStarted, IsStartFault};
+ghost use Rattle.store_recovery.specs.Store.{IsStore};
+ghost use Rattle.store_recovery.specs.declared.choices.Choice.{Choice};
+ghost use Rattle.store_recovery.specs.declared.choices.Choice.TheVariants.{Same, RefuseOtherApex};
+ghost use Rattle.store_recovery.specs.declared.choices.Take.{Take};
+ghost use Rattle.store_recovery.specs.Behind.{AreBehind, batches_behind};
+ghost use Rattle.store_recovery.specs.Choice.{HasNoOtherApex, HasOtherApex, IsChoice, IsChoiceFault};
+ghost use Rattle.store_recovery.specs.Folder.{Folder, Means, HasPair, with_text, without_text, with_journal};
+
+/// A start has one choice at most; and where it has one, want of memory is the only fault.
+pub fn one_choice()
+    ensures once { (begun : TextSum) (last : List Record) (origin : Name) (text : List ℕ) (taken : Option Take) (choice other : Choice)
+        → IsChoice begun last origin text taken choice → IsChoice begun last origin text taken other → choice ≡ other }
+    ensures apart { (begun : TextSum) (last : List Record) (origin : Name) (text : List ℕ) (taken : Option Take) (choice : Choice) (fault : FileFault)
+        → IsChoice begun last origin text taken choice → IsChoiceFault begun origin text taken fault → fault ≡ no_memory }
+{}
+
+/// Where the zone text is the one that the store was begun from, the store is served, whatever is taken: so at the start behind one at which the zone text was taken. But
+/// where names of the text are relative to another origin, so that its zone has another apex, that is refused; and want of memory is the only fault.
+pub fn begun_from_is_served()
+    ensures same { (begun : TextSum) (last : List Record) (origin : Name) (text : List ℕ) (taken : Option Take) (choice : Choice)
+        → IsText begun text → HasNoOtherApex last origin text → IsChoice begun last origin text taken choice → choice ≡ Same }
+    ensures only_fault { (begun : TextSum) (origin : Name) (text : List ℕ) (taken : Option Take) (fault : FileFault)
+        → IsText begun text → IsChoiceFault begun origin text taken fault → fault ≡ no_memory }
+{}
+
+/// A zone text of another apex than the store's is refused, whichever text the store was begun from, and whatever is taken.
+pub fn other_apex_is_refused()
+    ensures { (begun : TextSum) (last : List Record) (origin : Name) (text : List ℕ) (taken : Option Take) (apex : Name) (choice : Choice)
+        → HasOtherApex last origin text apex → IsChoice begun last origin text taken choice → choice ≡ RefuseOtherApex apex }
+{}
+
+/// A store that is begun of the version behind the first updates of another, with the batches behind them, is a store of the versions from there on: each is the same
+/// zone. A start of it has the zone that a start of the other has, with as many updates fewer. What is left of a store's batches fits a journal of its own.
+pub fn compacted_is_the_same()
+    ensures store { (text written : List ℕ) (head next : Head) (batches rest : List (List (List ℕ))) (zone : List Record) (updates : List Update) (k : ℕ)
+        → IsStore text head batches zone updates → IsStore written next [] (replay zone (take k updates)) [] → AreBehind k batches rest
+        → IsStore written next rest (replay zone (take k updates)) (drop k updates) }
+    ensures versions { (zone : List Record) (updates : List Update) (k n : ℕ)
+        → replay (replay zone (take k updates)) (take n (drop k updates)) ≡ replay zone (take (k + n) updates) }
+    ensures last { (zone : List Record) (updates : List Update) (k : ℕ) → replay (replay zone (take k updates)) (drop k updates) ≡ replay zone updates }
+    ensures started { (text written : List ℕ) (head next : Head) (batches rest : List (List (List ℕ))) (zone : List Record) (updates : List Update) (k : ℕ) (start later : Recovery)
+        → IsStore text head batches zone updates → IsStore written next [] (replay zone (take k updates)) [] → AreBehind k batches rest → k ≤ length updates
+        → IsStarted text (journal_of head batches) start → IsStarted written (journal_of next rest) later
+        → (start.newest.last.zone ≡ later.newest.last.zone) × (start.newest.last.number ≡ k + later.newest.last.number) }
+    ensures behind { (batches : List (List (List ℕ))) (k : ℕ) → All (All IsShort) batches → Fit 0 (map batch_of batches) → AreBehind k batches (batches_behind k batches) }
+{}
+
+/// A start of a folder that means a store, of its journal and the zone text that the journal's head names, has the store's last version; and it is refused for want of
+/// memory alone.
+pub fn what_a_folder_means_is_started()
+    ensures taken { (folder : Folder) (head : Head) (batches : List (List (List ℕ))) (zone : List Record) (updates : List Update) (octets text : List ℕ) (start : Recovery)
+        → Means folder head batches zone updates → HasPair folder octets text → IsStarted text octets start
+        → (start.head ≡ head) × (start.newest.last.zone ≡ replay zone updates) × (start.newest.last.number ≡ length updates) }
+    ensures accepted { (folder : Folder) (head : Head) (batches : List (List (List ℕ))) (zone : List Record) (updates : List Update) (octets text : List ℕ) (fault : StartFault)
+        → Means folder head batches zone updates → HasPair folder octets text → IsStartFault text octets fault → fault ≡ NoMemory }
+{}
+
+/// A folder means one store at most. Each step of a compaction leaves it a meaning: the next zone text is written, and the store is the one that it was; a journal that
+/// names that text is renamed over the one before, and the store is that of the later version, with the batches behind it; and a text that the journal doesn't name
+/// goes. So whatever a crash leaves between two steps, the versions are the same ([`compacted_is_the_same`]).
+pub fn each_step_keeps_the_meaning()
+    ensures once { (folder : Folder) (head other : Head) (batches others : List (List (List ℕ))) (zone other_zone : List Record) (updates other_updates : List Update)
+        → Means folder head batches zone updates → Means folder other others other_zone other_updates
+        → (head ≡ other) × (batches ≡ others) × (zone ≡ other_zone) × (updates ≡ other_updates) }
+    ensures written { (folder : Folder) (head : Head) (batches : List (List (List ℕ))) (zone : List Record) (updates : List Update) (number : ℕ) (text : List ℕ)
+        → Means folder head batches zone updates → number ≢ head.number → Means (with_text folder number text) head batches zone updates }
+    ensures renamed { (folder : Folder) (head next : Head) (batches rest : List (List (List ℕ))) (zone : List Record) (updates : List Update) (k : ℕ) (written : List ℕ)
+        → Means folder head batches zone updates → folder.texts next.number ≡ Some written → IsStore written next [] (replay zone (take k updates)) [] → AreBehind k batches rest
+        → Means (with_journal folder (journal_of next rest)) next rest (replay zone (take k updates)) (drop k updates) }
+    ensures removed { (folder : Folder) (head : Head) (batches : List (List (List ℕ))) (zone : List Record) (updates : List Update) (number : ℕ)
+        → Means folder head batches zone updates → number ≢ head.number → Means (without_text folder number) head batches zone updates }
+{}

@@ -1,0 +1,4 @@
+pub mod ChainLemmas
+pub mod RecoveredLemmas
+pub mod ResumedLemmas
+pub mod ServedLemmas

@@ -1,0 +1,4 @@
+pub mod Private
+pub mod Resumed
+pub mod Served
+pub mod Started

@@ -1,0 +1,137 @@
+-- What a server begins with (own).
+use Rattle.std.specs.Prelude.{◌≡◌, ◌-◌, ◌∷◌, ⊤, ℕ, List, [], Option, Ok, Err, length, map, drop}
+use Rattle.dns_name.specs.Name.{Name}
+use Rattle.dns_rdata.specs.Record.{Record}
+use Rattle.zone_tree.specs.Zone.{apex_of}
+use Rattle.zone_tree.specs.Version.{zone_serial}
+use Rattle.dns_engine.specs.Versions.{IsFirst, AreNext}
+use Rattle.master_file.specs.ZoneText.{zone_of_text}
+use Rattle.journal.specs.declared.heads.Head.{Head}
+use Rattle.journal.specs.declared.heads.TextSum.{TextSum}
+use Rattle.journal.specs.Head.{IsText}
+use Rattle.journal.specs.declared.log.Log.{Log}
+use Rattle.journal.specs.Log.{Holds}
+use Rattle.store_files.specs.declared.file.FileDisk.{FileDisk}
+use Rattle.store_files.specs.File.{written, synced}
+use Rattle.store_recovery.specs.declared.start.Recovery.{Recovery}
+use Rattle.store_recovery.specs.Replay.{first_version}
+use Rattle.store_recovery.specs.Rebased.{versions_in, rebased}
+use Rattle.store_recovery.specs.Start.{IsStarted, IsSound, IsStartFault}
+use Rattle.store_files.specs.declared.open.OpenedFolder.{OpenedFolder}
+use Rattle.store_files.specs.declared.open.OpenedFolder.TheVariants.{Empty, Found}
+use Rattle.store_recovery.specs.declared.choices.Take.{Take}
+use Rattle.store_recovery.specs.declared.choices.Choice.{Choice}
+use Rattle.store_recovery.specs.declared.choices.Choice.TheVariants.{Same as IsSame, Store as IsStore, Zone as IsZone, StoreThoughOther as IsOlder, RefuseNewer, RefuseNotNewer, RefuseOtherApex}
+use Rattle.store_recovery.specs.Begun.{IsBegun}
+use Rattle.store_recovery.specs.Choice.{IsChoice}
+use Rattle.store_server.specs.declared.refusal.Refusal.{Refusal}
+use Rattle.store_server.specs.declared.refusal.Refusal.TheVariants.{Held, NoJournal, NoText, NoStart, Newer, NotNewer, OtherApex, Text, NoMemory, Device}
+use Rattle.store_server.specs.declared.resume.OpenStore.{OpenStore}
+use Rattle.store_server.specs.declared.start.Served.{Served}
+use Rattle.store_server.specs.declared.start.Served.TheVariants.{Begun, Same, Store, StoreThoughOther, Zone}
+use Rattle.store_server.specs.declared.start.Started.{Started}
+
+-- a store created with a zone, whose text was given: a head that says so, and a log on the disk without batches
+pub record IsNewStore {F : Type 0} (zone : List Record) (number : ℕ) (random given : List ℕ) (head : Head) (log : Log FileDisk F) : Type 0 where
+  pub text : List ℕ
+  pub origin : TextSum
+  pub begun : IsBegun zone number random origin text head
+  pub from : IsText origin given
+  pub empty : Holds written synced head log []
+
+-- updates are the last `count` ones of a zone file's journal, as they were received
+pub record AreLastUpdates (text octets : List ℕ) (count : ℕ) (updates : List (List ℕ)) : Type 0 where
+  pub head : Head
+  pub all : List (List ℕ)
+  pub sound : IsSound text octets head all
+  pub last : updates ≡ drop (length all - count) all
+
+-- a store is reopened, from whose zone file and journal `start` was recovered: the log on the disk has the journal's batches, and nothing after them. The versions are the
+-- recent ones, the oldest as the first of its zone, and the updates are those that made the others
+pub record GoesOn (text octets : List ℕ) (start : Recovery) (store : OpenStore) : Type 0 where
+  pub is : IsStarted text octets start
+  pub head : store.head ≡ start.head
+  pub log : Holds written synced store.head store.log is.recovered.bodies
+  pub versions : store.first ∷ store.later.items ≡ rebased (versions_in start.newest)
+  pub made : IsFirst store.first.zone store.first × AreNext store.first store.later.items
+  pub updates : map (λ update. update.items) store.updates.items ≡ drop (length is.messages - length start.newest.older.items) is.messages
+
+-- a store is created with a zone, whose text was given: only its first version is served
+pub record IsBegunStore (zone : List Record) (number : ℕ) (random given : List ℕ) (store : OpenStore) : Type 0 where
+  pub new : IsNewStore zone number random given store.head store.log
+  pub first : store.first ≡ first_version zone
+  pub later : store.later.items ≡ []
+  pub updates : store.updates.items ≡ []
+
+-- the given zone file is served, with a new store
+pub record IsBegunWith (given : List ℕ) (origin : Name) (random : List ℕ) (store : OpenStore) : Type 0 where
+  pub zone : List Record
+  pub number : ℕ
+  pub is_zone : zone_of_text origin given ≡ Ok zone
+  pub begun : IsBegunStore zone number random given store
+
+-- a directory's store is chosen, or the zone file in its place, by the zone of the store's last version
+pub record IsChosen (given : List ℕ) (origin : Name) (taken : Option Take) (text octets : List ℕ) (choice : Choice) : Type 0 where
+  pub start : Recovery
+  pub is : IsStarted text octets start
+  pub chosen : IsChoice start.head.origin start.newest.last.zone origin given taken choice
+
+-- which is served, and the open store
+abbrev pub IsServedBy : List ℕ → Name → Option Take → List ℕ → OpenStore → Served → Type 0
+IsServedBy given origin taken random store Begun = IsBegunWith given origin random store
+IsServedBy given origin taken random store (Zone kept) = (text : List ℕ) × (octets : List ℕ) × (zone : List Record) × IsChosen given origin taken text octets (IsZone zone) × IsBegunWith given origin random store
+IsServedBy given origin taken random store Same = (text : List ℕ) × (octets : List ℕ) × (is : IsChosen given origin taken text octets IsSame) × GoesOn text octets is.start store
+IsServedBy given origin taken random store Store = (text : List ℕ) × (octets : List ℕ) × (is : IsChosen given origin taken text octets IsStore) × GoesOn text octets is.start store
+IsServedBy given origin taken random store (StoreThoughOther serial) =
+    (text : List ℕ) × (octets : List ℕ) × (is : IsChosen given origin taken text octets (IsOlder serial)) × GoesOn text octets is.start store
+
+abbrev pub IsServed : List ℕ → Name → Option Take → List ℕ → Started → Type 0
+IsServed given origin taken random started = IsServedBy given origin taken random started.store started.served
+
+-- the zone file that the operator chose is served, and the previous store is kept
+abbrev pub IsKept : Served → Type 0
+IsKept (Zone kept) = ⊤
+IsKept _ = ⊥
+
+-- the zone file is served since there was no store
+abbrev pub IsBegunAnew : Served → Type 0
+IsBegunAnew Begun = ⊤
+IsBegunAnew _ = ⊥
+
+-- that holds only for a directory without a store. A store that is found is reopened, or is kept beside the one created in its place
+abbrev pub IsOfFolder : OpenedFolder → Served → Type 0
+IsOfFolder (Empty lock) served = IsBegunAnew served
+IsOfFolder (Found lock pair) served = IsBegunAnew served → ⊥
+IsOfFolder _ served = ⊥
+
+-- lack of memory, or a device's fault
+abbrev pub IsOwnFault : Refusal → Type 0
+IsOwnFault NoMemory = ⊤
+IsOwnFault (Device fault) = ⊤
+IsOwnFault _ = ⊥
+
+-- or a zone file and a journal from which no store can be recovered
+abbrev pub IsNoStore : List ℕ → List ℕ → Refusal → Type 0
+IsNoStore text octets (NoStart fault) = IsStartFault text octets fault
+IsNoStore text octets refusal = IsOwnFault refusal
+
+-- or a zone file that is not a valid zone
+abbrev pub IsNoText : List ℕ → Name → Refusal → Type 0
+IsNoText given origin (Text fault) = zone_of_text origin given ≡ Err fault
+IsNoText given origin refusal = IsOwnFault refusal
+
+-- the reasons why nothing is served
+abbrev pub IsRefused : List ℕ → Name → Option Take → Refusal → Type 0
+IsRefused given origin taken Held = ⊤
+IsRefused given origin taken (NoJournal number) = ⊤
+IsRefused given origin taken (NoText number) = ⊤
+IsRefused given origin taken (NoStart fault) = (text : List ℕ) × (octets : List ℕ) × IsStartFault text octets fault
+IsRefused given origin taken (Newer has serial) =
+    (text : List ℕ) × (octets : List ℕ) × (is : IsChosen given origin taken text octets (RefuseNewer serial)) × (has.0 ≡ zone_serial is.start.newest.last.zone)
+IsRefused given origin taken (NotNewer has serial) =
+    (text : List ℕ) × (octets : List ℕ) × (is : IsChosen given origin taken text octets (RefuseNotNewer serial)) × (has.0 ≡ zone_serial is.start.newest.last.zone)
+IsRefused given origin taken (OtherApex has other) =
+    (text : List ℕ) × (octets : List ℕ) × (is : IsChosen given origin taken text octets (RefuseOtherApex other)) × (has ≡ apex_of is.start.newest.last.zone)
+IsRefused given origin taken (Text fault) = zone_of_text origin given ≡ Err fault
+IsRefused given origin taken NoMemory = ⊤
+IsRefused given origin taken (Device fault) = ⊤

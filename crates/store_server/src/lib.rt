@@ -1,0 +1,30 @@
+//! The store of a running server: how it starts, and where it writes updates (RFC 2136, 3.5; own).
+//!
+//! [`start_store`] locks the store's directory and gives the zone to serve. A directory without a journal gets a new store from the operator's zone file. Otherwise the zone is
+//! that of the store with its journal's updates replayed, if the zone file is the one that the store was created from, or is not newer, or the operator chose the store. If the
+//! operator chose a changed zone file, the store is created again from it, and the previous store is kept beside it. A torn end of the journal is copied to a file of its own
+//! before it is cut off. Nothing is changed if nothing is served.
+//!
+//! [`resume_store`] gives the versions that a server begins with, and the store's writer, which has the same versions with the updates that made them. A [`ServerStore`] writes
+//! the updates of batches to a store, or nowhere, if none is configured. [`StoreFaults`] and [`StoreNotes`] log to a [`StoreLog`] when updates cannot be written and why, when
+//! they can be again, and the results of compactions: one line at each change, and none for each batch.
+#![tactic(auto)]
+
+mod begin;
+mod event;
+mod notes;
+mod refusal;
+mod resume;
+mod resumed;
+mod served;
+mod start;
+mod updates;
+
+pub use begin::begin_with;
+pub use event::{StoreEvent, StoreLog};
+pub use notes::{StoreFaults, StoreNotes};
+pub use refusal::Refusal;
+pub use resume::{OpenStore, resume_pair};
+pub use resumed::resume_store;
+pub use served::{LoggedStore, ServerStore};
+pub use start::{Given, Served, Started, start_store};

@@ -1,0 +1,76 @@
+//! What a server begins with from an open store (own).
+ghost use Rattle.std.specs.Prelude.{◌≡◌, List, [], length, min, map, All, IfOk};
+ghost use Rattle.dns_engine.specs.Held.{KEPT};
+ghost use Rattle.dns_engine.specs.Versions.{IsFirst, AreNext};
+ghost use Rattle.journal.specs.Batch.{IsShort};
+ghost use Rattle.store_compaction.specs.declared.version_update.VersionUpdate.{VersionUpdate};
+ghost use Rattle.store_compaction.specs.RecentUpdates.{versions_in, updates_of, followed};
+ghost use Rattle.store_compaction.specs.Writer.{trail_of as trail_in};
+ghost use Rattle.store_server.specs.Resumed.{IsGiven, WritesOn};
+
+use crate::resume::OpenStore;
+use dns_engine::SharedVersion;
+use std::alloc::{AllocError, Global};
+use std::sync::Wait;
+use store_compaction::{RecentUpdates, StoreWriter, steps_of};
+use store_files::FileDisk;
+
+/// The versions with which a server begins that keeps `keep` older ones, and the writer of their store, whose recent updates share these versions. It allocates memory.
+pub fn resume_store<R: Wait>(
+    rt: &R,
+    alloc: Global,
+    store: OpenStore,
+    keep: usize,
+) -> Result<(SharedVersion, Vec<SharedVersion>, StoreWriter<FileDisk>), AllocError>
+    requires { IsGiven store }
+    ensures first { IfOk result (λ r. r.0 ≡ store.first) }
+    ensures later { IfOk result (λ r. r.1.items ≡ store.later.items) }
+    ensures served { IfOk result (λ r. IsFirst r.0.zone r.0 × AreNext r.0 r.1.items) }
+    ensures writes { IfOk result (λ r. WritesOn r.0 r.1.items r.2) }
+    ensures keep { IfOk result (λ r. (trail_in r.2).keep ≡ min keep KEPT) }
+{
+    let OpenStore {
+        head,
+        log,
+        first,
+        later,
+        updates,
+    } = store;
+    let Some(first) = SharedVersion::new(alloc, first) else {
+        return Err(AllocError);
+    };
+    let later = SharedVersion::all(alloc, later)?;
+    let trail = trail_of(rt, alloc, &first, &later, &updates, keep)?;
+    Ok((first, later, StoreWriter::of(head, log, trail)))
+}
+
+/// The recent updates of versions, each but the first with the update that made it, of which `keep` older ones are kept.
+fn trail_of<R: Wait>(
+    rt: &R,
+    alloc: Global,
+    first: &SharedVersion,
+    later: &[SharedVersion],
+    updates: &[Vec<u8>],
+    keep: usize,
+) -> Result<RecentUpdates, AllocError>
+    requires short { All IsShort (map (λ update. update.items) updates.now) }
+    requires many { length later.now ≡ length updates.now }
+    ensures { IfOk result (λ trail. (steps : List VersionUpdate) × (versions_in steps ≡ later.now) × (updates_of steps ≡ map (λ update. update.items) updates.now)
+        × (trail ≡ followed (record { oldest = first.now; steps = []; keep = min keep KEPT }) steps)) }
+{
+    let mut trail = RecentUpdates::of(alloc, first.share(rt), keep)?;
+    let octets = octets_of(alloc, updates)?;
+    trail.follow(steps_of(rt, alloc, later, &octets)?);
+    Ok(trail)
+}
+
+/// Updates as slices of bytes.
+fn octets_of(alloc: Global, updates: &[Vec<u8>]) -> Result<Vec<&[u8]>, AllocError>
+    ensures { IfOk result (λ octets. map (λ one. one.now) octets.items ≡ map (λ update. update.items) updates.now) }
+{
+    let mut octets = Vec::with_capacity(alloc, updates.len())?;
+    for update in updates {
+        octets.push(update.as_slice())?;
+    }
+    Ok(octets)
+}

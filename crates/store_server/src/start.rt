@@ -1,0 +1,282 @@
+//! Starting from a directory (own).
+ghost use Rattle.std.specs.Prelude.{◌≡◌, ◌≢◌, ◌≤◌, ℕ, [], length, drop, map, IfOk, IfErr, MatchOption};
+ghost use Rattle.store_files.specs.File.{written};
+ghost use Rattle.store_recovery.specs.Start.{IsStarted};
+ghost use Rattle.store_recovery.specs.Choice.{IsChoice};
+ghost use Rattle.store_server.specs.Started.{AreLastUpdates, GoesOn, IsBegunAnew, IsBegunStore, IsOfFolder, IsOwnFault, IsNoText, IsKept, IsServed, IsRefused};
+ghost use Rattle.store_files.specs.Store.{IsAsNoted};
+
+use crate::begin::begin_with;
+use crate::refusal::Refusal;
+use crate::resume::{OpenStore, resume_pair};
+use crate::updates::start_with_updates;
+use dns_name::Name;
+use dns_rdata::Serial;
+use journal::Head;
+use master_file::read_zone;
+use std::alloc::Global;
+use std::fs::{File, Files};
+use store_files::{
+    FIRST_TEXT, OpenedFolder, Pair, StoreLock, drop_others, keep_pair, keep_torn, open_store,
+};
+use store_recovery::{Choice, Ending, Recovery, Take, choose};
+use zone_tree::{Version, Zone, ZoneRead};
+
+/// The operator's zone file and options for a store.
+#[derive(Clone, Copy)]
+pub struct Given<'a> {
+    /// The text of the zone file.
+    pub text: &'a [u8],
+    /// The origin of its relative names.
+    pub origin: &'a Name,
+    /// Which of the two to serve if the text has changed since the store was created.
+    pub taken: Option<Take>,
+}
+
+/// Which of the two is served.
+#[derive(Debug, Drop)]
+pub enum Served {
+    /// The zone file: the directory had no store.
+    Begun,
+    /// The store, which was created from the zone file.
+    Same,
+    /// The store, as the operator chose.
+    Store,
+    /// The store, although the zone file has changed: its zone has this serial, which is not greater.
+    StoreThoughOther(Serial),
+    /// The zone file, as the operator chose. The previous store is kept in this directory.
+    Zone(String),
+}
+
+/// What a server begins with.
+#[derive(Drop)]
+pub struct Started {
+    /// The lock of the directory.
+    pub lock: StoreLock,
+    /// The store.
+    pub store: OpenStore,
+    /// Which of the two is served.
+    pub served: Served,
+    /// The path of the file with the bytes after the journal's last batch that were no frame, if there were any.
+    pub torn: Option<String>,
+}
+
+/// Locks the store of an existing directory, and gives what a server begins with. `random` are bytes unknown to anyone else, for a new journal. It allocates memory.
+pub fn start_store<R: Files<File = File> + Alloc + Clone + Drop>(
+    rt: &R,
+    alloc: Global,
+    dir: &str,
+    given: Given<'_>,
+    random: [u8; 16],
+) -> Result<Started, Refusal>
+    ensures served { IfOk result (λ started. IsServed given.entry.text.now given.entry.origin.now given.entry.taken random started) }
+    ensures refused { IfErr result (λ refusal. IsRefused given.entry.text.now given.entry.origin.now given.entry.taken refusal) }
+{
+    let opened = open_store(rt, alloc, dir)?;
+    start_opened(rt, alloc, dir, given, random, opened)
+}
+
+/// What a server begins with, given what its directory has: the zone file alone only if there is no store.
+fn start_opened<R: Files<File = File> + Alloc + Clone + Drop>(
+    rt: &R,
+    alloc: Global,
+    dir: &str,
+    given: Given<'_>,
+    random: [u8; 16],
+    opened: OpenedFolder,
+) -> Result<Started, Refusal>
+    requires noted { IsAsNoted opened }
+    ensures served { IfOk result (λ started. IsServed given.entry.text.now given.entry.origin.now given.entry.taken random started) }
+    ensures found { IfOk result (λ started. IsOfFolder opened started.served) }
+    ensures refused { IfErr result (λ refusal. IsRefused given.entry.text.now given.entry.origin.now given.entry.taken refusal) }
+{
+    match opened {
+        OpenedFolder::Locked => Err(Refusal::Held),
+        OpenedFolder::NoJournal(number) => Err(Refusal::NoJournal(number)),
+        OpenedFolder::NoText(number) => Err(Refusal::NoText(number)),
+        OpenedFolder::Empty(lock) => {
+            let zone = read_zone(alloc, given.text, given.origin)?;
+            let store = begin_anew(rt, alloc, dir, zone, FIRST_TEXT, random, given.text)?;
+            Ok(Started {
+                lock,
+                store,
+                served: Served::Begun,
+                torn: None,
+            })
+        }
+        OpenedFolder::Found(lock, pair) => start_found(rt, alloc, dir, given, random, lock, pair),
+    }
+}
+
+/// What a server begins with if the directory has a store.
+fn start_found<R: Files<File = File> + Alloc + Clone + Drop>(
+    rt: &R,
+    alloc: Global,
+    dir: &str,
+    given: Given<'_>,
+    random: [u8; 16],
+    lock: StoreLock,
+    pair: Pair,
+) -> Result<Started, Refusal>
+    requires noted { written pair.disk ≡ pair.journal.items }
+    ensures served { IfOk result (λ started. IsServed given.entry.text.now given.entry.origin.now given.entry.taken random started) }
+    ensures found { IfOk result (λ started. IsBegunAnew started.served → ⊥) }
+    ensures refused { IfErr result (λ refusal. IsRefused given.entry.text.now given.entry.origin.now given.entry.taken refusal) }
+{
+    let (start, updates) = start_with_updates(alloc, &pair.text, &pair.journal)?;
+    match choice_of(alloc, &start, given)? {
+        Choice::Same => go_on(rt, alloc, dir, lock, pair, start, updates, Served::Same),
+        Choice::Store => go_on(rt, alloc, dir, lock, pair, start, updates, Served::Store),
+        Choice::StoreThoughOther(serial) => {
+            go_on(
+                rt,
+                alloc,
+                dir,
+                lock,
+                pair,
+                start,
+                updates,
+                Served::StoreThoughOther(serial),
+            )
+        }
+        Choice::RefuseNewer(given) => {
+            let has = start.newest.last.serial();
+            Err(Refusal::Newer { has, given })
+        }
+        Choice::RefuseNotNewer(given) => {
+            let has = start.newest.last.serial();
+            Err(Refusal::NotNewer { has, given })
+        }
+        Choice::RefuseOtherApex(given) => {
+            let has = start.newest.last.zone().apex().copy();
+            Err(Refusal::OtherApex { has, given })
+        }
+        Choice::Zone(zone) => take_text(
+            rt, alloc, dir, given, random, lock, pair, start.head, zone,
+        ),
+    }
+}
+
+/// Chooses between a recovered store and the operator's zone file.
+fn choice_of(alloc: Global, start: &Recovery, given: Given<'_>) -> Result<Choice, Refusal>
+    ensures chosen { IfOk result (λ choice. IsChoice start.now.head.origin start.now.newest.last.zone given.entry.origin.now given.entry.text.now given.entry.taken choice) }
+    ensures refused { IfErr result (λ refusal. IsNoText given.entry.text.now given.entry.origin.now refusal) }
+{
+    Ok(choose(
+        alloc,
+        &start.head.origin,
+        start.newest.last.zone(),
+        given.text,
+        given.origin,
+        given.taken,
+    )?)
+}
+
+/// Goes on with a store from which `start` was recovered, and whose last updates made the recovered versions after the oldest one.
+fn go_on<R: Files<File = File> + Alloc + Clone + Drop>(
+    rt: &R,
+    alloc: Global,
+    dir: &str,
+    lock: StoreLock,
+    pair: Pair,
+    start: Recovery,
+    updates: Vec<Vec<u8>>,
+    served: Served,
+) -> Result<Started, Refusal>
+    requires noted { written pair.disk ≡ pair.journal.items }
+    requires started { IsStarted pair.text.items pair.journal.items start }
+    requires updates { AreLastUpdates pair.text.items pair.journal.items (length start.newest.older.items) (map (λ update. update.items) updates.items) }
+    ensures store { IfOk result (λ started. GoesOn pair.text.items pair.journal.items start started.store) }
+    ensures served { IfOk result (λ started. started.served ≡ served) }
+    ensures refused { IfErr result IsOwnFault }
+{
+    let torn = keep_end(rt, alloc, dir, &pair.journal, start.ending)?;
+    let store = resume_pair(pair, start, updates)?;
+    drop_others(rt, dir, store.head.number)?;
+    Ok(Started {
+        lock,
+        store,
+        served,
+        torn,
+    })
+}
+
+/// Creates the store again from the zone file that the operator chose, with this zone. The previous store, with this head, is kept beside it.
+fn take_text<R: Files<File = File>>(
+    rt: &R,
+    alloc: Global,
+    dir: &str,
+    given: Given<'_>,
+    random: [u8; 16],
+    lock: StoreLock,
+    pair: Pair,
+    head: Head,
+    zone: Zone,
+) -> Result<Started, Refusal>
+    ensures served { IfOk result (λ started. IsKept started.served) }
+    ensures begun { IfOk result (λ started. (number : ℕ) × IsBegunStore zone number random given.entry.text.now started.store) }
+    ensures refused { IfErr result IsOwnFault }
+{
+    let next = head.number.saturating_add(1);
+    let kept = keep_pair(rt, alloc, dir, head.number, &pair.text, &pair.journal)?;
+    let store = begin_anew(rt, alloc, dir, zone, next, random, given.text)?;
+    Ok(Started {
+        lock,
+        store,
+        served: Served::Zone(kept),
+        torn: None,
+    })
+}
+
+/// Copies what follows a journal's last batch to a file, if it is torn, and gives the file's path.
+fn keep_end<R: Files<File = File>>(
+    rt: &R,
+    alloc: Global,
+    dir: &str,
+    journal: &[u8],
+    ending: Ending,
+) -> Result<Option<String>, Refusal>
+    ensures { IfErr result IsOwnFault }
+{
+    match ending {
+        Ending::Torn(end) => match torn_end(journal, end) {
+            Some(octets) => Ok(Some(keep_torn(rt, alloc, dir, octets)?)),
+            None => Ok(None),
+        },
+        Ending::Clean | Ending::Blank => Ok(None),
+    }
+}
+
+/// The bytes of a journal after its last batch, which ends at this byte. None if there are none.
+fn torn_end(journal: &[u8], end: usize) -> Option<&[u8]>
+    ensures { MatchOption result (length journal.now ≤ end) (λ octets. (octets.now ≡ drop end journal.now) × (octets.now ≢ [])) }
+{
+    let octets = journal.get(end..)?;
+    if octets.is_empty() {
+        return None;
+    }
+    Some(octets)
+}
+
+/// Creates a store with a zone.
+fn begin_anew<R: Files<File = File>>(
+    rt: &R,
+    alloc: Global,
+    dir: &str,
+    zone: Zone,
+    number: u64,
+    random: [u8; 16],
+    given: &[u8],
+) -> Result<OpenStore, Refusal>
+    ensures begun { IfOk result (λ store. IsBegunStore zone number random given.now store) }
+    ensures refused { IfErr result IsOwnFault }
+{
+    let (head, log) = begin_with(rt, alloc, dir, &zone, number, random, given)?;
+    Ok(OpenStore {
+        head,
+        log,
+        first: Version::first(zone),
+        later: Vec::new(alloc),
+        updates: Vec::new(alloc),
+    })
+}

@@ -1,2 +1,0 @@
-pub mod Resumed
-pub mod Served

@@ -1,2 +1,0 @@
-pub mod RecoveredLemmas
-pub mod ServedLemmas

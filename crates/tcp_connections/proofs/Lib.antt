@@ -1,0 +1,12 @@
+pub mod AskedLemmas
+pub mod BegunLemmas
+pub mod FrameLemmas
+pub mod GoingLemmas
+pub mod LenLemmas
+pub mod NextLemmas
+pub mod OwnLemmas
+pub mod PassLemmas
+pub mod PlaceLemmas
+pub mod QueueLemmas
+pub mod SweepLemmas
+pub mod ToldLemmas

@@ -1,0 +1,20 @@
+-- The connections under the keys so far are served, and there is room for the keys that are left.
+use Rattle.std.proofs.Common.{◌≡◌, ℕ, ◌+◌, ◌≤◌, ◌⊎◌, length, take, option_map}
+use Rattle.std.specs.List.{All, Contains}
+use Rattle.std.specs.Vec.{vec_len, vec_capacity}
+use Rattle.requests.specs.Served.{BeginsWith}
+use Rattle.tcp_connections.specs.Asked.{EachGrows}
+use Rattle.slab.specs.Slab.{get, slab_len}
+use Rattle.tcp_connections.specs.Ends.{AreCounted}
+use Rattle.tcp_connections.specs.Links.{OwnServed, HasStopped, seen_of}
+use Rattle.tcp_connections.proofs.serve_each.serve_ready.Given as goal
+
+abbrev pub invariant-loop-key : goal.invariant-loop-key
+invariant-loop-key g l = record {
+  grows : EachGrows (g.A.Handler.seen l.answering) (g.A.Handler.seen l.initial.answering);
+  own : (key : ℕ) → OwnServed g.A.Handler.is_reply l.now (g.A.Handler.seen l.initial.answering key) (option_map (seen_of g.S.Blocking.octets) (get l.initial.links key)) (g.A.Handler.seen l.answering key) (option_map (seen_of g.S.Blocking.octets) (get l.links key));
+  ended : AreCounted l.initial.ends l.ends (slab_len l.initial.links) (slab_len l.links);
+  next : BeginsWith l.next.items l.initial.next.items;
+  going : All (λ key. Contains l.next.items key ⊎ HasStopped g.S.Blocking.would_block g.A.Handler.is_later (get l.links key)) (take l.key-index l.keys);
+  room : vec_len l.next + length l.keys ≤ vec_capacity l.next + l.key-index;
+}

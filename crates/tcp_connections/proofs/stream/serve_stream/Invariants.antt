@@ -1,0 +1,17 @@
+-- What was answered so far still is, from the stream's beginning.
+use Rattle.std.proofs.Common.{◌≡◌}
+use Rattle.tcp_connections.specs.Asked.{EachGrows}
+use Rattle.tcp_connections.specs.Kept.{told_by}
+use Rattle.tcp_connections.specs.Told.{Writes}
+use Rattle.tcp_connections.specs.Going.{Goes}
+use Rattle.tcp_connections.proofs.stream.serve_stream.Given as goal
+
+abbrev pub invariant-loop : goal.invariant-loop
+invariant-loop g l = record {
+  grows : EachGrows (g.A.Handler.seen l.answering) (g.A.Handler.seen l.initial.answering);
+  peer : g.A.Handler.peer l.answering ≡ g.A.Handler.peer l.initial.answering;
+  asker : g.A.Handler.asker l.answering ≡ g.A.Handler.asker l.initial.answering;
+  goes : Goes (g.A.Handler.is_reply (g.A.Handler.peer l.initial.answering)) (g.A.Handler.seen l.initial.answering (g.A.Handler.asker l.initial.answering)) (g.S.Stream.octets l.initial.stream.inner) (g.A.Handler.seen l.answering (g.A.Handler.asker l.initial.answering)) (told_by l.conversation (g.S.Stream.octets l.stream.inner));
+  written : Writes (g.S.Stream.octets l.initial.stream.inner) (g.S.Stream.octets l.stream.inner);
+  same : l.stream.faults ≡ l.initial.stream.faults;
+}

@@ -1,0 +1,9 @@
+pub mod Asked
+pub mod Deadlines
+pub mod Ends
+pub mod Going
+pub mod Kept
+pub mod Links
+pub mod Places
+pub mod Rate
+pub mod Told

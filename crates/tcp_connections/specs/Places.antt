@@ -1,0 +1,63 @@
+-- Which connection gives its place to a newcomer where all are taken (RFC 7766, 6.2.3; own).
+use Rattle.std.specs.Prelude.{◌≡◌, ℕ, ◌/◌, ◌<◌, ◌≤◌, Bool, true, false, nat_lt, max, Option, None, Some, if◌then◌else◌, count_by}
+use Rattle.tcp_connections.specs.Kept.{awaited}
+use Rattle.tcp_connections.specs.declared.waiting.Waiting.{Waiting}
+use Rattle.tcp_connections.specs.declared.waiting.Waiting.TheVariants.{Request, Rest, Answer, Taking}
+use Rattle.peer_groups.specs.Group.{is_same, has_group}
+use Rattle.peer_groups.specs.declared.group.PeerGroup.{PeerGroup}
+use Rattle.slab.specs.Slab.{Slab, get, slab_len}
+use Rattle.tcp_connections.specs.Deadlines.{IsLeast}
+use Rattle.tcp_connections.specs.declared.connection.Connection.{Connection}
+use Rattle.tcp_connections.specs.declared.room.Among.{Among}
+use Rattle.tcp_connections.specs.declared.room.Among.TheVariants.{All, These}
+
+-- since when a connection waits for a whole request, be it that nothing has come or a part
+abbrev pub waits_by : Waiting → ℕ → Option ℕ
+waits_by Request begun = Some begun
+waits_by Rest begun = Some begun
+waits_by Answer begun = None
+waits_by Taking begun = None
+
+-- whether a group is among those whose peers' connections are looked at
+abbrev pub among_has : Among → PeerGroup → Bool
+among_has All group = true
+among_has (These groups) group = has_group groups group
+
+module _ {S M : Type 0} where
+  -- since when the connection under a key, if there is one of a peer of some groups, waits for a whole request
+  abbrev pub waits_in : (PeerGroup → Bool) → Option (Connection S M) → Option ℕ
+  waits_in among None = None
+  waits_in among (Some link) = if among link.group then waits_by (awaited link.conversation) link.begun else None
+
+  -- of the connections of peers of some groups, that under a key waits longest for a whole request; or none waits for one
+  abbrev pub IsLongest : (PeerGroup → Bool) → Slab (Connection S M) → Option ℕ → Type 0
+  IsLongest among links found = IsLeast (λ key. waits_in among (get links key)) found
+
+  -- whether there is a connection, and it is of a group's peer
+  abbrev pub is_of : PeerGroup → Option (Connection S M) → Bool
+  is_of group None = false
+  is_of group (Some link) = is_same link.group group
+
+  -- how many connections the peers of a group have
+  abbrev pub held : PeerGroup → Slab (Connection S M) → ℕ
+  held group links = count_by (is_of group) links.slots
+
+  -- a quarter of the places that are taken, one at least
+  abbrev pub quarter : Slab (Connection S M) → ℕ
+  quarter links = max (slab_len links / 4) 1
+
+  -- whether a group's peers have more than a quarter of them
+  abbrev pub is_crowd : Slab (Connection S M) → PeerGroup → Bool
+  is_crowd links group = nat_lt (quarter links) (held group links)
+
+  -- a group, if there is one, and it is such a one
+  abbrev pub crowd_of : Slab (Connection S M) → Option PeerGroup → Option PeerGroup
+  crowd_of links None = None
+  crowd_of links (Some group) = if is_crowd links group then Some group else None
+
+  -- the connection that gives its place to a newcomer of a group, if one does. Where that group's peers have a quarter of the places already, it is one
+  -- of theirs; else one of a group that has more than a quarter; and where none of these waits for a request, any. Of those it waits longest
+  pub data IsGiver (newcomer : PeerGroup) (links : Slab (Connection S M)) (found : Option ℕ) : Type 0 where
+    own : quarter links ≤ held newcomer links → IsLongest (is_same newcomer) links found → IsGiver newcomer links found
+    crowd : (key : ℕ) → held newcomer links < quarter links → found ≡ Some key → IsLongest (is_crowd links) links found → IsGiver newcomer links found
+    any : held newcomer links < quarter links → IsLongest (is_crowd links) links None → IsLongest (λ _. true) links found → IsGiver newcomer links found

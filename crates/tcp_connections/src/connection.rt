@@ -1,0 +1,171 @@
+//! A connection with who asks on it.
+ghost use Rattle.std.specs.Prelude.{◌≡◌, ◌<◌, ◌≤◌, length, IfErr, OnOk};
+ghost use Rattle.std.specs.Net.Socket.{socket_ip};
+ghost use Rattle.dns_message.specs.Message.{message_limit};
+ghost use Rattle.tcp_connections.specs.Asked.{EachGrows};
+ghost use Rattle.tcp_connections.specs.Kept.{told_by, nothing_kept};
+ghost use Rattle.tcp_connections.specs.Told.{Writes};
+ghost use Rattle.tcp_connections.specs.Going.{Goes, Stops, IsHeldUp};
+ghost use Rattle.peer_groups.specs.Group.{IsGroupOf};
+ghost use Rattle.tcp_connections.specs.Deadlines.{patience, is_late, is_over, begun_behind};
+ghost use Rattle.tcp_connections.specs.Rate.{is_slow, window_at};
+
+use crate::blocking::Blocking;
+use crate::handler::{Handler, Messages};
+use crate::limits::Limits;
+use crate::machine::ConnectionState;
+use crate::serve::{Flow, serve_some};
+use crate::waiting::Waiting;
+use crate::window::Window;
+use peer_groups::PeerGroup;
+use requests::{OpenGate, StreamEnd};
+use serve_core::Peer;
+use std::alloc::Global;
+use std::net::SocketAddr;
+use std::sync::Wait;
+
+/// A connection: its stream, what is held of it and is to be written to it, who asks, from where, of which group, since when its peer is waited
+/// for, in nanoseconds of a worker's clock, and the window in which the octets that the peer takes are counted.
+#[derive(Drop)]
+pub struct Connection<S: Drop, M: Messages> {
+    pub(crate) stream: S,
+    pub(crate) conversation: ConnectionState<M>,
+    pub(crate) peer: Peer,
+    pub(crate) from: SocketAddr,
+    pub(crate) group: PeerGroup,
+    pub(crate) begun: u64,
+    pub(crate) window: Window,
+}
+
+impl<S: Drop, M: Messages> Connection<S, M> {
+    /// A connection of which nothing is read yet: its stream, who asks on it, from where, and the time.
+    pub fn new(stream: S, alloc: Global, peer: Peer, from: SocketAddr, now: u64) -> Connection<S, M>
+        ensures stream { result.stream ≡ stream }
+        ensures fresh { result.conversation ≡ nothing_kept }
+        ensures peer { result.peer ≡ peer }
+        ensures from { result.from ≡ from }
+        ensures group { IsGroupOf (socket_ip from) result.group }
+        ensures begun { result.begun ≡ now }
+        ensures window { result.window ≡ record { since = now; taken = 0 } }
+    {
+        Connection {
+            stream,
+            conversation: ConnectionState::new(alloc),
+            peer,
+            from,
+            group: PeerGroup::of(from.ip()),
+            begun: now,
+            window: Window {
+                since: now,
+                taken: 0,
+            },
+        }
+    }
+
+    /// Its stream.
+    pub fn stream(&self) -> &S
+        ensures { result.now ≡ self.now.stream }
+    {
+        &self.stream
+    }
+
+    /// Whether it is over at a time: its peer has taken as long as it may to bring to an end what is waited for.
+    pub(crate) fn is_over(&self, limits: Limits, now: u64) -> bool
+        ensures { result ≡ is_over limits now self.now.begun self.now.conversation }
+    {
+        is_late(
+            patience(limits, self.conversation.awaits()),
+            now.saturating_sub(self.begun),
+        )
+    }
+
+    /// Whether it is over at a time since its peer takes what is written to it at less than a rate, in octets in ten seconds.
+    pub(crate) fn is_slow(&self, rate: u64, now: u64) -> bool
+        ensures { result ≡ is_slow rate now self.now.window self.now.conversation }
+    {
+        self.window.is_slow(
+            rate,
+            now,
+            self.conversation.awaits(),
+            self.conversation.taken(),
+        )
+    }
+
+    /// Goes on at a time: its window begins anew where nothing waits to be taken, or its ten seconds are over.
+    pub(crate) fn go_on(&mut self, now: u64)
+        ensures { self.new ≡ record self.old { window = window_at now self.old.window self.old.conversation } }
+    {
+        self.window = self
+            .window
+            .at(now, self.conversation.awaits(), self.conversation.taken());
+    }
+}
+
+/// How long a peer may take for what is waited for; None where it has nothing to bring.
+fn patience(limits: Limits, awaited: Waiting) -> Option<u64>
+    ensures { result ≡ patience limits awaited }
+{
+    match awaited {
+        Waiting::Request => Some(limits.idle),
+        Waiting::Rest => Some(limits.message),
+        Waiting::Answer => None,
+        Waiting::Taking => Some(limits.reply),
+    }
+}
+
+/// Whether one that may take so long, if there is a limit, has taken it.
+fn is_late(most: Option<u64>, taken: u64) -> bool
+    ensures { result ≡ is_late most taken }
+{
+    match most {
+        Some(most) => most <= taken,
+        None => false,
+    }
+}
+
+/// Since when a peer is waited for behind a share: since then where it has brought something to its end, else as before.
+fn begun_by(passed: u64, more: u64, begun: u64, now: u64) -> u64
+    ensures { result ≡ begun_behind passed more begun now }
+{
+    if more == passed {
+        return begun;
+    }
+    now
+}
+
+/// Serves the connection under a key by a share, as its peer, at a time. From then on its peer is waited for anew where it has brought something to
+/// its end.
+pub(crate) fn serve_connection<R: Wait, S: Blocking + Drop, M: Messages, A: Handler<M>>(
+    rt: &R,
+    answering: &mut A,
+    link: &mut Connection<S, M>,
+    key: usize,
+    now: u64,
+    room: &mut [u8],
+    out: &mut [u8],
+) -> Result<Flow, StreamEnd>
+    requires room { 0 < length room.old }
+    requires out { message_limit ≤ length out.old }
+    ensures peer { link.new.peer ≡ link.old.peer }
+    ensures grows { EachGrows (A.seen answering.new) (A.seen answering.old) }
+    ensures goes { OnOk result (Goes (A.is_reply link.old.peer) (A.seen answering.old key) (told_by link.old.conversation (S.octets link.old.stream)) (A.seen answering.new key) (told_by link.new.conversation (S.octets link.new.stream))) }
+    ensures stops { IfErr result (λ end. Stops (A.is_reply link.old.peer) end (A.seen answering.old key) (told_by link.old.conversation (S.octets link.old.stream)) (A.seen answering.new key) (S.octets link.new.stream)) }
+    ensures written { Writes (S.octets link.old.stream) (S.octets link.new.stream) }
+    ensures begun { link.new.begun ≡ begun_behind link.old.conversation.passed link.new.conversation.passed link.old.begun now }
+    ensures blocked { result ≡ Ok Flow.Blocked → S.would_block link.new.stream }
+    ensures waits { result ≡ Ok Flow.Waits → IsHeldUp (A.is_later link.new.peer) link.new.conversation }
+{
+    answering.turn_to(link.peer, link.from, key);
+    let passed = link.conversation.passed();
+    let served = serve_some(
+        rt,
+        answering,
+        &mut link.conversation,
+        &mut link.stream,
+        &OpenGate,
+        room,
+        out,
+    );
+    link.begun = begun_by(passed, link.conversation.passed(), link.begun, now);
+    served
+}

@@ -1,0 +1,91 @@
+//! Groups of peers that have many connections.
+ghost use Rattle.std.specs.Prelude.{◌≡◌, ◌≤◌, ◌↔◌, IsTrue, true, false, if◌then◌else◌};
+ghost use Rattle.peer_groups.specs.Group.{has_group};
+ghost use Rattle.peer_groups.specs.declared.group.PeerGroup.{PeerGroup as Group};
+ghost use Rattle.slab.specs.Slab.{get, slab_len};
+ghost use Rattle.tcp_connections.specs.Places.{is_of, held, quarter, is_crowd, crowd_of};
+
+use crate::connection::Connection;
+use crate::handler::Messages;
+use peer_groups::{Groups, PeerGroup, Survey};
+use slab::Slab;
+
+/// Whether there is a connection under a key, and it is of a group's peer.
+fn is_of<S: Drop, M: Messages>(links: &Slab<Connection<S, M>>, group: PeerGroup, key: usize) -> bool
+    ensures { result ≡ is_of group (get links.now key) }
+{
+    match links.get(key) {
+        Some(link) => link.group.is_same(group),
+        None => false,
+    }
+}
+
+/// How many connections the peers of a group have.
+fn held_by<S: Drop, M: Messages>(links: &Slab<Connection<S, M>>, group: PeerGroup) -> usize
+    ensures { result ≡ held group links.now }
+{
+    let mut held: usize = 0;
+    for key in 0..links.capacity() {
+        if is_of(links, group, key) {
+            held += 1;
+        }
+    }
+    held
+}
+
+/// A quarter of the places that are taken, one at least.
+fn quarter_of<S: Drop, M: Messages>(links: &Slab<Connection<S, M>>) -> usize
+    ensures { result ≡ quarter links.now }
+{
+    (links.len() / 4).max(1)
+}
+
+/// Whether a group's peers have a quarter of the places that are taken.
+pub(crate) fn has_quarter<S: Drop, M: Messages>(
+    links: &Slab<Connection<S, M>>,
+    group: PeerGroup,
+) -> bool
+    ensures { IsTrue result ↔ (quarter links.now ≤ held group links.now) }
+{
+    quarter_of(links) <= held_by(links, group)
+}
+
+/// Three groups at most, with each that has more than a quarter of the connections.
+fn candidates<S: Drop, M: Messages>(links: &Slab<Connection<S, M>>) -> Groups
+    ensures { (group : Group) → is_crowd links.now group ≡ true → has_group result group ≡ true }
+{
+    let mut survey = Survey::new();
+    for key in 0..links.capacity() {
+        match links.get(key) {
+            Some(link) => survey.add(link.group),
+            None => {}
+        }
+    }
+    survey.candidates()
+}
+
+/// A group, if its peers have more than a quarter of the places that are taken.
+fn crowd<S: Drop, M: Messages>(
+    links: &Slab<Connection<S, M>>,
+    candidate: Option<PeerGroup>,
+) -> Option<PeerGroup>
+    ensures { result ≡ crowd_of links.now candidate }
+{
+    let group = candidate?;
+    if quarter_of(links) < held_by(links, group) {
+        return Some(group);
+    }
+    None
+}
+
+/// The groups whose peers have more than a quarter of the places that are taken.
+pub(crate) fn crowds<S: Drop, M: Messages>(links: &Slab<Connection<S, M>>) -> Groups
+    ensures { (group : Group) → has_group result group ≡ is_crowd links.now group }
+{
+    let found = candidates(links);
+    Groups {
+        first: crowd(links, found.first),
+        second: crowd(links, found.second),
+        third: crowd(links, found.third),
+    }
+}

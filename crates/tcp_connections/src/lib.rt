@@ -1,0 +1,39 @@
+//! TCP connections as machines without a device, and the connections of one worker (RFC 1035, 4.2.2; RFC 7766).
+//!
+//! A [`ConnectionState`] gets the octets that came and gives those that are to go. It holds a request until it is answered, and replies until they are written: the frames of the
+//! replies, in the order of the requests. [`serve_some`] moves octets between it and a stream, by a bounded share; [`serve_stream`] serves a stream to its end. While anything is to be
+//! written, nothing more is read. A request whose reply is made later stays held, and those after it, until it is asked for again.
+//!
+//! A [`Connection`] of a worker is that machine with its peer, under a key. [`serve_ready`] serves those under some keys by a share each: each by its own peer's rights, on its own
+//! stream, and none is dropped but those that end. [`sweep`] ends those whose peers take too long or too slowly, and [`make_room`] the one that has gone longest without a whole request
+//! where there is no place for one more. There is no clock here: each call gets the time.
+#![tactic(auto)]
+
+mod blocking;
+mod connection;
+mod crowds;
+mod deadlines;
+mod ends;
+mod handler;
+mod limits;
+mod machine;
+mod queue;
+mod room;
+mod serve;
+mod serve_each;
+mod stream;
+mod waiting;
+mod window;
+
+pub use blocking::{Blocking, Fault};
+pub use connection::Connection;
+pub use deadlines::sweep;
+pub use ends::Ends;
+pub use handler::{Handler, Messages, Reply, Unmade};
+pub use limits::Limits;
+pub use machine::{Broken, ConnectionState};
+pub use room::{Room, make_room};
+pub use serve::{Flow, serve_some};
+pub use serve_each::serve_ready;
+pub use stream::serve_stream;
+pub use waiting::Waiting;

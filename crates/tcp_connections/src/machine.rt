@@ -1,0 +1,296 @@
+//! A connection's requests and replies, with no device.
+ghost use Rattle.std.specs.Prelude.{◌≡◌, ◌≢◌, ℕ, ◌+◌, ◌<◌, ◌≤◌, [], ◌∷◌, ◌++◌, length, take, drop, true, false, IsTrue, None, IfSome, IfOk, IfErr, OnOk, OnErr, if◌then◌else◌};
+ghost use Rattle.dns_message.specs.Frame.{frame_of};
+ghost use Rattle.dns_message.specs.Message.{message_limit};
+ghost use Rattle.requests.specs.Octets.{frames_of};
+ghost use Rattle.requests.specs.Turns.{Turn};
+ghost use Rattle.tcp_connections.specs.Asked.{EachGrows, Waits};
+ghost use Rattle.tcp_connections.specs.Kept.{nothing_kept, due, IsWaiting, awaited, messages_of, one_passed, passed_behind, taken_behind};
+
+use crate::handler::{Handler, Messages, Reply, Unmade};
+use crate::queue::{LENGTH, Queue};
+use crate::waiting::Waiting;
+use dns_message::take_frame;
+use requests::Gate;
+use std::alloc::{AllocError, Global};
+use std::marker::Model;
+use std::sync::Wait;
+
+/// So many octets to be written hold up the answering of further requests, so that a share is as short for long replies (own).
+const MOST_DUE: usize = 16_384;
+
+/// Why a request isn't answered.
+#[derive(Clone, Copy)]
+pub enum Broken {
+    /// Its reply is made later.
+    Later,
+    /// No version could be loaded.
+    Spent,
+    /// No memory was to be had for its reply.
+    NoMemory,
+}
+
+/// A connection's requests and replies: octets that came and aren't answered, and octets and messages that are to go.
+#[derive(Drop)]
+pub struct ConnectionState<M: Messages> {
+    held: Queue,
+    ready: Queue,
+    rest: Option<M>,
+    passed: u64,
+    taken: u64,
+}
+
+impl<M: Messages> Model for ConnectionState<M> {
+    ghost use Rattle.std.specs.Prelude.{[]};
+    ghost use Rattle.std.specs.Option.{option_map_or, is_some};
+    ghost use Rattle.tcp_connections.specs.Kept.{Kept};
+
+    ghost Value = { Kept };
+
+    ghost view = { λ a. record { held = a.held; ready = a.ready; later = option_map_or M.left a.rest []; making = is_some a.rest; passed = a.passed; taken = a.taken } };
+}
+
+impl<M: Messages> ConnectionState<M> {
+    /// A conversation that holds nothing, and of which nothing is to be written.
+    pub fn new(alloc: Global) -> ConnectionState<M>
+        ensures { result ≡ nothing_kept }
+    {
+        ConnectionState {
+            held: Queue::new(alloc),
+            ready: Queue::new(alloc),
+            rest: None,
+            passed: 0,
+            taken: 0,
+        }
+    }
+
+    /// Holds octets that came, behind those that are held. Where there is no memory all is as it was.
+    pub fn take(&mut self, octets: &[u8]) -> Result<(), AllocError>
+        requires { IsWaiting self.old }
+        ensures taken { OnOk result (self.new ≡ record self.old { held = self.old.held ++ octets.now }) }
+        ensures same { OnErr result (self.new ≡ self.old) }
+    {
+        self.held.push(octets)
+    }
+
+    /// The first of the octets that are to be written.
+    pub fn ready(&self) -> &[u8]
+        ensures { result.now ≡ self.now.ready }
+    {
+        self.ready.as_slice()
+    }
+
+    /// The first of the octets that are to be written have been, and are counted. Where nothing is ready behind them, one more has passed.
+    #[tactic(auto, using(crate::proofs::PassLemmas::passed_as))]
+    pub fn advance(&mut self, count: usize)
+        requires { count ≤ length self.old.ready }
+        ensures rest { self.new ≡ record self.old { ready = drop count self.old.ready; passed = self.new.passed; taken = self.new.taken } }
+        ensures passed { self.new.passed ≡ passed_behind (drop count self.old.ready) self.old.passed }
+        ensures taken { self.new.taken ≡ taken_behind count self.old.taken }
+    {
+        self.ready.advance(count);
+        self.taken = self.taken.saturating_add(count as u64);
+        self.passed = passed_by(self.ready.is_empty(), self.passed);
+    }
+
+    /// How many times its peer has brought something to its end, modulo 2^64: a request that came whole and is answered, or all that was
+    /// ready, taken. A mere octet, come or gone, doesn't count.
+    pub fn passed(&self) -> u64
+        ensures { result ≡ self.now.passed }
+    {
+        self.passed
+    }
+
+    /// How many octets its peer has taken, or its system for it; at most 2^64 - 1 are counted.
+    pub fn taken(&self) -> u64
+        ensures { result ≡ self.now.taken }
+    {
+        self.taken
+    }
+
+    /// Whether it waits for octets. Only then is more read: not while a request is held in whole, or anything is to be written.
+    pub fn wants(&self) -> bool
+        ensures { IsTrue result → IsWaiting self.now }
+    {
+        self.rest.is_none() && self.ready.is_empty() && take_frame(self.held.as_slice()).is_none()
+    }
+
+    /// What it waits for.
+    #[tactic(auto, using(crate::proofs::PassLemmas::taking_making, crate::proofs::PassLemmas::taking_ready, crate::proofs::PassLemmas::answer_held, crate::proofs::PassLemmas::rest_held, crate::proofs::PassLemmas::request_idle))]
+    pub fn awaits(&self) -> Waiting
+        ensures { result ≡ awaited self.now }
+    {
+        if self.rest.is_some() {
+            return Waiting::Taking;
+        }
+        if !self.ready.is_empty() {
+            return Waiting::Taking;
+        }
+        if self.held.is_empty() {
+            return Waiting::Request;
+        }
+        match take_frame(self.held.as_slice()) {
+            Some(_) => Waiting::Answer,
+            None => Waiting::Rest,
+        }
+    }
+
+    /// Whether octets are held.
+    pub(crate) fn holds(&self) -> bool
+        ensures none { result ≡ false → self.now.held ≡ [] }
+        ensures held { result ≡ true → self.now.held ≢ [] }
+    {
+        !self.held.is_empty()
+    }
+
+    /// Whether so much is to be written that no further request is answered before.
+    fn is_full(&self) -> bool
+        ensures later { result ≡ false → self.now.later ≡ [] }
+        ensures few { result ≡ false → length self.now.ready < 16384 }
+    {
+        self.rest.is_some() || self.ready.as_slice().len() >= MOST_DUE
+    }
+
+    /// Puts a reply behind what is to be written. Where there is no memory all is as it was.
+    fn queue(&mut self, reply: Reply<M>, out: &[u8]) -> Result<(), AllocError>
+        requires none { self.old.later ≡ [] }
+        requires bound { (len : ℕ) → reply ≡ Reply.One len → (len ≤ message_limit) × (len ≤ length out.now) }
+        ensures held { OnOk result (self.new.held ≡ self.old.held) }
+        ensures queued { OnOk result (due self.new ≡ due self.old ++ frames_of (messages_of M.left reply out.now)) }
+        ensures passed { OnOk result (self.new.passed ≡ self.old.passed) }
+        ensures taken { OnOk result (self.new.taken ≡ self.old.taken) }
+        ensures same { OnErr result (self.new ≡ self.old) }
+    {
+        match reply {
+            Reply::Silent => Ok(()),
+            Reply::One(len) => {
+                self.ready.push_frame(&out[..len])?;
+                Ok(())
+            }
+            Reply::Many(messages) => {
+                self.rest = Some(messages);
+                Ok(())
+            }
+        }
+    }
+
+    /// Answers the first request that is held in whole, and puts the reply behind what is to be written. It goes through the gate, which is
+    /// left once the reply is made, or told to be made later. False where none is held, or so much is to be written that this goes first. There, and
+    /// where the request isn't answered, all is as it was.
+    #[tactic(auto, using(crate::proofs::AskedLemmas::each_itself))]
+    pub fn answer<R: Wait, A: Handler<M>, G: Gate>(
+        &mut self,
+        rt: &R,
+        answering: &mut A,
+        gate: &G,
+        out: &mut [u8],
+    ) -> Result<bool, Broken>
+        requires { message_limit ≤ length out.old }
+        ensures peer { A.peer answering.new ≡ A.peer answering.old }
+        ensures asker { A.asker answering.new ≡ A.asker answering.old }
+        ensures grows { EachGrows (A.seen answering.new) (A.seen answering.old) }
+        ensures turn { IfOk result (λ is_made. is_made ≡ true → Turn (A.is_reply (A.peer answering.old)) (A.seen answering.old (A.asker answering.old)) (self.old.held, due self.old) (A.seen answering.new (A.asker answering.old)) (self.new.held, due self.new)) }
+        ensures passed { IfOk result (λ is_made. is_made ≡ true → self.new.passed ≡ one_passed self.old.passed) }
+        ensures taken { IfOk result (λ is_made. self.new.taken ≡ self.old.taken) }
+        ensures none { IfOk result (λ is_made. is_made ≡ false → self.new ≡ self.old) }
+        ensures broken { OnErr result (self.new ≡ self.old) }
+        ensures later { IfErr result (λ broken. broken ≡ Broken.Later → Waits (A.is_later (A.peer answering.old)) self.old.held) }
+        ensures spent { IfErr result (λ broken. broken ≡ Broken.Spent → A.spent answering.new) }
+    {
+        if self.is_full() {
+            return Ok(false);
+        }
+        let Some(request) = first_request(self.held.as_slice()) else {
+            return Ok(false);
+        };
+        let count = LENGTH + request.len();
+        gate.enter();
+        let made = answering.reply(rt, request, out);
+        gate.leave();
+        let reply = match made {
+            Ok(reply) => reply,
+            Err(unmade) => return Err(broken_by(unmade)),
+        };
+        match self.queue(reply, out) {
+            Ok(()) => {}
+            Err(_) => return Err(Broken::NoMemory),
+        }
+        self.held.advance(count);
+        self.passed = self.passed.wrapping_add(1);
+        Ok(true)
+    }
+
+    /// Writes the next message, where any is left, to the front of a buffer, and gives how many octets it has.
+    fn next(&mut self, out: &mut [u8]) -> Option<usize>
+        requires { message_limit ≤ length out.old }
+        ensures held { self.new.held ≡ self.old.held }
+        ensures ready { self.new.ready ≡ self.old.ready }
+        ensures passed { self.new.passed ≡ self.old.passed }
+        ensures taken { self.new.taken ≡ self.old.taken }
+        ensures none { result ≡ None → (self.old.later ≡ []) × (self.new.later ≡ []) }
+        ensures first { IfSome result (λ len. self.old.later ≡ take len out.new ∷ self.new.later) }
+        ensures bound { IfSome result (λ len. (len ≤ length out.new) × (len ≤ message_limit)) }
+    {
+        let Some(messages) = &mut self.rest else {
+            return None;
+        };
+        match messages.next_message(out) {
+            Some(len) => Some(len),
+            None => {
+                self.rest = None;
+                None
+            }
+        }
+    }
+
+    /// Makes the next message ready to be written where nothing is ready and one is left. Where there is no memory that message is lost.
+    pub fn refill(&mut self, out: &mut [u8]) -> Result<(), AllocError>
+        requires { message_limit ≤ length out.old }
+        ensures held { OnOk result (self.new.held ≡ self.old.held) }
+        ensures due { OnOk result (due self.new ≡ due self.old) }
+        ensures whole { OnOk result (self.new.ready ≡ [] → self.new.later ≡ []) }
+        ensures passed { OnOk result (self.new.passed ≡ self.old.passed) }
+        ensures taken { OnOk result (self.new.taken ≡ self.old.taken) }
+    {
+        if !self.ready.is_empty() {
+            return Ok(());
+        }
+        let Some(len) = self.next(out) else {
+            return Ok(());
+        };
+        self.ready.push_frame(&out[..len])?;
+        Ok(())
+    }
+}
+
+/// Why a request isn't answered, by why there is no reply to it.
+fn broken_by(unmade: Unmade) -> Broken
+    ensures later { result ≡ Broken.Later → unmade ≡ Unmade.Later }
+    ensures spent { result ≡ Broken.Spent → unmade ≡ Unmade.Spent }
+{
+    match unmade {
+        Unmade::Spent => Broken::Spent,
+        Unmade::Later => Broken::Later,
+    }
+}
+
+/// How many have passed: one more where all that was ready is taken.
+fn passed_by(is_all: bool, passed: u64) -> u64
+    ensures { result ≡ (if is_all then one_passed passed else passed) }
+{
+    if is_all {
+        return passed.wrapping_add(1);
+    }
+    passed
+}
+
+/// The request whose frame octets begin with; None where they end before it does (RFC 1035, 4.2.2).
+fn first_request(octets: &[u8]) -> Option<&[u8]>
+    ensures frame { IfSome result (λ request. octets.now ≡ frame_of request.now ++ drop (2 + length request.now) octets.now) }
+    ensures bound { IfSome result (λ request. 2 + length request.now ≤ length octets.now) }
+{
+    match take_frame(octets) {
+        Some((request, _rest)) => Some(request),
+        None => None,
+    }
+}

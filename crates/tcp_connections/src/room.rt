@@ -1,0 +1,150 @@
+//! Places for newcomers.
+ghost use Rattle.std.specs.Prelude.{◌≡◌, ◌≢◌, ◌+◌, ◌<◌, ◌≤◌, ℕ, Option, None, Some};
+ghost use Rattle.peer_groups.specs.Group.{has_group};
+ghost use Rattle.slab.specs.Slab.{get, slab_len};
+ghost use Rattle.tcp_connections.specs.Deadlines.{IsLeastBelow};
+ghost use Rattle.tcp_connections.specs.Places.{among_has, waits_by, waits_in, IsLongest, IsGiver};
+ghost use Rattle.tcp_connections.specs.declared.room.Room.{Room as RoomFor};
+
+use crate::connection::Connection;
+use crate::crowds::{crowds, has_quarter};
+use crate::handler::Messages;
+use crate::waiting::Waiting;
+use peer_groups::{Groups, PeerGroup};
+use slab::Slab;
+
+/// The groups of peers whose connections are looked at.
+#[derive(Clone, Copy)]
+pub(crate) enum Among {
+    /// All of them.
+    All,
+    /// These.
+    These(Groups),
+}
+
+impl Among {
+    /// Whether a group is among them.
+    fn has(self, group: PeerGroup) -> bool
+        ensures { result ≡ among_has self group }
+    {
+        match self {
+            Among::All => true,
+            Among::These(groups) => groups.has(group),
+        }
+    }
+}
+
+/// Since when a connection that waits so since then waits for a whole request; None where it doesn't.
+fn waits_by(awaited: Waiting, begun: u64) -> Option<u64>
+    ensures { result ≡ waits_by awaited begun }
+{
+    match awaited {
+        Waiting::Request => Some(begun),
+        Waiting::Rest => Some(begun),
+        Waiting::Answer => None,
+        Waiting::Taking => None,
+    }
+}
+
+/// Since when the connection under a key waits for a whole request; None where there is none of a peer of these groups, or it doesn't.
+fn waits_at<S: Drop, M: Messages>(
+    links: &Slab<Connection<S, M>>,
+    among: Among,
+    key: usize,
+) -> Option<u64>
+    ensures { result ≡ waits_in (among_has among) (get links.now key) }
+{
+    let link = links.get(key)?;
+    if !among.has(link.group) {
+        return None;
+    }
+    waits_by(link.conversation.awaits(), link.begun)
+}
+
+/// Of a key's number and the least so far, with its key, the lesser.
+fn lesser(least: Option<(usize, u64)>, key: usize, number: u64) -> Option<(usize, u64)>
+    ensures { (numbers : ℕ → Option ℕ) → IsLeastBelow numbers key least → numbers key ≡ Some number → IsLeastBelow numbers (key + 1) result }
+{
+    if let Some((_, least_so_far)) = least {
+        if least_so_far <= number {
+            return least;
+        }
+    }
+    Some((key, number))
+}
+
+/// The connection that waits longest of those under the keys up to one, by that of those before it.
+fn longest_up_to<S: Drop, M: Messages>(
+    links: &Slab<Connection<S, M>>,
+    among: Among,
+    before: Option<(usize, u64)>,
+    key: usize,
+) -> Option<(usize, u64)>
+    ensures { IsLeastBelow (λ k. waits_in (among_has among) (get links.now k)) key before → IsLeastBelow (λ k. waits_in (among_has among) (get links.now k)) (key + 1) result }
+{
+    match waits_at(links, among, key) {
+        Some(since) => lesser(before, key, since),
+        None => before,
+    }
+}
+
+/// The key of the connection of a peer of some groups that waits longest for a whole request; None where none waits for one.
+fn longest<S: Drop, M: Messages>(links: &Slab<Connection<S, M>>, among: Among) -> Option<usize>
+    ensures { IsLongest (among_has among) links.now result }
+{
+    let mut longest: Option<(usize, u64)> = None;
+    for key in 0..links.capacity() {
+        longest = longest_up_to(links, among, longest, key);
+    }
+    match longest {
+        Some((key, _since)) => Some(key),
+        None => None,
+    }
+}
+
+/// The key of the connection that gives its place to a newcomer of a group; None where none does.
+fn giver<S: Drop, M: Messages>(links: &Slab<Connection<S, M>>, newcomer: PeerGroup) -> Option<usize>
+    ensures { IsGiver newcomer links.now result }
+{
+    if has_quarter(links, newcomer) {
+        return longest(links, Among::These(Groups::one(newcomer)));
+    }
+    if let Some(key) = longest(links, Among::These(crowds(links))) {
+        return Some(key);
+    }
+    longest(links, Among::All)
+}
+
+/// Whether there is a place for one more connection.
+#[derive(Clone, Copy, PartialEq, Eq)]
+pub enum Room {
+    /// There is.
+    Free,
+    /// There is, since the connection under this key was ended.
+    Made(usize),
+    /// There is none, and no connection that may be ended for it waits for a request.
+    Full,
+}
+
+/// Makes a place for one more connection, of a peer of a group, where as many are open as may be: ends the one that has gone longest without a whole
+/// request (RFC 7766, 6.2.3). Where the newcomer's group has a quarter of the places already, that is one of its own; else, first, one of a group that
+/// has more than a quarter (own).
+pub fn make_room<S: Drop, M: Messages>(
+    links: &mut Slab<Connection<S, M>>,
+    places: usize,
+    newcomer: PeerGroup,
+) -> Room
+    ensures free { result ≡ RoomFor.Free → (slab_len links.old < places) × (links.new ≡ links.old) }
+    ensures made { (key : ℕ) → result ≡ RoomFor.Made key → IsGiver newcomer links.old (Some key) × (get links.new key ≡ None) }
+    ensures others { (key : ℕ) → result ≡ RoomFor.Made key → (other : ℕ) → other ≢ key → get links.new other ≡ get links.old other }
+    ensures full { result ≡ RoomFor.Full → (places ≤ slab_len links.old) × IsGiver newcomer links.old None × (links.new ≡ links.old) }
+{
+    if links.len() < places {
+        return Room::Free;
+    }
+    let Some(key) = giver(links, newcomer) else {
+        return Room::Full;
+    };
+    links.try_remove(key);
+    Room::Made(key)
+}

@@ -1,0 +1,86 @@
+//! Connections that are served each under its key.
+ghost use Rattle.std.specs.Prelude.{◌≡◌, ◌≢◌, ◌<◌, ◌≤◌, ◌⊎◌, ℕ, false, length, option_map, All, Contains, OnOk, OnErr};
+ghost use Rattle.dns_message.specs.Message.{message_limit};
+ghost use Rattle.requests.specs.Served.{BeginsWith};
+ghost use Rattle.tcp_connections.specs.Asked.{EachGrows};
+ghost use Rattle.slab.specs.Slab.{get, slab_len};
+ghost use Rattle.tcp_connections.specs.Ends.{AreCounted};
+ghost use Rattle.tcp_connections.specs.Links.{OwnServed, HasStopped, seen_of};
+
+use crate::blocking::Blocking;
+use crate::connection::{Connection, serve_connection};
+use crate::ends::Ends;
+use crate::handler::{Handler, Messages};
+use slab::Slab;
+use std::alloc::AllocError;
+use std::sync::Wait;
+
+/// Serves the connection under a key, if there is one, by a share, and tells whether it could go on: where not, there is none, its stream would
+/// block, or its first request waits for its reply. One that ends is removed, and counted by how it ended.
+#[tactic(auto, using(crate::proofs::AskedLemmas::each_itself))]
+fn serve_key<R: Wait, S: Blocking + Drop, M: Messages, A: Handler<M>>(
+    rt: &R,
+    answering: &mut A,
+    links: &mut Slab<Connection<S, M>>,
+    key: usize,
+    ends: &mut Ends,
+    now: u64,
+    room: &mut [u8],
+    out: &mut [u8],
+) -> bool
+    requires room { 0 < length room.old }
+    requires out { message_limit ≤ length out.old }
+    ensures grows { EachGrows (A.seen answering.new) (A.seen answering.old) }
+    ensures own { OwnServed A.is_reply now (A.seen answering.old key) (option_map (seen_of S.octets) (get links.old key)) (A.seen answering.new key) (option_map (seen_of S.octets) (get links.new key)) }
+    ensures others { (other : ℕ) → other ≢ key → get links.new other ≡ get links.old other }
+    ensures ended { AreCounted ends.old ends.new (slab_len links.old) (slab_len links.new) }
+    ensures stopped { result ≡ false → HasStopped S.would_block A.is_later (get links.new key) }
+{
+    let Some(link) = links.get_mut(key) else {
+        return false;
+    };
+    match serve_connection(rt, answering, link, key, now, room, out) {
+        Ok(flow) => !flow.has_stopped(),
+        Err(end) => {
+            links.try_remove(key);
+            ends.count(end);
+            false
+        }
+    }
+}
+
+/// Serves the connections under some keys, each by a share, at a time, and puts behind `next` those keys whose connections could go on: a key
+/// that isn't among them has no connection, one whose stream would block, or one whose first request waits for its reply. One that ends is removed,
+/// and counted by how it ended. Each is answered by its own peer's rights, on its own stream; none appears, and none is dropped that hasn't ended,
+/// whatever the keys. Where there is no memory for the keys nothing is served.
+#[tactic(auto, using(crate::proofs::AskedLemmas::each_itself))]
+pub fn serve_ready<R: Wait, S: Blocking + Drop, M: Messages, A: Handler<M>>(
+    rt: &R,
+    answering: &mut A,
+    links: &mut Slab<Connection<S, M>>,
+    keys: &[usize],
+    next: &mut Vec<usize>,
+    ends: &mut Ends,
+    now: u64,
+    room: &mut [u8],
+    out: &mut [u8],
+) -> Result<(), AllocError>
+    requires room { 0 < length room.old }
+    requires out { message_limit ≤ length out.old }
+    ensures grows { EachGrows (A.seen answering.new) (A.seen answering.old) }
+    ensures own { (key : ℕ) → OwnServed A.is_reply now (A.seen answering.old key) (option_map (seen_of S.octets) (get links.old key)) (A.seen answering.new key) (option_map (seen_of S.octets) (get links.new key)) }
+    ensures ended { AreCounted ends.old ends.new (slab_len links.old) (slab_len links.new) }
+    ensures same { OnErr result (links.new ≡ links.old) }
+    ensures next { BeginsWith next.new.items next.old.items }
+    ensures going { OnOk result (All (λ key. Contains next.new.items key ⊎ HasStopped S.would_block A.is_later (get links.new key)) keys.now) }
+{
+    next.reserve(keys.len())?;
+    for key in keys {
+        if serve_key(rt, answering, links, *key, ends, now, room, out) {
+            let Ok(()) = next.push(*key) else {
+                unreachable!()
+            };
+        }
+    }
+    Ok(())
+}

@@ -1,0 +1,10 @@
+-- Places have been taken and given back so far.
+use Rattle.std.proofs.Common.{◌≡◌}
+use Rattle.tcp_loop.specs.Steps.{Moves}
+use Rattle.tcp_loop.proofs.worker.EventLoop.take_all.Given as goal
+
+abbrev pub invariant-loop-place : goal.invariant-loop-place
+invariant-loop-place g l = record {
+  moves : Moves g.S.Remote.origin g.S.Blocking.octets l.plan.allowed.addresses.now l.now l.initial.self.links l.self.links;
+  time : g.P.Readiness.time l.poll ≡ g.P.Readiness.time l.initial.poll;
+}

@@ -1,0 +1,20 @@
+-- One connection behind the other.
+use Rattle.std.proofs.Common.{refl, ◌∙◌}
+use Rattle.tcp_loop.specs.Steps.{stay}
+use Rattle.tcp_loop.proofs.StepLemmas.{moves_more}
+use Rattle.tcp_loop.proofs.worker.EventLoop.take_some.Goals as goal
+
+pub loop-taken-init : goal.loop-taken-init
+loop-taken-init g c = record { moves = stay; time = refl }
+
+pub loop-taken-preserved : goal.loop-taken-preserved
+loop-taken-preserved g c = record {
+  moves = moves_more g.S.Remote.origin g.S.Blocking.octets c.args.plan.allowed.addresses.now c.args.now c.args.self.now.links c.loop-taken.self.links c.take_one.new.self.links c.loop-taken.invariant.moves c.take_one.ensures.moves;
+  time = c.take_one.ensures.time ∙ c.loop-taken.invariant.time;
+}
+
+pub returns-in-Some-clause-moves : goal.returns-in-Some-clause-moves
+returns-in-Some-clause-moves g c = moves_more g.S.Remote.origin g.S.Blocking.octets c.args.plan.allowed.addresses.now c.args.now c.args.self.now.links c.loop-taken.self.links c.take_one.new.self.links c.loop-taken.invariant.moves c.take_one.ensures.moves
+
+pub returns-in_err-may_come-clause-moves : goal.returns-in_err-may_come-clause-moves
+returns-in_err-may_come-clause-moves g c = moves_more g.S.Remote.origin g.S.Blocking.octets c.args.plan.allowed.addresses.now c.args.now c.args.self.now.links c.loop-taken.self.links c.take_one.new.self.links c.loop-taken.invariant.moves c.take_one.ensures.moves

@@ -1,0 +1,428 @@
+//! A worker's connections, and its turns.
+ghost use Rattle.std.specs.Prelude.{◌≡◌, ◌<◌, ◌≤◌, ◌⊎◌, ◌-◌, ◌/◌, ℕ, List, length, replicate, true, None, IfOk, OnOk};
+ghost use Rattle.std.specs.declared.net.ip_addr.IpAddr.{IpAddr};
+ghost use Rattle.dns_message.specs.Message.{message_limit};
+ghost use Rattle.tcp_connections.specs.Asked.{EachGrows};
+ghost use Rattle.std.specs.Net.Socket.{socket_ip};
+ghost use Rattle.peer_groups.specs.Group.{IsGroupOf};
+ghost use Rattle.slab.specs.Slab.{get};
+ghost use Rattle.tcp_loop.specs.Steps.{scarce, nothing_counted, Moves, Sweeps, Serves, GoOn, HasTurned, Turned};
+
+use crate::arrivals::{Arrivals, Refusal, Remote};
+use crate::readiness::{NotWatched, Readiness};
+use crate::tally::Tally;
+use crate::waiting::Waiting;
+use peer_groups::PeerGroup;
+use requests::Allowed;
+use serve_core::Transport;
+use slab::Slab;
+use std::alloc::{AllocError, Global};
+use std::sync::Wait;
+use tcp_connections::{
+    Blocking, Connection, Handler, Limits, Messages, Room, make_room, serve_ready, sweep,
+};
+
+/// A second, in nanoseconds: the longest wait, the time between two sweeps, and that for which nothing is taken for want of room (own).
+const SECOND: u64 = 1_000_000_000;
+
+/// How many connections a place where they come in gives at a turn, at most, and no more than there are places (own).
+const ARRIVALS: usize = 128;
+
+/// How a worker has its connections.
+#[derive(Clone, Copy)]
+pub struct Plan<'a> {
+    /// How long each may wait for its peer.
+    pub limits: Limits,
+    /// Who may update and transfer.
+    pub allowed: Allowed<'a>,
+}
+
+/// Why a worker takes no more turns.
+#[derive(Clone, Copy, PartialEq, Eq, Debug)]
+pub enum TurnEnd {
+    /// Nothing can be waited for, or a place where connections come in is broken.
+    Device,
+    /// No memory was to be had for keys.
+    NoMemory,
+}
+
+/// The connections of a worker.
+#[derive(Drop)]
+pub struct EventLoop<S: Drop, M: Messages> {
+    links: Slab<Connection<S, M>>,
+    /// How many may be open.
+    places: usize,
+    waiting: Waiting,
+    /// Keys that were told to be ready, those that are served, and those that could go on.
+    told: Vec<usize>,
+    served: Vec<usize>,
+    next: Vec<usize>,
+    /// By place where connections come in, whether one may wait there.
+    may_come: Vec<bool>,
+    /// Until when nothing is taken, for want of room.
+    shut_until: u64,
+    /// When it was swept last.
+    swept: u64,
+    tally: Tally,
+    alloc: Global,
+}
+
+impl<S: Blocking + Remote + Drop, M: Messages> EventLoop<S, M> {
+    /// A worker without connections, for so many places, and where connections come in at so many: at each of them one may wait. Nothing is
+    /// counted yet, and nothing keeps it from taking any.
+    pub fn new(alloc: Global, places: usize, arrivals: usize) -> Result<EventLoop<S, M>, AllocError>
+        ensures empty { IfOk result (λ turns. (key : ℕ) → get turns.links key ≡ None) }
+        ensures places { IfOk result (λ turns. turns.places ≡ places) }
+        ensures may_come { IfOk result (λ turns. turns.may_come.items ≡ replicate arrivals true) }
+        ensures open { IfOk result (λ turns. turns.shut_until ≡ 0) }
+        ensures tally { IfOk result (λ turns. turns.tally ≡ nothing_counted) }
+    {
+        Ok(EventLoop {
+            links: Slab::new(alloc),
+            places,
+            waiting: Waiting::new(alloc, places)?,
+            told: Vec::new(alloc),
+            served: Vec::with_capacity(alloc, places)?,
+            next: Vec::with_capacity(alloc, places)?,
+            may_come: vec![in alloc; true; arrivals]?,
+            shut_until: 0,
+            swept: 0,
+            tally: Tally::default(),
+            alloc,
+        })
+    }
+
+    /// What has become of connections so far.
+    pub fn tally(&self) -> Tally
+        ensures { result ≡ self.now.tally }
+    {
+        self.tally
+    }
+
+    /// Its connections.
+    pub fn links(&self) -> &Slab<Connection<S, M>>
+        ensures { result.now ≡ self.now.links }
+    {
+        &self.links
+    }
+
+    /// How long is waited at most: not at all where something could be done at once.
+    fn patience(&self) -> u64 {
+        if !self.waiting.is_empty() {
+            return 0;
+        }
+        if self.shut_until == 0 && self.may_come.iter().any(|may| *may) {
+            return 0;
+        }
+        SECOND
+    }
+
+    /// Marks what was told to be ready: connections, and where others may come in.
+    fn mark(&mut self)
+        ensures { self.new.links ≡ self.old.links }
+    {
+        mark_told(&self.told, &mut self.may_come, &mut self.waiting);
+        self.told.clear();
+    }
+
+    /// Whether there is a place for one more connection, of a peer of a group, be it that of the one that has gone longest without a whole request,
+    /// which is then ended.
+    fn make_place(&mut self, newcomer: PeerGroup) -> bool
+        ensures { (allowed : List IpAddr) (now : ℕ) (stream : S) → IsGroupOf (socket_ip (S.origin stream)) newcomer → Moves S.origin S.octets allowed now self.old.links self.new.links }
+    {
+        match make_room(&mut self.links, self.places, newcomer) {
+            Room::Free => true,
+            Room::Made(_key) => {
+                self.tally.evicted = self.tally.evicted.saturating_add(1);
+                true
+            }
+            Room::Full => {
+                self.tally.turned_away = self.tally.turned_away.saturating_add(1);
+                false
+            }
+        }
+    }
+
+    /// Has a connection watched under the next key.
+    fn watch<P: Readiness<S>>(&self, poll: &mut P, stream: &mut S) -> Result<(), NotWatched>
+        ensures { P.time poll.new ≡ P.time poll.old }
+    {
+        poll.watch(stream, self.links.vacant_key())
+    }
+
+    /// Gives a connection that has come a place, as that of the peer at the address that it comes from.
+    fn put(&mut self, plan: Plan<'_>, stream: S, now: u64)
+        ensures { Moves S.origin S.octets plan.entry.allowed.addresses.now now self.old.links self.new.links }
+    {
+        let from = stream.address();
+        let peer = plan.allowed.peer(from, Transport::Tcp);
+        let link = Connection::new(stream, self.alloc, peer, from, now);
+        let put = self.links.insert(link).ok();
+        self.note(put);
+    }
+
+    /// Counts a connection that has a key now, which waits for its turn; or one that got none for want of memory.
+    fn note(&mut self, put: Option<usize>)
+        ensures { self.new.links ≡ self.old.links }
+    {
+        let Some(key) = put else {
+            self.tally.no_room = self.tally.no_room.saturating_add(1);
+            return;
+        };
+        self.tally.begun = self.tally.begun.saturating_add(1);
+        self.waiting.put(key);
+    }
+
+    /// Gives a connection that has come a place, where there is one, and has it watched.
+    fn begin<P: Readiness<S>>(&mut self, poll: &mut P, plan: Plan<'_>, stream: S, now: u64)
+        ensures moves { Moves S.origin S.octets plan.entry.allowed.addresses.now now self.old.links self.new.links }
+        ensures time { P.time poll.new ≡ P.time poll.old }
+    {
+        if !self.make_place(PeerGroup::of(stream.address().ip())) {
+            return;
+        }
+        let mut stream = stream;
+        if self.watch(poll, &mut stream).is_err() {
+            self.tally.no_room = self.tally.no_room.saturating_add(1);
+            return;
+        }
+        self.put(plan, stream, now);
+    }
+
+    /// Takes the connection that comes next. Some where no other is taken there in this turn: whether one may still wait there.
+    fn take_one<P: Readiness<S>, L: Arrivals<Stream = S>>(
+        &mut self,
+        poll: &mut P,
+        plan: Plan<'_>,
+        arrivals: &mut L,
+        now: u64,
+    ) -> Result<Option<bool>, TurnEnd>
+        ensures moves { Moves S.origin S.octets plan.entry.allowed.addresses.now now self.old.links self.new.links }
+        ensures time { P.time poll.new ≡ P.time poll.old }
+    {
+        match arrivals.take() {
+            Ok(stream) => {
+                self.begin(poll, plan, stream, now);
+                Ok(None)
+            }
+            Err(Refusal::Blocked) => Ok(Some(false)),
+            Err(Refusal::Client) => Ok(None),
+            Err(Refusal::Room) => {
+                self.tally.no_room = self.tally.no_room.saturating_add(1);
+                self.shut_until = now.saturating_add(SECOND);
+                Ok(Some(true))
+            }
+            Err(Refusal::Broken) => Err(TurnEnd::Device),
+        }
+    }
+
+    /// Takes connections where they come in, so many at most that none gives its place to another before it is served once, and tells whether one may still wait there; an error where it is broken.
+    fn take_some<P: Readiness<S>, L: Arrivals<Stream = S>>(
+        &mut self,
+        poll: &mut P,
+        plan: Plan<'_>,
+        arrivals: &mut L,
+        now: u64,
+    ) -> Result<bool, TurnEnd>
+        ensures moves { Moves S.origin S.octets plan.entry.allowed.addresses.now now self.old.links self.new.links }
+        ensures time { P.time poll.new ≡ P.time poll.old }
+    {
+        for _taken in 0..ARRIVALS.min(self.places) {
+            match self.take_one(poll, plan, arrivals, now)? {
+                Some(may_come) => return Ok(may_come),
+                None => {}
+            }
+        }
+        Ok(true)
+    }
+
+    /// Whether connections may wait at a place.
+    fn may_wait(&self, place: usize) -> bool {
+        self.may_come.get(place).copied().unwrap_or(false)
+    }
+
+    /// Marks whether connections may wait at a place.
+    fn mark_place(&mut self, place: usize, may: bool)
+        ensures { self.new.links ≡ self.old.links }
+    {
+        if let Some(may_come) = self.may_come.get_mut(place) {
+            *may_come = may;
+        }
+    }
+
+    /// Takes connections at a place, where one may wait, and there was room so far.
+    fn take_at<P: Readiness<S>, L: Arrivals<Stream = S>>(
+        &mut self,
+        poll: &mut P,
+        plan: Plan<'_>,
+        arrivals: &mut L,
+        place: usize,
+        now: u64,
+    ) -> Result<(), TurnEnd>
+        ensures moves { Moves S.origin S.octets plan.entry.allowed.addresses.now now self.old.links self.new.links }
+        ensures time { P.time poll.new ≡ P.time poll.old }
+    {
+        if self.shut_until != 0 || !self.may_wait(place) {
+            return Ok(());
+        }
+        let more = self.take_some(poll, plan, arrivals, now)?;
+        self.mark_place(place, more);
+        Ok(())
+    }
+
+    /// Takes connections at each place where one may wait, but not for a while after there was no room.
+    fn take_all<P: Readiness<S>, L: Arrivals<Stream = S>>(
+        &mut self,
+        poll: &mut P,
+        plan: Plan<'_>,
+        places: &mut [L],
+        now: u64,
+    ) -> Result<(), TurnEnd>
+        ensures moves { Moves S.origin S.octets plan.entry.allowed.addresses.now now self.old.links self.new.links }
+        ensures time { P.time poll.new ≡ P.time poll.old }
+    {
+        if now < self.shut_until {
+            return Ok(());
+        }
+        self.shut_until = 0;
+        for (place, arrivals) in places.iter_mut().enumerate() {
+            self.take_at(poll, plan, arrivals, place, now)?;
+        }
+        Ok(())
+    }
+
+    /// Serves the connections whose keys wait, each by a share; those that could go on wait for the next turn.
+    fn serve<R: Wait, A: Handler<M>>(
+        &mut self,
+        rt: &R,
+        answering: &mut A,
+        now: u64,
+        room: &mut [u8],
+        out: &mut [u8],
+    ) -> Result<(), TurnEnd>
+        requires room { 0 < length room.old }
+        requires out { message_limit ≤ length out.old }
+        ensures grows { EachGrows (A.seen answering.new) (A.seen answering.old) }
+        ensures own { Serves S.origin S.octets A.is_reply now (A.seen answering.old) self.old.links (A.seen answering.new) self.new.links }
+        ensures going { OnOk result (GoOn S.would_block A.is_later self.new.links self.new.served.items self.new.next.items) }
+    {
+        self.served.clear();
+        self.waiting.take(&mut self.served);
+        self.next.clear();
+        let served = serve_ready(
+            rt,
+            answering,
+            &mut self.links,
+            &self.served,
+            &mut self.next,
+            &mut self.tally.ends,
+            now,
+            room,
+            out,
+        );
+        self.waiting.put_after(&self.next);
+        served.map_err(|_| TurnEnd::NoMemory)
+    }
+
+    /// Ends the connections that are over, once a second.
+    fn sweep(&mut self, plan: Plan<'_>, now: u64)
+        ensures swept { Sweeps S.origin S.octets plan.entry.limits now self.old.links self.new.links }
+        ensures served { self.new.served.items ≡ self.old.served.items }
+        ensures next { self.new.next.items ≡ self.old.next.items }
+    {
+        if now.saturating_sub(self.swept) < SECOND {
+            return;
+        }
+        self.swept = now;
+        let limits = limits_at(plan.limits, self.links.len(), self.places);
+        sweep(&mut self.links, limits, now, &mut self.tally.ends);
+    }
+
+    /// A turn: waits until something may be ready, takes the connections that come, serves those that may go on by a share each, and ends those
+    /// that are over. Who asks on each is the peer of its address; none gets another's replies, and none is dropped but by its end, for its
+    /// peer's delay, or, where all places are taken, the one that has gone longest without a whole request. Of the connections that are served, each that is there still,
+    /// whose stream wouldn't block, and whose first request doesn't wait for its reply, is among those that could go on.
+    #[tactic(auto, using(tcp_connections::proofs::AskedLemmas::each_itself))]
+    pub fn poll_once<R: Wait, P: Readiness<S>, L: Arrivals<Stream = S>, A: Handler<M>>(
+        &mut self,
+        rt: &R,
+        poll: &mut P,
+        plan: Plan<'_>,
+        places: &mut [L],
+        answering: &mut A,
+        room: &mut [u8],
+        out: &mut [u8],
+    ) -> Result<(), TurnEnd>
+        requires room { 0 < length room.old }
+        requires out { message_limit ≤ length out.old }
+        ensures grows { EachGrows (A.seen answering.new) (A.seen answering.old) }
+        ensures turned { HasTurned S.origin S.octets A.is_reply plan.entry.allowed.addresses.now plan.entry.limits (P.time poll.new) (A.seen answering.old) self.old.links (A.seen answering.new) self.new.links }
+        ensures going { OnOk result (GoOn S.would_block A.is_later self.new.links self.new.served.items self.new.next.items) }
+    {
+        let Ok(now) = poll.wait(self.patience(), &mut self.told) else {
+            return Err(TurnEnd::Device);
+        };
+        self.mark();
+        self.take_all(poll, plan, places, now)?;
+        self.serve(rt, answering, now, room, out)?;
+        self.sweep(plan, now);
+        Ok(())
+    }
+
+    /// How many connections have given their places.
+    fn gone(&self) -> u64 {
+        self.tally.ends.total().saturating_add(self.tally.evicted)
+    }
+
+    /// Takes turns until so many connections have given their places, or no more turns can be taken.
+    pub fn run<R: Wait, P: Readiness<S>, L: Arrivals<Stream = S>, A: Handler<M>>(
+        &mut self,
+        rt: &R,
+        poll: &mut P,
+        plan: Plan<'_>,
+        places: &mut [L],
+        answering: &mut A,
+        most: u64,
+        room: &mut [u8],
+        out: &mut [u8],
+    ) -> Result<(), TurnEnd>
+        requires room { 0 < length room.old }
+        requires out { message_limit ≤ length out.old }
+        ensures grows { EachGrows (A.seen answering.new) (A.seen answering.old) }
+        ensures turned { Turned S.origin S.octets A.is_reply plan.entry.allowed.addresses.now plan.entry.limits (A.seen answering.old) self.old.links (A.seen answering.new) self.new.links }
+    {
+        for _ in rt.forever() {
+            if self.gone() >= most {
+                return Ok(());
+            }
+            self.poll_once(rt, poll, plan, places, answering, room, out)?;
+        }
+        unreachable!()
+    }
+}
+
+/// Marks what was told to be ready: places where connections may come in, the first one under the greatest key, and connections.
+fn mark_told(told: &[usize], may_come: &mut Vec<bool>, waiting: &mut Waiting) {
+    for key in told {
+        match may_come.get_mut(usize::MAX - *key) {
+            Some(may) => *may = true,
+            None => waiting.put(*key),
+        }
+    }
+}
+
+/// How long connections may wait where so many are open: idle ones a quarter of it where less than a quarter of the places is free
+/// (RFC 7766, 6.2.3; own).
+fn limits_at(limits: Limits, open: usize, places: usize) -> Limits
+    ensures either { (result ≡ limits) ⊎ (result ≡ scarce limits) }
+    ensures few { «open» < places - places / 4 → result ≡ limits }
+    ensures many { places - places / 4 ≤ «open» → result ≡ scarce limits }
+{
+    if open < places - places / 4 {
+        return limits;
+    }
+    Limits {
+        idle: limits.idle / 4,
+        ..limits
+    }
+}

@@ -1,0 +1,16 @@
+-- What a disk in memory tells.
+use Rattle.std.specs.Prelude.{ℕ, List}
+use Rattle.store_files.specs.Calls.{lost_by}
+use Rattle.told_disks.specs.declared.memory_disk.MemoryDisk.{MemoryDisk}
+
+-- the octets as they are
+abbrev pub written : MemoryDisk → List ℕ
+written disk = disk.written.items
+
+-- those that are on the disk
+abbrev pub synced : MemoryDisk → List ℕ
+synced disk = disk.synced.items
+
+-- how many of its syncs and cuts have failed
+abbrev pub lost : MemoryDisk → ℕ
+lost disk = lost_by disk.failures.calls

@@ -1,0 +1,29 @@
+-- What an update that is asked for does in a version (RFC 2136, 3).
+use Rattle.std.specs.Prelude.{◌≡◌, ℕ, List, None}
+use Rattle.dns_rdata.specs.Numbers.{rcode_number}
+use Rattle.dns_rdata.specs.declared.numbers.Rcode.{Rcode}
+use Rattle.zone_tree.specs.Version.{Version, zone_serial}
+use Rattle.update_core.specs.Verdict.{verdict}
+use Rattle.dns_engine.specs.Versions.{Makes}
+use Rattle.dns_engine.specs.Told.{Tells}
+use Rattle.update_batches.specs.declared.update_request.UpdateRequest.{UpdateRequest}
+
+-- no rule gives it a code
+abbrev pub passes : Version → UpdateRequest → Type 0
+passes version asked = verdict version.zone asked.update asked.may ≡ None
+
+-- it is told the code of this number, and makes no version
+abbrev pub tells : Version → UpdateRequest → ℕ → Type 0
+tells version asked number = (code : Rcode) × (rcode_number code ≡ number) × Tells version asked.update asked.may code
+
+-- it makes this version
+abbrev pub makes : Version → UpdateRequest → Version → Type 0
+makes version asked next = Makes asked.update version next
+
+-- the serial of a version's zone (RFC 1035, 3.3.13)
+abbrev pub serial_in : Version → ℕ
+serial_in version = zone_serial version.zone
+
+-- its octets, as they were received
+abbrev pub octets_of : UpdateRequest → List ℕ
+octets_of asked = asked.octets.items

@@ -1,0 +1,34 @@
+//! A list of replies that only clauses read.
+ghost use Rattle.std.specs.Prelude.{◌≡◌, List, [], ◌∷◌, ◌++◌};
+ghost use Rattle.std.specs.Borrow.{ftrue};
+ghost use Rattle.update_batches.specs.Replies.{Reply, reply_of};
+
+use std::marker::{Model, PhantomData};
+
+/// What requests were told, the first one first. No memory holds it.
+#[derive(Drop)]
+pub struct ReplyList {
+    marker: PhantomData<u8>,
+    /// The replies.
+    pub ghost replies: { List Reply },
+}
+
+impl Model for ReplyList {
+    ghost also_owns = { λ _. ftrue };
+}
+
+impl ReplyList {
+    /// No replies.
+    pub fn new() -> ReplyList
+        ensures { result.replies ≡ [] }
+    {
+        ReplyList {
+            marker: PhantomData,
+        }
+    }
+
+    /// One reply more: its code, as the first of numbers, and the octets of its request.
+    pub fn note(&mut self, _numbers: &[u64], _octets: &[u8])
+        ensures { self.new.replies ≡ self.old.replies ++ reply_of _numbers.now _octets.now ∷ [] }
+    {}
+}

@@ -1,4 +1,0 @@
-pub mod Engine
-pub mod Group
-pub mod Private
-pub mod Verdict

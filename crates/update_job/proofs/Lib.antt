@@ -1,3 +1,0 @@
-mod DoneLemmas
-mod ServedLemmas
-mod ToldLemmas

@@ -1,4 +1,0 @@
-pub mod Done
-pub mod Replies
-pub mod Stored
-pub mod Turned

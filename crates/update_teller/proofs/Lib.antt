@@ -1,3 +1,0 @@
-pub mod DoneLemmas
-pub mod MetLemmas
-pub mod SendLemmas

@@ -1,0 +1,48 @@
+//! The connections of a worker that other threads wake.
+
+use crate::woken_keys::WokenKeys;
+use mio::Waker;
+use std::alloc::{AllocError, Global};
+use std::sync::{Mutex, Wait};
+
+/// The woken keys, and the waker that ends the worker's wait.
+#[derive(Drop)]
+struct State {
+    told: WokenKeys,
+    waker: Option<Waker>,
+}
+
+/// The keys of a worker's connections whose replies are ready. Other threads add them, and end the worker's wait by that (own).
+#[derive(Drop)]
+pub struct WakeList {
+    state: Mutex<State>,
+}
+
+impl WakeList {
+    /// An empty list, for a worker that has at most `most` connections. `AllocError` where there is no memory for as many keys.
+    pub fn new(alloc: Global, most: usize) -> Result<WakeList, AllocError> {
+        let told = WokenKeys::new(alloc, most)?;
+        Ok(WakeList {
+            state: Mutex::new(State { told, waker: None }),
+        })
+    }
+
+    /// Sets the waker that ends the worker's wait whenever a key is added.
+    pub fn wake_by<R: Wait>(&self, rt: &R, waker: Waker) {
+        self.state.lock(rt).waker = Some(waker);
+    }
+
+    /// Adds the key of a connection, and ends the worker's wait, or else its next one. It waits only while another thread uses the list.
+    pub fn tell<R: Wait>(&self, rt: &R, key: usize) {
+        let mut state = self.state.lock(rt);
+        state.told.put(key);
+        if let Some(waker) = &state.waker {
+            let _ = waker.wake();
+        }
+    }
+
+    /// Removes one of the keys, and gives it. None where the list is empty.
+    pub(crate) fn take<R: Wait>(&self, rt: &R) -> Option<usize> {
+        self.state.lock(rt).told.take()
+    }
+}

@@ -1,0 +1,105 @@
+//! Waits that other threads can end.
+ghost use Rattle.std.specs.Prelude.{◌≡◌, IfOk};
+
+use crate::wake_list::WakeList;
+use std::alloc::Global;
+use std::sync::Wait;
+use tcp_connections::Blocking;
+use tcp_loop::{NotWatched, Readiness};
+
+/// The list to which other threads add keys, and the keys taken from it.
+#[derive(Drop)]
+struct WakeSource<'a> {
+    told: &'a WakeList,
+    /// Keys that were taken from the list, and aren't reported as ready yet.
+    heard: Vec<usize>,
+}
+
+impl WakeSource<'_> {
+    /// Takes the woken keys from the list.
+    fn hear<R: Wait>(&mut self, rt: &R) {
+        for _ in rt.forever() {
+            // A key for which there is no memory stays in the list.
+            if self.heard.try_reserve(1).is_err() {
+                return;
+            }
+            let Some(key) = self.told.take(rt) else {
+                return;
+            };
+            let _ = self.heard.push(key);
+        }
+    }
+}
+
+/// Waits until a stream may be ready, or another thread wakes a connection, whose key is then reported as ready.
+#[derive(Drop)]
+pub(crate) struct WakingPoll<'a, P> {
+    poll: P,
+    ears: Option<WakeSource<'a>>,
+}
+
+impl<'a, P> WakingPoll<'a, P> {
+    /// Waits with a poll alone.
+    pub(crate) fn new(poll: P) -> WakingPoll<'a, P> {
+        WakingPoll { poll, ears: None }
+    }
+
+    /// Makes it take woken keys from a list too. Threads that add a key end its waits.
+    pub(crate) fn listen(&mut self, alloc: Global, told: &'a WakeList) {
+        self.ears = Some(WakeSource {
+            told,
+            heard: Vec::new(alloc),
+        });
+    }
+
+    /// Takes the woken keys from the list.
+    pub(crate) fn hear<R: Wait>(&mut self, rt: &R) {
+        if let Some(ears) = &mut self.ears {
+            ears.hear(rt);
+        }
+    }
+
+    /// How long to wait: `most`, or not at all where woken keys were taken.
+    fn patience(&self, most: u64) -> u64 {
+        match &self.ears {
+            Some(ears) => { if ears.heard.is_empty() { most } else { 0 } }
+            None => most,
+        }
+    }
+
+    /// Appends the woken keys that were taken to `keys`. False where there was no memory for all of them.
+    fn put_heard(&mut self, keys: &mut Vec<usize>) -> bool
+        ensures { self.new.poll ≡ self.old.poll }
+    {
+        let Some(ears) = &mut self.ears else {
+            return true;
+        };
+        for key in ears.heard.iter() {
+            if keys.push(*key).is_err() {
+                return false;
+            }
+        }
+        ears.heard.clear();
+        true
+    }
+}
+
+impl<S: Blocking, P: Readiness<S>> Readiness<S> for WakingPoll<'_, P> {
+    ghost time = { λ hearing. P.time hearing.poll };
+
+    fn watch(&mut self, stream: &mut S, key: usize) -> Result<(), NotWatched> {
+        self.poll.watch(stream, key)
+    }
+
+    fn wait(&mut self, most: u64, keys: &mut Vec<usize>) -> Result<u64, NotWatched> {
+        let most = self.patience(most);
+        let Ok(now) = self.poll.wait(most, keys) else {
+            return Err(NotWatched);
+        };
+        if self.put_heard(keys) {
+            Ok(now)
+        } else {
+            Err(NotWatched)
+        }
+    }
+}

@@ -1,0 +1,437 @@
+//! The handler of the requests of connections, on top of a server.
+ghost use Rattle.std.specs.Prelude.{◌≡◌, ◌≤◌, ◌⊎◌, ℕ, true, false, None, length, take, IfOk, IfErr, OnErr, MatchOption};
+ghost use Rattle.dns_message.specs.Message.{message_limit};
+ghost use Rattle.zone_tree.specs.Version.{Version};
+ghost use Rattle.serve_core.specs.Transfers.{is_permitted, messages_to};
+ghost use Rattle.zone_tree.specs.Zone.{soa_of};
+ghost use Rattle.dns_engine.specs.Chain.{changes_by};
+ghost use Rattle.tcp_connections.specs.Asked.{EachGrows};
+ghost use Rattle.tcp_connections.specs.Kept.{messages_of};
+ghost use Rattle.tcp_connections.specs.declared.handler.Reply.{Reply as ReplyOf};
+ghost use Rattle.tcp_connections.specs.declared.handler.Unmade.{Unmade as WhyUnmade};
+ghost use Rattle.zone_server.specs.Replied.{IsReplied, IsUpdate, IsTransfer, HasNoAnswer};
+ghost use Rattle.zone_replies.specs.Going.{transfer_left};
+ghost use Rattle.requests.specs.Served.{Grows};
+ghost use Rattle.zone_server.specs.Known.{learned_by};
+ghost use Rattle.zone_replies.specs.PendingUpdates.{known_at, place_in, IsLater, IsWritten, IsToldOnce};
+
+use crate::pending_updates::{PendingUpdate, PendingUpdates, Place, told_at};
+use crate::transfer::Transfer;
+use dns_engine::{FirstZone, SharedVersion, VersionChain, VersionReader};
+use dns_message::{Query, is_update};
+use serve_core::{Peer, Transport};
+use std::alloc::Global;
+use std::marker::Model;
+use std::net::SocketAddr;
+use std::snapshot::Snapshot;
+use std::sync::Wait;
+use tcp_connections::{Handler, Reply, Unmade};
+use wire_names::NameWriter;
+use zone_server::{
+    Now, Poll, Served, Server, ServerName, ServiceLog, Submitted, UpdateResult, UpdateSender,
+    answer_kept, serve_one, submit_stream, tell_refused, tell_signed, tell_update, write_done,
+    write_transfer,
+};
+
+/// Answers the peers of connections from a server, with a worker's reader, and logs updates. Contracts see which versions the reader has seen
+/// published.
+#[derive(Drop)]
+pub struct ConnectionHandler<'a, 's, Z: FirstZone, N: ServerName, L> {
+    server: &'a Server<'s, Z, N>,
+    reader: VersionReader<N>,
+    log: &'a L,
+    alloc: Global,
+    peer: Peer,
+    from: SocketAddr,
+    /// The key of the peer's connection.
+    asker: usize,
+    query: Query,
+    names: NameWriter,
+    /// The sender to the update thread. None where the engine answers updates at once.
+    hand: Option<UpdateSender<'a>>,
+    taken: PendingUpdates<N>,
+}
+
+impl<'a, 's, Z: FirstZone, N: ServerName, L> Model for ConnectionHandler<'a, 's, Z, N, L> {
+    ghost use Rattle.std.specs.Prelude.{is_some};
+    ghost use Rattle.zone_replies.specs.State.{HandlerState};
+    ghost use Rattle.zone_replies.specs.PendingUpdates.{AreTakenUp};
+
+    ghost Value = { HandlerState };
+
+    ghost view = { λ a. record { reader = a.reader; peer = a.peer; asker = a.asker; taken = a.taken; hands = is_some a.hand } };
+
+    ghost invariant = { λ a. AreTakenUp a.taken a.reader };
+}
+
+/// The reply to a query for a transfer that is permitted in a version. The chain has the versions since the client's. Over a stream the reply is a
+/// [`Transfer`], which makes the messages. Over UDP it is one message.
+fn reply_transfer(
+    version: SharedVersion,
+    chain: VersionChain,
+    query: Query,
+    peer: Peer,
+    out: &mut [u8],
+) -> Reply<Transfer>
+    requires permitted { is_permitted version.zone peer query ≡ true }
+    requires room { message_limit ≤ length out.old }
+    ensures bound { (len : ℕ) → result ≡ ReplyOf.One len → (len ≤ message_limit) × (len ≤ length out.new) }
+    ensures messages { messages_of transfer_left result out.new ≡ messages_to version.zone (changes_by (soa_of version.zone) chain) peer query }
+{
+    match peer.transport {
+        Transport::Tcp => Reply::Many(Transfer::new(version, chain, query)),
+        Transport::Udp => match write_transfer(version.get(), &chain, &query, peer, out) {
+            Some(len) => Reply::One(len),
+            None => Reply::Silent,
+        },
+    }
+}
+
+impl<'a, 's, Z: FirstZone, N: ServerName, L: ServiceLog> ConnectionHandler<'a, 's, Z, N, L> {
+    /// A handler with a reader, turned to this peer at this address. It submits no updates.
+    pub fn new(
+        alloc: Global,
+        server: &'a Server<'s, Z, N>,
+        reader: VersionReader<N>,
+        log: &'a L,
+        peer: Peer,
+        from: SocketAddr,
+    ) -> ConnectionHandler<'a, 's, Z, N, L>
+        ensures reader { result.reader ≡ reader }
+        ensures peer { result.peer ≡ peer }
+        ensures hands { result.hands ≡ false }
+    {
+        ConnectionHandler {
+            server,
+            reader,
+            log,
+            alloc,
+            peer,
+            from,
+            asker: 0,
+            query: Query::blank(),
+            names: NameWriter::new(),
+            hand: None,
+            taken: PendingUpdates::new(alloc),
+        }
+    }
+
+    /// The same handler, which submits updates of peers that may update to the update thread, and answers them later.
+    pub fn with_sender(self, hand: UpdateSender<'a>) -> ConnectionHandler<'a, 's, Z, N, L>
+        ensures reader { result.reader ≡ self.entry.reader }
+        ensures peer { result.peer ≡ self.entry.peer }
+        ensures asker { result.asker ≡ self.entry.asker }
+        ensures taken { result.taken ≡ self.entry.taken }
+        ensures hands { result.hands ≡ true }
+    {
+        let mut handing = self;
+        handing.hand = Some(hand);
+        handing
+    }
+
+    /// Gives back its reader.
+    pub fn into_reader(self) -> VersionReader<N>
+        ensures { result ≡ self.entry.reader }
+    {
+        self.reader
+    }
+
+    /// The sender for a request: some exactly where the handler submits updates and the request is an update of a peer that may update.
+    fn sender_for(&self, request: &[u8]) -> Option<UpdateSender<'a>>
+        ensures { MatchOption result ((self.now.hands ≡ false) ⊎ (IsLater self.now.peer request.now → ⊥)) (λ _. IsLater self.now.peer request.now × (self.now.hands ≡ true)) }
+    {
+        let Some(hand) = self.hand else {
+            return None;
+        };
+        if self.peer.may_update && is_update(request) {
+            return Some(hand);
+        }
+        None
+    }
+
+    /// Abandons the pending update under the current connection's key where the request isn't one to submit, or where another connection has that key
+    /// now: its address differs.
+    fn settle<R: Wait>(&mut self, rt: &R, request: &[u8])
+        ensures peer { self.new.peer ≡ self.old.peer }
+        ensures asker { self.new.asker ≡ self.old.asker }
+        ensures reader { self.new.reader ≡ self.old.reader }
+        ensures hands { self.new.hands ≡ self.old.hands }
+        ensures other { (self.old.hands ≡ false) ⊎ (IsLater self.old.peer request.now → ⊥) → place_in self.new.taken self.old.asker ≡ None }
+        ensures grows { EachGrows {T = Version} (known_at self.new.taken self.new.reader) (known_at self.old.taken self.old.reader) }
+    {
+        let Some(place) = self.taken.at(self.asker) else {
+            return;
+        };
+        let is_handed = self.sender_for(request).is_some();
+        if is_handed && place.from == self.from {
+            return;
+        }
+        self.server.leave(rt, place.ticket);
+        self.taken.remove(self.asker);
+    }
+
+    /// Writes the reply to a pending update at the front of `out`, with the code of [`told_at`], and logs it. Gives its length in octets.
+    fn reply_done<R: Wait>(&self, rt: &R, place: Place, done: UpdateResult, out: &mut [u8]) -> usize
+        requires room { message_limit ≤ length out.old }
+        ensures bound { (result ≤ message_limit) × (result ≤ length out.new) }
+        ensures octets { IsWritten self.now.peer place done (take result out.new) }
+    {
+        let told = told_at(place, &done);
+        tell_update(rt, self.log, self.peer, self.from, told);
+        write_done(
+            &mut NameWriter::new(),
+            &done.asked,
+            told.code,
+            self.peer,
+            out,
+        )
+    }
+
+    /// Submits an update of a peer that may update. `Later` where it is now pending, and its reply is made later. It gets a reply at once where it
+    /// wasn't queued.
+    fn take_up<R: Wait>(
+        &mut self,
+        rt: &R,
+        hand: UpdateSender<'a>,
+        request: &[u8],
+        out: &mut [u8],
+    ) -> Result<Reply<Transfer>, Unmade>
+        requires later { IsLater self.old.peer request.now }
+        requires none { place_in self.old.taken self.old.asker ≡ None }
+        requires room { message_limit ≤ length out.old }
+        ensures peer { self.new.peer ≡ self.old.peer }
+        ensures asker { self.new.asker ≡ self.old.asker }
+        ensures grows { EachGrows {T = Version} (known_at self.new.taken self.new.reader) (known_at self.old.taken self.old.reader) }
+        ensures bound { IfOk result (λ reply. (len : ℕ) → reply ≡ ReplyOf.One len → (len ≤ message_limit) × (len ≤ length out.new)) }
+        ensures replied { IfOk result (λ reply. IsReplied Z.zone self.old.peer (known_at self.old.taken self.old.reader self.old.asker) (known_at self.new.taken self.new.reader self.old.asker) request.now (messages_of transfer_left reply out.new)) }
+        ensures unspent { IfErr result (λ unmade. unmade ≡ WhyUnmade.Later) }
+    {
+        let (key, peer) = (self.asker, self.peer);
+        tell_signed(rt, self.log, self.from, request);
+        let known = Snapshot::of(&self.reader);
+        let hand = if self.taken.make_room(key) {
+            Some(hand)
+        } else {
+            None
+        };
+        match submit_stream(
+            rt,
+            self.alloc,
+            self.server,
+            &mut self.reader,
+            hand,
+            key,
+            peer,
+            request,
+            out,
+        ) {
+            Submitted::Told(len, told) => {
+                tell_update(rt, self.log, peer, self.from, told);
+                Ok(Reply::One(len))
+            }
+            Submitted::Waits {
+                ticket: seat,
+                number,
+            } => {
+                let from = self.from;
+                self.taken.put(
+                    key,
+                    PendingUpdate {
+                        from,
+                        ticket: seat,
+                        number,
+                        known,
+                    },
+                );
+                Err(Unmade::Later)
+            }
+        }
+    }
+
+    /// Writes the reply to the pending update under the current connection's key at the front of `out`, and gives its length in octets. `Later` while
+    /// it is still pending. None where no update is pending, or its ticket has no result for this request. Then none is pending.
+    fn reply_taken<R: Wait>(
+        &mut self,
+        rt: &R,
+        request: &[u8],
+        out: &mut [u8],
+    ) -> Result<Option<usize>, Unmade>
+        requires later { IsLater self.old.peer request.now }
+        requires room { message_limit ≤ length out.old }
+        ensures peer { self.new.peer ≡ self.old.peer }
+        ensures asker { self.new.asker ≡ self.old.asker }
+        ensures grows { EachGrows {T = Version} (known_at self.new.taken self.new.reader) (known_at self.old.taken self.old.reader) }
+        ensures replied { IfOk result (λ told. IsToldOnce Z.zone self.old.peer (known_at self.old.taken self.old.reader self.old.asker) (known_at self.new.taken self.new.reader self.old.asker) request.now out.new (place_in self.new.taken self.old.asker) told) }
+        ensures unspent { IfErr result (λ unmade. unmade ≡ WhyUnmade.Later) }
+    {
+        let Some(place) = self.taken.at(self.asker) else {
+            return Ok(None);
+        };
+        let (_, fetched) = self.server.fetch(rt, &mut self.reader, place.ticket);
+        if let Poll::Pending = fetched {
+            return Err(Unmade::Later);
+        }
+        self.taken.remove(self.asker);
+        let Poll::Ready(done) = fetched else {
+            return Ok(None);
+        };
+        if done.asked.may() && done.asked.octets() == request {
+            return Ok(Some(self.reply_done(rt, place, done, out)));
+        }
+        Ok(None)
+    }
+
+    /// The reply to an update of a peer that may update, once it is ready. Submits the update where none is pending. `Later` while it is pending.
+    fn reply_update<R: Wait>(
+        &mut self,
+        rt: &R,
+        hand: UpdateSender<'a>,
+        request: &[u8],
+        out: &mut [u8],
+    ) -> Result<Reply<Transfer>, Unmade>
+        requires later { IsLater self.old.peer request.now }
+        requires room { message_limit ≤ length out.old }
+        ensures peer { self.new.peer ≡ self.old.peer }
+        ensures asker { self.new.asker ≡ self.old.asker }
+        ensures grows { EachGrows {T = Version} (known_at self.new.taken self.new.reader) (known_at self.old.taken self.old.reader) }
+        ensures bound { IfOk result (λ reply. (len : ℕ) → reply ≡ ReplyOf.One len → (len ≤ message_limit) × (len ≤ length out.new)) }
+        ensures replied { IfOk result (λ reply. IsReplied Z.zone self.old.peer (known_at self.old.taken self.old.reader self.old.asker) (known_at self.new.taken self.new.reader self.old.asker) request.now (messages_of transfer_left reply out.new)) }
+        ensures unspent { IfErr result (λ unmade. unmade ≡ WhyUnmade.Later) }
+    {
+        match self.reply_taken(rt, request, out) {
+            Ok(told) => match told {
+                Some(len) => Ok(Reply::One(len)),
+                None => self.take_up(rt, hand, request, out),
+            },
+            Err(unmade) => Err(unmade),
+        }
+    }
+
+    /// The reply of the engine to an update, or the reply to a query for a permitted transfer. `Spent` only for a transfer, where the reader has no load left.
+    #[tactic(auto, using(zone_server::proofs::ReplyLemmas::limit_most, zone_server::proofs::ReplyLemmas::room_most))]
+    fn reply_served<R: Wait>(
+        &mut self,
+        rt: &R,
+        request: &[u8],
+        out: &mut [u8],
+    ) -> Result<Reply<Transfer>, Unmade>
+        requires later { IsUpdate request.now ⊎ IsTransfer Z.zone self.old.peer request.now }
+        requires room { message_limit ≤ length out.old }
+        ensures peer { self.new.peer ≡ self.old.peer }
+        ensures asker { self.new.asker ≡ self.old.asker }
+        ensures taken { self.new.taken ≡ self.old.taken }
+        ensures grows { Grows {T = Version} (learned_by self.new.reader) (learned_by self.old.reader) }
+        ensures bound { IfOk result (λ reply. (len : ℕ) → reply ≡ ReplyOf.One len → (len ≤ message_limit) × (len ≤ length out.new)) }
+        ensures replied { IfOk result (λ reply. IsReplied Z.zone self.old.peer (learned_by self.old.reader) (learned_by self.new.reader) request.now (messages_of transfer_left reply out.new)) }
+        ensures now { IfErr result (λ unmade. unmade ≡ WhyUnmade.Later → ⊥) }
+        ensures spent { OnErr result (IsTransfer Z.zone self.old.peer request.now × (self.new.reader.left ≡ 0)) }
+    {
+        let peer = self.peer;
+        tell_signed(rt, self.log, self.from, request);
+        match serve_one(
+            rt,
+            self.alloc,
+            self.server,
+            &mut self.reader,
+            peer,
+            request,
+            out,
+        ) {
+            Served::Reply(len) => Ok(Reply::One(len)),
+            Served::Updated(len, told) => {
+                tell_update(rt, self.log, peer, self.from, told);
+                Ok(Reply::One(len))
+            }
+            Served::Transfer(version, chain, query) => {
+                Ok(reply_transfer(version, chain, query, peer, out))
+            }
+            Served::Spent => Err(Unmade::Spent),
+        }
+    }
+
+    /// The reply to an update, or to a query for a permitted transfer. `Later` only for an update of a peer that may update, `Spent` only for a transfer.
+    fn reply_later<R: Wait>(
+        &mut self,
+        rt: &R,
+        request: &[u8],
+        out: &mut [u8],
+    ) -> Result<Reply<Transfer>, Unmade>
+        requires later { IsUpdate request.now ⊎ IsTransfer Z.zone self.old.peer request.now }
+        requires other { (self.old.hands ≡ false) ⊎ (IsLater self.old.peer request.now → ⊥) → place_in self.old.taken self.old.asker ≡ None }
+        requires room { message_limit ≤ length out.old }
+        ensures peer { self.new.peer ≡ self.old.peer }
+        ensures asker { self.new.asker ≡ self.old.asker }
+        ensures grows { EachGrows {T = Version} (known_at self.new.taken self.new.reader) (known_at self.old.taken self.old.reader) }
+        ensures bound { IfOk result (λ reply. (len : ℕ) → reply ≡ ReplyOf.One len → (len ≤ message_limit) × (len ≤ length out.new)) }
+        ensures replied { IfOk result (λ reply. IsReplied Z.zone self.old.peer (known_at self.old.taken self.old.reader self.old.asker) (known_at self.new.taken self.new.reader self.old.asker) request.now (messages_of transfer_left reply out.new)) }
+        ensures later { IfErr result (λ unmade. unmade ≡ WhyUnmade.Later → IsLater self.old.peer request.now) }
+        ensures spent { IfErr result (λ unmade. unmade ≡ WhyUnmade.Spent → IsTransfer Z.zone self.old.peer request.now × (self.new.reader.left ≡ 0)) }
+    {
+        match self.sender_for(request) {
+            Some(hand) => self.reply_update(rt, hand, request, out),
+            None => self.reply_served(rt, request, out),
+        }
+    }
+}
+
+impl<'a, 's, Z: FirstZone, N: ServerName, L: ServiceLog> Handler<Transfer>
+    for ConnectionHandler<'a, 's, Z, N, L> {
+    // While an update is pending, what is known on its connection is what was known when it was submitted.
+    ghost seen = { λ replies. known_at replies.taken replies.reader };
+
+    ghost peer = { λ replies. replies.peer };
+
+    ghost asker = { λ replies. replies.asker };
+
+    ghost is_reply = { λ peer known later request messages. IsReplied Z.zone peer known later request messages };
+
+    ghost is_later = { IsLater };
+
+    ghost spent = { λ replies. replies.reader.left ≡ 0 };
+
+    #[tactic(auto, using(tcp_connections::proofs::AskedLemmas::each_itself))]
+    fn turn_to(&mut self, other: Peer, from: SocketAddr, key: usize) {
+        self.peer = other;
+        self.from = from;
+        self.asker = key;
+    }
+
+    #[tactic(auto, using(zone_server::proofs::ReplyLemmas::limit_most, zone_server::proofs::ReplyLemmas::room_most, zone_server::proofs::ReplyLemmas::silent_replied, tcp_connections::proofs::AskedLemmas::each_itself))]
+    fn reply<R: Wait>(
+        &mut self,
+        rt: &R,
+        request: &[u8],
+        out: &mut [u8],
+    ) -> Result<Reply<Transfer>, Unmade>
+        requires { message_limit ≤ length out.old }
+        ensures same { self.new.peer ≡ self.old.peer }
+        ensures asker { self.new.asker ≡ self.old.asker }
+        ensures grows { EachGrows {T = Version} (known_at self.new.taken self.new.reader) (known_at self.old.taken self.old.reader) }
+        ensures bound { IfOk result (λ reply. (len : ℕ) → reply ≡ ReplyOf.One len → (len ≤ message_limit) × (len ≤ length out.new)) }
+        ensures reply { IfOk result (λ reply. IsReplied Z.zone self.old.peer (known_at self.old.taken self.old.reader self.old.asker) (known_at self.new.taken self.new.reader self.old.asker) request.now (messages_of transfer_left reply out.new)) }
+        ensures later { IfErr result (λ unmade. unmade ≡ WhyUnmade.Later → IsLater self.old.peer request.now) }
+        ensures spent { IfErr result (λ unmade. unmade ≡ WhyUnmade.Spent → self.new.reader.left ≡ 0) }
+        // A request that can't be read as a query gets its reply, whether a version can be loaded or not.
+        ensures unanswered { IfErr result (λ unmade. unmade ≡ WhyUnmade.Spent → HasNoAnswer Z.zone self.old.peer request.now self.old.reader self.new.reader) }
+    {
+        self.settle(rt, request);
+        let cell = self.server.cell();
+        match answer_kept(
+            cell,
+            &mut self.reader,
+            &mut self.query,
+            &mut self.names,
+            self.peer,
+            request,
+            out,
+        ) {
+            Now::Bytes(len) => {
+                tell_refused(rt, self.log, self.peer, self.from, &self.query, &out[..len]);
+                Ok(Reply::One(len))
+            }
+            Now::Silent => Ok(Reply::Silent),
+            Now::Later => self.reply_later(rt, request, out),
+            Now::Spent => Err(Unmade::Spent),
+        }
+    }
+}

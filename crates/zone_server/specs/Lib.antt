@@ -1,0 +1,13 @@
+pub mod Brought
+pub mod Known
+pub mod Met
+pub mod Notified
+pub mod PendingReplies
+pub mod QueuedUpdate
+pub mod Refused
+pub mod Replied
+pub mod Right
+pub mod Signed
+pub mod UpdateResult
+pub mod Updated
+pub mod Waits

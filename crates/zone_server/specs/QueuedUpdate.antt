@@ -1,0 +1,58 @@
+-- What a reader has seen when an update is queued (own).
+use Rattle.std.specs.Prelude.{◌≡◌, ◌≤◌, ◌⊎◌, ◌+◌, ◌*◌, ℕ, true, List, [], ◌∷◌, length, take, Option, None, Some}
+use Rattle.dns_rdata.specs.Record.{Record}
+use Rattle.dns_message.specs.Request.{is_update, reads}
+use Rattle.zone_tree.specs.Version.{Version}
+use Rattle.snapshot_cell.specs.Tokens.{ReaderState}
+use Rattle.dns_engine.specs.Held.{EngineState}
+use Rattle.update_batches.specs.declared.update_request.UpdateRequest.{UpdateRequest}
+use Rattle.serve_core.specs.declared.peer.Peer.{Peer}
+use Rattle.serve_core.specs.Served.{limit_for}
+use Rattle.zone_server.specs.declared.server_state.BatchStart.{BatchStart}
+use Rattle.requests.specs.Served.{Learned, Grows}
+use Rattle.zone_server.specs.Known.{learned_by, HasMet}
+use Rattle.zone_server.specs.Replied.{IsReplied}
+use Rattle.zone_server.specs.declared.submit.Submitted.{Submitted}
+use Rattle.zone_server.specs.declared.submit.Submitted.TheVariants.{Told as AtOnce, Waits as IsPut}
+use Rattle.zone_server.specs.declared.answer.UpdateOutcome.{UpdateOutcome as ToldOf}
+
+-- how many bytes of memory a queued update is counted for: those received, and 320 for each record read from them (own)
+abbrev pub memory_of : UpdateRequest → ℕ
+memory_of asked = length asked.octets.items + (length asked.update.prerequisites + length asked.update.updates) * 320
+
+-- a reader meets everything published, whose last version has this number, without a grant (own)
+abbrev pub MeetsAt : List Record → ReaderState Version → ReaderState Version → ℕ → Type 0
+MeetsAt first before after number = (engine : EngineState) × HasMet first engine before after × (engine.held.last.number ≡ number)
+
+-- a batch is begun: a reader meets everything published, whose last version is the one in which the batch is to be judged, and so many more versions are sure to find room
+-- (own)
+abbrev pub IsBegun : List Record → ReaderState Version → ReaderState Version → BatchStart → Type 0
+IsBegun first before after begun =
+    (engine : EngineState) × HasMet first engine before after × (engine.held.last ≡ begun.last) × (engine.held.last.number ≡ begun.number) × (engine.free ≡ begun.room)
+
+-- a request gets a reply of so many octets at once, and its reader forgets nothing that it had seen (own)
+pub record IsRepliedAtOnce (first : List Record) (peer : Peer) (request : List ℕ) (before after : ReaderState Version) (out : List ℕ) (len : ℕ) : Type 0 where
+  pub bound : len ≤ limit_for peer.transport (reads request)
+  pub replied : IsReplied first peer (learned_by before) (learned_by after) request (take len out ∷ [])
+  pub grows : Grows (learned_by after) (learned_by before)
+
+-- the result of submitting an update: it gets a reply at once, or it is queued, and the reader has met everything published until then, whose last version has this number
+-- (own)
+abbrev pub IsSubmitted : List Record → Peer → List ℕ → ReaderState Version → ReaderState Version → List ℕ → Submitted → Type 0
+IsSubmitted first peer request before after out (AtOnce len told) = IsRepliedAtOnce first peer request before after out len
+IsSubmitted first peer request before after out (IsPut seat number) = MeetsAt first before after number
+
+-- the same for an update that came by datagram: there is no reply now if it is queued
+abbrev pub IsDatagramSubmitted : List Record → Peer → List ℕ → ReaderState Version → ReaderState Version → List ℕ → Option (ℕ × ToldOf) → Type 0
+IsDatagramSubmitted first peer request before after out (Some told) = IsRepliedAtOnce first peer request before after out told.0
+IsDatagramSubmitted first peer request before after out None = after ≡ before
+
+-- an update of a peer that may update is submitted, and gets no reply now (own)
+pub record IsPassedOn (peer : Peer) (request : List ℕ) (messages : List (List ℕ)) : Type 0 where
+  pub none : messages ≡ []
+  pub update : is_update request ≡ true
+  pub may : peer.may_update ≡ true
+
+-- an answer to a datagram: the reply, or none if it is an update that was submitted
+abbrev pub IsAnswered : List Record → Peer → Learned Version → Learned Version → List ℕ → List (List ℕ) → Type 0
+IsAnswered first peer known later request messages = IsReplied first peer known later request messages ⊎ IsPassedOn peer request messages

@@ -1,0 +1,298 @@
+//! Answers to requests: at once in a version that is loaded (RFC 1034, 4.3.2), or by the engine and the versions that it keeps for updates (RFC 2136, 3) and transfers (RFC
+//! 1995, 4; RFC 5936, 2.2).
+ghost use Rattle.std.specs.Prelude.{◌≡◌, ◌↔◌, ◌≤◌, ◌⊎◌, Some, None, false, length, IfOk, OnErr, MatchResult};
+ghost use Rattle.serve_core.specs.Transport.{room_of};
+ghost use Rattle.zone_server.specs.Known.{HasTooFew};
+ghost use Rattle.zone_server.specs.Replied.{IsUpdate, IsQuery, IsTransfer, IsChained, IsNow, IsServed};
+ghost use Rattle.dns_engine.specs.Held.{IsLatest};
+ghost use Rattle.zone_server.specs.declared.answer.Now.{Now as AtOnce};
+ghost use Rattle.dns_message.specs.Request.{reads};
+ghost use Rattle.dns_message.specs.declared.query.Parsed.TheVariants.{Update as SaysUpdate};
+ghost use Rattle.zone_server.specs.Updated.{IsJudged, IsToldOf, IsToldUnread, told_with};
+ghost use Rattle.update_core.specs.Verdict.{verdict};
+
+use crate::right::ServerName;
+use crate::server::Server;
+use crate::update_result::{Serials, UpdateResult};
+use dns_engine::{
+    FirstZone, SharedVersion, VersionCell, VersionChain, VersionOwner, VersionReader,
+};
+use dns_message::{Parsed, Query, Said, Update, is_update, parse, parse_into, parse_other};
+use dns_rdata::{RType, Rcode};
+use serve_core::{Heading, Peer, is_permitted, respond_by, respond_to_peer, write_code};
+use snapshot_cell::{Naming, Spent};
+use std::alloc::Global;
+use std::sync::Wait;
+use update_core::check;
+use wire_names::NameWriter;
+use zone_tree::Version;
+
+/// The result of answering a request at once.
+#[derive(Clone, Copy)]
+pub enum Now {
+    /// A reply of so many bytes.
+    Bytes(usize),
+    /// There is no reply.
+    Silent,
+    /// The request is an update, or asks for a permitted transfer.
+    Later,
+    /// No load is left for a query.
+    Spent,
+}
+
+/// The result of an update (RFC 2136, 3).
+#[derive(Clone, Copy)]
+pub struct UpdateOutcome {
+    /// Its code.
+    pub code: Rcode,
+    /// Its own serials: those of the zone before and after it, equal if it changed nothing. None if its code is not NOERROR.
+    pub serials: Option<Serials>,
+}
+
+impl UpdateOutcome {
+    /// The outcome of an update that has waited.
+    pub fn of(done: &UpdateResult) -> UpdateOutcome
+        ensures code { result.code ≡ done.now.code }
+        ensures serials { result.serials ≡ done.now.serials }
+    {
+        UpdateOutcome {
+            code: done.code,
+            serials: done.serials,
+        }
+    }
+
+    /// A code with the serials of an update, which are kept only if the code is NOERROR.
+    fn with(code: Rcode, serials: Serials) -> UpdateOutcome
+        ensures code { result.code ≡ code }
+        ensures serials { result.serials ≡ told_with code serials }
+    {
+        UpdateOutcome {
+            code,
+            serials: if code.number() == Rcode::NoError.number() {
+                Some(serials)
+            } else {
+                None
+            },
+        }
+    }
+
+    /// A code without serials.
+    pub fn code(code: Rcode) -> UpdateOutcome
+        ensures code { result.code ≡ code }
+        ensures serials { result.serials ≡ None }
+    {
+        UpdateOutcome {
+            code,
+            serials: None,
+        }
+    }
+}
+
+/// The answer to a request that was not answered at once.
+#[derive(Drop)]
+pub enum Served {
+    /// A reply of so many bytes.
+    Reply(usize),
+    /// A reply of so many bytes to an update, and the update's outcome.
+    Updated(usize, UpdateOutcome),
+    /// A transfer of this version for a query, with the versions since the client's.
+    Transfer(SharedVersion, VersionChain, Query),
+    /// The reader has too few grants for a transfer: none, or not one for each version since the client's.
+    Spent,
+}
+
+/// Answers a request at once, unless it is an update or a permitted transfer: writes the reply in the version that is loaded to the front of `out`. An update is recognised by
+/// its header alone. A query takes one load, any other request none: [`Now::Spent`] comes exactly for a query for which the reader has no load left. It does not block and
+/// allocates no memory.
+pub fn answer_now<Z: FirstZone, N: Naming>(
+    cell: &VersionCell<Z, N>,
+    reader: &mut VersionReader<N>,
+    peer: Peer,
+    request: &[u8],
+    out: &mut [u8],
+) -> Now
+    requires { room_of peer.transport ≤ length out.old }
+    ensures now { IsNow Z.zone peer request.now reader.old reader.new out.new result }
+    ensures spent { (result ≡ AtOnce.Spent) ↔ (IsQuery request.now × (reader.old.left ≡ 0)) }
+{
+    let mut query = Query::blank();
+    let mut names = NameWriter::new();
+    answer_kept(cell, reader, &mut query, &mut names, peer, request, out)
+}
+
+/// Answers a request at once, as [`answer_now`] does, with a query that the caller keeps to parse into.
+pub fn answer_kept<Z: FirstZone, N: Naming>(
+    cell: &VersionCell<Z, N>,
+    reader: &mut VersionReader<N>,
+    query: &mut Query,
+    names: &mut NameWriter,
+    peer: Peer,
+    request: &[u8],
+    out: &mut [u8],
+) -> Now
+    requires { room_of peer.transport ≤ length out.old }
+    ensures now { IsNow Z.zone peer request.now reader.old reader.new out.new result }
+    ensures spent { (result ≡ AtOnce.Spent) ↔ (IsQuery request.now × (reader.old.left ≡ 0)) }
+{
+    if is_update(request) {
+        return Now::Later;
+    }
+    match parse_into(request, query) {
+        Said::Silent => Now::Silent,
+        Said::Fault(head, code) => {
+            let heading = Heading::header_alone(head);
+            Now::Bytes(write_code(&heading, code, peer.transport, out))
+        }
+        Said::BadOpt(head, code, dnssec_ok) => {
+            let heading = Heading::of_bad(head, &query.question, dnssec_ok);
+            Now::Bytes(write_code(&heading, code, peer.transport, out))
+        }
+        Said::Query => {
+            let Ok(strong) = cell.load(reader) else {
+                return Now::Spent;
+            };
+            let version = strong.get().get();
+            if is_permitted(version, query, peer) {
+                return Now::Later;
+            }
+            Now::Bytes(respond_by(names, version.zone(), query, peer, out))
+        }
+    }
+}
+
+/// Answers an update: writes its reply to the front of `out` (RFC 2136, 3.8), and gives its outcome. For a transfer it gives the version that is loaded and the query, and for
+/// IXFR the versions since the client's, as the engine has them when its lock is held. The messages are made from these after the lock is free. If the transfer is no longer
+/// permitted it gives the reply.
+pub fn serve_one<R: Wait, Z: FirstZone, N: ServerName>(
+    rt: &R,
+    alloc: Global,
+    server: &Server<'_, Z, N>,
+    reader: &mut VersionReader<N>,
+    peer: Peer,
+    request: &[u8],
+    out: &mut [u8],
+) -> Served
+    requires later { IsUpdate request.now ⊎ IsTransfer Z.zone peer request.now }
+    requires room { room_of peer.transport ≤ length out.old }
+    ensures { IsServed Z.zone peer request.now reader.old reader.new out.new result }
+{
+    if is_update(request) {
+        let (heading, told) = told_of(rt, alloc, server, reader, peer.may_update, request);
+        let len = write_code(&heading, told.code, peer.transport, out);
+        return Served::Updated(len, told);
+    }
+    let Parsed::Query(query) = parse_other(request) else {
+        unreachable!()
+    };
+    let Ok(strong) = server.cell().load(reader) else {
+        return Served::Spent;
+    };
+    let version = strong.get().get();
+    if !is_permitted(version, &query, peer) {
+        return Served::Reply(respond_to_peer(version.zone(), &query, peer, out));
+    }
+    let shared = strong.get().share(rt);
+    let Ok(chain) = chain_for(rt, server, reader, &strong, &query) else {
+        return Served::Spent;
+    };
+    Served::Transfer(shared, chain, query)
+}
+
+/// The versions since the one that the asker of an IXFR holds, up to one that the reader has loaded: none of another query. [`Spent`] where
+/// the reader lacks a grant for one of them.
+fn chain_for<R: Wait, Z: FirstZone, N: ServerName>(
+    rt: &R,
+    server: &Server<'_, Z, N>,
+    reader: &mut VersionReader<N>,
+    strong: &VersionOwner<'_, Z, N>,
+    query: &Query,
+) -> Result<VersionChain, Spent>
+    requires { IsLatest Z.zone reader.old.seen strong.now.value × (strong.now.value.number ≡ strong.now.number) }
+    ensures chained { IfOk result (λ chain. IsChained Z.zone query.now strong.now.value reader.old reader.new chain) }
+    ensures spent { OnErr result (HasTooFew Z.zone query.now strong.now.value reader.old reader.new) }
+{
+    if query.question.rtype != RType::IXFR {
+        return Ok(VersionChain::none());
+    }
+    let Some(serial) = query.serial else {
+        return Ok(VersionChain::none());
+    };
+    let told = server.chain(rt, reader, serial, strong.number());
+    VersionChain::of(rt, told)
+}
+
+/// The outcome of a request that asks for an update, and what its reply repeats of it: the judged outcome of one that is read, otherwise what [`read_update`] gives.
+fn told_of<R: Wait, Z: FirstZone, N: ServerName>(
+    rt: &R,
+    alloc: Global,
+    server: &Server<'_, Z, N>,
+    reader: &mut VersionReader<N>,
+    may: bool,
+    request: &[u8],
+) -> (Heading, UpdateOutcome)
+    requires { IsUpdate request.now }
+    ensures { IsToldOf Z.zone may request.now reader.old reader.new result.0 result.1 }
+{
+    match read_update(alloc, request) {
+        Ok(update) => {
+            let heading = Heading::of_update(&update);
+            (heading, judge(rt, alloc, server, reader, may, &update))
+        }
+        Err(told) => told,
+    }
+}
+
+/// The update that a request asks for. One that cannot be read gives its outcome, and what its reply repeats of it: FORMERR (RFC 2136, 2), FORMERR or BADVERS if its OPT is not
+/// obeyed (RFC 6891, 6.1.1 and 6.1.3), and SERVFAIL if there is no memory to read it (own).
+pub(crate) fn read_update(alloc: Global, request: &[u8]) -> Result<Update, (Heading, UpdateOutcome)>
+    requires { IsUpdate request.now }
+    ensures { MatchResult result (λ update. reads request.now ≡ SaysUpdate update) (λ told. IsToldUnread request.now told.0 told.1) }
+{
+    match parse(alloc, request) {
+        Parsed::Update(update) => Ok(update),
+        Parsed::NoMemory(head) => Err((
+            Heading::header_alone(head),
+            UpdateOutcome::code(Rcode::ServFail),
+        )),
+        Parsed::Fault(head, code) => Err((Heading::header_alone(head), UpdateOutcome::code(code))),
+        Parsed::BadOpt(head, question, code, dnssec_ok) => Err((
+            Heading::of_bad(head, &question, dnssec_ok),
+            UpdateOutcome::code(code),
+        )),
+        Parsed::Silent => unreachable!(),
+        Parsed::Query(_) => unreachable!(),
+    }
+}
+
+/// The outcome of an update, as the engine gives it. An update of a peer that may not update is judged in the version that is loaded, so that it does not take the engine's
+/// lock, and by the engine only if no load is left.
+fn judge<R: Wait, Z: FirstZone, N: ServerName>(
+    rt: &R,
+    alloc: Global,
+    server: &Server<'_, Z, N>,
+    reader: &mut VersionReader<N>,
+    may: bool,
+    update: &Update,
+) -> UpdateOutcome
+    ensures { IsJudged Z.zone update.now may reader.old reader.new result }
+{
+    if !may {
+        match server.cell().load(reader) {
+            Ok(strong) => return UpdateOutcome::code(refusal_in(strong.get().get(), update)),
+            Err(_) => {}
+        }
+    }
+    let (code, serials) = server.update(rt, alloc, reader, update, may);
+    UpdateOutcome::with(code, serials)
+}
+
+/// The code of an update from a peer that may not update: that of the first rule that it breaks. The permission is one of the rules, after the zone section and the
+/// prerequisites (RFC 2136, 3.1 to 3.3).
+fn refusal_in(version: &Version, update: &Update) -> Rcode
+    ensures { verdict version.now.zone update.now false ≡ Some result }
+{
+    match check(version.zone(), update) {
+        Ok(()) => Rcode::Refused,
+        Err(code) => code,
+    }
+}

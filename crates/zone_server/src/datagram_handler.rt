@@ -1,0 +1,242 @@
+//! A server that answers datagrams.
+ghost use Rattle.std.specs.Prelude.{◌≡◌, ◌≤◌, ◌⊎◌, true, length, Some, IfOk, IfSome, OnErr};
+ghost use Rattle.dns_message.specs.Message.{message_limit};
+ghost use Rattle.zone_tree.specs.Version.{Version};
+ghost use Rattle.zone_server.specs.Known.{learned_by};
+ghost use Rattle.requests.specs.Octets.{messages_in};
+ghost use Rattle.requests.specs.Datagrams.{by_datagram};
+ghost use Rattle.zone_server.specs.Replied.{IsUpdate, IsTransfer, HasNoAnswer};
+ghost use Rattle.zone_server.specs.QueuedUpdate.{IsAnswered};
+ghost use Rattle.requests.specs.Served.{Grows};
+
+use crate::answer::{Now, Served, answer_kept, serve_one};
+use crate::notifying::{NextTurn, Notifying};
+use crate::right::ServerName;
+use crate::server::Server;
+use crate::service_log::ServiceLog;
+use crate::submit::{UpdateSender, submit_datagram};
+use crate::telling::{tell_refused, tell_signed, tell_update};
+use crate::transfer::write_transfer;
+use dns_engine::{FirstZone, VersionReader};
+use dns_message::{Query, is_update};
+use notify::Notifier;
+use requests::Handler;
+use serve_core::{Peer, Transport};
+use snapshot_cell::Spent;
+use std::alloc::Global;
+use std::net::SocketAddr;
+use std::sync::Wait;
+use wire_names::NameWriter;
+
+/// Answers the datagrams of peers for a server, with a worker's reader. Contracts know what the reader has seen published and buried. Updates are logged.
+#[derive(Drop)]
+pub struct DatagramHandler<'a, 's, Z: FirstZone, N: ServerName, L> {
+    server: &'a Server<'s, Z, N>,
+    reader: VersionReader<N>,
+    log: &'a L,
+    alloc: Global,
+    peer: Peer,
+    from: SocketAddr,
+    query: Query,
+    names: NameWriter,
+    /// The queue for updates, unless the engine answers them.
+    hand: Option<UpdateSender<'a>>,
+}
+
+impl<'a, 's, Z: FirstZone, N: ServerName, L: ServiceLog> DatagramHandler<'a, 's, Z, N, L> {
+    /// A handler with a reader. Its first peer is this one, which asks from this address.
+    pub fn new(
+        alloc: Global,
+        server: &'a Server<'s, Z, N>,
+        reader: VersionReader<N>,
+        log: &'a L,
+        peer: Peer,
+        from: SocketAddr,
+    ) -> DatagramHandler<'a, 's, Z, N, L>
+        ensures reader { result.reader ≡ reader }
+        ensures peer { result.peer ≡ peer }
+    {
+        DatagramHandler {
+            server,
+            reader,
+            log,
+            alloc,
+            peer,
+            from,
+            query: Query::blank(),
+            names: NameWriter::new(),
+            hand: None,
+        }
+    }
+
+    /// The same handler, which submits the updates of peers that may update to the update thread. That thread sends the replies.
+    pub fn with_sender(self, hand: UpdateSender<'a>) -> DatagramHandler<'a, 's, Z, N, L>
+        ensures reader { result.reader ≡ self.entry.reader }
+        ensures peer { result.peer ≡ self.entry.peer }
+        ensures hand { result.hand ≡ Some hand.entry }
+    {
+        let mut handing = self;
+        handing.hand = Some(hand);
+        handing
+    }
+
+    /// Ends the handler and gives its reader.
+    pub fn into_reader(self) -> VersionReader<N>
+        ensures { result ≡ self.entry.reader }
+    {
+        self.reader
+    }
+
+    /// Submits an update of a peer that may update. None if it is queued: the update thread sends the reply then.
+    #[tactic(auto, using(crate::proofs::ReplyLemmas::limit_most, crate::proofs::ReplyLemmas::room_most))]
+    fn submit_datagram<R: Wait>(
+        &mut self,
+        rt: &R,
+        hand: UpdateSender<'a>,
+        peer: Peer,
+        request: &[u8],
+        out: &mut [u8],
+    ) -> Option<usize>
+        requires update { IsUpdate request.now × (peer.may_update ≡ true) }
+        requires datagram { peer.transport ≡ Transport.Udp }
+        requires reply_room { message_limit ≤ length out.old }
+        ensures peer { self.new.peer ≡ self.old.peer }
+        ensures grows { Grows {T = Version} (learned_by self.new.reader) (learned_by self.old.reader) }
+        ensures bound { IfSome result (λ n. (n ≤ message_limit) × (n ≤ length out.new)) }
+        ensures replied { IsAnswered Z.zone peer (learned_by self.old.reader) (learned_by self.new.reader) request.now (messages_in result out.new) }
+    {
+        let from = self.from;
+        let (len, told) = submit_datagram(
+            rt,
+            self.alloc,
+            self.server,
+            &mut self.reader,
+            hand,
+            from,
+            peer,
+            request,
+            out,
+        )?;
+        tell_update(rt, self.log, peer, from, told);
+        Some(len)
+    }
+
+    /// Answers an update or a permitted transfer.
+    #[tactic(auto, using(crate::proofs::ReplyLemmas::limit_most, crate::proofs::ReplyLemmas::room_most))]
+    fn answer_datagram_later<R: Wait>(
+        &mut self,
+        rt: &R,
+        peer: Peer,
+        request: &[u8],
+        out: &mut [u8],
+    ) -> Result<Option<usize>, Spent>
+        requires later { IsUpdate request.now ⊎ IsTransfer Z.zone peer request.now }
+        requires datagram { peer.transport ≡ Transport.Udp }
+        requires reply_room { message_limit ≤ length out.old }
+        ensures peer { self.new.peer ≡ self.old.peer }
+        ensures grows { Grows {T = Version} (learned_by self.new.reader) (learned_by self.old.reader) }
+        ensures bound { IfOk result (λ len. IfSome len (λ n. (n ≤ message_limit) × (n ≤ length out.new))) }
+        ensures replied { IfOk result (λ len. IsAnswered Z.zone peer (learned_by self.old.reader) (learned_by self.new.reader) request.now (messages_in len out.new)) }
+        ensures spent { OnErr result (IsTransfer Z.zone peer request.now × (self.new.reader.left ≡ 0)) }
+    {
+        if let Some(hand) = self.hand {
+            if peer.may_update && is_update(request) {
+                return Ok(self.submit_datagram(rt, hand, peer, request, out));
+            }
+        }
+        match serve_one(
+            rt,
+            self.alloc,
+            self.server,
+            &mut self.reader,
+            peer,
+            request,
+            out,
+        ) {
+            Served::Reply(len) => Ok(Some(len)),
+            Served::Updated(len, told) => {
+                tell_update(rt, self.log, peer, self.from, told);
+                Ok(Some(len))
+            }
+            Served::Transfer(version, chain, query) => {
+                Ok(write_transfer(version.get(), &chain, &query, peer, out))
+            }
+            Served::Spent => Err(Spent),
+        }
+    }
+}
+
+impl<'a, 's, Z: FirstZone, N: ServerName, L: ServiceLog> Handler
+    for DatagramHandler<'a, 's, Z, N, L> {
+    ghost seen = { λ asked. learned_by asked.reader };
+
+    ghost peer = { λ asked. asked.peer };
+
+    // An update that is submitted gets no reply now.
+    ghost is_reply = { λ peer known later request messages. IsAnswered Z.zone peer known later request messages };
+
+    #[tactic(auto, using(requests::proofs::TurnLemmas::grows_itself))]
+    fn turn_to(&mut self, other: Peer, from: SocketAddr) {
+        self.peer = other;
+        self.from = from;
+    }
+
+    #[tactic(auto, using(crate::proofs::ReplyLemmas::limit_most, crate::proofs::ReplyLemmas::room_most, crate::proofs::ReplyLemmas::silent_replied, requests::proofs::TurnLemmas::grows_itself))]
+    fn answer<R: Wait>(
+        &mut self,
+        rt: &R,
+        request: &[u8],
+        out: &mut [u8],
+    ) -> Result<Option<usize>, Spent>
+        requires { message_limit ≤ length out.old }
+        ensures same { self.new.peer ≡ self.old.peer }
+        ensures grows { Grows {T = Version} (learned_by self.new.reader) (learned_by self.old.reader) }
+        ensures bound { IfOk result (λ len. IfSome len (λ n. (n ≤ message_limit) × (n ≤ length out.new))) }
+        ensures reply { IfOk result (λ len. IsAnswered Z.zone (by_datagram self.old.peer) (learned_by self.old.reader) (learned_by self.new.reader) request.now (messages_in len out.new)) }
+        // A request that cannot be parsed as a query gets its code, or no reply, whether a version can be loaded or not.
+        ensures spent { OnErr result (HasNoAnswer Z.zone (by_datagram self.old.peer) request.now self.old.reader self.new.reader) }
+    {
+        let peer = Peer {
+            transport: Transport::Udp,
+            ..self.peer
+        };
+        let cell = self.server.cell();
+        match answer_kept(
+            cell,
+            &mut self.reader,
+            &mut self.query,
+            &mut self.names,
+            peer,
+            request,
+            out,
+        ) {
+            Now::Bytes(len) => {
+                tell_refused(rt, self.log, peer, self.from, &self.query, &out[..len]);
+                Ok(Some(len))
+            }
+            Now::Silent => Ok(None),
+            Now::Later => {
+                tell_signed(rt, self.log, self.from, request);
+                self.answer_datagram_later(rt, peer, request, out)
+            }
+            Now::Spent => Err(Spent),
+        }
+    }
+}
+
+impl<'a, 's, Z: FirstZone, N: ServerName, L: ServiceLog> Notifying
+    for DatagramHandler<'a, 's, Z, N, L> {
+    fn next_turn(
+        &mut self,
+        notifier: &mut Notifier,
+        id: u16,
+        out: &mut [u8],
+    ) -> Result<NextTurn, Spent> {
+        let strong = self.server.cell().load(&mut self.reader)?;
+        let version = strong.get().get();
+        match notifier.next(version, id, out) {
+            Some(due) => Ok(NextTurn::Due(due)),
+            None => Ok(NextTurn::Look(notifier.next_look(version.number()))),
+        }
+    }
+}

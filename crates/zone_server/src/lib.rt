@@ -1,0 +1,45 @@
+//! A server of one zone: queries, updates and transfers, over a cell of versions and its engine, with no device and no thread (RFC 1035; RFC 2136; RFC 5936; RFC 1995).
+//!
+//! [`answer_now`] answers a request with the version that it loads, and [`serve_one`] gives an update to the engine, which a [`Server`] keeps behind a lock: each reply is that of
+//! one version, the first zone with updates replayed (`IsReplied`). A [`DatagramHandler`] answers datagrams so. A [`ServiceLog`] gets each change.
+//!
+//! If updates are to survive a restart, [`submit_stream`] puts them into the queue of the update thread (`update_batches`). A request on a connection gets a ticket of the
+//! [`ServerState`], which keeps its [`UpdateResult`] until it is fetched. The result is about versions that are published: a reader that fetches it and meets what is published
+//! has seen the version that the update was judged in, and the one that it makes.
+//!
+//! A [`ServerPublisher`] publishes for the update thread. It begins a batch in the version published last ([`ServerState::begin_batch`]), publishes what the batch makes
+//! ([`ServerState::publish_batch`]), puts each result at its ticket and has a [`ReplySender`] wake the worker, or replies by datagram. It holds the lock only briefly each
+//! time, and never while updates are judged or written to the disk.
+#![tactic(auto)]
+
+mod answer;
+mod codes;
+mod datagram_handler;
+mod notifying;
+mod pending_replies;
+mod reply_sender;
+mod right;
+mod server;
+mod server_publisher;
+mod server_state;
+mod service_log;
+mod submit;
+mod telling;
+mod transfer;
+mod update_result;
+
+pub use answer::{Now, Served, UpdateOutcome, answer_kept, answer_now, serve_one};
+pub use datagram_handler::DatagramHandler;
+pub use notifying::{NextTurn, Notifying};
+pub use reply_sender::ReplySender;
+pub use right::{PublishRight, ServerLedgers, ServerName};
+pub use server::{AtTicket, Server};
+pub use server_publisher::ServerPublisher;
+pub use server_state::{BatchStart, ServerState};
+pub use service_log::{Event, JobEnd, Losses, NoLog, ServiceLog, Wanted};
+pub use submit::{
+    QueuedUpdate, ReplyTo, Submitted, UpdateSender, submit_datagram, submit_stream, write_done,
+};
+pub use telling::{tell_refused, tell_signed, tell_update};
+pub use transfer::write_transfer;
+pub use update_result::{Poll, Serials, UpdateResult, serials_of};

@@ -1,0 +1,283 @@
+//! The server: a cell of versions, and its engine behind a lock.
+ghost use Rattle.std.specs.Prelude.{◌≡◌, ◌⊎◌, ◌↔◌, ◌+◌, ◌<◌, ◌≤◌, ◌++◌, ℕ, IfOk, IfErr, length};
+ghost use Rattle.cell_core.specs.Words.{notes};
+ghost use Rattle.zone_tree.specs.Version.{Version, zone_serial};
+ghost use Rattle.dns_engine.specs.Replayed.{IsReplay};
+ghost use Rattle.requests.specs.Served.{BeginsWith, Grows};
+ghost use Rattle.update_batches.specs.Batch.{versions_of};
+ghost use Rattle.zone_server.specs.UpdateResult.{IsDone, IsFetched, IsJudgedIn};
+ghost use Rattle.zone_server.specs.Right.{AreNamed};
+ghost use Rattle.zone_server.specs.Known.{learned_by, HasMet, MeetsAndAsks};
+ghost use Rattle.zone_server.specs.QueuedUpdate.{MeetsAt, IsBegun};
+ghost use Rattle.zone_server.specs.Updated.{IsUpdated};
+ghost use Rattle.dns_engine.specs.Versions.{AreNext};
+ghost use Rattle.dns_engine.specs.Held.{IsLatest};
+ghost use Rattle.dns_engine.specs.declared.fault.EngineFault.{EngineFault as Fault};
+ghost use Rattle.transfer_core.specs.declared.kept.TheConstants.{KEPT};
+
+use crate::right::{PublishRight, ServerLedgers, ServerName};
+use crate::server_state::{BatchStart, ServerState};
+use crate::update_result::{Poll, Serials, UpdateResult};
+use dns_engine::{
+    Engine, FirstZone, NoEngine, SharedVersion, ToldChain, VersionCell, VersionPublisher,
+    VersionReader,
+};
+use dns_message::Update;
+use dns_rdata::{Rcode, Serial};
+use std::alloc::Global;
+use std::sync::{Mutex, Wait};
+use update_batches::Batch;
+
+/// A cell of versions, with the engine that publishes in it behind a lock, and the results of updates that wait for their replies. Queries take no lock.
+#[derive(Drop)]
+pub struct Server<'a, Z: FirstZone, N: ServerName> {
+    cell: &'a VersionCell<Z, N>,
+    desk: Mutex<ServerState<'a, Z, N>>,
+}
+
+/// A receipt that a result was put at a ticket. Only [`Server::tell`] gives one, so that a function that takes one may wake the worker that is to fetch the result.
+#[derive(Drop)]
+pub struct AtTicket(());
+
+/// The serial of an engine's last version, after the reader has met everything published.
+fn meet_last<Z: FirstZone, N: ServerName>(
+    desk: &mut ServerState<'_, Z, N>,
+    reader: &mut VersionReader<N>,
+) -> Serial
+    ensures serial { result.0 ≡ zone_serial desk.old.held.last.zone }
+    ensures met { HasMet Z.zone desk.old reader.old reader.new }
+    ensures same { desk.new ≡ desk.old }
+{
+    let _ = desk.number();
+    desk.meet(reader);
+    desk.serial()
+}
+
+impl<'a, Z: FirstZone, N: ServerName> Server<'a, Z, N> {
+    /// Creates the server of a cell with only its first version published. Its engine keeps `keep` older versions besides the last one, and publishes what updates make. It
+    /// fails as the engine does, and both tokens come back unchanged.
+    pub fn new(
+        alloc: Global,
+        cell: &'a VersionCell<Z, N>,
+        publisher: VersionPublisher<Z, N>,
+        reader: VersionReader<N>,
+        keep: usize,
+        ledgers: ServerLedgers,
+    ) -> Result<Server<'a, Z, N>, NoEngine<Z, N>>
+        requires first { publisher.number ≡ 0 }
+        requires named { AreNamed N.published N.reserved ledgers }
+        ensures kept { IfOk result (λ _. keep ≤ KEPT) }
+        ensures grant { IfOk result (λ _. 0 < reader.left) }
+        ensures refused { IfErr result (λ refused. (refused.fault ≡ Fault.TooGreat) ↔ (KEPT < keep)) }
+        ensures spent { IfErr result (λ refused. refused.fault ≡ Fault.Spent → (reader.left ≡ 0) ⊎ (publisher.noted ≡ notes)) }
+        ensures given_back { IfErr result (λ refused. (refused.publisher ≡ publisher) × (refused.reader ≡ reader)) }
+    {
+        let engine = Engine::new(cell, publisher, reader, keep)?;
+        let (mut desk, right) = ServerState::of(alloc, cell, engine, ledgers);
+        desk.keep(right);
+        Ok(Server {
+            cell,
+            desk: Mutex::new(desk),
+        })
+    }
+
+    /// Creates the server of a cell with only its first version published, after its engine has published the versions of `later`, and gives the right to publish more. It
+    /// fails as the engine does, which has then published none of them, and both tokens come back.
+    pub fn resume(
+        alloc: Global,
+        cell: &'a VersionCell<Z, N>,
+        publisher: VersionPublisher<Z, N>,
+        reader: VersionReader<N>,
+        keep: usize,
+        later: Vec<SharedVersion>,
+        ledgers: ServerLedgers,
+    ) -> Result<(Server<'a, Z, N>, PublishRight<N>), NoEngine<Z, N>>
+        requires first { publisher.number ≡ 0 }
+        requires named { AreNamed N.published N.reserved ledgers }
+        requires follow { AreNext publisher.value later.items }
+        ensures right { IfOk result (λ made. made.1.published.amount ≡ length (publisher.published ++ later.items)) }
+        ensures kept { IfOk result (λ _. keep ≤ KEPT) }
+        ensures refused { IfErr result (λ refused. (refused.fault ≡ Fault.TooGreat) ↔ (KEPT < keep)) }
+        ensures spent { IfErr result (λ refused. refused.fault ≡ Fault.Spent → (reader.left ≡ 0) ⊎ (publisher.noted ≡ notes) ⊎ (0 < length later.items)) }
+        ensures given_back { IfErr result (λ refused. refused.publisher.published ≡ publisher.published) }
+    {
+        let engine = Engine::resume(cell, publisher, reader, keep, later)?;
+        let (desk, right) = ServerState::of(alloc, cell, engine, ledgers);
+        let server = Server {
+            cell,
+            desk: Mutex::new(desk),
+        };
+        Ok((server, right))
+    }
+
+    /// Its cell.
+    pub fn cell(&self) -> &'a VersionCell<Z, N> {
+        self.cell
+    }
+
+    /// Passes an update to the engine under its lock. It gives the reply's code, and the serials of the zone before and after the update: those of an engine whose last version
+    /// is the first zone with updates replayed. The reader meets everything published under the lock, before and after, so it has seen the version that the reply says was
+    /// made. If another holds the right to publish, an update that would change the zone gets SERVFAIL.
+    pub fn update<R: Wait>(
+        &self,
+        rt: &R,
+        alloc: Global,
+        reader: &mut VersionReader<N>,
+        update: &Update,
+        may: bool,
+    ) -> (Rcode, Serials)
+        ensures { IsUpdated Z.zone update.now may reader.old reader.new result.0 result.1 }
+    {
+        let mut desk = self.desk.lock(rt);
+        let before = meet_last(&mut desk, reader);
+        let code = desk.update(alloc, update, may);
+        let after = meet_last(&mut desk, reader);
+        (code, Serials { before, after })
+    }
+
+    /// The engine's history of the versions after the one with a serial, up to a number. It is read under the lock, and the reader meets everything published.
+    pub fn chain<R: Wait>(
+        &self,
+        rt: &R,
+        reader: &mut VersionReader<N>,
+        from: Serial,
+        upto: u64,
+    ) -> ToldChain<'a, Z, N>
+        ensures { MeetsAndAsks Z.zone from.0 upto reader.old reader.new result }
+    {
+        let mut desk = self.desk.lock(rt);
+        meet_last(&mut desk, reader);
+        desk.chain(from, upto, reader)
+    }
+
+    /// Lets a reader meet everything published, under the lock, and gives the number of the version published last.
+    pub fn meet<R: Wait>(&self, rt: &R, reader: &mut VersionReader<N>) -> u64
+        ensures { MeetsAt Z.zone reader.old reader.new result }
+    {
+        let mut desk = self.desk.lock(rt);
+        meet_last(&mut desk, reader);
+        desk.number()
+    }
+
+    /// Opens a ticket for an update that is to wait for its reply, under the lock, and the reader meets everything published. It gives the number of the version published
+    /// last, and no ticket if there is no memory for it.
+    pub fn open<R: Wait>(&self, rt: &R, reader: &mut VersionReader<N>) -> (u64, Option<usize>)
+        ensures { MeetsAt Z.zone reader.old reader.new result.0 }
+    {
+        let mut desk = self.desk.lock(rt);
+        meet_last(&mut desk, reader);
+        let number = desk.number();
+        (number, desk.open())
+    }
+
+    /// Fetches the result at a ticket, if it is there yet, under the lock, and the reader meets everything published. The ticket is then free. It gives the number of the
+    /// version published last with it.
+    pub fn fetch<R: Wait>(&self, rt: &R, reader: &mut VersionReader<N>, seat: usize) -> (u64, Poll)
+        ensures met { MeetsAt Z.zone reader.old reader.new result.0 }
+        ensures fetched { IsFetched Z.zone reader.new.seen result.1 }
+    {
+        let mut desk = self.desk.lock(rt);
+        meet_last(&mut desk, reader);
+        let number = desk.number();
+        (number, desk.fetch(seat))
+    }
+
+    /// Abandons a ticket: a result that is still to come is dropped.
+    pub fn leave<R: Wait>(&self, rt: &R, seat: usize) {
+        self.desk.lock(rt).leave(seat);
+    }
+
+    /// Frees a ticket that is to get no result.
+    pub fn close<R: Wait>(&self, rt: &R, seat: usize) {
+        self.desk.lock(rt).close(seat);
+    }
+
+    /// Lets the reader of the holder of the right to publish see everything published, under the lock, and gives the number of the version published last.
+    pub fn audit<R: Wait>(
+        &self,
+        rt: &R,
+        reader: &mut VersionReader<N>,
+        right: &mut PublishRight<N>,
+    ) -> u64
+        ensures met { MeetsAt Z.zone reader.old reader.new result }
+        ensures counted { right.new.published.amount ≡ length reader.new.seen }
+        ensures all { right.old.published.amount ≡ length reader.old.seen → reader.new ≡ reader.old }
+        ensures right { (right.new.published.amount ≡ right.old.published.amount) × (right.new.reserved.amount ≡ right.old.reserved.amount) }
+    {
+        let mut desk = self.desk.lock(rt);
+        desk.audit(reader, right);
+        desk.number()
+    }
+
+    /// Puts a result at a ticket, if its reply is pending, under the lock, for the holder of the right to publish. The result is about versions that its reader has seen, which
+    /// has seen everything published. It gives a receipt of that.
+    pub fn tell<R: Wait>(
+        &self,
+        rt: &R,
+        reader: &mut VersionReader<N>,
+        right: &mut PublishRight<N>,
+        seat: usize,
+        done: UpdateResult,
+    ) -> AtTicket
+        requires counted { right.old.published.amount ≡ length reader.old.seen }
+        requires done { IsDone Z.zone reader.old.seen done }
+        ensures same { reader.new ≡ reader.old }
+        ensures right { (right.new.published.amount ≡ right.old.published.amount) × (right.new.reserved.amount ≡ right.old.reserved.amount) }
+    {
+        let mut desk = self.desk.lock(rt);
+        desk.audit(reader, right);
+        desk.tell(seat, done);
+        AtTicket(())
+    }
+
+    /// Begins a batch of updates, under the lock, for the holder of the right to publish, whose reader has seen everything published. It gives the version in which they are to
+    /// be judged, and how many more versions are reserved to be published after it. The lock is free while the updates are judged and written to a disk.
+    pub fn begin_batch<R: Wait>(
+        &self,
+        rt: &R,
+        reader: &mut VersionReader<N>,
+        right: &mut PublishRight<N>,
+    ) -> BatchStart
+        requires counted { right.old.published.amount ≡ length reader.old.seen }
+        ensures begun { IsBegun Z.zone reader.old reader.new result }
+        ensures same { reader.new ≡ reader.old }
+        ensures reserved { right.new.reserved.amount ≡ result.room }
+        ensures counted { right.new.published.amount ≡ right.old.published.amount }
+    {
+        self.desk.lock(rt).begin_batch(rt, reader, right)
+    }
+
+    /// Publishes the versions of a batch, which must be reserved, under the lock, for the holder of the right to publish, whose reader then sees them. It gives the number of
+    /// the version published last.
+    pub fn publish<R: Wait>(
+        &self,
+        rt: &R,
+        reader: &mut VersionReader<N>,
+        right: &mut PublishRight<N>,
+        group: Batch<SharedVersion>,
+    ) -> u64
+        requires counted { right.old.published.amount ≡ length reader.old.seen }
+        requires judged { IsJudgedIn Z.zone reader.old.seen (versions_of group) }
+        requires room { length (versions_of group) ≤ right.old.reserved.amount }
+        ensures met { MeetsAt Z.zone reader.old reader.new result }
+        ensures published { reader.new.seen ≡ reader.old.seen ++ versions_of group }
+        ensures counted { right.new.published.amount ≡ length reader.new.seen }
+        ensures reserved { right.new.reserved.amount + length (versions_of group) ≡ right.old.reserved.amount }
+    {
+        let mut desk = self.desk.lock(rt);
+        desk.publish_batch(reader, right, group);
+        desk.number()
+    }
+
+    /// Ends the server. Its engine's history and owners are dropped, and its publisher and its reader come back, with everything that was published.
+    pub fn finish(self) -> (VersionPublisher<Z, N>, VersionReader<N>)
+        ensures latest { IsLatest Z.zone result.0.published result.0.value }
+        ensures number { result.0.number ≡ result.0.value.number }
+        ensures seen { result.1.seen ≡ result.0.published }
+    {
+        let Server { cell: _, desk } = self;
+        let desk = desk.into_inner();
+        let _ = desk.number();
+        desk.into_engine().finish()
+    }
+}

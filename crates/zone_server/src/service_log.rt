@@ -1,0 +1,277 @@
+//! The log of a running server: a line for each change of the zone, and one for each worker that ends.
+use crate::update_result::Serials;
+use dns_name::Name;
+use dns_rdata::Rcode;
+use notify::Large;
+use serve_core::Transport;
+use std::fmt::{self, Display, Formatter};
+use std::net::SocketAddr;
+use std::sync::Wait;
+
+/// A log of events.
+pub trait ServiceLog {
+    /// Logs an event. An event that cannot be written is lost.
+    fn tell<R: Wait>(&self, rt: &R, event: Event);
+}
+
+/// A log that drops all events.
+#[derive(Clone, Copy)]
+pub struct NoLog;
+
+impl ServiceLog for NoLog {
+    fn tell<R: Wait>(&self, _rt: &R, _event: Event) {}
+}
+
+/// An event of a running server. Its text is one line.
+#[derive(Drop)]
+pub enum Event {
+    /// A peer that may update has sent an update, which got this code (RFC 2136, 3).
+    Update {
+        /// The peer's address.
+        from: SocketAddr,
+        /// The code.
+        code: Rcode,
+        /// The update's own serials, those of the zone before and after it. None if its code is not NOERROR.
+        serials: Option<Serials>,
+    },
+    /// A peer's request was refused for lack of permission (RFC 2136, 3.3; RFC 5936, 2.2.1).
+    Refused {
+        /// The peer's address.
+        from: SocketAddr,
+        /// The request.
+        wanted: Wanted,
+    },
+    /// A request is signed (RFC 8945), but no keys are configured, so the signature is not checked.
+    Signed {
+        /// The peer's address.
+        from: SocketAddr,
+        /// The request.
+        wanted: Wanted,
+        /// The name of the key.
+        key: Name,
+    },
+    /// An update has added records to an owner that then has more than stock secondaries take.
+    Large(Large),
+    /// A worker's thread has ended.
+    End {
+        /// The worker's number, from 1.
+        worker: usize,
+        /// The transport of the thread's requests.
+        transport: Transport,
+        /// The reason why it ended.
+        end: JobEnd,
+    },
+    /// All threads of all workers are running.
+    Serving,
+    /// Connections of a worker have failed, or were turned away, since this was last logged.
+    Lost {
+        /// The worker's number, from 1.
+        worker: usize,
+        /// Their number by cause.
+        losses: Losses,
+    },
+    /// A secondary does not answer NOTIFY (RFC 1996, 3.6).
+    Silent {
+        /// Its address and port.
+        secondary: SocketAddr,
+    },
+    /// A secondary that did not answer answers again.
+    Again {
+        /// Its address and port.
+        secondary: SocketAddr,
+    },
+    /// The thread that notifies secondaries has ended.
+    Untold {
+        /// The reason why it ended.
+        end: JobEnd,
+    },
+}
+
+/// How many connections have failed or were turned away, by cause.
+#[derive(Clone, Copy, Default, PartialEq, Eq)]
+pub struct Losses {
+    /// Failed reads and writes.
+    pub failed: u64,
+    /// Lack of memory, or of a version.
+    pub starved: u64,
+    /// Idle for too long.
+    pub idle: u64,
+    /// A request that took too long to arrive.
+    pub unfinished: u64,
+    /// A reply that took too long to be read.
+    pub untaken: u64,
+    /// A reply that was read too slowly.
+    pub slow: u64,
+    /// Closed while waiting for a request, to make room for another connection.
+    pub evicted: u64,
+    /// Turned away, since no connection was free, and none that may be closed waited for a request.
+    pub turned_away: u64,
+    /// Turned away for lack of a descriptor or of memory.
+    pub no_room: u64,
+}
+
+/// A request that needs permission.
+#[derive(Clone, Copy, Debug, PartialEq, Eq)]
+pub enum Wanted {
+    /// An update of the zone.
+    Update,
+    /// A transfer of the zone.
+    Transfer,
+}
+
+impl Display for Wanted {
+    fn fmt<W: fmt::Write>(&self, f: &mut Formatter<W>) -> fmt::Result {
+        f.write_str(match self {
+            Wanted::Update => "update",
+            Wanted::Transfer => "transfer",
+        })
+    }
+}
+
+/// The reason why a worker's job ended.
+#[derive(Clone, Copy)]
+pub enum JobEnd {
+    /// The worker has reached its limit of datagrams and connections, or of NOTIFYs.
+    Done(u64),
+    /// Its socket failed.
+    Device,
+    /// No version could be loaded.
+    Spent,
+    /// An allocation failed.
+    NoMemory,
+}
+
+impl Display for Event {
+    fn fmt<W: fmt::Write>(&self, f: &mut Formatter<W>) -> fmt::Result {
+        match self {
+            Event::Update {
+                from,
+                code,
+                serials,
+            } => {
+                let code = name_of(*code);
+                write!(f, "update from {from}: {code}")?;
+                write_serials(f, *serials)
+            }
+            Event::Refused { from, wanted } => {
+                write!(f, "{wanted} from {from} refused: not permitted by --allow")
+            }
+            Event::Signed { from, wanted, key } => {
+                let key = key.to_text();
+                write!(
+                    f,
+                    "{wanted} from {from}: signed with key {key}, but no keys are configured; signature not checked"
+                )
+            }
+            Event::Large(large) => write!(f, "{large}"),
+            Event::End {
+                worker,
+                transport,
+                end,
+            } => {
+                let carrier = carrier_of(*transport);
+                write!(f, "worker {worker} ({carrier}) has ended: ")?;
+                write_end(f, *end)
+            }
+            Event::Serving => f.write_str("all workers have begun"),
+            Event::Lost { worker, losses } => {
+                write!(f, "worker {worker} (TCP)")?;
+                write_losses(f, *losses)
+            }
+            Event::Silent { secondary } => {
+                write!(f, "secondary {secondary} doesn't answer NOTIFY")
+            }
+            Event::Again { secondary } => {
+                write!(f, "secondary {secondary} answers NOTIFY again")
+            }
+            Event::Untold { end } => {
+                f.write_str("secondaries are told no more: ")?;
+                write_untold(f, *end)
+            }
+        }
+    }
+}
+
+/// Writes the serials of an update.
+fn write_serials<W: fmt::Write>(f: &mut Formatter<W>, serials: Option<Serials>) -> fmt::Result {
+    let Some(Serials { before, after }) = serials else {
+        return Ok(());
+    };
+    let (before, after) = (before.0, after.0);
+    if before == after {
+        return write!(f, ", serial {before} stays");
+    }
+    write!(f, ", serial {before} to {after}")
+}
+
+/// Writes how many connections were lost, by cause.
+fn write_losses<W: fmt::Write>(f: &mut Formatter<W>, losses: Losses) -> fmt::Result {
+    let mark = write_kind(f, ": ", losses.failed, "failed")?;
+    let mark = write_kind(f, mark, losses.starved, "starved")?;
+    let mark = write_kind(f, mark, losses.idle, "idle too long")?;
+    let mark = write_kind(f, mark, losses.unfinished, "too long over a request")?;
+    let mark = write_kind(f, mark, losses.untaken, "too long over a reply")?;
+    let mark = write_kind(f, mark, losses.slow, "too slow over a reply")?;
+    let mark = write_kind(f, mark, losses.evicted, "ended for others")?;
+    let mark = write_kind(f, mark, losses.turned_away, "turned away")?;
+    write_kind(f, mark, losses.no_room, "without room")?;
+    Ok(())
+}
+
+/// Writes the count of one cause after a separator, if it is not 0, and gives the separator for the next one.
+fn write_kind<W: fmt::Write>(
+    f: &mut Formatter<W>,
+    mark: &'static str,
+    count: u64,
+    kind: &str,
+) -> Result<&'static str, fmt::Error> {
+    if count == 0 {
+        return Ok(mark);
+    }
+    write!(f, "{mark}{count} {kind}")?;
+    Ok(", ")
+}
+
+/// Writes the reason why a job ended.
+fn write_end<W: fmt::Write>(f: &mut Formatter<W>, end: JobEnd) -> fmt::Result {
+    match end {
+        JobEnd::Done(count) => write!(f, "{count} datagrams and connections done"),
+        JobEnd::Device => f.write_str("its socket failed"),
+        JobEnd::Spent => f.write_str("no version could be loaded"),
+        JobEnd::NoMemory => f.write_str("no memory"),
+    }
+}
+
+/// Writes the reason why notifying of secondaries ended.
+fn write_untold<W: fmt::Write>(f: &mut Formatter<W>, end: JobEnd) -> fmt::Result {
+    match end {
+        JobEnd::Done(count) => write!(f, "{count} NOTIFYs sent"),
+        other => write_end(f, other),
+    }
+}
+
+/// The name of a transport.
+fn carrier_of(transport: Transport) -> &'static str {
+    match transport {
+        Transport::Udp => "UDP",
+        Transport::Tcp => "TCP",
+    }
+}
+
+/// The name of a code (RFC 1035, 4.1.1; RFC 2136, 2.2; RFC 6891, 9).
+fn name_of(code: Rcode) -> &'static str {
+    match code {
+        Rcode::NoError => "NOERROR",
+        Rcode::FormErr => "FORMERR",
+        Rcode::ServFail => "SERVFAIL",
+        Rcode::NxDomain => "NXDOMAIN",
+        Rcode::NotImp => "NOTIMP",
+        Rcode::Refused => "REFUSED",
+        Rcode::YXDomain => "YXDOMAIN",
+        Rcode::YXRRSet => "YXRRSET",
+        Rcode::NXRRSet => "NXRRSET",
+        Rcode::NotAuth => "NOTAUTH",
+        Rcode::NotZone => "NOTZONE",
+        Rcode::BadVers => "BADVERS",
+    }
+}

@@ -1,0 +1,252 @@
+//! Submitting updates to the update thread, which judges them and makes them survive a restart (RFC 2136, 3 and 3.5).
+ghost use Rattle.std.specs.Prelude.{◌≡◌, ◌-◌, ◌^◌, ◌≤◌, true, length, take, min, None, IfSome};
+ghost use Rattle.dns_rdata.specs.declared.numbers.Rcode.TheVariants.{ServFail};
+ghost use Rattle.dns_message.specs.Octets.{fit};
+ghost use Rattle.serve_core.specs.Heading.{heading_of_update, coded};
+ghost use Rattle.dns_message.specs.Request.{reads};
+ghost use Rattle.dns_message.specs.declared.query.Parsed.TheVariants.{Update as SaysUpdate};
+ghost use Rattle.serve_core.specs.Transport.{room_of, limit_of};
+ghost use Rattle.zone_server.specs.QueuedUpdate.{memory_of, IsSubmitted, IsDatagramSubmitted};
+ghost use Rattle.zone_server.specs.Replied.{IsUpdate};
+
+use crate::answer::{UpdateOutcome, read_update};
+use crate::right::ServerName;
+use crate::server::Server;
+use dns_engine::{FirstZone, VersionReader};
+use dns_message::Update;
+use dns_rdata::Rcode;
+use serve_core::{Heading, Peer, write_code, write_code_by};
+use std::alloc::Global;
+use std::net::SocketAddr;
+use std::sync::Wait;
+use update_batches::{Queue, UpdateRequest};
+use wire_names::NameWriter;
+
+/// The destination of the reply to a queued update.
+#[derive(Clone, Copy)]
+pub enum ReplyTo {
+    /// A connection: the result is put at a ticket, and the worker gets the connection's key.
+    Connection {
+        /// The number of the worker.
+        worker: usize,
+        /// The connection's key.
+        key: usize,
+        /// The ticket.
+        ticket: usize,
+    },
+    /// A datagram.
+    Datagram {
+        /// The number of the worker whose socket received the update.
+        worker: usize,
+        /// The address it came from.
+        to: SocketAddr,
+    },
+}
+
+/// A queued update, of a peer that may update.
+#[derive(Drop)]
+pub struct QueuedUpdate {
+    /// The update.
+    pub asked: UpdateRequest,
+    /// The destination of its reply.
+    pub way: ReplyTo,
+    ghost may: { asked.may ≡ true },
+}
+
+/// A worker's access to the update queue.
+#[derive(Clone, Copy)]
+pub struct UpdateSender<'a> {
+    /// The queue.
+    pub queue: &'a Queue<QueuedUpdate>,
+    /// The worker's number.
+    pub worker: usize,
+}
+
+/// The result of submitting an update.
+#[derive(Clone, Copy)]
+pub enum Submitted {
+    /// It has a reply at once, of so many bytes and with this code.
+    Told(usize, UpdateOutcome),
+    /// It waits at this ticket, and this is the number of the version published last.
+    Waits {
+        /// The ticket.
+        ticket: usize,
+        /// The number.
+        number: u64,
+    },
+}
+
+/// An update that was read, with its bytes, of a peer that may update. None if there is no memory for them.
+fn asked_of(alloc: Global, update: Update, request: &[u8]) -> Option<UpdateRequest>
+    requires { reads request.now ≡ SaysUpdate update }
+    ensures { IfSome result (λ asked. (asked.update ≡ update) × (asked.octets.items ≡ request.now) × (asked.may ≡ true)) }
+{
+    let octets = request.to_vec(alloc).ok()?;
+    UpdateRequest::of(update, octets, true)
+}
+
+/// How many bytes of memory one record of an update is counted for: its size once it is read, with room for an owner of the longest name (own).
+const RECORD: usize = 320;
+
+/// How many bytes of memory a queued update is counted for.
+fn memory_of(asked: &UpdateRequest) -> usize
+    ensures { result ≡ min (memory_of asked.now) (2 ^ 64 - 1) }
+{
+    let update = asked.update();
+    let records = update
+        .prerequisites
+        .as_slice()
+        .len()
+        .saturating_add(update.updates.as_slice().len());
+    records
+        .saturating_mul(RECORD)
+        .saturating_add(asked.octets().len())
+}
+
+/// Appends an update to the queue. Gives whether there were room and memory for it.
+fn is_put<R: Wait>(
+    rt: &R,
+    alloc: Global,
+    hand: UpdateSender<'_>,
+    update: Update,
+    request: &[u8],
+    way: ReplyTo,
+) -> bool
+    requires { reads request.now ≡ SaysUpdate update }
+{
+    let Some(asked) = asked_of(alloc, update, request) else {
+        return false;
+    };
+    let octets = memory_of(&asked);
+    hand.queue
+        .put(rt, QueuedUpdate { asked, way }, octets)
+        .is_ok()
+}
+
+/// Writes SERVFAIL for an update that is not judged (own).
+fn refuse(heading: &Heading, peer: Peer, out: &mut [u8]) -> (usize, UpdateOutcome)
+    requires { room_of peer.transport ≤ length out.old }
+    ensures octets { take result.0 out.new ≡ fit (coded heading.now ServFail) (limit_of peer.transport None) }
+    ensures len { result.0 ≤ limit_of peer.transport None }
+    ensures code { result.1.code ≡ ServFail }
+{
+    let told = UpdateOutcome::code(Rcode::ServFail);
+    (write_code(heading, told.code, peer.transport, out), told)
+}
+
+/// Submits an update of a peer that may update, for the connection with this key. It is answered at once, and not judged, with an error if it cannot be read, and with SERVFAIL
+/// if the queue has too many updates or bytes, there is no memory, or there is no queue (no `hand`) (own).
+pub fn submit_stream<R: Wait, Z: FirstZone, N: ServerName>(
+    rt: &R,
+    alloc: Global,
+    server: &Server<'_, Z, N>,
+    reader: &mut VersionReader<N>,
+    hand: Option<UpdateSender<'_>>,
+    key: usize,
+    peer: Peer,
+    request: &[u8],
+    out: &mut [u8],
+) -> Submitted
+    requires update { IsUpdate request.now }
+    requires may { peer.may_update ≡ true }
+    requires room { room_of peer.transport ≤ length out.old }
+    ensures { IsSubmitted Z.zone peer request.now reader.old reader.new out.new result }
+{
+    let update = match read_update(alloc, request) {
+        Ok(update) => update,
+        Err((heading, told)) => {
+            return Submitted::Told(write_code(&heading, told.code, peer.transport, out), told);
+        }
+    };
+    let heading = Heading::of_update(&update);
+    let Some(hand) = hand else {
+        server.meet(rt, reader);
+        let (len, told) = refuse(&heading, peer, out);
+        return Submitted::Told(len, told);
+    };
+    let (number, seat) = server.open(rt, reader);
+    if let Some(seat) = seat {
+        let worker = hand.worker;
+        if is_put(
+            rt,
+            alloc,
+            hand,
+            update,
+            request,
+            ReplyTo::Connection {
+                worker,
+                key,
+                ticket: seat,
+            },
+        ) {
+            return Submitted::Waits {
+                ticket: seat,
+                number,
+            };
+        }
+        server.close(rt, seat);
+    }
+    let (len, told) = refuse(&heading, peer, out);
+    Submitted::Told(len, told)
+}
+
+/// Submits an update of a peer that may update, which came by datagram. None if it is queued: the update thread sends the reply then. It is answered at once in the same cases
+/// as by [`submit_stream`].
+pub fn submit_datagram<R: Wait, Z: FirstZone, N: ServerName>(
+    rt: &R,
+    alloc: Global,
+    server: &Server<'_, Z, N>,
+    reader: &mut VersionReader<N>,
+    hand: UpdateSender<'_>,
+    to: SocketAddr,
+    peer: Peer,
+    request: &[u8],
+    out: &mut [u8],
+) -> Option<(usize, UpdateOutcome)>
+    requires update { IsUpdate request.now }
+    requires may { peer.may_update ≡ true }
+    requires room { room_of peer.transport ≤ length out.old }
+    ensures { IsDatagramSubmitted Z.zone peer request.now reader.old reader.new out.new result }
+{
+    let update = match read_update(alloc, request) {
+        Ok(update) => update,
+        Err((heading, told)) => {
+            return Some((write_code(&heading, told.code, peer.transport, out), told));
+        }
+    };
+    let heading = Heading::of_update(&update);
+    let worker = hand.worker;
+    if is_put(
+        rt,
+        alloc,
+        hand,
+        update,
+        request,
+        ReplyTo::Datagram { worker, to },
+    ) {
+        return None;
+    }
+    server.meet(rt, reader);
+    Some(refuse(&heading, peer, out))
+}
+
+/// Writes the reply to an update that has waited to the front of `out`, with a name writer that the caller keeps, and gives its length in bytes (RFC 2136, 3.8).
+pub fn write_done(
+    names: &mut NameWriter,
+    asked: &UpdateRequest,
+    code: Rcode,
+    peer: Peer,
+    out: &mut [u8],
+) -> usize
+    requires { room_of peer.transport ≤ length out.old }
+    ensures octets { take result out.new ≡ fit (coded (heading_of_update asked.now.update) code) (limit_of peer.transport None) }
+    ensures len { result ≤ limit_of peer.transport None }
+{
+    write_code_by(
+        names,
+        &Heading::of_update(asked.update()),
+        code,
+        peer.transport,
+        out,
+    )
+}
