@@ -61,8 +61,8 @@ line_played lines i line replies now first world after lt is told so_far = by (t
         next_played lines i line replies given first world next lt is e so_far ∙ (λ j. behind (same j).0 (play (same j).1 (drop (i + 1) lines)))
 
 -- all lines are played
-pub all_played : (zone : List Record) (keep window : ℕ) (lines : List WorldStep) (i : ℕ) (replies : List WorldReply) (world : World) → length lines ≤ i → play (started zone keep window) lines ≡ behind replies (play world (drop i lines)) → replies_of zone keep window lines ≡ Some replies
-all_played zone keep window lines i replies world end so_far =
+pub all_played : (first : World) (lines : List WorldStep) (i : ℕ) (replies : List WorldReply) (world : World) → length lines ≤ i → play first lines ≡ behind replies (play world (drop i lines)) → option_map {U = List WorldReply} (λ played. played.0) (play first lines) ≡ Some replies
+all_played first lines i replies world end so_far =
     ap (option_map (λ played. played.0)) (so_far ∙ ap (λ (l : List WorldStep). behind replies (play world l)) (drop_all i lines end))
     ∙ ap (λ (l : List WorldReply). Some l) (append-nil replies)
 

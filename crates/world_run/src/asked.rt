@@ -66,7 +66,10 @@ fn answer_query(
     }
     let mut out = [0; UDP_LIMIT];
     let len = respond_to(version.zone(), query, Transport::Udp, true, &mut out);
-    Ok(Some(reply_of(alloc, &out[..len])?))
+    match reply_of(alloc, &out[..len]) {
+        Ok(reply) => Ok(Some(reply)),
+        Err(fault) => Err(fault),
+    }
 }
 
 /// Whether a query over UDP is for a transfer that is sent.

@@ -50,7 +50,9 @@ fn leaving(
         if fit(window, &entries[at..], serial) {
             return Ok(owners);
         }
-        owners.push(entries[at].owner)?;
+        if let Err(fault) = owners.push(entries[at].owner) {
+            return Err(fault);
+        }
     }
     Ok(owners)
 }
@@ -111,7 +113,10 @@ pub(crate) fn put_entry(
     ensures ok { OnOk result (entries.new.items ≡ entered window entries.old.items entry) }
     ensures refused { IfErr result (λ fault. fault ≡ WorldFault.NoMemory) }
 {
-    let gone = leaving(alloc, window, entries, entry.serial)?.len();
+    let gone = match leaving(alloc, window, entries, entry.serial) {
+        Ok(owners) => owners.len(),
+        Err(fault) => return Err(fault),
+    };
     let Ok(mut staying) = entries[gone..].to_vec(alloc) else {
         return Err(WorldFault::NoMemory);
     };

@@ -144,6 +144,19 @@ fn sent_after<'a>(sending: Sending<'a>, owners: OwnerList) -> Progress<'a>
     }
 }
 
+/// What follows where a transfer looks for no further version.
+fn sought<'a>(seeking: Seeking<'a>) -> Progress<'a>
+    ensures { result ≡ sent_after seeking.entry.sending seeking.entry.owners }
+{
+    let Seeking {
+        sending,
+        left,
+        owners,
+    } = seeking;
+    mem::drop(left);
+    sent_after(sending, owners)
+}
+
 /// What follows on a load.
 fn after_load<'a>(name: Handle<'a>, event: WordEvent) -> Progress<'a>
     ensures { result ≡ load_after name.entry event }
@@ -239,11 +252,14 @@ fn after_keep<'a>(given: usize, keeping: Keeping, event: WordEvent) -> Progress<
 fn entry_of(serial: Option<Serial>, number: u64, owner: usize) -> Option<Entry>
     ensures { result ≡ says_entry_of serial number owner }
 {
-    Some(Entry {
-        number,
-        serial: serial?,
-        owner,
-    })
+    match serial {
+        None => None,
+        Some(serial) => Some(Entry {
+            number,
+            serial,
+            owner,
+        }),
+    }
 }
 
 /// What follows on the note of the version that was published.
@@ -265,7 +281,7 @@ fn after_seek<'a>(owner: usize, seeking: Seeking<'a>, event: WordEvent) -> Progr
 {
     match event {
         WordEvent::Alive => Progress::On(Phase::Gain(owner, seeking)),
-        WordEvent::Dead => sent_after(seeking.sending, seeking.owners),
+        WordEvent::Dead => sought(seeking),
         _ => Progress::On(Phase::Seek(owner, seeking)),
     }
 }
@@ -286,12 +302,9 @@ fn after_gain<'a>(
             number: _,
         } => match machine.value(next) {
             None => Ok(Progress::On(Phase::Gain(owner, seeking))),
-            Some(version) => match version.share() {
-                Ok(version) => after_got(next, version, seeking),
-                Err(fault) => Err(fault),
-            },
+            Some(version) => after_got(next, version, seeking),
         },
-        WordEvent::Dead => Ok(sent_after(seeking.sending, seeking.owners)),
+        WordEvent::Dead => Ok(sought(seeking)),
         _ => Ok(Progress::On(Phase::Gain(owner, seeking))),
     }
 }
@@ -299,10 +312,10 @@ fn after_gain<'a>(
 /// What follows where a transfer has got one more owner, which finds this version.
 fn after_got<'a>(
     owner: usize,
-    version: Published,
+    version: &Published,
     seeking: Seeking<'a>,
 ) -> Result<Progress<'a>, WorldFault>
-    ensures ok { IfOk result (λ progress. progress ≡ gained_after (with_got owner version seeking.entry) seeking.entry.left) }
+    ensures ok { IfOk result (λ progress. progress ≡ gained_after (with_got owner version.now seeking.entry) seeking.entry.left) }
     ensures refused { IfErr result (λ fault. fault ≡ WorldFault.NoMemory) }
 {
     let mut further = seeking;
@@ -321,7 +334,10 @@ fn gained_after<'a>(seeking: Seeking<'a>) -> Progress<'a>
 {
     let mut further = seeking;
     match further.left.take_first() {
-        None => sent_after(further.sending.completed(), further.owners),
+        None => {
+            further.sending.whole = true;
+            sought(further)
+        }
         Some(owner) => Progress::On(Phase::Seek(owner, further)),
     }
 }

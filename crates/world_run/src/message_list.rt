@@ -38,7 +38,10 @@ pub(crate) fn all_messages<C: ChainView>(
     ensures ok { IfOk result (λ list. list ≡ packer.entry) }
     ensures refused { IfErr result (λ fault. fault ≡ WorldFault.NoMemory) }
 {
-    let mut out = room_for_message(alloc)?;
+    let mut out = match room_for_message(alloc) {
+        Ok(out) => out,
+        Err(fault) => return Err(fault),
+    };
     let mut left = packer;
     let mut items = Vec::new(alloc);
     while let Some(len) = left.next_message(&mut out) {

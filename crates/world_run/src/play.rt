@@ -120,8 +120,13 @@ impl<'a> Play<'a> {
         ensures room { OnOk result (IsFalse (says_full self.now)) }
         ensures full { IfErr result (λ fault. (fault ≡ WorldFault.Limit) × IsTrue (says_full self.now)) }
     {
-        self.room()?;
-        Ok(WorldReply::Answered(answer))
+        match self.room() {
+            Ok(()) => Ok(WorldReply::Answered(answer)),
+            Err(fault) => {
+                mem::drop(answer);
+                Err(fault)
+            }
+        }
     }
 
     /// Takes the steps of a call, where there is room for one more.
@@ -180,8 +185,10 @@ impl<'a> Play<'a> {
         }
         give_up(&mut self.names, call);
         give_up_weakly(&mut self.weak_names, call);
-        put_under_way(&mut self.calls, name, phase)?;
-        Ok(WorldReply::Begun)
+        match put_under_way(&mut self.calls, name, phase) {
+            Ok(()) => Ok(WorldReply::Begun),
+            Err(fault) => Err(fault),
+        }
     }
 
     /// Takes one step of a call under way.
@@ -219,10 +226,10 @@ impl<'a> Play<'a> {
         ensures refused { IfErr result (λ fault. fault ≡ WorldFault.NoMemory) }
     {
         match progress {
-            Progress::On(phase) => {
-                put_under_way(&mut self.calls, name, phase)?;
-                Ok(WorldReply::Step(step))
-            }
+            Progress::On(phase) => match put_under_way(&mut self.calls, name, phase) {
+                Ok(()) => Ok(WorldReply::Step(step)),
+                Err(fault) => Err(fault),
+            },
             Progress::Done(end) => match self.finish(alloc, end) {
                 Ok(answer) => Ok(WorldReply::Last(step, answer)),
                 Err(fault) => Err(fault),
@@ -315,9 +322,13 @@ impl<'a> Play<'a> {
             × (self.new ≡ record self.old { kept = kept_at self.old.keep (Kept heading.now owner entry) self.old.kept; entries = entries_at self.old.window (Kept heading.now owner entry) self.old.entries })) }
         ensures refused { IfErr result (λ fault. fault ≡ WorldFault.NoMemory) }
     {
-        put_kept(&mut self.kept, self.keep, owner)?;
+        if let Err(fault) = put_kept(&mut self.kept, self.keep, owner) {
+            return Err(fault);
+        }
         if let Some(entry) = entry {
-            put_entry(alloc, self.window, &mut self.entries, entry)?;
+            if let Err(fault) = put_entry(alloc, self.window, &mut self.entries, entry) {
+                return Err(fault);
+            }
         }
         reply_with(alloc, heading, Rcode::NoError)
     }
@@ -338,8 +349,10 @@ fn put_owner<'a>(
     let Ok(octets) = name.as_slice().to_vec(alloc) else {
         return Err(WorldFault::NoMemory);
     };
-    put_name(names, name, owner)?;
-    Ok(Answer::Owner(Octets::new(octets), number))
+    match put_name(names, name, owner) {
+        Ok(()) => Ok(Answer::Owner(Octets::new(octets), number)),
+        Err(fault) => Err(fault),
+    }
 }
 
 /// The entry of a first version, where there is a window.

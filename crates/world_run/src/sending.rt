@@ -4,7 +4,7 @@ ghost use Rattle.serve_core.specs.declared.transport.Transport.TheVariants.{Tcp}
 ghost use Rattle.serve_core.specs.Transfers.{peer_over, is_permitted, messages_to};
 ghost use Rattle.transfer_core.specs.Chain.{told_changes};
 ghost use Rattle.zone_tree.specs.Zone.{soa_of};
-ghost use Rattle.world_run.specs.Phases.{completed, with_got};
+ghost use Rattle.world_run.specs.Phases.{with_got};
 ghost use Rattle.world_run.specs.Transfers.{sent_for, sent_answer, messages_answer};
 ghost use Rattle.dns_message.specs.declared.query.Parsed.TheVariants.{Query as Asks};
 
@@ -112,19 +112,6 @@ pub struct Sending<'a> {
 }
 
 impl<'a> Sending<'a> {
-    /// The same, with each version got that it asks for.
-    pub fn completed(self) -> Sending<'a>
-        ensures { result ≡ completed self.entry }
-    {
-        Sending {
-            served: self.served,
-            version: self.version,
-            request: self.request,
-            whole: true,
-            got: self.got,
-        }
-    }
-
     /// What the question gets: the messages of the transfer (RFC 5936, 2.2).
     ///
     /// `NoMemory` where a growth was refused.
@@ -202,12 +189,17 @@ pub struct Seeking<'a> {
 impl<'a> Seeking<'a> {
     /// One more owner was got, which finds this version.
     ///
-    /// `NoMemory` where a growth was refused.
-    pub fn put_got(&mut self, owner: usize, version: Published) -> Result<(), WorldFault>
-        ensures ok { OnOk result (self.new ≡ with_got owner version self.old) }
+    /// `NoMemory` where a growth was refused, or so many hold the version that they can't be counted.
+    pub fn put_got(&mut self, owner: usize, version: &Published) -> Result<(), WorldFault>
+        ensures ok { OnOk result (self.new ≡ with_got owner version.now self.old) }
         ensures refused { IfErr result (λ fault. fault ≡ WorldFault.NoMemory) }
     {
-        self.owners.push(owner)?;
-        self.sending.got.push(version)
+        if let Err(fault) = self.owners.push(owner) {
+            return Err(fault);
+        }
+        match version.share() {
+            Ok(version) => self.sending.got.push(version),
+            Err(fault) => Err(fault),
+        }
     }
 }

@@ -22,6 +22,7 @@ use crate::step::{Answer, Call};
 use dns_rdata::Serial;
 use serve_core::Heading;
 use std::alloc::Global;
+use std::mem;
 use zone_tree::Version;
 
 /// How a call begins.
@@ -53,18 +54,19 @@ impl<'a> Play<'a> {
         ensures ok { IfOk result (λ how. how ≡ says_start self.now call.now) }
         ensures refused { IfErr result (λ fault. fault ≡ WorldFault.NoMemory) }
     {
-        match call {
-            Call::Load(name) => Ok(self.load(name)),
-            Call::Drop(name) => Ok(self.release(name)),
-            Call::Copy(given, name) => Ok(self.copy(given, name)),
-            Call::Weak(given, name) => Ok(self.weaken(given, name)),
-            Call::Fade(name) => Ok(self.fade(name)),
-            Call::Up(weak, name) => Ok(self.raise(weak, name)),
-            Call::Ask(name, request) => self.ask(alloc, name, request),
-            Call::Transfer(name, request) => self.ask_transfer(alloc, name, request),
-            Call::Update(_) if is_barred(&self.calls) => Ok(Start::Refused),
-            Call::Update(request) => self.update(alloc, request),
-        }
+        let how = match call {
+            Call::Load(name) => self.load(name),
+            Call::Drop(name) => self.release(name),
+            Call::Copy(given, name) => self.copy(given, name),
+            Call::Weak(given, name) => self.weaken(given, name),
+            Call::Fade(name) => self.fade(name),
+            Call::Up(weak, name) => self.raise(weak, name),
+            Call::Ask(name, request) => return self.ask(alloc, name, request),
+            Call::Transfer(name, request) => return self.ask_transfer(alloc, name, request),
+            Call::Update(_) if is_barred(&self.calls) => Start::Refused,
+            Call::Update(request) => return self.update(alloc, request),
+        };
+        Ok(how)
     }
 
     /// How a load begins.
@@ -151,7 +153,10 @@ impl<'a> Play<'a> {
     {
         match self.version_under(name) {
             None => Ok(Start::Refused),
-            Some(version) => Ok(Start::answering(answer_in(alloc, version, request)?)),
+            Some(version) => match answer_in(alloc, version, request) {
+                Ok(answer) => Ok(Start::answering(answer)),
+                Err(fault) => Err(fault),
+            },
         }
     }
 
@@ -210,9 +215,17 @@ impl<'a> Play<'a> {
         ensures ok { IfOk result (λ how. how ≡ publication_start self.now heading version) }
         ensures refused { IfErr result (λ fault. fault ≡ WorldFault.NoMemory) }
     {
-        let keeping = self.keeping(alloc, heading, version.version().serial())?;
+        let keeping = match self.keeping(alloc, heading, version.version().serial()) {
+            Ok(keeping) => keeping,
+            Err(fault) => {
+                mem::drop(version);
+                return Err(fault);
+            }
+        };
         let oldest = keeping.oldest;
         if !self.machine.has_shares() || !is_held(&self.machine, oldest) || !self.can_enter() {
+            mem::drop(version);
+            mem::drop(keeping);
             return Ok(Start::Refused);
         }
         Ok(Start::Takes(Phase::Probe(version, keeping)))
@@ -229,12 +242,15 @@ impl<'a> Play<'a> {
         ensures refused { IfErr result (λ fault. fault ≡ WorldFault.NoMemory) }
     {
         let enters = enters(self.window, serial);
-        Ok(Keeping {
-            heading,
-            oldest: oldest_of(self.keep, &self.kept),
-            enters,
-            leaving: leaving_for(alloc, self.window, &self.entries, enters)?,
-        })
+        match leaving_for(alloc, self.window, &self.entries, enters) {
+            Ok(leaving) => Ok(Keeping {
+                heading,
+                oldest: oldest_of(self.keep, &self.kept),
+                enters,
+                leaving,
+            }),
+            Err(fault) => Err(fault),
+        }
     }
 
     /// Whether a weak owner can be made, where the window is to have one.
@@ -262,8 +278,12 @@ impl<'a> Play<'a> {
     fn version_under(&self, name: &Handle<'_>) -> Option<&Version>
         ensures { option_copied result ≡ version_of name.now self.now }
     {
-        let owner = owner_under(&self.names, name)?;
-        let published = self.machine.value(owner)?;
-        Some(published.version())
+        let Some(owner) = owner_under(&self.names, name) else {
+            return None;
+        };
+        match self.machine.value(owner) {
+            None => None,
+            Some(published) => Some(published.version()),
+        }
     }
 }

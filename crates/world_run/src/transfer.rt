@@ -27,13 +27,16 @@ fn none_got<'a>(
     ensures ok { IfOk result (λ sending. sending ≡ says_none_got owner version.now request.now) }
     ensures refused { IfErr result (λ fault. fault ≡ WorldFault.NoMemory) }
 {
-    Ok(Sending {
-        served: owner,
-        version: version.share()?,
-        request: request.copy(),
-        whole: false,
-        got: GotVersions::new(alloc),
-    })
+    match version.share() {
+        Ok(version) => Ok(Sending {
+            served: owner,
+            version,
+            request: request.copy(),
+            whole: false,
+            got: GotVersions::new(alloc),
+        }),
+        Err(fault) => Err(fault),
+    }
 }
 
 impl<'a> Play<'a> {

@@ -27,14 +27,13 @@ pub(crate) fn make_step(
         (λ event. made machine.old (word_step phase.now) ≡ Some (event, machine.new))) }
     ensures refused { IfErr result (λ fault. fault ≡ WorldFault.NoMemory) }
 {
-    let taken = match phase.word_step() {
-        Ok(taken) => taken,
-        Err(fault) => return Err(fault),
-    };
-    match machine.step(taken) {
-        Ok(event) => Ok(Some(event)),
-        Err(StepFault::NotEnabled) => Ok(None),
-        Err(StepFault::NoMemory) => Err(WorldFault::NoMemory),
+    match phase.word_step() {
+        Ok(taken) => match machine.step(taken) {
+            Ok(event) => Ok(Some(event)),
+            Err(StepFault::NotEnabled) => Ok(None),
+            Err(StepFault::NoMemory) => Err(WorldFault::NoMemory),
+        },
+        Err(fault) => Err(fault),
     }
 }
 
@@ -56,13 +55,10 @@ pub(crate) fn take_steps<'a>(
                 return Err(fault);
             }
         };
-        let progress = match phase.after(machine, event) {
-            Ok(progress) => progress,
+        match phase.after(machine, event) {
+            Ok(Progress::On(further)) => phase = further,
+            Ok(Progress::Done(end)) => return Ok(Progress::Done(end)),
             Err(fault) => return Err(fault),
-        };
-        match progress {
-            Progress::On(further) => phase = further,
-            Progress::Done(end) => return Ok(Progress::Done(end)),
         }
     }
     Ok(Progress::On(phase))
@@ -77,7 +73,10 @@ pub(crate) fn started_words(
     ensures made { IfOk result (λ machine. machine ≡ says_started_words first window) }
     ensures refused { IfErr result (λ fault. fault ≡ WorldFault.NoMemory) }
 {
-    let mut machine = loaded_once(alloc, first)?;
+    let mut machine = match loaded_once(alloc, first) {
+        Ok(machine) => machine,
+        Err(fault) => return Err(fault),
+    };
     if window == 0 {
         return Ok(machine);
     }

@@ -1,7 +1,7 @@
 //! The lines of a script, played in turn.
 ghost use Rattle.std.specs.Prelude.{◌≡◌, ◌++◌, ◌∷◌, List, [], Some, None, IfOk, OnOk, IfErr};
 ghost use Rattle.std.specs.Option.{option_map};
-ghost use Rattle.world_run.specs.World.{World, replies_of, turn};
+ghost use Rattle.world_run.specs.World.{World, play as says_play, replies_of, turn};
 ghost use Rattle.world_run.specs.declared.step.WorldReply.{WorldReply as Reply};
 
 use crate::fault::WorldFault;
@@ -24,13 +24,24 @@ pub fn run<'a>(
     ensures told { IfOk result (λ replies. replies_of zone options.keep options.window lines.now ≡ Some replies.items) }
     ensures limit { IfErr result (λ fault. fault ≡ WorldFault.Limit → replies_of zone options.keep options.window lines.now ≡ None) }
 {
-    let mut play = match Play::new(alloc, zone, options) {
-        Ok(play) => play,
-        Err(fault) => return Err(fault),
-    };
+    match Play::new(alloc, zone, options) {
+        Ok(mut play) => play_lines(alloc, &mut play, lines),
+        Err(fault) => Err(fault),
+    }
+}
+
+/// Plays the lines in turn, and gives a reply for each.
+fn play_lines<'a>(
+    alloc: Global,
+    play: &mut Play<'a>,
+    lines: &[WorldStep<'a>],
+) -> Result<Vec<WorldReply>, WorldFault>
+    ensures told { IfOk result (λ replies. option_map {U = List Reply} (λ played. played.0) (says_play play.old lines.now) ≡ Some replies.items) }
+    ensures limit { IfErr result (λ fault. fault ≡ WorldFault.Limit → option_map {U = List Reply} (λ played. played.0) (says_play play.old lines.now) ≡ None) }
+{
     let mut replies = Vec::new(alloc);
     for line in lines {
-        play_line(alloc, &mut play, line, &mut replies)?;
+        play_line(alloc, play, line, &mut replies)?;
     }
     Ok(replies)
 }

@@ -7,9 +7,9 @@ use Rattle.world_run.specs.declared.start.Start.TheVariants.{Answers}
 use Rattle.world_run.specs.declared.step.Answer.TheVariants.{Reply}
 use Rattle.world_run.proofs.asked.answer_query.Goals as goal
 
-pub returns-clause-ok : goal.returns-clause-ok
-returns-clause-ok c =
+pub returns-in-Ok-clause-ok : goal.returns-in-Ok-clause-ok
+returns-in-Ok-clause-ok c =
     rw (sym c.is_sent.ensures ∙ c.if-is_sent.false)
     (ap Answers
-    (c.in_ok-reply_of.ensures.ok ∙ ap Reply
+    (c.in-Ok.ensures.ok ∙ ap Reply
     (c.respond_to-len.ensures.octets ∙ ap (λ zone. fit (reply_to_peer zone (peer_over Udp true) c.args.query.now) (limit_of Udp c.args.query.now.edns)) c.zone.ensures)))
