@@ -1,11 +1,11 @@
 //! Who judges updates, while threads hand them in (RFC 2136, 3).
 
 use crate::bringing::Bringing;
-use crate::service::Duty;
+use crate::jobs::fault_of;
+use crate::service::{Duty, ServeFault};
 use crate::updates::Updates;
 use dns_engine::SharedVersion;
 use std::alloc::Global;
-use std::io;
 use std::sync::Wait;
 use update_job::{Faults, Publishing, Storing, UpdateJob};
 use update_queue::Most;
@@ -36,20 +36,23 @@ pub(crate) struct Judging<'a, S: Storing<SharedVersion>, F> {
 }
 
 impl<'a, S: Storing<SharedVersion>, F: Drop> Judging<'a, S, F> {
-    /// What updates are judged by that threads with these duties hand in. An error where a socket can't be shared, or for want of memory.
+    /// What updates are judged by that threads with these duties hand in. A fault where a socket can't be shared, or for want of memory.
     pub(crate) fn new(
         alloc: Global,
         handing: Handing<S, F>,
         duties: &[Duty<'_>],
         updates: &'a Updates,
-    ) -> io::Result<Judging<'a, S, F>> {
+    ) -> Result<Judging<'a, S, F>, ServeFault> {
         let Handing { store, faults, .. } = handing;
-        Ok(Judging {
-            updates,
-            bringing: Bringing::new(alloc, duties, updates)?,
-            store,
-            faults,
-        })
+        match Bringing::new(alloc, duties, updates) {
+            Ok(bringing) => Ok(Judging {
+                updates,
+                bringing,
+                store,
+                faults,
+            }),
+            Err(fault) => Err(fault_of(&fault)),
+        }
     }
 }
 

@@ -8,6 +8,7 @@ mod bringing;
 mod ending;
 mod jobs;
 mod judge;
+mod pairs;
 mod service;
 mod threads;
 mod updates;

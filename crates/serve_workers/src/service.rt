@@ -1,5 +1,5 @@
 //! A zone served on sockets, by workers.
-ghost use Rattle.std.specs.Prelude.{◌≡◌, ◌+◌, ◌<◌, ◌≤◌, [], true, false, map, vec_len, vec_capacity, None, Some, MatchOption};
+ghost use Rattle.std.specs.Prelude.{◌≡◌, ◌+◌, ◌<◌, ◌≤◌, [], true, false, vec_len, vec_capacity, None, Some, MatchOption};
 ghost use Rattle.std.specs.List.{All, Any};
 ghost use Rattle.dns_engine.specs.Held.{KEPT};
 ghost use Rattle.dns_engine.specs.Versions.{IsFirst, AreNext};
@@ -8,20 +8,18 @@ ghost use Rattle.update_desk.specs.Right.{AreNamed};
 ghost use Rattle.serve_workers.specs.Numbers.{end_of, fault_by};
 
 use crate::ending::{end_cell, end_named};
-use crate::jobs::{fault_of, jobs_of};
+use crate::jobs::jobs_of;
 use crate::judge::{Handing, Judge, Judging};
+use crate::pairs::{all_readers, pairs_of, put_readers};
 use crate::threads::{SocketJob, run_threads};
 use crate::updates::Updates;
 use dns_engine::{
     EngineFault, FirstZone, NoEngine, SharedVersion, VersionCell, VersionPublisher, VersionReader,
     ZoneVersions,
 };
-use snapshot_cell::{
-    Cell, NamedCell, NamedPublisher, NamedReader, Naming, NewFault, Parts, Reader,
-};
+use snapshot_cell::{Cell, NamedCell, NamedPublisher, NamedReader, Naming, NewFault, Parts};
 use std::alloc::Global;
 use std::marker::Brand;
-use std::mem;
 use std::net::{Net, TcpListener, UdpSocket};
 use std::sync::Wait;
 use std::thread::Threads;
@@ -29,7 +27,6 @@ use std::time::Clock;
 use thiserror::Error;
 use turns::Plan as ConnectionPlan;
 use update_job::{Faults, Storing, UpdateJob};
-use update_queue::Most;
 use update_teller::Teller;
 use worker_jobs::{Meanwhile, Muster, NotStarted, Progress, Secondaries};
 use zone_service::{JobEnd, PublishRight, Server, ServerLedgers, ServerName, ServiceLog};
@@ -106,33 +103,6 @@ impl<C: Clock> SocketJob<'_, C> {
     }
 }
 
-/// The updates that threads with these duties hand in, of which so much waits at most.
-fn updates_for<R: Wait>(
-    rt: &R,
-    alloc: Global,
-    most: Most,
-    duties: &[Duty<'_>],
-    places: usize,
-) -> Result<Updates, ServeFault> {
-    match Updates::of(rt, alloc, most, duties, places) {
-        Ok(updates) => Ok(updates),
-        Err(_) => Err(ServeFault::NoMemory),
-    }
-}
-
-/// What updates are judged by that threads with these duties hand in.
-fn judging_for<'a, S: Storing<SharedVersion>, F: Drop>(
-    alloc: Global,
-    handing: Handing<S, F>,
-    duties: &[Duty<'_>],
-    updates: &'a Updates,
-) -> Result<Judging<'a, S, F>, ServeFault> {
-    match Judging::new(alloc, handing, duties, updates) {
-        Ok(judging) => Ok(judging),
-        Err(fault) => Err(fault_of(&fault)),
-    }
-}
-
 /// Serves a zone on sockets, whose cell begins with a first version and with those behind it: its threads answer queries in the version that is
 /// published last, and hand updates on, each of which publishes the next version (RFC 1035, 4.2; RFC 2136, 3). Updates are judged in batches on the thread that this is
 /// called on, and none of the others waits for a disk. It ends once each worker has done what it may, or a thread has failed, and each update that was handed on is told;
@@ -159,8 +129,8 @@ pub fn serve_zone<
     requires kept { plan.keep ≤ KEPT }
 {
     let threads = duties.len();
-    let updates = updates_for(rt, alloc, handing.most, &duties, plan.places)?;
-    let judging = judging_for(alloc, handing, &duties, &updates)?;
+    let updates = Updates::of(rt, alloc, handing.most, &duties, plan.places)?;
+    let judging = Judging::new(alloc, handing, &duties, &updates)?;
     let jobs = jobs_of(rt, alloc, duties, plan, &updates)?;
     let parts = match Cell::<SharedVersion, ZoneVersions<Z>>::new(alloc, threads + 2, first) {
         Ok(parts) => parts,
@@ -417,69 +387,4 @@ fn fault_in<N: Naming, C: Clock>(
         }
     }
     None
-}
-
-/// The reader of a pair, whose job is over.
-fn reader_of<N: Naming, C: Clock>(pair: (VersionReader<N>, SocketJob<'_, C>)) -> VersionReader<N>
-    ensures { result ≡ pair.entry.0 }
-{
-    let (reader, job) = pair;
-    mem::drop(job);
-    reader
-}
-
-/// Puts the readers of pairs into `back`, which has room for them.
-fn put_readers<N: Naming, C: Clock>(
-    pairs: Vec<(VersionReader<N>, SocketJob<'_, C>)>,
-    back: &mut Vec<VersionReader<N>>,
-)
-    requires room { vec_len pairs ≤ vec_capacity back.old }
-    requires empty { back.old.items ≡ [] }
-    ensures readers { back.new.items ≡ map (λ pair. pair.0) pairs.entry.items }
-    ensures room { vec_capacity back.new ≡ vec_capacity back.old }
-{
-    for pair in pairs {
-        back.push_reserved(reader_of(pair));
-    }
-}
-
-/// The readers of pairs, and two more, in `back`, which has room for them.
-fn all_readers<N: Naming, C: Clock>(
-    pairs: Vec<(VersionReader<N>, SocketJob<'_, C>)>,
-    reader: VersionReader<N>,
-    own: VersionReader<N>,
-    mut back: Vec<VersionReader<N>>,
-) -> Vec<VersionReader<N>>
-    requires empty { back.items ≡ [] }
-    requires room { vec_len pairs + 1 < vec_capacity back }
-    ensures { vec_len result ≡ vec_len pairs.entry + 2 }
-{
-    put_readers(pairs, &mut back);
-    back.push_reserved(reader);
-    back.push_reserved(own);
-    back
-}
-
-/// The readers of a cell in their order, each with its job, in `pairs`, which has room for them.
-fn pairs_of<'a, N: Naming, C: Clock>(
-    readers: Vec<Reader<SharedVersion>>,
-    jobs: Vec<SocketJob<'a, C>>,
-    mut pairs: Vec<(VersionReader<N>, SocketJob<'a, C>)>,
-) -> Vec<(VersionReader<N>, SocketJob<'a, C>)>
-    requires named { All (λ r. r.cell ≡ N.cell) readers.items }
-    requires count { vec_len readers ≡ vec_len jobs }
-    requires room { vec_len jobs ≤ vec_capacity pairs }
-    requires empty { (pairs.items ≡ []) × (vec_len pairs ≡ 0) }
-    ensures readers { map (λ pair. pair.0) result.items ≡ readers.items }
-    ensures jobs { map (λ pair. pair.1) result.items ≡ jobs.entry.items }
-    ensures count { vec_len result ≡ vec_len jobs.entry }
-{
-    let mut jobs = jobs.into_iter();
-    for reader in readers {
-        let Some(job) = jobs.next() else {
-            unreachable!()
-        };
-        pairs.push_reserved((NamedReader::of(reader), job));
-    }
-    pairs
 }

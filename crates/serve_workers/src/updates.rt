@@ -1,7 +1,7 @@
 //! Updates that threads hand to who judges them (RFC 2136, 3; own).
 
-use crate::service::{Duty, Sockets};
-use std::alloc::{AllocError, Global};
+use crate::service::{Duty, ServeFault, Sockets};
+use std::alloc::Global;
 use std::sync::Wait;
 use std::sync::atomic::{AtomicUsize, Ordering};
 use update_queue::{Most, Queue};
@@ -37,19 +37,26 @@ fn takes_updates(duty: &Duty<'_>) -> bool {
 
 impl Updates {
     /// Those of threads that have these duties, each with at most so many connections, of which none waits, and at most so much ever does. It takes the memory for
-    /// all.
+    /// all: a fault where there is none.
     pub(crate) fn of<R: Wait>(
         rt: &R,
         alloc: Global,
         most: Most,
         duties: &[Duty<'_>],
         places: usize,
-    ) -> Result<Updates, AllocError> {
-        let queue = Queue::new(alloc, most)?;
+    ) -> Result<Updates, ServeFault> {
+        let Ok(queue) = Queue::new(alloc, most) else {
+            return Err(ServeFault::NoMemory);
+        };
         let mut told = Vec::new(alloc);
         let mut threads = 0usize;
         for duty in duties {
-            told.push(ToldKeys::new(alloc, most_of(duty, places))?)?;
+            let Ok(keys) = ToldKeys::new(alloc, most_of(duty, places)) else {
+                return Err(ServeFault::NoMemory);
+            };
+            if told.push(keys).is_err() {
+                return Err(ServeFault::NoMemory);
+            }
             if takes_updates(duty) {
                 threads = threads.saturating_add(1);
             }

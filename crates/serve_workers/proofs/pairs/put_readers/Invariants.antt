@@ -1,7 +1,7 @@
 -- The readers so far are put.
 use Rattle.std.proofs.Common.{◌≡◌, ◌+◌, ◌++◌, ◌≤◌, vec_len, vec_capacity, map}
 use Rattle.std.specs.Vec.Iter.{into_iter_len, into_iter_items}
-use Rattle.serve_workers.proofs.service.put_readers.Given as goal
+use Rattle.serve_workers.proofs.pairs.put_readers.Given as goal
 
 abbrev pub invariant-loop-pair : goal.invariant-loop-pair
 invariant-loop-pair g l = record {

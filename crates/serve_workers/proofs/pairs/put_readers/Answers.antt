@@ -3,7 +3,7 @@ use Rattle.std.proofs.Common.{rules, ◌≡◌, ◌∷◌, [], ◌++◌, map, re
 use Rattle.std.specs.Vec.Iter.{into_iter_items}
 use Rattle.worker_jobs.proofs.EachLemmas.{all_taken}
 use Rattle.worker_jobs.proofs.ListLemmas.{map_more}
-use Rattle.serve_workers.proofs.service.put_readers.Goals as goal
+use Rattle.serve_workers.proofs.pairs.put_readers.Goals as goal
 
 pub loop-pair-init : goal.loop-pair-init
 loop-pair-init g c = record { left = c.into_iter-pair-iterator.ensures.into_iter_gives.0; room = search rules; capacity = refl; readers = search rules }

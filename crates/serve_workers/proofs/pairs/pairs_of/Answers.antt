@@ -4,7 +4,7 @@ use Rattle.std.proofs.lemmas.List.Elements.{All-head, All-rest, All-same}
 use Rattle.std.specs.Vec.Iter.{into_iter_items}
 use Rattle.worker_jobs.proofs.EachLemmas.{all_taken}
 use Rattle.worker_jobs.proofs.ListLemmas.{map_more, map_taken}
-use Rattle.serve_workers.proofs.service.pairs_of.Goals as goal
+use Rattle.serve_workers.proofs.pairs.pairs_of.Goals as goal
 
 pub loop-reader-init : goal.loop-reader-init
 loop-reader-init g c = record {

@@ -1,7 +1,7 @@
 -- As many readers come back as there are pairs, and one more.
 use Rattle.std.proofs.Common.{◌≡◌, length, vec_len, arith, sym, ap, ◌∙◌}
 use Rattle.std.proofs.lemmas.List.{length-map}
-use Rattle.serve_workers.proofs.service.all_readers.Goals as goal
+use Rattle.serve_workers.proofs.pairs.all_readers.Goals as goal
 
 pub push_reserved-requires : goal.push_reserved-requires
 push_reserved-requires g c =

@@ -1,7 +1,7 @@
 -- The readers so far have their jobs.
 use Rattle.std.proofs.Common.{◌≡◌, ◌+◌, ◌++◌, ◌≤◌, vec_len, vec_capacity, map, All}
 use Rattle.std.specs.Vec.Iter.{into_iter_len, into_iter_items}
-use Rattle.serve_workers.proofs.service.pairs_of.Given as goal
+use Rattle.serve_workers.proofs.pairs.pairs_of.Given as goal
 
 abbrev pub invariant-loop-reader : goal.invariant-loop-reader
 invariant-loop-reader g l = record {
