@@ -110,6 +110,65 @@ fn hand_at(updates: &Updates, place: usize) -> Hand<'_> {
     }
 }
 
+/// What the threads of a server answer from.
+#[derive(Drop)]
+struct ThreadContext<'g, 's, Z: FirstZone, N: ServerName, L> {
+    alloc: Global,
+    server: &'g Server<'s, Z, N>,
+    muster: &'g Muster,
+    log: &'g L,
+    updates: &'g Updates,
+}
+
+/// Who answers datagrams with a reader.
+fn asked_by<'g, 's, Z: FirstZone, N: ServerName, L: ServiceLog>(
+    context: &ThreadContext<'g, 's, Z, N, L>,
+    reader: VersionReader<N>,
+) -> Asked<'g, 's, Z, N, L>
+    ensures { result.reader ≡ reader }
+{
+    let peer = Peer::over(Transport::Udp, false);
+    Asked::new(
+        context.alloc,
+        context.server,
+        reader,
+        context.log,
+        peer,
+        nobody(),
+    )
+}
+
+/// Who answers datagrams with a reader in the thread at a place, and hands updates to where they wait.
+fn handing_by<'g, 's, Z: FirstZone, N: ServerName, L: ServiceLog>(
+    context: &ThreadContext<'g, 's, Z, N, L>,
+    place: usize,
+    reader: VersionReader<N>,
+) -> Asked<'g, 's, Z, N, L>
+    ensures { result.reader ≡ reader }
+{
+    asked_by(context, reader).handing(hand_at(context.updates, place))
+}
+
+/// Who answers connections with a reader in the thread at a place, and hands updates to where they wait.
+fn replies_by<'g, 's, Z: FirstZone, N: ServerName, L: ServiceLog>(
+    context: &ThreadContext<'g, 's, Z, N, L>,
+    place: usize,
+    reader: VersionReader<N>,
+) -> Replies<'g, 's, Z, N, L>
+    ensures { result.reader ≡ reader }
+{
+    let peer = Peer::over(Transport::Udp, false);
+    let replies = Replies::new(
+        context.alloc,
+        context.server,
+        reader,
+        context.log,
+        peer,
+        nobody(),
+    );
+    replies.handing(hand_at(context.updates, place))
+}
+
 /// A thread's job, and who answers in it by a reader.
 #[derive(Drop)]
 enum Seat<'g, 's, Z: FirstZone, N: ServerName, L, C> {
@@ -124,30 +183,24 @@ enum Seat<'g, 's, Z: FirstZone, N: ServerName, L, C> {
 impl<'g, 's, Z: FirstZone, N: ServerName, L: ServiceLog, C: Clock> Seat<'g, 's, Z, N, L, C> {
     /// A job with a reader, of the thread at a place, which hands updates to where they wait.
     fn of(
-        alloc: Global,
-        server: &'g Server<'s, Z, N>,
-        log: &'g L,
-        updates: &'g Updates,
+        context: &ThreadContext<'g, 's, Z, N, L>,
         place: usize,
         reader: VersionReader<N>,
         job: SocketJob<'g, C>,
     ) -> Seat<'g, 's, Z, N, L, C>
         ensures { pair_of result ≡ (reader, job.entry) }
     {
-        let peer = Peer::over(Transport::Udp, false);
         match job {
             SocketJob::Datagrams(job) => {
-                let asked = Asked::new(alloc, server, reader, log, peer, nobody());
-                let asked = asked.handing(hand_at(updates, place));
+                let asked = handing_by(context, place, reader);
                 Seat::Datagrams(DatagramsSeat { asked, job })
             }
             SocketJob::Connections(job) => {
-                let replies = Replies::new(alloc, server, reader, log, peer, nobody());
-                let replies = replies.handing(hand_at(updates, place));
+                let replies = replies_by(context, place, reader);
                 Seat::Connections(ConnectionsSeat { replies, job })
             }
             SocketJob::Secondaries(job) => {
-                let asked = Asked::new(alloc, server, reader, log, peer, nobody());
+                let asked = asked_by(context, reader);
                 Seat::Secondaries(SecondariesSeat { asked, job })
             }
         }
@@ -267,44 +320,68 @@ impl<
     }
 }
 
+/// What is made of a pair, from what threads answer from, and gives the pair back.
+trait OfPair<K, P>: Drop {
+    /// The pair.
+    ghost pair: { Self → P };
+
+    /// Of a pair, for the thread at a place.
+    fn of(context: &K, place: usize, given: P) -> Self
+        ensures { pair result ≡ given };
+
+    /// The pair.
+    fn into_pair(self) -> P
+        ensures { result ≡ pair self };
+}
+
+impl<'g, 's, Z: FirstZone, N: ServerName, L: ServiceLog, C: Clock> OfPair<
+    ThreadContext<'g, 's, Z, N, L>,
+    (VersionReader<N>, SocketJob<'g, C>),
+> for ServerThread<'g, 's, Z, N, L, C> {
+    ghost pair = { λ thread. pair_of thread.seat };
+
+    fn of(
+        context: &ThreadContext<'g, 's, Z, N, L>,
+        place: usize,
+        given: (VersionReader<N>, SocketJob<'g, C>),
+    ) -> ServerThread<'g, 's, Z, N, L, C>
+        ensures { pair_of result.seat ≡ given.entry }
+    {
+        let (reader, job) = given;
+        ServerThread {
+            seat: Seat::of(context, place, reader, job),
+            muster: context.muster,
+            log: context.log,
+            updates: context.updates,
+        }
+    }
+
+    fn into_pair(self) -> (VersionReader<N>, SocketJob<'g, C>) {
+        self.seat.into_pair()
+    }
+}
+
 /// Puts the threads of pairs into `threads`, which has room for them.
-fn put_threads<'g, 's, Z: FirstZone, N: ServerName, L: ServiceLog, C: Clock>(
-    alloc: Global,
-    server: &'g Server<'s, Z, N>,
-    muster: &'g Muster,
-    log: &'g L,
-    updates: &'g Updates,
-    pairs: Vec<(VersionReader<N>, SocketJob<'g, C>)>,
-    threads: &mut Vec<ServerThread<'g, 's, Z, N, L, C>>,
-)
+fn put_threads<K, P: Drop, T: OfPair<K, P>>(context: &K, pairs: Vec<P>, threads: &mut Vec<T>)
     requires room { vec_len pairs ≤ vec_capacity threads.old }
     requires empty { threads.old.items ≡ [] }
-    ensures pairs { map (λ thread. pair_of thread.seat) threads.new.items ≡ pairs.entry.items }
+    ensures pairs { map T.pair threads.new.items ≡ pairs.items }
 {
     let mut place = 0usize;
-    for (reader, job) in pairs {
-        let seat = Seat::of(alloc, server, log, updates, place, reader, job);
-        threads.push_reserved(ServerThread {
-            seat,
-            muster,
-            log,
-            updates,
-        });
+    for given in pairs {
+        threads.push_reserved(T::of(context, place, given));
         place = place.saturating_add(1);
     }
 }
 
 /// Puts the pairs of threads into `back`, which has room for them.
-fn put_back<'g, Z: FirstZone, N: ServerName, L: ServiceLog, C: Clock>(
-    done: Vec<ServerThread<'g, '_, Z, N, L, C>>,
-    back: &mut Vec<(VersionReader<N>, SocketJob<'g, C>)>,
-)
+fn put_back<K, P: Drop, T: OfPair<K, P>>(done: Vec<T>, back: &mut Vec<P>)
     requires room { vec_len done ≤ vec_capacity back.old }
     requires empty { back.old.items ≡ [] }
-    ensures pairs { back.new.items ≡ map (λ thread. pair_of thread.seat) done.entry.items }
+    ensures pairs { back.new.items ≡ map T.pair done.items }
 {
-    for ServerThread { seat, .. } in done {
-        back.push_reserved(seat.into_pair());
+    for thread in done {
+        back.push_reserved(thread.into_pair());
     }
 }
 
@@ -343,9 +420,18 @@ pub(crate) fn run_threads<
     let Ok(mut back) = Vec::with_capacity(alloc, count) else {
         return Err((NotStarted(pairs), meanwhile));
     };
-    put_threads(alloc, server, muster, log, updates, pairs, &mut threads);
+    let context = ThreadContext {
+        alloc,
+        server,
+        muster,
+        log,
+        updates,
+    };
+    put_threads(&context, pairs, &mut threads);
     let (started, done, beside) = do_all(rt, alloc, threads, meanwhile);
-    put_back(done, &mut back);
+    put_back::<ThreadContext<'g, 's, Z, N, L>, _, ServerThread<'g, 's, Z, N, L, C>>(
+        done, &mut back,
+    );
     if started {
         Ok((back, beside))
     } else {

@@ -1,11 +1,10 @@
 -- One pair more is put.
 use Rattle.std.proofs.Common.{rules}
-use Rattle.serve_workers.specs.Seats.{pair_of}
 use Rattle.worker_jobs.proofs.ListLemmas.{map_more}
 use Rattle.serve_workers.proofs.threads.put_threads.Goals as goal
 
-pub loop-reader-preserved : goal.loop-reader-preserved
-loop-reader-preserved g c = record {
+pub loop-given-preserved : goal.loop-given-preserved
+loop-given-preserved g c = record {
   room = search rules;
-  pairs = map_more (λ thread. pair_of thread.seat) _ _ _ _ _ c.push_reserved.ensures.items c.loop-reader.invariant.pairs c.of-seat.ensures;
+  pairs = map_more g.T.OfPair.pair _ _ _ _ _ c.push_reserved.ensures.items c.loop-given.invariant.pairs c.of.ensures;
 }
