@@ -41,7 +41,13 @@ seat_send : (a b : NamedLft) (T N L C : RattleType) (g : Ghosts T.Denot) (n : na
 seat_send a b T N L C g n s hears ticks =
     enum_send (enum.shape (seat.the_type a b T N L C n g s)) ((datagrams_seat_send a b T N L g n s hears, tt), ((connections_seat_send a b T N L C g n s hears ticks, tt), ((secondaries_seat_send a b T N L C g n s hears ticks, tt), tt)))
 
-pub thread_send : (a b : NamedLft) (T N L C : RattleType) (g : Ghosts T.Denot) (n : naming.Ghosts N.Denot) (s : server_names.Ghosts N.Denot) → IsSync L → IsSync C → IsSend (thread.the_row a b T N L C n g s)
-thread_send a b T N L C g n s hears ticks =
-    recorded_send (thread.the_field a b T N L C n g s).row _ _ (thread.the_type a b T N L C n g s).to_one
-    (struct_send (shape (thread.the_type a b T N L C n g s)) (seat_send a b T N L C g n s hears ticks, (search (crossing.crosses, sendable) depth 60 fits 20000, (search sendable depth 60 fits 20000, (search (updates_sync, crossing.crosses, sendable) depth 60 fits 20000, tt)))))
+seat_row_send : (a b : NamedLft) (T N L C : RattleType) (g : Ghosts T.Denot) (n : naming.Ghosts N.Denot) (s : server_names.Ghosts N.Denot) → IsSync L → IsSync C → IsSend (seat.the_row a b T N L C n g s)
+seat_row_send a b T N L C g n s hears ticks = recorded_send (seat.the_field a b T N L C n g s).row _ _ (seat.the_type a b T N L C n g s).to_one (seat_send a b T N L C g n s hears ticks)
+
+row_thread_send : (a : NamedLft) (S L : RattleType) → IsSend S → IsSync L → IsSend (thread.the_row a S L)
+row_thread_send a S L sends hears =
+    recorded_send (thread.the_field a S L).row _ _ (thread.the_type a S L).to_one
+    (struct_send (shape (thread.the_type a S L)) (sends, (search (crossing.crosses, sendable) depth 60 fits 20000, (search sendable depth 60 fits 20000, (search (updates_sync, crossing.crosses, sendable) depth 60 fits 20000, tt)))))
+
+pub thread_send : (a b : NamedLft) (T N L C : RattleType) (g : Ghosts T.Denot) (n : naming.Ghosts N.Denot) (s : server_names.Ghosts N.Denot) → IsSync L → IsSync C → IsSend (thread.the_row a (seat.the_row a b T N L C n g s) L)
+thread_send a b T N L C g n s hears ticks = row_thread_send a (seat.the_row a b T N L C n g s) L (seat_row_send a b T N L C g n s hears ticks) hears

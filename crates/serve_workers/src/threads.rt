@@ -115,7 +115,6 @@ fn hand_at(updates: &Updates, place: usize) -> Hand<'_> {
 struct ThreadContext<'g, 's, Z: FirstZone, N: ServerName, L> {
     alloc: Global,
     server: &'g Server<'s, Z, N>,
-    muster: &'g Muster,
     log: &'g L,
     updates: &'g Updates,
 }
@@ -181,48 +180,6 @@ enum Seat<'g, 's, Z: FirstZone, N: ServerName, L, C> {
 }
 
 impl<'g, 's, Z: FirstZone, N: ServerName, L: ServiceLog, C: Clock> Seat<'g, 's, Z, N, L, C> {
-    /// A job with a reader, of the thread at a place, which hands updates to where they wait.
-    fn of(
-        context: &ThreadContext<'g, 's, Z, N, L>,
-        place: usize,
-        reader: VersionReader<N>,
-        job: SocketJob<'g, C>,
-    ) -> Seat<'g, 's, Z, N, L, C>
-        ensures { pair_of result ≡ (reader, job.entry) }
-    {
-        match job {
-            SocketJob::Datagrams(job) => {
-                let asked = handing_by(context, place, reader);
-                Seat::Datagrams(DatagramsSeat { asked, job })
-            }
-            SocketJob::Connections(job) => {
-                let replies = replies_by(context, place, reader);
-                Seat::Connections(ConnectionsSeat { replies, job })
-            }
-            SocketJob::Secondaries(job) => {
-                let asked = asked_by(context, reader);
-                Seat::Secondaries(SecondariesSeat { asked, job })
-            }
-        }
-    }
-
-    /// The job and its reader.
-    fn into_pair(self) -> (VersionReader<N>, SocketJob<'g, C>)
-        ensures { result ≡ pair_of self.entry }
-    {
-        match self {
-            Seat::Datagrams(DatagramsSeat { asked, job }) => {
-                (asked.into_reader(), SocketJob::Datagrams(job))
-            }
-            Seat::Connections(ConnectionsSeat { replies, job }) => {
-                (replies.into_reader(), SocketJob::Connections(job))
-            }
-            Seat::Secondaries(SecondariesSeat { asked, job }) => {
-                (asked.into_reader(), SocketJob::Secondaries(job))
-            }
-        }
-    }
-
     /// What is told of its end.
     fn event_of(&self, end: JobEnd) -> Event {
         let worker = self.number();
@@ -274,8 +231,8 @@ impl<'g, 's, Z: FirstZone, N: ServerName, L: ServiceLog, C: Clock> Seat<'g, 's, 
 
 /// A thread of a server.
 #[derive(Drop)]
-struct ServerThread<'g, 's, Z: FirstZone, N: ServerName, L, C> {
-    seat: Seat<'g, 's, Z, N, L, C>,
+struct ServerThread<'g, S, L> {
+    seat: S,
     muster: &'g Muster,
     log: &'g L,
     updates: &'g Updates,
@@ -298,7 +255,7 @@ impl<
     N: ServerName + Send + Sync,
     L: ServiceLog + Sync,
     C: Clock + Sync,
-> Work for ServerThread<'g, 's, Z, N, L, C> {
+> Work for ServerThread<'g, Seat<'g, 's, Z, N, L, C>, L> {
     ghost number = { λ thread. seat_number thread.seat };
 
     ghost seen = { λ thread. seat_seen thread.seat };
@@ -320,7 +277,7 @@ impl<
     }
 }
 
-/// What is made of a pair, from what threads answer from, and gives the pair back.
+/// What is made of a pair, by what threads answer from, and gives the pair back.
 trait OfPair<K, P>: Drop {
     /// The pair.
     ghost pair: { Self → P };
@@ -337,51 +294,82 @@ trait OfPair<K, P>: Drop {
 impl<'g, 's, Z: FirstZone, N: ServerName, L: ServiceLog, C: Clock> OfPair<
     ThreadContext<'g, 's, Z, N, L>,
     (VersionReader<N>, SocketJob<'g, C>),
-> for ServerThread<'g, 's, Z, N, L, C> {
-    ghost pair = { λ thread. pair_of thread.seat };
+> for Seat<'g, 's, Z, N, L, C> {
+    ghost pair = { λ seat. pair_of seat };
 
     fn of(
         context: &ThreadContext<'g, 's, Z, N, L>,
         place: usize,
         given: (VersionReader<N>, SocketJob<'g, C>),
-    ) -> ServerThread<'g, 's, Z, N, L, C>
-        ensures { pair_of result.seat ≡ given.entry }
+    ) -> Seat<'g, 's, Z, N, L, C>
+        ensures { pair_of result ≡ given.entry }
     {
         let (reader, job) = given;
-        ServerThread {
-            seat: Seat::of(context, place, reader, job),
-            muster: context.muster,
-            log: context.log,
-            updates: context.updates,
+        match job {
+            SocketJob::Datagrams(job) => {
+                let asked = handing_by(context, place, reader);
+                Seat::Datagrams(DatagramsSeat { asked, job })
+            }
+            SocketJob::Connections(job) => {
+                let replies = replies_by(context, place, reader);
+                Seat::Connections(ConnectionsSeat { replies, job })
+            }
+            SocketJob::Secondaries(job) => {
+                let asked = asked_by(context, reader);
+                Seat::Secondaries(SecondariesSeat { asked, job })
+            }
         }
     }
 
     fn into_pair(self) -> (VersionReader<N>, SocketJob<'g, C>) {
-        self.seat.into_pair()
+        match self {
+            Seat::Datagrams(DatagramsSeat { asked, job }) => {
+                (asked.into_reader(), SocketJob::Datagrams(job))
+            }
+            Seat::Connections(ConnectionsSeat { replies, job }) => {
+                (replies.into_reader(), SocketJob::Connections(job))
+            }
+            Seat::Secondaries(SecondariesSeat { asked, job }) => {
+                (asked.into_reader(), SocketJob::Secondaries(job))
+            }
+        }
     }
 }
 
 /// Puts the threads of pairs into `threads`, which has room for them.
-fn put_threads<K, P: Drop, T: OfPair<K, P>>(context: &K, pairs: Vec<P>, threads: &mut Vec<T>)
+fn put_threads<'g, K, P: Drop, S: OfPair<K, P>, L>(
+    context: &K,
+    muster: &'g Muster,
+    log: &'g L,
+    updates: &'g Updates,
+    pairs: Vec<P>,
+    threads: &mut Vec<ServerThread<'g, S, L>>,
+)
     requires room { vec_len pairs ≤ vec_capacity threads.old }
     requires empty { threads.old.items ≡ [] }
-    ensures pairs { map T.pair threads.new.items ≡ pairs.items }
+    ensures pairs { map (λ thread. S.pair thread.seat) threads.new.items ≡ pairs.items }
 {
     let mut place = 0usize;
     for given in pairs {
-        threads.push_reserved(T::of(context, place, given));
+        let seat = S::of(context, place, given);
+        threads.push_reserved(ServerThread {
+            seat,
+            muster,
+            log,
+            updates,
+        });
         place = place.saturating_add(1);
     }
 }
 
 /// Puts the pairs of threads into `back`, which has room for them.
-fn put_back<K, P: Drop, T: OfPair<K, P>>(done: Vec<T>, back: &mut Vec<P>)
+fn put_back<K, P: Drop, S: OfPair<K, P>, L>(done: Vec<ServerThread<'_, S, L>>, back: &mut Vec<P>)
     requires room { vec_len done ≤ vec_capacity back.old }
     requires empty { back.old.items ≡ [] }
-    ensures pairs { back.new.items ≡ map T.pair done.items }
+    ensures pairs { back.new.items ≡ map (λ thread. S.pair thread.seat) done.entry.items }
 {
-    for thread in done {
-        back.push_reserved(thread.into_pair());
+    for ServerThread { seat, .. } in done {
+        back.push_reserved(seat.into_pair());
     }
 }
 
@@ -423,15 +411,12 @@ pub(crate) fn run_threads<
     let context = ThreadContext {
         alloc,
         server,
-        muster,
         log,
         updates,
     };
-    put_threads(&context, pairs, &mut threads);
+    put_threads(&context, muster, log, updates, pairs, &mut threads);
     let (started, done, beside) = do_all(rt, alloc, threads, meanwhile);
-    put_back::<ThreadContext<'g, 's, Z, N, L>, _, ServerThread<'g, 's, Z, N, L, C>>(
-        done, &mut back,
-    );
+    put_back::<ThreadContext<'g, 's, Z, N, L>, _, Seat<'g, 's, Z, N, L, C>, L>(done, &mut back);
     if started {
         Ok((back, beside))
     } else {

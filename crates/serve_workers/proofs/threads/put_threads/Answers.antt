@@ -6,5 +6,5 @@ use Rattle.serve_workers.proofs.threads.put_threads.Goals as goal
 pub loop-given-preserved : goal.loop-given-preserved
 loop-given-preserved g c = record {
   room = search rules;
-  pairs = map_more g.T.OfPair.pair _ _ _ _ _ c.push_reserved.ensures.items c.loop-given.invariant.pairs c.of.ensures;
+  pairs = map_more (λ thread. g.S.OfPair.pair thread.seat) _ _ _ _ _ c.push_reserved.ensures.items c.loop-given.invariant.pairs c.of-seat.ensures;
 }
