@@ -49,5 +49,5 @@ row_thread_send a S L sends hears =
     recorded_send (thread.the_field a S L).row _ _ (thread.the_type a S L).to_one
     (struct_send (shape (thread.the_type a S L)) (sends, (search (crossing.crosses, sendable) depth 60 fits 20000, (search sendable depth 60 fits 20000, (search (updates_sync, crossing.crosses, sendable) depth 60 fits 20000, tt)))))
 
-pub thread_send : (a b : NamedLft) (T N L C : RattleType) (g : Ghosts T.Denot) (n : naming.Ghosts N.Denot) (s : server_names.Ghosts N.Denot) → IsSync L → IsSync C → IsSend (thread.the_row a (seat.the_row a b T N L C n g s) L)
-thread_send a b T N L C g n s hears ticks = row_thread_send a (seat.the_row a b T N L C n g s) L (seat_row_send a b T N L C g n s hears ticks) hears
+pub thread_send : (c a b : NamedLft) (T N L C : RattleType) (g : Ghosts T.Denot) (n : naming.Ghosts N.Denot) (s : server_names.Ghosts N.Denot) → IsSync L → IsSync C → IsSend (thread.the_row c (seat.the_row a b T N L C n g s) L)
+thread_send c a b T N L C g n s hears ticks = row_thread_send c (seat.the_row a b T N L C n g s) L (seat_row_send a b T N L C g n s hears ticks) hears

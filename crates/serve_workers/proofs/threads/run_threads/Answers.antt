@@ -14,7 +14,7 @@ pub do_all-started-requires-send-W : goal.do_all-started-requires-send-W
 do_all-started-requires-send-W g c κs within =
     param_send _ _
     (arg_send _ no _
-    (thread_send _ _ (param 1 g.row.Z) (param 2 g.row.N) (param 3 g.row.L) (param 4 g.row.C) g.Z.FirstZone g.N.Naming g.N.ServerName
+    (thread_send _ _ _ (param 1 g.row.Z) (param 2 g.row.N) (param 3 g.row.L) (param 4 g.row.C) g.Z.FirstZone g.N.Naming g.N.ServerName
     (search (c.type_bounds.sync-L, sendable)) (search (c.type_bounds.sync-C, sendable))))
 
 pub returns-then-started-clause-numbers : goal.returns-then-started-clause-numbers
