@@ -1,5 +1,5 @@
 // The mean latency of queries over TCP: PORT CONNECTIONS OUTSTANDING MILLISECONDS. On each connection so many queries are outstanding; each reply is followed by the
-// next query at once. It never sleeps, so that its own waiting isn't measured. Prints nanoseconds.
+// next query at once. It never sleeps, so that its own waiting isn't measured. Prints nanoseconds, and how many replies came.
 #include <arpa/inet.h>
 #include <netinet/tcp.h>
 #include <stdint.h>
@@ -82,6 +82,6 @@ int main(int count, char **words) {
     while (now() < end)
         for (int i = 0; i < connections; i++) replies += (uint64_t)take(&clients[i], outstanding, &sum);
     if (!replies) fail("no reply came");
-    printf("%llu\n", (unsigned long long)(sum / replies));
+    printf("%llu %llu\n", (unsigned long long)(sum / replies), (unsigned long long)replies);
     return 0;
 }

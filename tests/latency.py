@@ -31,7 +31,7 @@ def served():
 def mean(client, port, connections):
     """The mean latency on so many connections, in nanoseconds."""
     words = [client, port, str(connections), str(OUTSTANDING // connections), str(MILLISECONDS)]
-    return int(subprocess.run(words, check=True, stdout=subprocess.PIPE, text=True, timeout=60).stdout)
+    return int(subprocess.run(words, check=True, stdout=subprocess.PIPE, text=True, timeout=60).stdout.split()[0])
 
 
 def main():
