@@ -3,11 +3,11 @@ use Rattle.std.specs.Prelude.{◌≡◌, ℕ, ◌^◌, ◌<◌, List, ◌++◌, 
 use Rattle.std.specs.Int.{w16, to_be_bytes}
 use Rattle.std.specs.List.{flat_map}
 
--- an update behind its length, in two octets, as messages are over TCP (RFC 1035, 4.2.2)
+-- an update after its length, in two octets, as messages are sent over TCP (RFC 1035, 4.2.2)
 unfoldable pub counted : List ℕ → List ℕ
 counted update = to_be_bytes w16 (length update) ++ update
 
--- a batch: its updates, each behind its length, in the order of their versions
+-- a batch: its updates, each after its length, in the order of their versions
 abbrev pub batch_of : List (List ℕ) → List ℕ
 batch_of updates = flat_map counted updates
 

@@ -1,4 +1,4 @@
--- What a disk has.
+-- The octets of a disk.
 use Rattle.std.specs.Prelude.{◌≡◌, ℕ, List, ◌++◌}
 
 -- octets begin with these

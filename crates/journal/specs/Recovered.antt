@@ -1,4 +1,4 @@
--- What a start takes of a zone text and a journal (own).
+-- What a start reads from a zone text and a journal (own).
 use Rattle.std.specs.Prelude.{◌≡◌, ℕ, ◌+◌, Bool, List, ◌++◌, length, take, map, All, slice_get, Some, ⊤, if◌then◌else◌}
 use Rattle.std.specs.List.{flat_map}
 use Rattle.journal.specs.declared.heads.Head.{Head}
@@ -18,12 +18,12 @@ journal_of head batches = head_of head ++ frames_of (salt_of head) 0 (map batch_
 abbrev pub updates_in : List (List (List ℕ)) → List (List ℕ)
 updates_in batches = flat_map (λ updates. updates) batches
 
--- octets begin with this head, and these stand behind it
+-- octets begin with this head, and these octets follow it
 pub record BeginsHead (octets : List ℕ) (head : Head) (behind : List ℕ) : Type 0 where
   pub is_head : IsHead head
   pub spelt : octets ≡ head_of head ++ behind
 
--- octets begin with this head, and are read behind it as these bodies, and what is left
+-- octets begin with this head, and what follows it is read as these bodies and a rest
 pub record IsOpened (octets : List ℕ) (head : Head) (bodies : List (List ℕ)) (rest : List ℕ) : Type 0 where
   pub behind : List ℕ
   pub begins : BeginsHead octets head behind
@@ -34,7 +34,7 @@ pub record AreBatches (bodies : List (List ℕ)) (batches : List (List (List ℕ
   pub short : All (All IsShort) batches
   pub spelt : bodies ≡ map batch_of batches
 
--- what a start has: the head; the updates, in order; how many batches they are; where the last of them ends; and whether what stands behind it is torn
+-- what a start gets: the head; the updates, in order; the number of batches; the position after the last of them; and whether what follows is torn
 pub record IsRecovered (text octets : List ℕ) (head : Head) (updates : List (List ℕ)) (number end : ℕ) (torn : Bool) : Type 0 where
   pub bodies : List (List ℕ)
   pub batches : List (List (List ℕ))
@@ -47,7 +47,7 @@ pub record IsRecovered (text octets : List ℕ) (head : Head) (updates : List (L
   pub place : end + length rest ≡ length octets
   pub tail : IsTail (salt_of head) number rest (if torn then Torn else Blank)
 
--- the bodies in front of this number are batches, and the body of this number is none
+-- the bodies before this number are batches, and the body of this number isn't one
 pub record IsNoBatch (bodies : List (List ℕ)) (number : ℕ) : Type 0 where
   pub batches : List (List (List ℕ))
   pub before : AreBatches (take number bodies) batches
@@ -61,7 +61,7 @@ IsRefusedBatch bodies (NoBatch number) = IsNoBatch bodies number
 IsRefusedBatch bodies NoMemory = ⊤
 IsRefusedBatch bodies _ = ⊥
 
--- a journal of this text is damaged: a later frame begins at this octet, the first such one behind what is read
+-- a journal of this text is damaged: a later frame begins at this octet, the first such one after what is read
 pub record IsDamaged (text octets : List ℕ) (at : ℕ) : Type 0 where
   pub head : Head
   pub bodies : List (List ℕ)
@@ -83,7 +83,7 @@ pub record HasNoBatch (text octets : List ℕ) (number : ℕ) : Type 0 where
   pub tail : IsTail (salt_of head) (length bodies) rest (if torn then Torn else Blank)
   pub no_batch : IsNoBatch bodies number
 
--- why a text and a journal are refused, the first of these: the journal begins with no head; the text is another; it is damaged; a body is no batch
+-- why a text and a journal are refused, the first of these: the journal doesn't begin with a head; the text is another; it is damaged; a body is no batch
 abbrev pub IsRefused : List ℕ → List ℕ → Refused → Type 0
 IsRefused text octets (BadHead fault) = IsHeadFault octets fault
 IsRefused text octets OtherText = (head : Head) × (behind : List ℕ) × BeginsHead octets head behind × (IsText head.text text → ⊥)

@@ -1,4 +1,4 @@
--- What stands behind the last whole frame of a journal: what a crash leaves, or damage (own).
+-- The octets after the last whole frame of a journal: what a crash leaves, or damage (own).
 use Rattle.std.specs.Prelude.{◌≡◌, ℕ, ◌+◌, ◌^◌, ◌<◌, ◌⊎◌, List, ◌++◌, length, drop, All}
 use Rattle.std.specs.Int.{w32, w64, to_be_bytes}
 use Rattle.journal.specs.declared.tails.Tail.{Tail}
@@ -17,7 +17,7 @@ pub record BeginsLater (salt : List ℕ) (next : ℕ) (octets : List ℕ) : Type
 abbrev pub BeginsMarked : List ℕ → List ℕ → Type 0
 BeginsMarked mark octets = (rest : List ℕ) × (octets ≡ mark ++ rest)
 
--- a mark stands in octets behind their first one
+-- a mark occurs in octets after their first one
 abbrev pub StandsAgain : List ℕ → List ℕ → Type 0
 StandsAgain mark octets = (place : ℕ) × (0 < place) × BeginsMarked mark (drop place octets)
 
@@ -33,18 +33,18 @@ pub record IsOutline (mark : List ℕ) (next : ℕ) (octets whole rest : List �
   pub long : length whole ≡ length mark + size + 44
   pub spelt : octets ≡ whole ++ rest
 
--- octets begin as a later frame does, and the mark stands again in as many octets as that frame would have: whether it is one, nobody asks
+-- octets begin as a later frame does, and the mark occurs again in as many octets as that frame would have, whether it is one or not
 pub record Overlaps (salt : List ℕ) (next : ℕ) (octets : List ℕ) : Type 0 where
   pub whole : List ℕ
   pub rest : List ℕ
   pub outline : IsOutline (mark_of salt) next octets whole rest
   pub again : StandsAgain (mark_of salt) whole
 
--- octets begin with a later frame, or with what overlaps a further mark
+-- octets begin with a later frame, or with one that overlaps a further mark
 abbrev pub ShowsLater : List ℕ → ℕ → List ℕ → Type 0
 ShowsLater salt next octets = BeginsLater salt next octets ⊎ Overlaps salt next octets
 
--- neither begins at any place
+-- no position begins with either
 abbrev pub NoneLater : List ℕ → ℕ → List ℕ → Type 0
 NoneLater salt next rest = (at : ℕ) → ShowsLater salt next (drop at rest) → ⊥
 
@@ -52,8 +52,8 @@ NoneLater salt next rest = (at : ℕ) → ShowsLater salt next (drop at rest) �
 abbrev pub IsBlank : List ℕ → Type 0
 IsBlank rest = All (λ octet. octet ≡ 0) rest
 
--- what is told of it, of which the next frame isn't the first: blank, where it is only zeros, or nothing; or the first place where a later
--- frame begins, for then each frame in front of that one was on the disk, or what overlaps a further mark, which no crash leaves; else torn
+-- what is reported of the octets, which don't begin with the next frame: blank, where there are none or only zeros; or the first position where a later
+-- frame begins, for then each frame before that one was on the disk, or one that overlaps a further mark, which no crash leaves; else torn
 abbrev pub IsTail : List ℕ → ℕ → List ℕ → Tail → Type 0
 IsTail salt next rest Blank = IsBlank rest
 IsTail salt next rest Torn = (IsBlank rest → ⊥) × NoneLater salt next rest

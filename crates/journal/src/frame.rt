@@ -1,4 +1,4 @@
-//! Frames of a journal: a mark, and behind it a body, its length, its number and its sum (own).
+//! Frames of a journal: a mark, the length of the body, the frame's number, the body, and a checksum (own).
 ghost use Rattle.std.specs.Prelude.{◌≡◌, ◌+◌, ◌^◌, ◌<◌, ◌≤◌, ◌⊎◌, ◌++◌, ◌↔◌, ℕ, List, IsTrue, length, take, IfOk, IfSome, MatchOption};
 ghost use Rattle.std.specs.Int.{w32, w64, to_be_bytes};
 ghost use Rattle.sha2.specs.Sha256.{sha256};
@@ -9,22 +9,22 @@ use crate::parts::{first_part, first_u32, first_u64};
 use sha2::{Digest, Sha256};
 use std::alloc::{AllocError, Global};
 
-/// How many octets a frame's mark has.
+/// The length of a frame's mark in octets.
 const MARK: usize = 8;
 
-/// How many octets of a frame stand between its mark and its body: its length, in four, and its number, in eight.
+/// The number of octets of a frame between its mark and its body: the length, in four, and the number, in eight.
 const LEAD: usize = 12;
 
 /// A body has fewer octets than this: a batch of 64 updates has at most 4,194,368 of them.
 const BODY_LIMIT: u32 = 1 << 24;
 
-/// How many octets a sum has, an SHA-256 (FIPS 180-4, 1).
+/// The length of a checksum in octets, an SHA-256 (FIPS 180-4, 1).
 pub const SUM: usize = 32;
 
-/// How many octets a frame has besides its body.
+/// The number of octets that a frame has besides its body.
 pub(crate) const ROUND: usize = MARK + LEAD + SUM;
 
-/// The mark of a journal's frames, the first eight octets of its salt, as a number whose high octet is the first of them.
+/// The mark of a journal's frames: the first eight octets of its salt, as a number whose high octet is the first of them.
 pub(crate) fn mark_of(salt: &[u8; SUM]) -> u64
     ensures { mark_of salt.now ≡ to_be_bytes w64 result }
 {
@@ -34,7 +34,7 @@ pub(crate) fn mark_of(salt: &[u8; SUM]) -> u64
     }
 }
 
-/// What stands behind this mark, if octets begin with it.
+/// The octets after this mark, if octets begin with it.
 pub(crate) fn behind_mark(mark: u64, octets: &[u8]) -> Option<&[u8]>
     ensures { MatchOption result ((rest : List ℕ) → octets.now ≡ to_be_bytes w64 mark ++ rest → ⊥) (λ rest. octets.now ≡ to_be_bytes w64 mark ++ rest.now) }
 {
@@ -45,7 +45,7 @@ pub(crate) fn behind_mark(mark: u64, octets: &[u8]) -> Option<&[u8]>
     Some(rest)
 }
 
-/// The length of a body that octets begin with, and those behind it; None where they begin with no length that a body has.
+/// The length of a body at the start of octets, and the octets after it; None where they don't begin with a length that a body can have.
 pub(crate) fn first_size(octets: &[u8]) -> Option<(u32, &[u8])>
     ensures { MatchOption result ((size : ℕ) (rest : List ℕ) → size < body_limit → octets.now ≡ to_be_bytes w32 size ++ rest → ⊥)
         (λ r. (octets.now ≡ to_be_bytes w32 r.0 ++ r.1.now) × (length octets.now ≡ 4 + length r.1.now) × (r.0 < body_limit)) }
@@ -57,7 +57,7 @@ pub(crate) fn first_size(octets: &[u8]) -> Option<(u32, &[u8])>
     Some((size, rest))
 }
 
-/// The SHA-256 of a journal's salt and some octets (FIPS 180-4, 6.2).
+/// The SHA-256 of a journal's salt followed by some octets (FIPS 180-4, 6.2).
 fn salted_sum(salt: &[u8; SUM], octets: &[u8]) -> [u8; SUM]
     ensures { result ≡ sha256 (salt.now ++ octets.now) }
 {
@@ -67,7 +67,7 @@ fn salted_sum(salt: &[u8; SUM], octets: &[u8]) -> [u8; SUM]
     hasher.finalize()
 }
 
-/// Whether this is the sum of the octets. They are digested, and as many are added to those that were.
+/// Whether this is the checksum of the octets. They are digested, and their number is added to `digested`.
 fn is_sum_of(sum: &[u8; SUM], salt: &[u8; SUM], digested: &mut u64, octets: &[u8]) -> bool
     ensures same { IsTrue result ↔ (sum.now ≡ sha256 (salt.now ++ octets.now)) }
     ensures count { digested.new ≤ digested.old + length octets.now }
@@ -77,7 +77,7 @@ fn is_sum_of(sum: &[u8; SUM], salt: &[u8; SUM], digested: &mut u64, octets: &[u8
     *sum == salted_sum(salt, octets)
 }
 
-/// The frame of this number and this body, under a journal's salt. It takes memory.
+/// The frame of this number and this body, under a journal's salt. It allocates memory.
 #[tactic(auto, unfolding(crate::specs::Frame::framed, crate::specs::Frame::text_of))]
 pub fn write_frame(
     alloc: Global,
@@ -100,8 +100,8 @@ pub fn write_frame(
     Ok(frame)
 }
 
-/// What stands behind the mark of a frame, if octets begin with it, and its number is `low` at least and `high` at most: the frame's number, its body, and what
-/// stands behind it. At most one sum is looked at, of octets that are counted. It takes no memory.
+/// The rest of a frame after its mark, if octets begin with it and its number is at least `low` and at most `high`: the frame's number, its body, and the
+/// octets after the frame. At most one checksum is computed, and the octets that it is computed of are counted. It allocates no memory.
 fn summed_among<'a>(
     salt: &[u8; SUM],
     digested: &mut u64,
@@ -128,8 +128,8 @@ fn summed_among<'a>(
     Some((number, body, rest))
 }
 
-/// The frame that octets begin with, if its number is `low` at least and `high` at most: its number, its body, and what stands behind it.
-/// At most one sum is looked at, and how many octets it is of is added to those that were digested. It takes no memory.
+/// The frame at the start of octets, if its number is at least `low` and at most `high`: its number, its body, and the octets after it.
+/// At most one checksum is computed, and the number of octets that it is computed of is added to `digested`. It allocates no memory.
 pub(crate) fn frame_among<'a>(
     salt: &[u8; SUM],
     digested: &mut u64,
@@ -148,9 +148,9 @@ pub(crate) fn frame_among<'a>(
     Some((number, body, rest))
 }
 
-/// The body of the frame of this number that octets begin with, and what stands behind that frame; None where they begin with no
-/// such frame: it isn't whole, has another mark, another number, or another sum. How many octets are digested is added to `digested`. It
-/// takes no memory.
+/// The body of the frame of this number at the start of octets, and the octets after that frame; None where they don't begin with such a
+/// frame: it isn't whole, or has another mark, another number, or another checksum. The number of octets digested is added to `digested`. It
+/// allocates no memory.
 pub fn read_frame<'a>(
     salt: &[u8; SUM],
     digested: &mut u64,

@@ -5,9 +5,9 @@ ghost use Rattle.journal.specs.Frame.{IsRead};
 use crate::frame::{SUM, read_frame};
 use std::alloc::{AllocError, Global};
 
-/// The bodies of the frames that octets begin with, of the numbers 0, 1 and so on, and what stands behind the last of them, which begins with
-/// no frame of the next number. How many octets are digested is added to `digested`: each one once at most. It takes memory for where the bodies
-/// stand; their octets aren't copied.
+/// The bodies of the frames at the start of octets, of the numbers 0, 1 and so on, and the octets after the last of them, which don't begin with
+/// a frame of the next number. The number of octets digested is added to `digested`: each one at most once. It allocates memory for references to
+/// the bodies; their octets aren't copied.
 pub fn read_all<'a>(
     alloc: Global,
     salt: &[u8; SUM],

@@ -12,10 +12,10 @@ use std::alloc::{AllocError, Global};
 /// The octets that each journal begins with.
 const NAME: [u8; 16] = *b"dnsd journal, 2\n";
 
-/// How many octets a head has in front of its sum.
+/// The number of octets of a head before its checksum.
 const TEXT: usize = 124;
 
-/// A head's octets, and the salt of its frames. It takes memory.
+/// A head's octets, and the salt of its frames. It allocates memory.
 #[tactic(auto, unfolding(crate::specs::Head::head_of, crate::specs::Head::salt_of, crate::specs::Head::head_text))]
 pub fn write_head(alloc: Global, head: &Head) -> Result<(Vec<u8>, [u8; SUM]), AllocError>
     ensures { IfOk result (λ r. (r.0.items ≡ head_of head.now) × (r.1 ≡ salt_of head.now)) }
@@ -32,7 +32,7 @@ pub fn write_head(alloc: Global, head: &Head) -> Result<(Vec<u8>, [u8; SUM]), Al
     Ok((octets, salt))
 }
 
-/// Adds which text it is.
+/// Appends the octets of a `TextSum`: the length, then the SHA-256.
 fn put_sum(octets: &mut Vec<u8>, text: &TextSum) -> Result<(), AllocError>
     ensures { OnOk result (octets.new.items ≡ octets.old.items ++ sum_octets text.now) }
 {
@@ -41,7 +41,7 @@ fn put_sum(octets: &mut Vec<u8>, text: &TextSum) -> Result<(), AllocError>
     Ok(())
 }
 
-/// The head that octets begin with, the salt of its frames, and what stands behind it. It takes no memory.
+/// The head at the start of octets, the salt of its frames, and the octets after the head. It allocates no memory.
 pub fn read_head(octets: &[u8]) -> Result<(Head, [u8; SUM], &[u8]), HeadFault>
     ensures read { IfOk result (λ r. IsHead r.0 × (r.1 ≡ salt_of r.0) × (octets.now ≡ head_of r.0 ++ r.2.now)) }
     ensures refused { IfErr result (λ fault. IsHeadFault octets.now fault) }
@@ -66,8 +66,8 @@ fn is_digest(sum: &[u8; SUM], octets: &[u8]) -> bool
     *sum == Sha256::digest(octets)
 }
 
-/// A head's parts, if the octets in front of them are its name: what it says, its sum, and what stands behind it; None where the octets
-/// are fewer than a head has.
+/// A head's parts, if the octets before them are the format's name: its values, its checksum, and the octets after it; None where there are
+/// fewer octets than a head has.
 fn split_head(octets: &[u8]) -> Option<(Head, &[u8; SUM], &[u8])>
     ensures { MatchOption result (length octets.now < head_len)
         (λ r. (head_len ≤ length octets.now) × IsHead r.0 × (length r.1.now ≡ 32) × (take 16 octets.now ≡ name → octets.now ≡ head_text r.0 ++ (r.1.now ++ r.2.now))) }
@@ -90,7 +90,7 @@ fn split_head(octets: &[u8]) -> Option<(Head, &[u8; SUM], &[u8])>
     Some((head, sum, rest))
 }
 
-/// Which text octets say at their front, and what stands behind it; None where they are fewer than 40.
+/// The `TextSum` at the start of octets, and the octets after it; None where there are fewer than 40.
 fn first_sum(octets: &[u8]) -> Option<(TextSum, &[u8])>
     ensures { MatchOption result (length octets.now < 40) (λ r. IsSum r.0 × (octets.now ≡ sum_octets r.0 ++ r.1.now) × (length octets.now ≡ 40 + length r.1.now)) }
 {

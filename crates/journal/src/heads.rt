@@ -2,12 +2,12 @@
 use crate::frame::SUM;
 use sha2::{Digest, Sha256};
 
-/// Which text: how many octets it has, and their SHA-256.
+/// Identifies a text: its length in octets, and its SHA-256.
 #[derive(Clone, Copy, Debug, PartialEq, Eq)]
 pub struct TextSum {
-    /// How many octets.
+    /// Its length in octets.
     pub len: u64,
-    /// Their SHA-256 (FIPS 180-4, 6.2).
+    /// The SHA-256 of its octets (FIPS 180-4, 6.2).
     pub sum: [u8; SUM],
 }
 
@@ -15,7 +15,7 @@ impl TextSum {
     ghost use Rattle.std.specs.Prelude.{◌↔◌, IsTrue};
     ghost use Rattle.journal.specs.Head.{IsText};
 
-    /// That of a text.
+    /// The `TextSum` of a text.
     pub fn of(text: &[u8]) -> TextSum
         ensures { IsText result text.now }
     {
@@ -25,7 +25,7 @@ impl TextSum {
         }
     }
 
-    /// Whether it is this text's.
+    /// Whether this is the `TextSum` of a text.
     pub fn is_of(&self, text: &[u8]) -> bool
         ensures { IsTrue result ↔ IsText self.now text.now }
     {
@@ -33,28 +33,28 @@ impl TextSum {
     }
 }
 
-/// What a journal says of itself.
+/// The head of a journal, as values.
 #[derive(Clone, Copy, Debug, PartialEq, Eq)]
 pub struct Head {
-    /// Which zone text it belongs to: the N of `zone-N`.
+    /// The number of the zone text that the journal belongs to: the N of `zone-N`.
     pub number: u64,
-    /// Octets that nobody outside knows, so that no client can put a frame into an update.
+    /// Random octets that no client knows, so that no client can put a frame into an update.
     pub random: [u8; 16],
-    /// That zone text.
+    /// The zone text that the journal belongs to.
     pub text: TextSum,
-    /// Its serial (RFC 1035, 3.3.13).
+    /// The serial of that zone text (RFC 1035, 3.3.13).
     pub serial: u32,
-    /// The zone text that all began from, as it was given.
+    /// The zone text that the store was created from, as the operator gave it.
     pub origin: TextSum,
 }
 
-/// Why octets begin with no head. The first fault is told.
+/// Why octets begin with no head. The first fault is reported.
 #[derive(Clone, Copy, Debug, PartialEq, Eq)]
 pub enum HeadFault {
-    /// They are fewer than a head has.
+    /// There are fewer octets than a head has.
     Short,
-    /// They begin as no journal of this format does.
+    /// They don't begin with the name of this journal format.
     Foreign,
-    /// The sum isn't that of the head.
+    /// The checksum isn't that of the head.
     WrongSum,
 }

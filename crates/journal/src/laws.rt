@@ -11,7 +11,7 @@ ghost use Rattle.journal.specs.Head.{head_of, IsHead, IsHeadFault, IsText};
 ghost use Rattle.journal.specs.Recovered.{journal_of, updates_in, IsRecovered, IsRefused};
 ghost use Rattle.journal.specs.Tail.{BeginsLater, IsTail};
 
-/// Octets begin with one frame at most, whatever its number.
+/// Octets begin with at most one frame, whatever its number.
 pub fn one_frame()
     ensures { (salt : List ℕ) (m n : ℕ) (octets body rest other left : List ℕ)
         → IsFrame salt m octets body rest → IsFrame salt n octets other left → (m ≡ n) × (body ≡ other) × (rest ≡ left) }
@@ -23,40 +23,40 @@ pub fn what_is_written_is_read()
         → Fit number bodies → IsRead salt number (frames_of salt number bodies) bodies [] }
 {}
 
-/// Octets are read in one way.
+/// Octets are read in one way only.
 pub fn octets_are_read_once()
     ensures { (salt : List ℕ) (number : ℕ) (octets : List ℕ) (bodies : List (List ℕ)) (rest : List ℕ) (others : List (List ℕ)) (left : List ℕ)
         → IsRead salt number octets bodies rest → IsRead salt number octets others left → (bodies ≡ others) × (rest ≡ left) }
 {}
 
-/// Wherever frames are cut, a beginning of them is read.
+/// Wherever frames are cut off, a first part of them is read.
 pub fn each_cut_is_a_beginning()
     ensures { (salt : List ℕ) (number : ℕ) (bodies : List (List ℕ)) → Fit number bodies → (n : ℕ)
         → (k : ℕ) × (rest : List ℕ) × IsRead salt number (take n (frames_of salt number bodies)) (take k bodies) rest }
 {}
 
-/// What was brought to the disk is read first, whatever octets a crash leaves behind it. It rests on no property of the sum.
+/// What was synced to the disk is read first, whatever octets a crash leaves after it. It assumes nothing of the checksum.
 pub fn what_was_synced_is_read_first()
     ensures { (salt : List ℕ) (number : ℕ) (bodies found : List (List ℕ)) (left rest : List ℕ)
         → Fit number bodies → IsRead salt number (frames_of salt number bodies ++ left) found rest
         → (more : List (List ℕ)) × (found ≡ bodies ++ more) }
 {}
 
-/// No whole frame with a later number stands anywhere in a torn end: where one was written, whatever stands in front of it and behind it, what is told is no torn end.
+/// No whole frame with a later number is anywhere in a torn end: where one was written, whatever is before and after it, the tail isn't reported as torn.
 pub fn no_later_frame_is_torn()
     ensures none { (salt : List ℕ) (next at : ℕ) (rest : List ℕ) → IsTail salt next rest Torn → BeginsLater salt next (drop at rest) → ⊥ }
     ensures written { (salt : List ℕ) (next number : ℕ) (front body behind : List ℕ) → next < number → number < 2 ^ 64 → length body < body_limit
         → IsTail salt next (front ++ (framed salt number body ++ behind)) Torn → ⊥ }
 {}
 
-/// Octets begin with one head at most, and what begins with one is no fault.
+/// Octets begin with at most one head, and octets that begin with one have no fault.
 pub fn one_head()
     ensures once { (head other : Head) (rest left : List ℕ) → IsHead head → IsHead other
         → head_of head ++ rest ≡ head_of other ++ left → (head ≡ other) × (rest ≡ left) }
     ensures accepted { (head : Head) (rest : List ℕ) (fault : HeadFault) → IsHead head → IsHeadFault (head_of head ++ rest) fault → ⊥ }
 {}
 
-/// A start takes all of what is written, and refuses it for want of memory alone.
+/// A start reads all that was written, and refuses it only for lack of memory.
 pub fn what_is_written_is_recovered()
     ensures taken { (text : List ℕ) (head other : Head) (batches : List (List (List ℕ))) (updates : List (List ℕ)) (number end : ℕ) (torn : Bool)
         → IsHead head → Fit 0 (map batch_of batches) → All (All IsShort) batches
@@ -67,7 +67,7 @@ pub fn what_is_written_is_recovered()
         → IsRefused text (journal_of head batches) why → why ≡ NoMemory }
 {}
 
-/// A start takes what was brought to the disk first, whatever octets a crash leaves behind it. It rests on no property of the sum.
+/// A start reads first what was synced to the disk, whatever octets a crash leaves after it. It assumes nothing of the checksum.
 pub fn what_was_synced_is_recovered_first()
     ensures { (text left : List ℕ) (head other : Head) (batches : List (List (List ℕ))) (updates : List (List ℕ)) (number end : ℕ) (torn : Bool)
         → IsHead head → Fit 0 (map batch_of batches) → All (All IsShort) batches

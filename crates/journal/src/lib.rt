@@ -1,12 +1,12 @@
-//! A journal of updates, as octets and on a disk (own). No file is here, and nobody looks into an update.
+//! A journal of updates, as octets and on a disk (own). This crate opens no file, and doesn't look into an update.
 //!
-//! A journal is a head and frames, each a batch of updates that were brought to the disk together. A head says which zone text the journal belongs to ([`Head`], [`write_head`],
-//! [`read_head`]). A frame has a mark, the length of its body, its number, its body, and an SHA-256 that is salted by the head's ([`write_frame`], [`read_frame`], [`read_all`]); its body is
-//! a batch ([`put_update`], [`read_batch`]). [`tail_of`] tells what a crash leaves from damage: a later frame is looked for where its mark stands alone, so that no octet is digested
-//! twice for it. [`recover`] is what a start takes of a zone text and a journal, or why it takes none.
+//! A journal is a head and frames, each a batch of updates that were synced to the disk together. A head says which zone text the journal belongs to ([`Head`], [`write_head`],
+//! [`read_head`]). A frame has a mark, the length of its body, its number, its body, and an SHA-256 that is salted with the head's ([`write_frame`], [`read_frame`], [`read_all`]); its body is
+//! a batch ([`put_update`], [`read_batch`]). [`tail_of`] distinguishes what a crash leaves from damage: a later frame is looked for only where its mark occurs, so that no octet is digested
+//! twice for it. [`recover`] gives what a start reads from a zone text and a journal, or why it refuses them.
 //!
-//! A [`Disk`] is what a journal lies on; what a crash leaves of it begins with what was synced. A [`Log`] appends to one: at Ok the batch is on the disk; at an error the journal has
-//! what it had, or takes nothing more. That a file is such a disk is a premise, and no contract can say it.
+//! A [`Disk`] is what a journal is written to; what a crash leaves of it begins with what was synced. A [`Log`] appends to one: at Ok the batch is on the disk; at an error the journal has
+//! what it had, or nothing more can be appended. That a file is such a disk is a premise, and no contract can say it.
 #![tactic(auto)]
 
 mod batch;

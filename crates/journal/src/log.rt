@@ -1,9 +1,9 @@
-//! A journal that is appended to (own).
+//! A journal that batches are appended to (own).
 use crate::disk::Disk;
 use crate::frame::{SUM, write_frame};
 use std::alloc::{AllocError, Global};
 
-/// A journal that is appended to.
+/// A journal that batches are appended to.
 #[derive(Drop)]
 pub struct Log<D: Disk> {
     disk: D,
@@ -16,13 +16,13 @@ pub struct Log<D: Disk> {
 /// Why a batch isn't appended.
 #[derive(Drop)]
 pub enum LogFault<F> {
-    /// An append has failed before, and what it left couldn't be cut off, or a sync has failed: nothing more is appended.
+    /// An earlier append failed and what it left couldn't be cut off, or a sync failed: nothing more is appended.
     Stuck,
-    /// There are 2^64 - 1 batches, or the octets would be 2^64.
+    /// There are 2^64 - 1 batches already, or the journal's octets would be 2^64.
     Full,
     /// There is no memory. The journal is as it was.
     NoMemory,
-    /// The disk has failed.
+    /// The disk failed.
     Disk(F),
 }
 
@@ -45,7 +45,7 @@ impl<D: Disk> Log<D> {
     ghost use Rattle.journal.specs.Disk.{BeginsWith};
     ghost use Rattle.journal.specs.Log.{octets_of, Holds, IsStuck, disk_of, is_stuck, IsFull};
 
-    /// Goes on with a journal of so many batches that ends at this octet: what stands behind it is cut off, and that is on the disk.
+    /// Continues a journal of so many batches that ends at this octet: what is after it is cut off, and that cut is on the disk at Ok.
     pub fn resume(disk: D, salt: &[u8; SUM], number: u64, end: u64) -> Result<Log<D>, D::Fault>
         ensures { IfOk result (λ log. (head : Head) (bodies : List (List ℕ)) → BeginsWith (D.written disk) (octets_of head bodies)
             → salt.now ≡ salt_of head → number ≡ length bodies → end ≡ length (octets_of head bodies) → Fit 0 bodies
@@ -63,7 +63,7 @@ impl<D: Disk> Log<D> {
         })
     }
 
-    /// Appends a batch: at Ok it is on the disk. At an error the journal has what it had, or takes nothing more. It takes memory, before
+    /// Appends a batch: at Ok it is on the disk. At an error the journal has what it had, or nothing more can be appended. It allocates memory, before
     /// anything is written.
     pub fn append(&mut self, alloc: Global, body: &[u8]) -> Result<(), LogFault<D::Fault>>
         requires { length body.now < body_limit }
@@ -71,7 +71,7 @@ impl<D: Disk> Log<D> {
             → Holds D.written D.synced head self.new (bodies ++ body.now ∷ [])) }
         ensures kept { OnErr result ((head : Head) (bodies : List (List ℕ)) → Holds D.written D.synced head self.old bodies
             → Holds D.written D.synced head self.new bodies ⊎ IsStuck D.synced head self.new bodies) }
-        // An append that fails and is cut off again leaves the journal as it goes on: a disk that was full is written again once it has room.
+        // An append that fails and is cut off again leaves the journal usable: a disk that was full is written again once it has room.
         ensures goes_on { OnErr result (D.lost (disk_of self.new) ≡ D.lost (disk_of self.old) → is_stuck self.new ≡ is_stuck self.old) }
         ensures stuck { IsErrOf result LogFault.Stuck ↔ (is_stuck self.old ≡ true) }
         ensures stays { is_stuck self.old ≡ true → self.new ≡ self.old }
@@ -103,8 +103,8 @@ impl<D: Disk> Log<D> {
         Ok(())
     }
 
-    /// Goes on with another journal of so many batches, which ends at this octet and is on its disk: also one that is stuck goes on by it. What it lay on
-    /// before is dropped.
+    /// Continues with another journal of so many batches, which ends at this octet and is on its disk; a log that is stuck can append again by it. The disk
+    /// of the journal before is dropped.
     pub fn switch(&mut self, disk: D, salt: &[u8; SUM], number: u64, end: u64)
         ensures holds { (head : Head) (bodies : List (List ℕ)) → D.written disk ≡ octets_of head bodies → D.synced disk ≡ octets_of head bodies
             → salt.now ≡ salt_of head → number ≡ length bodies → end ≡ length (octets_of head bodies) → Fit 0 bodies
@@ -121,7 +121,7 @@ impl<D: Disk> Log<D> {
         };
     }
 
-    /// Appends nothing more, until it goes on with another journal: nobody knows whether what it lies on is what a start finds.
+    /// Appends nothing more until it continues with another journal: it is unknown whether a start would find this disk's octets.
     pub fn stop(&mut self)
         ensures stopped { (head : Head) (bodies : List (List ℕ)) → Holds D.written D.synced head self.old bodies → IsStuck D.synced head self.new bodies }
         ensures stuck { is_stuck self.new ≡ true }
@@ -130,21 +130,21 @@ impl<D: Disk> Log<D> {
         self.stuck = true;
     }
 
-    /// What it lies on.
+    /// The disk of the journal.
     pub fn disk(&self) -> &D
         ensures { result.now ≡ disk_of self.now }
     {
         &self.disk
     }
 
-    /// Whether nothing more is appended.
+    /// Whether nothing more can be appended.
     pub fn is_stuck(&self) -> bool
         ensures { result ≡ is_stuck self.now }
     {
         self.stuck
     }
 
-    /// How many octets the journal has.
+    /// The length of the journal in octets.
     pub fn len(&self) -> u64
         ensures { (head : Head) (bodies : List (List ℕ)) → Holds D.written D.synced head self.now bodies → result ≡ length (octets_of head bodies) }
     {

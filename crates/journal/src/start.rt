@@ -1,4 +1,4 @@
-//! What a start takes of a zone text and a journal (own).
+//! What a start reads from a zone text and a journal (own).
 ghost use Rattle.std.specs.Prelude.{◌≡◌, ◌+◌, ◌*◌, ◌≤◌, ℕ, List, length, map, IfOk, IfErr};
 ghost use Rattle.journal.specs.declared.start.Refused.TheVariants.{BadHead, NoMemory};
 ghost use Rattle.journal.specs.Head.{salt_of};
@@ -12,34 +12,34 @@ use crate::heads::{Head, HeadFault};
 use crate::tails::{Tail, tail_of};
 use std::alloc::{AllocError, Global};
 
-/// What a start has of a journal.
+/// What a start has read from a journal.
 #[derive(Drop)]
 pub struct Recovered<'a> {
-    /// What the journal says of itself.
+    /// The journal's head.
     pub head: Head,
     /// The salt of its frames.
     pub salt: [u8; SUM],
     /// The updates of its batches, as they were received, in the order of their versions.
     pub updates: Vec<&'a [u8]>,
-    /// How many batches they are: the number of the next frame.
+    /// The number of batches, which is the number of the next frame.
     pub number: u64,
-    /// Where the last batch ends: how many octets of the journal are read.
+    /// The position after the last batch: how many octets of the journal are read.
     pub end: usize,
-    /// Whether octets other than zeros stand behind it, which a crash has left.
+    /// Whether octets other than zeros, left by a crash, are after it.
     pub torn: bool,
 }
 
-/// Why a start refuses a zone text and a journal. The first fault is told.
+/// Why a start refuses a zone text and a journal. The first fault is reported.
 #[derive(Clone, Copy, Debug, PartialEq, Eq)]
 pub enum Refused {
-    /// The journal begins with no head.
+    /// The journal doesn't begin with a head.
     BadHead(HeadFault),
-    /// The zone text isn't that which the head names.
+    /// The zone text isn't the one that the head names.
     OtherText,
-    /// At this octet of the journal a later frame begins, or what overlaps a further one, behind octets that are no frame: batches that were
-    /// brought to the disk are damaged.
+    /// At this octet of the journal, after octets that are no frame, begins a later frame, or octets that begin as one and overlap a further mark: batches that
+    /// were synced to the disk are damaged.
     Damaged(usize),
-    /// The frame of this number is whole, and its body is no batch.
+    /// The frame of this number is whole, but its body is no batch.
     NoBatch(u64),
     /// There is no memory.
     NoMemory,
@@ -61,7 +61,7 @@ impl From<AllocError> for Refused {
     }
 }
 
-/// The updates of a zone text's journal: those of all batches that follow one another from the first on. It takes memory.
+/// The updates of a zone text's journal: those of all batches that follow one another from the first. It allocates memory.
 pub fn recover<'a>(alloc: Global, text: &[u8], journal: &'a [u8]) -> Result<Recovered<'a>, Refused>
     ensures recovered { IfOk result (λ r. (r.salt ≡ salt_of r.head)
         × IsRecovered text.now journal.now r.head (map (λ update. update.now) r.updates.items) r.number r.end r.torn) }
@@ -71,7 +71,7 @@ pub fn recover<'a>(alloc: Global, text: &[u8], journal: &'a [u8]) -> Result<Reco
     recover_counted(alloc, &mut digested, text, journal)
 }
 
-/// The same. How many octets are digested for the sums of frames is added to `digested`: each octet of the journal twice at most, whatever
+/// Like `recover`. The number of octets digested for the checksums of frames is added to `digested`: each octet of the journal at most twice, whatever
 /// they are and whatever is found.
 pub fn recover_counted<'a>(
     alloc: Global,

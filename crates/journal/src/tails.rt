@@ -1,4 +1,4 @@
-//! What stands behind the last whole frame of a journal (own).
+//! The octets after the last whole frame of a journal (own).
 ghost use Rattle.std.specs.Prelude.{◌≡◌, ◌↔◌, ◌+◌, ◌≤◌, ℕ, List, IsTrue, length, All, MatchOption};
 ghost use Rattle.std.specs.Int.{w64, to_be_bytes};
 ghost use Rattle.journal.specs.Frame.{mark_of};
@@ -8,21 +8,21 @@ ghost use Rattle.journal.specs.Tail.{BeginsMarked, IsBlank, IsOutline, IsTail, S
 use crate::frame::{ROUND, SUM, behind_mark, first_size, frame_among, mark_of};
 use crate::parts::first_u64;
 
-/// What stands behind the last whole frame of a journal.
+/// The octets after the last whole frame of a journal.
 #[derive(Clone, Copy, Debug, PartialEq, Eq)]
 pub enum Tail {
-    /// Nothing, or only zeros: room that was made ahead, or pages that a crash has lost.
+    /// None, or only zeros: room that was allocated ahead, or pages that a crash lost.
     Blank,
-    /// Octets in which no later frame begins: what a crash leaves of the last one, or damage in it. No rule over the octets tells these apart.
+    /// Octets in which no later frame begins: what a crash leaves of the last frame, or damage in it. The octets don't show which of the two.
     Torn,
-    /// At this octet of it a frame begins whose number is later than that of the next one. Since frames are brought to the disk one after
-    /// another, all in front of it was on the disk: it is damaged. Or what begins there as such a frame overlaps a further mark, which no crash
-    /// leaves: whether it is a frame isn't looked at.
+    /// At this octet of the tail begins a frame whose number is later than that of the next one. Since frames are synced to the disk one after
+    /// another, everything before it was on the disk: it is damaged. Or octets there begin as such a frame and overlap a further mark, which no crash
+    /// leaves: then it isn't checked whether it is a frame.
     Later(usize),
 }
 
-/// What stands behind the last whole frame, of which the frame of number `next` isn't the first. Each place of it is looked at for the mark of a
-/// later frame. How many octets are digested is added to `digested`: each one once at most, whatever they are. It takes no memory.
+/// Classifies the octets after the last whole frame, which don't begin with the frame of number `next`. Each position is checked for the mark of a
+/// later frame. The number of octets digested is added to `digested`: each one at most once, whatever they are. It allocates no memory.
 pub fn tail_of(salt: &[u8; SUM], digested: &mut u64, next: u64, rest: &[u8]) -> Tail
     ensures tail { IsTail salt.now next rest.now result }
     ensures count { digested.new ≤ digested.old + length rest.now }
@@ -46,8 +46,8 @@ fn is_blank(octets: &[u8]) -> bool
     octets.iter().all(|octet| *octet == 0)
 }
 
-/// Whether octets begin with a frame whose number is later than `next`, or as such a one, and the mark stands again within it: then no sum is
-/// looked at, so that no octet is digested for two marks.
+/// Whether octets begin with a frame whose number is later than `next`, or begin as such a one and the mark occurs again within it: then no checksum is
+/// computed, so that no octet is digested for two marks.
 fn shows_later(salt: &[u8; SUM], mark: u64, digested: &mut u64, next: u64, octets: &[u8]) -> bool
     requires { mark_of salt.now ≡ to_be_bytes w64 mark }
     ensures shows { IsTrue result ↔ ShowsLater salt.now next octets.now }
@@ -65,7 +65,7 @@ fn shows_later(salt: &[u8; SUM], mark: u64, digested: &mut u64, next: u64, octet
     true
 }
 
-/// As many octets as a later frame would have, if octets begin as one does, with this mark, a length and a number that is later than `next`.
+/// As many octets as a later frame would have, if octets begin as one does: with this mark, a length, and a number that is later than `next`.
 fn outline_of(mark: u64, next: u64, octets: &[u8]) -> Option<&[u8]>
     ensures { MatchOption result
         ((whole rest : List ℕ) → IsOutline (to_be_bytes w64 mark) next octets.now whole rest → ⊥)
@@ -88,7 +88,7 @@ fn begins_marked(mark: u64, octets: &[u8]) -> bool
     behind_mark(mark, octets).is_some()
 }
 
-/// Whether this mark stands in octets behind their first one.
+/// Whether this mark occurs in octets after their first one.
 fn stands_again(mark: u64, octets: &[u8]) -> bool
     ensures { IsTrue result ↔ StandsAgain (to_be_bytes w64 mark) octets.now }
 {
