@@ -1,4 +1,4 @@
--- What an update comes to in a version of the zone (RFC 2136, 3).
+-- The outcome of an update in a version of the zone (RFC 2136, 3).
 use Rattle.std.specs.Prelude.{ℕ, ◌+◌, ◌^◌, Bool, true, ◌&&◌, ◌==◌, nat_lt, List, bytes_eq, Option, None, Some, if◌then◌else◌}
 use Rattle.std.specs.Cmp.Lexicographic.{pointwise}
 use Rattle.dns_rdata.specs.declared.numbers.Rcode.{Rcode}
@@ -19,7 +19,7 @@ use Rattle.world_run.specs.declared.judged.Judged.TheVariants.{Told, Makes}
 use Rattle.zone_tree.specs.Version.{Version as Numbered}
 use Rattle.world_run.specs.Numbered.{changes_between}
 
--- whether two records are one and the same, to the octet (own)
+-- whether two records are the same, octet by octet (own)
 abbrev pub is_equal_record : Record → Record → Bool
 is_equal_record r s = pointwise bytes_eq r.owner s.owner && r.rtype == s.rtype && r.ttl == s.ttl && bytes_eq r.rdata s.rdata
 
@@ -27,20 +27,20 @@ is_equal_record r s = pointwise bytes_eq r.owner s.owner && r.rtype == s.rtype &
 abbrev pub is_equal_zone : List Record → List Record → Bool
 is_equal_zone zone other = pointwise is_equal_record zone other
 
--- an update that each rule lets through, by the zone that it makes: it changes nothing, or it makes the version of the next
--- number, which knows what it changed (RFC 2136, 3.6; RFC 1995, 4)
+-- the outcome of an update that no rule refuses, by the zone that it makes: it changes nothing, or it makes the version of the next
+-- number, which has the changes made (RFC 2136, 3.6; RFC 1995, 4)
 abbrev pub made_of : Numbered → Heading → Option (List Record) → Option Judged
 made_of last heading None = None
 made_of last heading (Some zone) =
     if is_equal_zone last.zone zone then Some (Told heading NoError)
     else Some (Makes heading (record { number = last.number + 1; zone = zone; changes = Some (changes_between last.zone zone) }))
 
--- an update from a peer that may update, by the code that it gets where a rule or a limit refuses it (RFC 2136, 3)
+-- the outcome of an update from a peer that may update, by the code that it gets where a rule or a limit refuses it (RFC 2136, 3)
 abbrev pub judged_by : Numbered → DynamicUpdate → Option Rcode → Option Judged
 judged_by last update (Some code) = Some (Told (heading_of_update update) code)
 judged_by last update None = made_of last (heading_of_update update) (act last.zone update)
 
--- what a request that is read asks of the last version, where it asks for an update; else none (RFC 2136, 3)
+-- the outcome of a request that was read, where it is an update; else none (RFC 2136, 3)
 abbrev pub judged_said : Numbered → Parsed → Option Judged
 judged_said last Silent = None
 judged_said last (Fault head code) = if head.opcode == opcode_UPDATE then Some (Told (header_alone head) code) else None
@@ -49,6 +49,6 @@ judged_said last (Query query) = None
 judged_said last (Update update) = judged_by last update (code_of last.zone update true)
 judged_said last (NoMemory head) = None
 
--- what an update comes to in the last version; none of another request, and where numbers of 64 bits end (RFC 2136, 3; own)
+-- the outcome of a request in the last version; none where it is no update, or the version's number would pass 64 bits (RFC 2136, 3; own)
 abbrev pub judged : Numbered → List ℕ → Option Judged
 judged last request = if nat_lt (last.number + 1) (2 ^ 64) then judged_said last (reads request) else None

@@ -1,4 +1,4 @@
--- Calls as steps on words: the step that each takes next, and what follows on it (own).
+-- Calls as steps on words: the step that each takes next, and what follows it (own).
 use Rattle.std.specs.Prelude.{ℕ, ◌==◌, ◌||◌, Bool, true, false, List, [], ◌∷◌, ◌++◌, bytes_eq, is_some, Option, None, Some, if◌then◌else◌}
 use Rattle.cell_core.specs.Words.{State, found_by}
 use Rattle.cell_core.specs.declared.words.WordStep.{WordStep}
@@ -64,23 +64,23 @@ step_name (Fade owner number for) = step.Fade
 step_name (Reset owner number for) = step.Reset
 step_name (Free owner number for) = step.Free
 
--- an update gives up the weak owners of the entries that leave the window, one after the other, and is at its end (own)
+-- an update releases the weak owners of the entries that leave the window, one after the other, and ends (own)
 abbrev pub leaving_after : Heading → ℕ → Option Entry → List ℕ → Progress
 leaving_after heading kept entry [] = Done (Kept heading kept entry)
 leaving_after heading kept entry (owner ∷ leaving) = On (Fade owner None (purpose.Leaves heading kept entry leaving))
 
--- an update whose publication's owner is gone gives up the oldest version that is kept, where that is due, and then what leaves the
+-- an update whose publication's owner is gone releases the oldest version that is kept, where it has to, and then what leaves the
 -- window (own)
 abbrev pub oldest_after : Heading → ℕ → Option Entry → List ℕ → Option ℕ → Progress
 oldest_after heading kept entry leaving None = leaving_after heading kept entry leaving
 oldest_after heading kept entry leaving (Some owner) = On (Release owner (purpose.Oldest heading kept entry leaving))
 
--- a transfer gives up the owners that it has got, one after the other, and is at its end (own)
+-- a transfer releases the owners that it has got, one after the other, and ends (own)
 abbrev pub sent_after : Sending → List ℕ → Progress
 sent_after sending [] = Done (Sent sending)
 sent_after sending (owner ∷ owners) = On (Release owner (purpose.Sent sending owners))
 
--- what follows where an owner is gone; a drop gives this (own)
+-- what follows once an owner is gone; a drop gives this answer (own)
 abbrev pub past : Purpose → Answer → Progress
 past purpose.Drop answer = Done (Told answer)
 past (purpose.Publish keeping kept entry) answer = oldest_after keeping.heading kept entry keeping.leaving keeping.oldest
@@ -93,7 +93,7 @@ abbrev pub load_after : List ℕ → WordEvent → Progress
 load_after name (told.Loaded owner number) = Done (Owned name owner number)
 load_after name event = On (Load name)
 
--- on a look follows a raise, where the version isn't buried; else there is no owner (own)
+-- a look is followed by a raise, where the version isn't buried; else there is no owner (own)
 abbrev pub look_after : List ℕ → ℕ → WordEvent → Progress
 look_after name owner told.Alive = On (Raise name owner)
 look_after name owner told.Dead = Done (Told answer.Nothing)
@@ -110,25 +110,25 @@ abbrev pub note_after : List ℕ → ℕ → WordEvent → Progress
 note_after name owner (told.Noted next number) = Done (OwnedWeakly name next number)
 note_after name owner event = On (Note name owner)
 
--- probes go on up to a slot that is free, or to the last, where the update ends (own)
+-- probes go on up to a slot that is free, or to the last slot, where the update ends (own)
 abbrev pub probe_after : Numbered → Keeping → WordEvent → Progress
 probe_after version keeping told.Taken = On (Prepare version keeping)
 probe_after version keeping told.NoSlot = Done (NoSlot keeping.heading)
 probe_after version keeping event = On (Probe version keeping)
 
--- on a settle follows a load of the version that was published (own)
+-- a settle is followed by a load of the version that was published (own)
 abbrev pub settle_after : Keeping → WordEvent → Progress
 settle_after keeping (told.Settled owner number) = On (Keep owner keeping)
 settle_after keeping event = On (Settle keeping)
 
--- on that load follows a note of what it gave, where the version is entered in the window, and then the release of the owner that the
--- publication gave (own)
+-- that load is followed by a note of the version, where it is entered in the window, and then by the release of the owner that the
+-- publication returned (own)
 abbrev pub keep_after : ℕ → Keeping → WordEvent → Progress
 keep_after given keeping (told.Loaded owner number) =
     if is_some keeping.enters then On (Enter given owner keeping) else On (Release given (purpose.Publish keeping owner None))
 keep_after given keeping event = On (Keep given keeping)
 
--- the entry of a version, where it has one (own)
+-- the window's entry for a version, where it gets one (own)
 abbrev pub entry_of : Option Serial → ℕ → ℕ → Option Entry
 entry_of None number owner = None
 entry_of (Some serial) number owner = Some (record { number = number; serial = serial; owner = owner })
@@ -144,12 +144,12 @@ completed sending = record sending { whole = true }
 abbrev pub with_version : Numbered → Sending → Sending
 with_version version sending = record sending { got = sending.got ++ version ∷ [] }
 
--- on an upgrade follows that of the next entry; behind the last each version was got that the transfer asks for (own)
+-- an upgrade is followed by that of the next entry; after the last, each version was got that the transfer asks for (own)
 abbrev pub gained_after : Seeking → List ℕ → Progress
 gained_after seeking [] = sent_after (completed seeking.sending) seeking.owners
 gained_after seeking (owner ∷ left) = On (Seek owner (record seeking { left = left }))
 
--- one more owner was got, and what it finds (own)
+-- one more owner was got, which finds this version (own)
 abbrev pub with_got : ℕ → Numbered → Seeking → Seeking
 with_got owner version seeking =
     record { sending = with_version version seeking.sending; left = seeking.left; owners = seeking.owners ++ owner ∷ [] }
@@ -158,39 +158,39 @@ abbrev pub got_after : ℕ → Seeking → ℕ → Option Numbered → Progress
 got_after owner seeking next None = On (Gain owner seeking)
 got_after owner seeking next (Some version) = gained_after (with_got next version seeking) seeking.left
 
--- on a look follows a raise, where the version isn't buried; else no further one is got (own)
+-- a look is followed by a raise, where the version isn't buried; else no further one is got (own)
 abbrev pub seek_after : ℕ → Seeking → WordEvent → Progress
 seek_after owner seeking told.Alive = On (Gain owner seeking)
 seek_after owner seeking told.Dead = sent_after seeking.sending seeking.owners
 seek_after owner seeking event = On (Seek owner seeking)
 
--- and behind the raise, by what its owner finds in the words (own)
+-- what follows that raise, by the version that its owner finds in the words (own)
 abbrev pub gain_after : State Numbered → ℕ → Seeking → WordEvent → Progress
 gain_after words owner seeking (told.Raised next number) = got_after owner seeking next (found_by words next)
 gain_after words owner seeking told.Dead = sent_after seeking.sending seeking.owners
 gain_after words owner seeking event = On (Gain owner seeking)
 
--- on a release follows a bury where no share is left (own)
+-- a release is followed by a bury where no share is left (own)
 abbrev pub release_after : ℕ → Purpose → WordEvent → Progress
 release_after owner for told.Emptied = On (Bury owner for)
 release_after owner for event = past for answer.Left
 
--- on a bury that won follows a fade (own)
+-- a bury that won is followed by a fade (own)
 abbrev pub bury_after : ℕ → Purpose → WordEvent → Progress
 bury_after owner for (told.Buried number) = On (Fade owner (Some number) for)
 bury_after owner for event = past for answer.Left
 
--- what a release gives that has buried a number, or that of a weak owner (own)
+-- the answer of a release that has buried a number, or of the release of a weak owner (own)
 abbrev pub gone : Option ℕ → Answer
 gone None = answer.Faded
 gone (Some number) = answer.Buried number
 
--- on a fade follows a reset where nobody else is to fade (own)
+-- a fade is followed by a reset where no other owner is yet to fade (own)
 abbrev pub fade_after : ℕ → Option ℕ → Purpose → WordEvent → Progress
 fade_after owner number for told.Closed = On (Reset owner number for)
 fade_after owner number for event = past for (gone number)
 
--- what follows on a call's step, by the words behind it and what it told (own)
+-- what follows a call's step, by the words after it and the event that it reported (own)
 abbrev pub after : State Numbered → Phase → WordEvent → Progress
 after words (Load name) event = load_after name event
 after words (Look name owner) event = look_after name owner event
@@ -210,7 +210,7 @@ after words (Fade owner number for) event = fade_after owner number for event
 after words (Reset owner number for) event = On (Free owner number for)
 after words (Free owner number for) event = past for (gone number)
 
--- a call is to put a name into use for a strong owner (own)
+-- a call reserves a name for a strong owner (own)
 abbrev pub reserves : List ℕ → Phase → Bool
 reserves name (Load other) = bytes_eq other name
 reserves name (Look other owner) = bytes_eq other name
@@ -222,12 +222,12 @@ abbrev pub reserves_weakly : List ℕ → Phase → Bool
 reserves_weakly name (Note other owner) = bytes_eq other name
 reserves_weakly name phase = false
 
--- an owner that is released for a transfer leaves the one in use of the version that is served (own)
+-- while a transfer releases an owner, it uses the owner of the version that it serves (own)
 abbrev pub uses_for : ℕ → Purpose → Bool
 uses_for owner (purpose.Sent sending owners) = sending.served == owner
 uses_for owner for = false
 
--- a call uses an owner, so that its name can't be given up (own)
+-- a call uses an owner, so that its name can't be dropped (own)
 abbrev pub uses : ℕ → Phase → Bool
 uses owner (Look name other) = other == owner
 uses owner (Raise name other) = other == owner
@@ -268,6 +268,6 @@ seeks (Seek owner seeking) = true
 seeks (Gain owner seeking) = true
 seeks phase = false
 
--- while a call is under way that is an update or upgrades entries, the window stays for it as it is (own)
+-- a call that is an update or upgrades entries needs the window unchanged (own)
 abbrev pub bars : Phase → Bool
 bars phase = updates phase || seeks phase

@@ -1,11 +1,11 @@
--- What is told of lines that aren't played, and the names of the steps on words (own).
+-- What is printed for lines that aren't executed, and the names of the steps on words (own).
 use Rattle.std.specs.Prelude.{ℕ, List, codes}
 use Rattle.world_run.specs.declared.fault.WorldFault.{WorldFault}
 use Rattle.world_run.specs.declared.fault.WorldFault.TheVariants.{NoMemory, Limit}
 use Rattle.world_run.specs.declared.step.StepName.{StepName}
 use Rattle.world_run.specs.declared.step.StepName.TheVariants as step
 
--- the code and the name of why lines aren't played (own)
+-- the code and the name of each reason why lines aren't executed (own)
 abbrev pub world_words : WorldFault → List ℕ
 world_words NoMemory = codes "V1 NoMemory"
 world_words Limit = codes "V2 Limit"

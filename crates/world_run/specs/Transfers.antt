@@ -1,4 +1,4 @@
--- What a transfer of a version gets, by the versions that were got of those after the asker's (RFC 1995, 4; RFC 5936, 2.2).
+-- What a transfer of a version gets, by the versions that were got of those after the client's (RFC 1995, 4; RFC 5936, 2.2).
 use Rattle.std.specs.Prelude.{ℕ, true, List, Option, None, Some, if◌then◌else◌}
 use Rattle.dns_message.specs.declared.query.Parsed.{Parsed}
 use Rattle.dns_message.specs.declared.query.Parsed.TheVariants.{Query as Asks}
@@ -11,7 +11,7 @@ use Rattle.world_run.specs.declared.sending.Sending.{Sending}
 use Rattle.world_run.specs.declared.step.Answer.{Answer}
 use Rattle.world_run.specs.declared.step.Answer.TheVariants.{Silent, Messages}
 
--- what changed, where each version after the asker's was got (RFC 1995, 4)
+-- an incremental transfer, where each version after the client's was got (RFC 1995, 4)
 abbrev pub sent_for : Sending → Parsed → Option (List (List ℕ))
 sent_for sending (Asks query) =
     if is_permitted sending.version.zone (peer_over Tcp true) query
@@ -19,7 +19,7 @@ sent_for sending (Asks query) =
     else None
 sent_for sending said = None
 
--- the messages answer, where the request is for a transfer that is sent (RFC 5936, 2.2)
+-- the messages answer, where the request is for a transfer that may be sent (RFC 5936, 2.2)
 abbrev pub messages_answer : Option (List (List ℕ)) → Answer
 messages_answer None = Silent
 messages_answer (Some messages) = Messages messages

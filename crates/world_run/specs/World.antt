@@ -1,5 +1,5 @@
 -- Zone versions in the words of a cell, the names of their strong owners, the versions that are kept, and the calls under way:
--- what each line of a script makes of them, and its reply (own).
+-- the world after each line of a script, and the line's reply (own).
 use Rattle.std.specs.Prelude.{ℕ, zero, suc, ◌+◌, min, Bool, true, false, not, ◌||◌, ◌&&◌, is_some, nat_le, nat_lt, List, [], ◌∷◌, ◌++◌, length, bytes_eq, filter, find, remove, Option, Some, None, if◌then◌else◌}
 use Rattle.std.specs.List.{list_any, slice_get, slice_set, flat_map}
 use Rattle.std.specs.Option.{option_and_then, option_map, option_to_list}
@@ -54,8 +54,8 @@ use Rattle.world_run.specs.Numbered.{first_version}
 use Rattle.world_run.specs.Phases.{word_step, step_name, after, reserves, reserves_weakly, uses, bars}
 use Rattle.world_run.specs.Transfers.{sent_answer}
 
--- the words of a cell of zone versions, the names in use with their strong owners, those with weak owners, and the calls under way; how many versions are kept
--- beside the last, and their owners, the oldest first; how many entries the window has at most from which changes are sent
+-- the words of a cell of zone versions; the names in use for strong owners, and for weak ones; the calls under way; how many versions are kept
+-- besides the last, and their owners, the oldest first; the greatest number of entries of the window, which incremental transfers are made from
 -- (RFC 1995, 5), and the entries, the oldest first (own)
 pub record World : Type 0 where
   pub words : State Numbered
@@ -71,20 +71,20 @@ pub record World : Type 0 where
 abbrev pub loaded_once : Numbered → State Numbered
 loaded_once first = with_new_owner (Holding 0 0) (record (begun first) { latest = word_of 0 1; granted = 1 })
 
--- and in which it is also owned weakly (own)
+-- the words in which that version also has a weak owner (own)
 abbrev pub noted_once : Numbered → State Numbered
 noted_once first =
     with_new_owner (Weakly 0 0) (record (loaded_once first) { table = slice_set (loaded_once first).table 0 (with_weak_word 2 (first_slot first)); noted = 1 })
 
--- the words at the start: the version is owned weakly where there is a window (own)
+-- the words at the start: the version has a weak owner where there is a window (own)
 abbrev pub started_words : Numbered → ℕ → State Numbered
 started_words first window = if nat_lt 0 window then noted_once first else loaded_once first
 
--- its entry then (own)
+-- the window's entries at the start (own)
 abbrev pub first_entries : List Record → ℕ → List Entry
 first_entries first window = if nat_lt 0 window then record { number = 0; serial = record { 0 = zone_serial first }; owner = 1 } ∷ [] else []
 
--- the world in which one version is published and kept, and entered where there is a window, no name is in use, and no call is under
+-- the world in which one version is published and kept, and entered where there is a window; no name is in use, and no call is under
 -- way (own)
 abbrev pub started_within : List Record → ℕ → ℕ → World
 started_within first keep window = record {
@@ -98,20 +98,20 @@ started_within first keep window = record {
   entries = first_entries first window;
 }
 
--- with a window of so many entries, or as many as there can be (own)
+-- that world with a window of so many entries, at most the greatest number (own)
 abbrev pub started : List Record → ℕ → ℕ → World
 started first keep window = started_within first keep (min window most_entries)
 
--- at most so many calls are under way (own)
+-- the greatest number of calls under way (own)
 abbrev pub most_calls : ℕ
 most_calls = 64
 
--- no call takes more steps: an update has 64 probes, a prepare, a swap, a settle, a load, a note, a release, a bury, a fade, a reset and
--- a free of the owner that the publication gives and of the oldest that is kept, and a fade, a reset and a free of each entry (own)
+-- no call takes more steps than this: an update has 64 probes, a prepare, a swap, a settle, a load, a note, a release, a bury, a fade, a reset and
+-- a free of the owner that the publication returns and of the oldest that is kept, and a fade, a reset and a free of each entry (own)
 abbrev pub most_steps : ℕ
 most_steps = 127
 
--- the owner that a name is in use for; none where it isn't in use (own)
+-- the owner of a name in use; none where it isn't in use (own)
 abbrev pub owner_of : List ℕ → List Named → Option ℕ
 owner_of name names = option_map (λ named. named.owner) (find (λ named. bytes_eq named.name name) names)
 
@@ -127,7 +127,7 @@ call_of name calls = find (λ call. bytes_eq call.name name) calls
 abbrev pub without_call : List ℕ → List UnderWay → List UnderWay
 without_call name calls = filter (λ call. not (bytes_eq call.name name)) calls
 
--- a name is in use for a strong owner, or a call under way is to put it into use (own)
+-- a name is in use for a strong owner, or reserved by a call under way (own)
 abbrev pub is_taken : List ℕ → World → Bool
 is_taken name world =
     list_any (λ named. bytes_eq named.name name) world.names || list_any (λ call. reserves name call.phase) world.calls
@@ -141,7 +141,7 @@ is_taken_weakly name world =
 abbrev pub is_used : List UnderWay → ℕ → Bool
 is_used calls owner = list_any (λ call. uses owner call.phase) calls
 
--- the window stays for a call under way as it is (own)
+-- a call under way needs the window unchanged (own)
 abbrev pub is_barred : List UnderWay → Bool
 is_barred calls = list_any (λ call. bars call.phase) calls
 
@@ -157,12 +157,12 @@ zone_of name world = option_map (λ version. version.zone) (version_of name worl
 abbrev pub kept_versions : World → List Numbered
 kept_versions world = flat_map (λ owner. option_to_list (found_by world.words owner)) world.kept
 
--- what answers a request: octets, or nothing (own)
+-- the answer to a request: octets, or no reply (own)
 abbrev pub answer_of : Option (List ℕ) → Answer
 answer_of None = Silent
 answer_of (Some octets) = Reply octets
 
--- a call that takes no step begins with its answer; with none it isn't enabled (own)
+-- a call that takes no step begins with its answer; where there is none, it isn't enabled (own)
 abbrev pub answering : Option Answer → Start
 answering None = Refused
 answering (Some answer) = Answers answer
@@ -172,32 +172,32 @@ abbrev pub drop_start : List UnderWay → Option ℕ → Start
 drop_start calls None = Refused
 drop_start calls (Some owner) = if is_used calls owner then Refused else Takes (phase.Release owner purpose.Drop)
 
--- and so is that of a weak owner (own)
+-- likewise that of a weak owner (own)
 abbrev pub fade_start : List UnderWay → Option ℕ → Start
 fade_start calls None = Refused
 fade_start calls (Some owner) = if is_used calls owner then Refused else Takes (phase.Fade owner None purpose.Drop)
 
--- another owner of what a name's owner has (own)
+-- another strong owner of what a name's owner has (own)
 abbrev pub copy_start : List ℕ → Option ℕ → Start
 copy_start name None = Refused
 copy_start name (Some owner) = Takes (phase.Raise name owner)
 
--- a weak one (own)
+-- a weak owner of it (own)
 abbrev pub weak_start : List ℕ → Option ℕ → Start
 weak_start name None = Refused
 weak_start name (Some owner) = Takes (phase.Note name owner)
 
--- a strong owner of what a weak one has, which no other call uses (own)
+-- a strong owner of what a weak one has that no other call uses (own)
 abbrev pub up_start : List UnderWay → List ℕ → Option ℕ → Start
 up_start calls name None = Refused
 up_start calls name (Some owner) = if is_used calls owner then Refused else Takes (phase.Look name owner)
 
--- whether a request over a transport is for a transfer that is sent, where each peer may have it (RFC 5936, 2.2.1)
+-- whether a request over a transport is for a transfer that may be sent, where each peer may have it (RFC 5936, 2.2.1)
 abbrev pub asks_sent : Transport → List Record → Parsed → Bool
 asks_sent transport zone (Asks query) = is_permitted zone (peer_over transport true) query
 asks_sent transport zone said = false
 
--- a request over UDP is answered in a zone, where it asks for no update and for no transfer that is sent: it gets what it gets of
+-- a request over UDP is answered in a zone, where it is no update and no question for a transfer that may be sent: it gets the reply of
 -- a server that peers may update (own)
 abbrev pub ask_said : List Record → Parsed → Start
 ask_said zone said =
@@ -207,7 +207,7 @@ abbrev pub ask_start : Option (List Record) → List ℕ → Start
 ask_start None request = Refused
 ask_start (Some zone) request = ask_said zone (reads request)
 
--- a transfer begins with the first of the entries to upgrade, where shares are left for all; where there are none, it takes no step (own)
+-- a transfer begins with the first of the entries to upgrade, where shares are left for all of them; where there are no entries, it takes no step (own)
 abbrev pub seek_start : State Numbered → Sending → List ℕ → Start
 seek_start words sending [] = Answers (sent_answer sending)
 seek_start words sending (owner ∷ left) =
@@ -215,8 +215,8 @@ seek_start words sending (owner ∷ left) =
     then Takes (phase.Seek owner (record { sending = sending; left = left; owners = [] }))
     else Refused
 
--- a question for a transfer over TCP is answered where it is sent, with the version of an owner as the one that is served; one for what
--- changed since a serial upgrades the entries after that one, and stands back while the window stays for another call as it is
+-- a question for a transfer over TCP is answered where it may be sent, with an owner's version as the one that is served; one for an incremental
+-- transfer upgrades the entries after the client's serial, and isn't enabled while another call needs the window unchanged
 -- (RFC 1995, 2; RFC 5936, 2.2; own)
 abbrev pub transfer_asked : World → Sending → QueryAsked → Start
 transfer_asked world sending query =
@@ -228,7 +228,7 @@ abbrev pub transfer_said : World → Sending → Parsed → Start
 transfer_said world sending (Asks query) = transfer_asked world sending query
 transfer_said world sending said = Refused
 
--- a transfer of an owner's version of which nothing is got yet (own)
+-- a transfer of an owner's version, for which no version is got yet (own)
 abbrev pub none_got : ℕ → Numbered → List ℕ → Sending
 none_got owner version request = record { served = owner; version = version; request = request; whole = false; got = [] }
 
@@ -244,20 +244,20 @@ transfer_start world request (Some owner) = transfer_of world owner request (fou
 abbrev pub code_reply : Heading → Rcode → Answer
 code_reply heading code = Reply (fit (coded heading code) (limit_of Udp None))
 
--- the owner of the oldest version that is kept, where no more are to be kept (own)
+-- the owner of the oldest version that is kept, where the limit of kept versions is reached (own)
 abbrev pub oldest_kept : ℕ → List ℕ → Option ℕ
 oldest_kept keep kept = if nat_lt keep (length kept) then slice_get kept 0 else None
 
--- an owner that is to be released has a version, where there is one (own)
+-- the owner that is to be released, if any, has a version (own)
 abbrev pub is_held : State Numbered → Option ℕ → Bool
 is_held words None = true
 is_held words (Some owner) = is_some (found_by words owner)
 
--- a weak owner can be made, where the window is to have one (own)
+-- a weak owner can be made, where the window is to get an entry (own)
 abbrev pub can_enter : State Numbered → ℕ → Bool
 can_enter words window = not (nat_lt 0 window) || nat_lt words.noted notes
 
--- what an update is to do behind its publication: it gives up the oldest version that is kept, where no more are to be kept, and the entries
+-- what an update does after its publication: it releases the oldest version that is kept, where the limit is reached, and the entries
 -- that leave the window for the new one (own)
 abbrev pub keeping_for : World → Heading → Numbered → Keeping
 keeping_for world heading version = record {
@@ -267,23 +267,23 @@ keeping_for world heading version = record {
   leaving = leaving_for world.window world.entries (enters world.window (zone_serial version.zone));
 }
 
--- an update that makes a version is enabled where its steps can be made: a share is left to load the version by, the oldest that it gives
--- up is held, and the version can be entered (own)
+-- an update that makes a version is enabled where its steps can be made: a share is left to load the version by, the oldest that it releases
+-- has a version, and the new version can be entered (own)
 abbrev pub publication_start : World → Heading → Numbered → Start
 publication_start world heading version =
     if nat_lt world.words.granted grants && is_held world.words (oldest_kept world.keep world.kept) && can_enter world.words world.window
     then Takes (phase.Probe version (keeping_for world heading version))
     else Refused
 
--- an update by what it comes to: it is told a code, or it makes a version (RFC 2136, 3; own)
+-- an update by its outcome: it gets a code, or it makes a version (RFC 2136, 3; own)
 abbrev pub update_start : World → Option Judged → Start
 update_start world None = Refused
 update_start world (Some (judgement.Told heading code)) = Answers (code_reply heading code)
 update_start world (Some (judgement.Makes heading version)) = publication_start world heading version
 
 -- how a call begins: a name that is in use isn't loaded, and one that isn't is neither dropped nor asked; an update is judged in
--- the last version, and while one is under way, or entries are upgraded, there is no other, no weak owner, and no question for what
--- changed (own)
+-- the last version; while an update is under way, or entries are upgraded, no other update, no weak owner and no incremental transfer
+-- begins (own)
 abbrev pub start : World → Call → Start
 start world (Load name) = if is_taken name world then Refused else Takes (phase.Load name)
 start world (Drop name) = drop_start world.calls (owner_of name world.names)
@@ -299,12 +299,12 @@ start world (Update request) =
     if is_barred world.calls then Refused
     else update_start world (option_and_then (λ last. judged last request) (found_last world.words))
 
--- the names in use without the one that a call gives up (own)
+-- the names in use without the one that a call releases (own)
 abbrev pub given_up : Call → List Named → List Named
 given_up (Drop name) names = without_name name names
 given_up call names = names
 
--- the weak owners' names without the one that a call gives up (own)
+-- the weak owners' names without the one that a call releases (own)
 abbrev pub weak_given_up : Call → List Named → List Named
 weak_given_up (Fade name) names = without_name name names
 weak_given_up call names = names
@@ -319,8 +319,8 @@ abbrev pub names_at : End → List Named → List Named
 names_at (Owned name owner number) names = names ++ record { name = name; owner = owner } ∷ []
 names_at end names = names
 
--- the owners of the versions that are kept at the end of a call: an update's last one, for which the oldest is given up where no
--- more are to be kept (own)
+-- the owners of the versions that are kept at the end of a call: an update adds its own, and the oldest is removed where the limit of
+-- kept versions is reached (own)
 abbrev pub kept_at : ℕ → End → List ℕ → List ℕ
 kept_at keep (Kept heading owner entry) kept = (if nat_lt keep (length kept) then remove kept 0 else kept) ++ owner ∷ []
 kept_at keep end kept = kept
@@ -330,7 +330,7 @@ abbrev pub entries_at : ℕ → End → List Entry → List Entry
 entries_at window (Kept heading owner (Some entry)) entries = entered window entries entry
 entries_at window end entries = entries
 
--- what a call gives at its end: an update is told NOERROR, or SERVFAIL where it found no slot; a transfer its messages (own)
+-- the answer of a call at its end: an update gets NOERROR, or SERVFAIL where it found no free slot; a transfer its messages (own)
 abbrev pub answer_at : End → Answer
 answer_at (Owned name owner number) = Owner name number
 answer_at (OwnedWeakly name owner number) = Owner name number
@@ -339,11 +339,11 @@ answer_at (NoSlot heading) = code_reply heading ServFail
 answer_at (Kept heading owner entry) = code_reply heading NoError
 answer_at (Sent sending) = sent_answer sending
 
--- the next step of a call on the words, and what follows on it; none where the words have no such step (own)
+-- the next step of a call on the words, and what follows it; none where the words have no such step (own)
 abbrev pub step_once : State Numbered → Phase → Option (Progress × State Numbered)
 step_once words phase = option_map (λ told. (after told.1 phase told.0, told.1)) (made words (word_step phase))
 
--- the steps of a call on the words up to its end, but no more than so many; where one can't be made, it stays there (own)
+-- the steps of a call on the words up to its end, but no more than so many; at a step that can't be made, it stops (own)
 abbrev pub go_on : (State Numbered → Phase → Progress × State Numbered) → State Numbered → Phase → Option (Progress × State Numbered) → Progress × State Numbered
 go_on more words phase None = (On phase, words)
 go_on more words phase (Some (On next, between)) = more between next
@@ -353,7 +353,7 @@ unfoldable pub steps_up_to : ℕ → State Numbered → Phase → Progress × St
 steps_up_to zero words phase = (On phase, words)
 steps_up_to (suc left) words phase = go_on (steps_up_to left) words phase (step_once words phase)
 
--- no further call may be begun (own)
+-- no further call can begin (own)
 abbrev pub is_full : World → Bool
 is_full world = nat_le most_calls (length world.calls)
 
@@ -363,14 +363,14 @@ all_made world call (On phase, words) = (NotEnabled, record world { words = word
 all_made world call (Done end, words) =
     (Answered (answer_at end), record world { words = words; names = names_at end (given_up call world.names); weak_names = weak_names_at end (weak_given_up call world.weak_names); kept = kept_at world.keep end world.kept; entries = entries_at world.window end world.entries })
 
--- a call at once, by how it begins (own)
+-- a call with all its steps, by how it begins (own)
 abbrev pub whole : World → Call → Start → Option (WorldReply × World)
 whole world call Refused = Some (NotEnabled, world)
 whole world call (Answers answer) = if is_full world then None else Some (Answered answer, world)
 whole world call (Takes phase) =
     if is_full world then None else Some (all_made world call (steps_up_to most_steps world.words phase))
 
--- a call under a name that no call under way has, by how it begins (own)
+-- a call that begins under a name that no call under way has, by how it begins (own)
 abbrev pub begin : World → List ℕ → Call → Start → Option (WorldReply × World)
 begin world name call Refused = Some (NotEnabled, world)
 begin world name call (Answers answer) = if is_full world then None else Some (Answered answer, world)
@@ -390,7 +390,7 @@ stepped world name phase (Some (On next, words)) =
 stepped world name phase (Some (Done end, words)) =
     (Last (step_name phase) (answer_at end), record world { words = words; names = names_at end world.names; weak_names = weak_names_at end world.weak_names; calls = without_call name world.calls; kept = kept_at world.keep end world.kept; entries = entries_at world.window end world.entries })
 
--- a call that was taken out of those under way, behind a step (own)
+-- a call that was removed from those under way, after a step (own)
 abbrev pub gone_on : World → List ℕ → StepName → Progress → WorldReply × World
 gone_on world name step (On next) = (Step step, record world { calls = world.calls ++ record { name = name; phase = next } ∷ [] })
 gone_on world name step (Done end) =
@@ -400,13 +400,13 @@ abbrev pub next : World → List ℕ → Option UnderWay → WorldReply × World
 next world name None = (NotEnabled, world)
 next world name (Some call) = stepped world name call.phase (step_once world.words call.phase)
 
--- the reply to a line, and what it makes of the world; none where it is enabled and 64 calls are under way (own)
+-- the reply to a line, and the world after it; none where the line is enabled and 64 calls are under way (own)
 abbrev pub turn : World → WorldStep → Option (WorldReply × World)
 turn world (Whole call) = whole world call (start world call)
 turn world (Begin name call) = begin_under world name call (call_of name world.calls)
 turn world (Next name) = Some (next world name (call_of name world.calls))
 
--- the replies to lines from a world on, and the world behind them; none where one of them passes the limit (own)
+-- the replies to lines from a world on, and the world after them; none where one of them passes the limit (own)
 abbrev pub onto_replies : WorldReply → Option (List WorldReply × World) → Option (List WorldReply × World)
 onto_replies given more = option_map (λ rest. (given ∷ rest.0, rest.1)) more
 
@@ -414,6 +414,6 @@ abbrev pub play : World → List WorldStep → Option (List WorldReply × World)
 play world [] = Some ([], world)
 play world (line ∷ lines) = option_and_then (λ told. onto_replies told.0 (play told.1 lines)) (turn world line)
 
--- the replies to lines, from a first version on, with so many versions kept beside the last, and a window of so many (own)
+-- the replies to lines, from a first version on, with so many versions kept besides the last, and a window of this size (own)
 abbrev pub replies_of : List Record → ℕ → ℕ → List WorldStep → Option (List WorldReply)
 replies_of first keep window lines = option_map (λ played. played.0) (play (started first keep window) lines)

@@ -1,4 +1,4 @@
-//! What requests get that ask for no update, and the replies to updates (RFC 1034, 4.3.2; RFC 2136, 3.8).
+//! Replies to requests other than updates, and the replies to updates (RFC 1034, 4.3.2; RFC 2136, 3.8).
 ghost use Rattle.std.specs.Prelude.{◌≡◌, ◌==◌, ◌||◌, false, Some, IfOk, IfErr, if◌then◌else◌};
 ghost use Rattle.dns_message.specs.Message.{opcode_UPDATE};
 ghost use Rattle.dns_message.specs.declared.query.Parsed.TheVariants.{Query as Asks};
@@ -16,7 +16,7 @@ use serve_core::{Heading, Peer, Transport, UDP_LIMIT, is_permitted, respond_to, 
 use std::alloc::Global;
 use zone_tree::Version;
 
-/// What a request over UDP gets that is asked in a version's zone; None of an update, and of a question for a transfer that is
+/// The reply to a request over UDP in a version's zone; None of an update, and of a question for a transfer that may be
 /// sent.
 pub(crate) fn answer_in(
     alloc: Global,
@@ -38,7 +38,7 @@ pub(crate) fn answer_in(
     }
 }
 
-/// What a request over UDP gets that can't be read, or whose OPT isn't obeyed; None of an update.
+/// The reply to a request over UDP that can't be read, or whose OPT record is refused; None of an update.
 fn answer_fault(alloc: Global, heading: &Heading, code: Rcode) -> Result<Option<Answer>, WorldFault>
     ensures ok { IfOk result (λ answer. answering answer ≡ (if heading.now.head.opcode == opcode_UPDATE || false then Refused else Answers (code_reply heading.now code))) }
     ensures refused { IfErr result (λ fault. fault ≡ WorldFault.NoMemory) }
@@ -52,7 +52,7 @@ fn answer_fault(alloc: Global, heading: &Heading, code: Rcode) -> Result<Option<
     }
 }
 
-/// What a query over UDP gets that is asked in a version's zone; None of a question for a transfer that is sent.
+/// The reply to a query over UDP in a version's zone; None of a question for a transfer that may be sent.
 fn answer_query(
     alloc: Global,
     version: &Version,
@@ -72,7 +72,7 @@ fn answer_query(
     }
 }
 
-/// Whether a query over UDP is for a transfer that is sent.
+/// Whether a query over UDP asks for a transfer that may be sent.
 fn is_sent(version: &Version, query: &Query) -> bool
     ensures { result ≡ asks_sent Udp version.now.zone (Asks query.now) }
 {

@@ -19,7 +19,7 @@ pub struct UnderWay<'a> {
 }
 
 impl<'a> UnderWay<'a> {
-    /// How far it has come.
+    /// The call's phase: the step that it takes next.
     pub(crate) fn phase(&self) -> &Phase<'a>
         ensures { result.now ≡ self.now.phase }
     {
@@ -34,7 +34,7 @@ fn is_call(call: &UnderWay<'_>, name: &Handle<'_>) -> bool
     call.name.as_slice() == name.as_slice()
 }
 
-/// Whether a call under way is to put a name into use.
+/// Whether a call under way reserves a name for a strong owner.
 pub(crate) fn is_reserved(calls: &[UnderWay<'_>], name: &Handle<'_>) -> bool
     ensures { result ≡ list_any (λ call. says_reserves name.now call.phase) calls.now }
 {
@@ -46,7 +46,7 @@ pub(crate) fn is_reserved(calls: &[UnderWay<'_>], name: &Handle<'_>) -> bool
     false
 }
 
-/// Whether a call under way is to put a name into use for a weak owner.
+/// Whether a call under way reserves a name for a weak owner.
 pub(crate) fn is_reserved_weakly(calls: &[UnderWay<'_>], name: &Handle<'_>) -> bool
     ensures { result ≡ list_any (λ call. says_reserves_weakly name.now call.phase) calls.now }
 {
@@ -70,7 +70,7 @@ pub(crate) fn is_used(calls: &[UnderWay<'_>], owner: usize) -> bool
     false
 }
 
-/// Whether a call is under way for which the window stays as it is.
+/// Whether a call under way needs the window unchanged.
 pub(crate) fn is_barred(calls: &[UnderWay<'_>]) -> bool
     ensures { result ≡ says_barred calls.now }
 {
@@ -97,7 +97,7 @@ pub(crate) fn call_under<'b, 'a>(
     None
 }
 
-/// The place of the call under way of a name.
+/// The index of the call under way of a name.
 fn place_of(calls: &[UnderWay<'_>], name: &Handle<'_>) -> Option<usize>
     ensures { result ≡ position (λ call. bytes_eq call.name name.now) calls.now }
 {
@@ -109,7 +109,7 @@ fn place_of(calls: &[UnderWay<'_>], name: &Handle<'_>) -> Option<usize>
     None
 }
 
-/// Takes out the call under way of a name, and gives how far it has come.
+/// Removes the call under way of a name, and gives its phase.
 pub(crate) fn take_out<'a>(calls: &mut Vec<UnderWay<'a>>, name: &Handle<'_>) -> Option<Phase<'a>>
     ensures taken { result ≡ option_map (λ call. call.phase) (call_of name.now calls.old.items) }
     ensures left { calls.new.items ≡ without_call name.now calls.old.items }
@@ -122,7 +122,7 @@ pub(crate) fn take_out<'a>(calls: &mut Vec<UnderWay<'a>>, name: &Handle<'_>) -> 
     Some(call.phase)
 }
 
-/// One call under way more.
+/// Adds a call under way.
 pub(crate) fn put_under_way<'a>(
     calls: &mut Vec<UnderWay<'a>>,
     name: &Handle<'a>,

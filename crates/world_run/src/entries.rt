@@ -8,7 +8,7 @@ use crate::owner_list::OwnerList;
 use dns_rdata::Serial;
 use std::alloc::Global;
 
-/// The window has at most so many entries.
+/// The greatest number of entries of the window.
 pub(crate) const MOST_ENTRIES: usize = 16;
 
 /// An entry of the window.
@@ -22,7 +22,7 @@ pub struct Entry {
     pub owner: usize,
 }
 
-/// The serial of a version that is entered, where there is a window.
+/// The serial under which a version is entered, where there is a window.
 pub(crate) fn enters(window: usize, serial: Serial) -> Option<Serial>
     ensures { result ≡ says_enters window serial.0 }
 {
@@ -32,9 +32,9 @@ pub(crate) fn enters(window: usize, serial: Serial) -> Option<Serial>
     None
 }
 
-/// The weak owners of the entries that leave the window for one of a serial, the oldest first.
+/// The weak owners of the entries that leave the window for a new one of this serial, the oldest first.
 ///
-/// `NoMemory` where a growth was refused.
+/// `NoMemory` where an allocation was refused.
 fn leaving(
     alloc: Global,
     window: usize,
@@ -57,9 +57,9 @@ fn leaving(
     Ok(owners)
 }
 
-/// The weak owners of the entries that leave the window for one of this serial, where it is entered.
+/// The same, where a version is entered; none where it isn't.
 ///
-/// `NoMemory` where a growth was refused.
+/// `NoMemory` where an allocation was refused.
 pub(crate) fn leaving_for(
     alloc: Global,
     window: usize,
@@ -75,14 +75,14 @@ pub(crate) fn leaving_for(
     }
 }
 
-/// Whether entries fit the window together with one of a serial.
+/// Whether entries fit the window together with one of this serial.
 fn fit(window: usize, entries: &[Entry], serial: Serial) -> bool
     ensures { result ≡ fits window (serials_in entries.now ++ serial.0 ∷ []) }
 {
     entries.len() < window && span_less_than_half(entries, serial)
 }
 
-/// Whether it is less than half the ring from the first of some entries through the others to a serial (RFC 1982, 3.2).
+/// Whether the distance from the first of some entries through the others to a serial is less than half the ring (RFC 1982, 3.2).
 fn span_less_than_half(entries: &[Entry], serial: Serial) -> bool
     ensures { result ≡ nat_lt (span_of (serials_in entries.now ++ serial.0 ∷ [])) (2 ^ 31) }
 {
@@ -101,9 +101,9 @@ fn span_less_than_half(entries: &[Entry], serial: Serial) -> bool
     sum + u64::from(last.distance(serial)) < u64::from(Serial::HALF_RING)
 }
 
-/// The window with one entry more, behind those that don't leave it.
+/// The window with one more entry, after those that don't leave it.
 ///
-/// `NoMemory` where a growth was refused.
+/// `NoMemory` where an allocation was refused.
 pub(crate) fn put_entry(
     alloc: Global,
     window: usize,
@@ -129,9 +129,9 @@ pub(crate) fn put_entry(
     }
 }
 
-/// The weak owners of the entries after the one of the serial that an asker tells, up to a number; none where there is no such entry.
+/// The weak owners of the entries after the one of the client's serial, up to a number; none where there is no such entry.
 ///
-/// `NoMemory` where a growth was refused.
+/// `NoMemory` where an allocation was refused.
 pub(crate) fn later(
     alloc: Global,
     entries: &[Entry],

@@ -1,16 +1,16 @@
-//! Why steps aren't made.
+//! Why lines aren't executed.
 ghost use Rattle.std.specs.Prelude.{Some};
 ghost use Rattle.world_run.specs.Told.{world_words};
 
 use std::error::Error;
 use std::fmt;
 
-/// Why steps of the world aren't made.
+/// Why lines aren't executed.
 #[derive(Clone, Copy, Debug, PartialEq, Eq)]
 pub enum WorldFault {
-    /// A growth was refused.
+    /// An allocation was refused.
     NoMemory,
-    /// A line that is enabled, other than one that takes a step of a call under way, stands where 64 calls are under way.
+    /// A line that is enabled, and doesn't take a step of a call under way, comes while 64 calls are under way.
     Limit,
 }
 

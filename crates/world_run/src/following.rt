@@ -1,4 +1,4 @@
-//! What follows on each step of a call.
+//! What follows each step of a call: its next phase, or its end.
 ghost use Rattle.std.specs.Prelude.{◌≡◌, IfOk, IfErr};
 ghost use Rattle.world_run.specs.declared.phase.Phase.TheVariants.{Swap};
 ghost use Rattle.world_run.specs.declared.phase.Progress.TheVariants.{On};
@@ -18,9 +18,9 @@ use serve_core::Heading;
 use std::mem;
 
 impl<'a> Phase<'a> {
-    /// What follows on the step, by the words behind it and what it told.
+    /// What follows the step, given the words after it and the event that it reported.
     ///
-    /// `NoMemory` where a growth was refused, or so many hold a version that the call has got that they can't be counted.
+    /// `NoMemory` where an allocation was refused, or where a version that the call has got has so many references that they can't be counted.
     pub fn after(
         self,
         machine: &WordMachine<Published>,
@@ -55,7 +55,7 @@ impl<'a> Phase<'a> {
 }
 
 impl<'a> Purpose<'a> {
-    /// What follows where the owner is gone; a drop gives this.
+    /// What follows once the owner is gone; a drop gives this answer.
     fn past(self, answer: Answer) -> Progress<'a>
         ensures { result ≡ says_past self.entry answer }
     {
@@ -81,7 +81,7 @@ impl<'a> Purpose<'a> {
     }
 }
 
-/// What follows where the owner that a publication gave is gone.
+/// What follows once the owner that a publication returned is gone.
 fn after_published<'a>(keeping: Keeping, kept: usize, entry: Option<Entry>) -> Progress<'a>
     ensures { result ≡ oldest_after keeping.heading kept entry keeping.leaving keeping.oldest }
 {
@@ -94,7 +94,7 @@ fn after_published<'a>(keeping: Keeping, kept: usize, entry: Option<Entry>) -> P
     oldest_after(heading, kept, entry, leaving, oldest)
 }
 
-/// What follows where that is known, by the oldest version that is given up.
+/// The same, given the owner of the oldest version, if it is to be released.
 fn oldest_after<'a>(
     heading: Heading,
     kept: usize,
@@ -113,7 +113,7 @@ fn oldest_after<'a>(
     }
 }
 
-/// What follows where the oldest version that was kept is gone, or an entry that left the window.
+/// What follows once the oldest version that was kept, or an entry that left the window, is gone.
 fn leaving_after<'a>(
     heading: Heading,
     kept: usize,
@@ -133,7 +133,7 @@ fn leaving_after<'a>(
     }
 }
 
-/// What follows where a transfer is to give up the owners that it has got.
+/// What follows where a transfer is to release the owners that it has got.
 fn sent_after<'a>(sending: Sending<'a>, owners: OwnerList) -> Progress<'a>
     ensures { result ≡ sent_after sending.entry owners }
 {
@@ -157,7 +157,7 @@ fn sought<'a>(seeking: Seeking<'a>) -> Progress<'a>
     sent_after(sending, owners)
 }
 
-/// What follows on a load.
+/// What follows a load.
 fn after_load<'a>(name: Handle<'a>, event: WordEvent) -> Progress<'a>
     ensures { result ≡ load_after name.entry event }
 {
@@ -167,7 +167,7 @@ fn after_load<'a>(name: Handle<'a>, event: WordEvent) -> Progress<'a>
     }
 }
 
-/// What follows on a look.
+/// What follows a look.
 fn after_look<'a>(name: Handle<'a>, owner: usize, event: WordEvent) -> Progress<'a>
     ensures { result ≡ look_after name.entry owner event }
 {
@@ -178,7 +178,7 @@ fn after_look<'a>(name: Handle<'a>, owner: usize, event: WordEvent) -> Progress<
     }
 }
 
-/// What follows on a raise.
+/// What follows a raise.
 fn after_raise<'a>(name: Handle<'a>, owner: usize, event: WordEvent) -> Progress<'a>
     ensures { result ≡ raise_after name.entry owner event }
 {
@@ -192,7 +192,7 @@ fn after_raise<'a>(name: Handle<'a>, owner: usize, event: WordEvent) -> Progress
     }
 }
 
-/// What follows on a note.
+/// What follows a note.
 fn after_note<'a>(name: Handle<'a>, owner: usize, event: WordEvent) -> Progress<'a>
     ensures { result ≡ note_after name.entry owner event }
 {
@@ -205,7 +205,7 @@ fn after_note<'a>(name: Handle<'a>, owner: usize, event: WordEvent) -> Progress<
     }
 }
 
-/// What follows on a probe.
+/// What follows a probe.
 fn after_probe<'a>(version: Published, keeping: Keeping, event: WordEvent) -> Progress<'a>
     ensures { result ≡ probe_after version keeping event }
 {
@@ -216,14 +216,14 @@ fn after_probe<'a>(version: Published, keeping: Keeping, event: WordEvent) -> Pr
     }
 }
 
-/// What follows on a prepare of a version, of which the words have taken a share of their own.
+/// What follows a prepare of a version; the words now have a reference of their own to it.
 fn after_prepare<'a>(_version: Published, keeping: Keeping) -> Progress<'a>
     ensures { result ≡ On (Swap keeping) }
 {
     Progress::On(Phase::Swap(keeping))
 }
 
-/// What follows on a settle.
+/// What follows a settle.
 fn after_settle<'a>(keeping: Keeping, event: WordEvent) -> Progress<'a>
     ensures { result ≡ settle_after keeping event }
 {
@@ -233,7 +233,7 @@ fn after_settle<'a>(keeping: Keeping, event: WordEvent) -> Progress<'a>
     }
 }
 
-/// What follows on the load of the version that was published.
+/// What follows the load of the version that was published.
 fn after_keep<'a>(given: usize, keeping: Keeping, event: WordEvent) -> Progress<'a>
     ensures { result ≡ keep_after given keeping event }
 {
@@ -248,7 +248,7 @@ fn after_keep<'a>(given: usize, keeping: Keeping, event: WordEvent) -> Progress<
     }
 }
 
-/// The entry of a version, where it has one.
+/// The window's entry for a version, where it gets one.
 fn entry_of(serial: Option<Serial>, number: u64, owner: usize) -> Option<Entry>
     ensures { result ≡ says_entry_of serial number owner }
 {
@@ -262,7 +262,7 @@ fn entry_of(serial: Option<Serial>, number: u64, owner: usize) -> Option<Entry>
     }
 }
 
-/// What follows on the note of the version that was published.
+/// What follows the note of the version that was published.
 fn after_enter<'a>(given: usize, kept: usize, keeping: Keeping, event: WordEvent) -> Progress<'a>
     ensures { result ≡ enter_after given kept keeping event }
 {
@@ -275,7 +275,7 @@ fn after_enter<'a>(given: usize, kept: usize, keeping: Keeping, event: WordEvent
     }
 }
 
-/// What follows on a look at the version of an entry.
+/// What follows a look at the version of an entry.
 fn after_seek<'a>(owner: usize, seeking: Seeking<'a>, event: WordEvent) -> Progress<'a>
     ensures { result ≡ seek_after owner seeking.entry event }
 {
@@ -286,7 +286,7 @@ fn after_seek<'a>(owner: usize, seeking: Seeking<'a>, event: WordEvent) -> Progr
     }
 }
 
-/// What follows on a raise of the version of an entry.
+/// What follows a raise of the version of an entry.
 fn after_gain<'a>(
     machine: &WordMachine<Published>,
     owner: usize,
@@ -328,7 +328,7 @@ fn after_got<'a>(
     }
 }
 
-/// What follows where that is noted.
+/// What follows once that version is recorded.
 fn gained_after<'a>(seeking: Seeking<'a>) -> Progress<'a>
     ensures { result ≡ gained_after seeking.entry seeking.entry.left }
 {
@@ -342,7 +342,7 @@ fn gained_after<'a>(seeking: Seeking<'a>) -> Progress<'a>
     }
 }
 
-/// What follows on a release.
+/// What follows a release.
 fn after_release<'a>(owner: usize, purpose: Purpose<'a>, event: WordEvent) -> Progress<'a>
     ensures { result ≡ release_after owner purpose.entry event }
 {
@@ -352,7 +352,7 @@ fn after_release<'a>(owner: usize, purpose: Purpose<'a>, event: WordEvent) -> Pr
     }
 }
 
-/// What follows on a bury.
+/// What follows a bury.
 fn after_bury<'a>(owner: usize, purpose: Purpose<'a>, event: WordEvent) -> Progress<'a>
     ensures { result ≡ bury_after owner purpose.entry event }
 {
@@ -362,7 +362,7 @@ fn after_bury<'a>(owner: usize, purpose: Purpose<'a>, event: WordEvent) -> Progr
     }
 }
 
-/// What a release gives that has buried the version of this number, or that of a weak owner.
+/// The answer of a release that has buried the version of this number, or of the release of a weak owner.
 fn gone(number: Option<u64>) -> Answer
     ensures { result ≡ says_gone number }
 {
@@ -372,7 +372,7 @@ fn gone(number: Option<u64>) -> Answer
     }
 }
 
-/// What follows on a fade.
+/// What follows a fade.
 fn after_fade<'a>(
     owner: usize,
     number: Option<u64>,

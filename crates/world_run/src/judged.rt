@@ -1,4 +1,4 @@
-//! What an update comes to in the last version (RFC 2136, 3).
+//! The outcome of an update in the last version (RFC 2136, 3).
 ghost use Rattle.std.specs.Prelude.{◌≡◌, ◌+◌, ◌<◌, ◌^◌, true, IfOk, IfErr, ◌==◌, Some, None, if◌then◌else◌};
 ghost use Rattle.dns_message.specs.Message.{opcode_UPDATE};
 ghost use Rattle.world_run.specs.Judgements.{judged as says_judged, judged_by};
@@ -15,18 +15,18 @@ use std::alloc::Global;
 use update_core::{Outcome, apply};
 use zone_tree::Version;
 
-/// What an update comes to.
+/// The outcome of an update.
 #[derive(Drop)]
 pub enum Judged {
-    /// It gets this code, and changes nothing. The reply repeats this of it.
+    /// It gets this code, and changes nothing. The reply has this heading.
     Told(Heading, Rcode),
-    /// It makes this version. The reply repeats this of it.
+    /// It makes this version. The reply has this heading.
     Makes(Heading, Published),
 }
 
-/// What an update comes to in the last version; None of another request, and where numbers of 64 bits end (RFC 2136, 3; own).
+/// The outcome of an update in the last version; None where the request is no update, and where the version's number would pass 64 bits (RFC 2136, 3; own).
 ///
-/// `NoMemory` where a growth was refused.
+/// `NoMemory` where an allocation was refused.
 pub(crate) fn judge(
     alloc: Global,
     last: &Published,
@@ -51,7 +51,7 @@ pub(crate) fn judge(
     }
 }
 
-/// What an update comes to that can't be read, or whose OPT isn't obeyed; None of another request.
+/// The outcome of an update that can't be read, or whose OPT record is refused; None where the request is no update.
 fn judge_fault(heading: Heading, code: Rcode) -> Option<Judged>
     ensures { result ≡ (if heading.head.opcode == opcode_UPDATE then Some (Told heading code) else None) }
 {
@@ -61,7 +61,7 @@ fn judge_fault(heading: Heading, code: Rcode) -> Option<Judged>
     None
 }
 
-/// What an update that was read comes to (RFC 2136, 3).
+/// The outcome of an update that was read (RFC 2136, 3).
 fn judge_update(
     alloc: Global,
     version: &Version,

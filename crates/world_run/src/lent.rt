@@ -1,9 +1,9 @@
-//! What a script's lines are lent: names and requests, seen as their octets.
+//! Names and requests of a script's lines, as their octets.
 ghost use Rattle.std.specs.Prelude.{◌≡◌};
 
 use std::marker::Model;
 
-/// The name of a strong owner, or of a call under way: octets that compare. Contracts see the octets.
+/// The name of an owner, or of a call under way: octets that are compared. Contracts see the octets.
 #[derive(Drop)]
 pub struct Handle<'a> {
     octets: &'a [u8],

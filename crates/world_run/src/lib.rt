@@ -1,11 +1,11 @@
-//! Owners of zone versions, strong and weak, by name, while further versions are published, with calls that are taken one step on a word
-//! at a time: whatever the lines, each request is answered in the one version that was last at the load which gave its name.
+//! A script's model of the server: strong and weak owners of zone versions, by name, while further versions are published, with calls that are made one
+//! step on a word at a time. Whatever the lines, each request is answered in the one version that was the last one at the load which gave its name.
 //!
 //! Contracts see the words of the cell, the names in use with their owners, the versions that are kept, the window's entries, and the
-//! calls under way (`World`), and a line as what it makes of them (`turn`). Calls as steps are `Phases`, the window is `Entries`, and what
-//! a transfer gets by what it got `Transfers`; the words' own steps are `cell_core`'s. What an update comes to is `judged`, and that the
-//! versions are the replays of updates is a law (`Replays`). The lines are our own; what answers a request is RFC 1034's, RFC 1035's,
-//! RFC 1995's, RFC 2136's and RFC 5936's. Lines as text are not here.
+//! calls under way (`World`), and a line by the world that it leads to (`turn`). Calls as steps are in `Phases`, the window in `Entries`, and what
+//! a transfer gets, by the versions it got, in `Transfers`; the words' own steps are `cell_core`'s. The outcome of an update is `judged`, and that the
+//! versions are the replays of updates is a law (`Replays`). The lines are our own; the answers to requests are those of RFC 1034, RFC 1035,
+//! RFC 1995, RFC 2136 and RFC 5936. This crate doesn't parse lines.
 #![tactic(auto)]
 
 mod asked;

@@ -7,7 +7,7 @@ use std::alloc::Global;
 use std::marker::Model;
 use transfer_core::{ChainView, MAX_MESSAGE, Packer};
 
-/// The messages of a transfer, in turn. Contracts see the list of their octets.
+/// The messages of a transfer, in order. Contracts see the list of their octets.
 #[derive(Drop)]
 pub struct MessageList {
     items: Vec<Octets>,
@@ -30,7 +30,7 @@ impl MessageList {
     }
 }
 
-/// The messages that are left of a transfer.
+/// The messages of a transfer that aren't written yet.
 pub(crate) fn all_messages<C: ChainView>(
     alloc: Global,
     packer: Packer<'_, C>,
@@ -50,7 +50,7 @@ pub(crate) fn all_messages<C: ChainView>(
     Ok(MessageList { items })
 }
 
-/// Room for a message. What is in it isn't told: a goal in which so many zeros stand is computed octet by octet.
+/// A buffer for a message. No clause says what it has: a goal with so many zeros would be computed octet by octet.
 fn room_for_message(alloc: Global) -> Result<Vec<u8>, WorldFault>
     ensures ok { IfOk result (λ room. vec_len room ≡ MAX_MESSAGE) }
     ensures refused { IfErr result (λ fault. fault ≡ WorldFault.NoMemory) }
@@ -61,7 +61,7 @@ fn room_for_message(alloc: Global) -> Result<Vec<u8>, WorldFault>
     }
 }
 
-/// One message more, of these octets.
+/// Adds a message of these octets.
 fn put_message(alloc: Global, items: &mut Vec<Octets>, octets: &[u8]) -> Result<(), WorldFault>
     ensures ok { OnOk result (items.new.items ≡ items.old.items ++ octets.now ∷ []) }
     ensures refused { IfErr result (λ fault. fault ≡ WorldFault.NoMemory) }

@@ -1,4 +1,4 @@
-//! The names in use, with the owners that they are in use for.
+//! The names in use, with their owners.
 ghost use Rattle.std.specs.Prelude.{◌≡◌, ◌++◌, ◌∷◌, [], IfErr, OnOk, filter, not, bytes_eq, find};
 ghost use Rattle.std.specs.List.{list_any};
 ghost use Rattle.std.specs.Option.{option_map};
@@ -9,7 +9,7 @@ use crate::fault::WorldFault;
 use crate::lent::Handle;
 use crate::step::Call;
 
-/// A name in use, and the owner that it is in use for.
+/// A name in use, and its owner.
 #[derive(Drop)]
 pub struct Named<'a> {
     name: Handle<'a>,
@@ -35,7 +35,7 @@ pub(crate) fn is_in_use(names: &[Named<'_>], name: &Handle<'_>) -> bool
     false
 }
 
-/// The owner that a name is in use for.
+/// The owner of a name in use.
 pub(crate) fn owner_under(names: &[Named<'_>], name: &Handle<'_>) -> Option<usize>
     ensures { result ≡ owner_of name.now names.now }
 {
@@ -47,7 +47,7 @@ pub(crate) fn owner_under(names: &[Named<'_>], name: &Handle<'_>) -> Option<usiz
     None
 }
 
-/// Takes the name out of use that a call gives up.
+/// Takes the name that a call releases out of use.
 pub(crate) fn give_up(names: &mut Vec<Named<'_>>, call: &Call<'_>)
     ensures { names.new.items ≡ given_up call.now names.old.items }
 {
@@ -56,7 +56,7 @@ pub(crate) fn give_up(names: &mut Vec<Named<'_>>, call: &Call<'_>)
     }
 }
 
-/// Takes the weak owner's name out of use that a call gives up.
+/// Takes the weak owner's name that a call releases out of use.
 pub(crate) fn give_up_weakly(names: &mut Vec<Named<'_>>, call: &Call<'_>)
     ensures { names.new.items ≡ weak_given_up call.now names.old.items }
 {

@@ -1,10 +1,10 @@
-//! What lines are played with.
+//! The options that lines are executed with.
 
-/// How many versions are kept, and of how many changes are sent (own).
+/// The number of older versions that are kept, and the size of the window (own).
 #[derive(Clone, Copy)]
 pub struct Options {
-    /// How many older versions are kept beside the last.
+    /// How many older versions are kept besides the last.
     pub keep: usize,
-    /// How many versions the window has at most from which changes are sent (RFC 1995, 5).
+    /// The greatest number of versions in the window, which incremental transfers are made from (RFC 1995, 5).
     pub window: usize,
 }

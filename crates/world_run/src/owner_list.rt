@@ -1,11 +1,11 @@
-//! Owners in turn.
+//! Lists of owners.
 ghost use Rattle.std.specs.Prelude.{◌≡◌, ◌++◌, ◌∷◌, [], length, IfOk, IfErr, OnOk, MatchOption};
 
 use crate::fault::WorldFault;
 use std::alloc::Global;
 use std::marker::Model;
 
-/// Owners, each by its place in the words. Contracts see the list of them.
+/// Owners, each by its index in the words. Contracts see the list of them.
 #[derive(Drop)]
 pub struct OwnerList {
     items: Vec<usize>,
@@ -20,7 +20,7 @@ impl Model for OwnerList {
 }
 
 impl OwnerList {
-    /// None yet.
+    /// No owners yet.
     pub fn new(alloc: Global) -> OwnerList
         ensures { result ≡ [] }
     {
@@ -29,7 +29,7 @@ impl OwnerList {
         }
     }
 
-    /// One more behind them.
+    /// Adds an owner at the end.
     pub fn push(&mut self, owner: usize) -> Result<(), WorldFault>
         ensures ok { OnOk result (self.new ≡ self.old ++ owner ∷ []) }
         ensures refused { IfErr result (λ fault. fault ≡ WorldFault.NoMemory) }
@@ -40,14 +40,14 @@ impl OwnerList {
         }
     }
 
-    /// How many there are.
+    /// The number of owners.
     pub fn len(&self) -> usize
         ensures { result ≡ length self.now }
     {
         self.items.len()
     }
 
-    /// Takes out the first; None where there are none.
+    /// Removes the first owner and gives it; None where there is none.
     pub fn take_first(&mut self) -> Option<usize>
         ensures { MatchOption result ((self.old ≡ []) × (self.new ≡ [])) (λ owner. self.old ≡ owner ∷ self.new) }
     {

@@ -1,4 +1,4 @@
-//! How far calls have come: the step that each takes next.
+//! The phases of calls: the step that each takes next.
 ghost use Rattle.std.specs.Prelude.{◌≡◌, IfOk, IfErr};
 ghost use Rattle.world_run.specs.Phases.{word_step, step_name, reserves as says_reserves, reserves_weakly as says_reserves_weakly, uses as says_uses, uses_for, updates as says_updates, is_for_update, seeks as says_seeks, bars as says_bars};
 
@@ -13,14 +13,14 @@ use cell_core::WordStep;
 use dns_rdata::Serial;
 use serve_core::Heading;
 
-/// What an update does behind its publication.
+/// What an update does after its publication.
 #[derive(Drop)]
 pub struct Keeping {
-    /// What the reply repeats of the update.
+    /// The heading of the reply, from the update.
     pub heading: Heading,
-    /// The owner of the oldest version that is kept, where that is given up for the new one.
+    /// The owner of the oldest version that is kept, where it is to be released for the new one.
     pub oldest: Option<usize>,
-    /// The serial of the new version, where that is entered in the window.
+    /// The serial of the new version, where it is entered in the window.
     pub enters: Option<Serial>,
     /// The weak owners of the entries that leave the window for it, the oldest first.
     pub leaving: OwnerList,
@@ -31,28 +31,28 @@ pub struct Keeping {
 pub enum Purpose<'a> {
     /// A name is dropped.
     Drop,
-    /// An update has published a version, and has loaded it under this owner, with this entry where it has one: the version before it, whose
-    /// owner the publication gave, is given up.
+    /// An update has published a version, and has loaded it under this owner, with this entry where it has one. What is released is the version before it,
+    /// whose owner the publication returned.
     Publish(Keeping, usize, Option<Entry>),
-    /// The oldest version that is kept is given up, for the one that an update has loaded under this owner, with this entry, whose reply
-    /// repeats this; then these weak owners are.
+    /// The oldest version that is kept is released, for the one that an update has loaded under this owner, with this entry; the reply has this
+    /// heading. Then these weak owners are released.
     Oldest(Heading, usize, Option<Entry>, OwnerList),
-    /// An entry leaves the window for that version, and then these weak owners are given up.
+    /// An entry leaves the window for that version, and then these weak owners are released.
     Leaves(Heading, usize, Option<Entry>, OwnerList),
-    /// A transfer gives up an owner that it has got, and then these.
+    /// A transfer releases an owner that it has got, and then these.
     Sent(Sending<'a>, OwnerList),
 }
 
-/// How far a call has come, by the step that it takes next.
+/// The phase of a call: the step that it takes next.
 #[derive(Drop)]
 pub enum Phase<'a> {
     /// A load, under this name.
     Load(Handle<'a>),
-    /// A look at the version of this weak owner, to own it strongly under this name.
+    /// A look at the version of this weak owner, to get a strong owner of it under this name.
     Look(Handle<'a>, usize),
-    /// A raise of what this owner has, under this name.
+    /// A raise of this owner's version, under this name.
     Raise(Handle<'a>, usize),
-    /// A note of what this owner has, under this name.
+    /// A note of this owner's version, under this name.
     Note(Handle<'a>, usize),
     /// A probe of the next slot, for this version.
     Probe(Published, Keeping),
@@ -62,13 +62,13 @@ pub enum Phase<'a> {
     Swap(Keeping),
     /// A settle.
     Settle(Keeping),
-    /// A load of the version that was published. The publication gave this owner.
+    /// A load of the version that was published. The publication returned this owner.
     Keep(usize, Keeping),
-    /// A note of that version, which is owned by the second owner, to enter it in the window. The publication gave the first one.
+    /// A note of that version, which the second owner has, to enter it in the window. The publication returned the first owner.
     Enter(usize, usize, Keeping),
-    /// A look at the version of this weak owner, which an entry of the window has, to own it strongly for a transfer.
+    /// A look at the version of this weak owner, which an entry of the window has, to get a strong owner of it for a transfer.
     Seek(usize, Seeking<'a>),
-    /// A raise of what it has.
+    /// A raise of that version.
     Gain(usize, Seeking<'a>),
     /// A release of this owner.
     Release(usize, Purpose<'a>),
@@ -76,30 +76,30 @@ pub enum Phase<'a> {
     Bury(usize, Purpose<'a>),
     /// A fade by this owner: it has buried the version of this number, or it is a weak owner.
     Fade(usize, Option<u64>, Purpose<'a>),
-    /// A reset by this owner, behind its fade.
+    /// A reset by this owner, after its fade.
     Reset(usize, Option<u64>, Purpose<'a>),
-    /// A free by this owner, behind its reset.
+    /// A free by this owner, after its reset.
     Free(usize, Option<u64>, Purpose<'a>),
 }
 
-/// What a call comes to.
+/// The end of a call.
 #[derive(Drop)]
 pub enum End<'a> {
     /// The name is in use, for this owner, of the version of this number.
     Owned(Handle<'a>, usize, u64),
     /// The name is in use, for this weak owner, of the version of this number.
     OwnedWeakly(Handle<'a>, usize, u64),
-    /// It gives this.
+    /// The call gives this answer.
     Told(Answer),
-    /// An update has found no slot, whose reply repeats this.
+    /// An update has found no free slot; its reply has this heading.
     NoSlot(Heading),
-    /// An update has made a version, which is kept under this owner, with this entry where it has one; its reply repeats this.
+    /// An update has made a version, which is kept under this owner, with this entry where it has one; its reply has this heading.
     Kept(Heading, usize, Option<Entry>),
-    /// A transfer has got what it has of what it asks for, and has given it up.
+    /// A transfer has got as many as it can of the versions that it asks for, and has released them.
     Sent(Sending<'a>),
 }
 
-/// What follows on a step.
+/// What follows a step.
 #[derive(Drop)]
 pub enum Progress<'a> {
     /// Another step.
@@ -111,7 +111,7 @@ pub enum Progress<'a> {
 impl<'a> Phase<'a> {
     /// The step on a word that the call takes next.
     ///
-    /// `NoMemory` where so many hold the version that it takes that they can't be counted.
+    /// `NoMemory` where the version that it takes has so many references that they can't be counted.
     pub fn word_step(&self) -> Result<WordStep<Published>, WorldFault>
         ensures ok { IfOk result (λ step. step ≡ word_step self.now) }
         ensures refused { IfErr result (λ fault. fault ≡ WorldFault.NoMemory) }
@@ -136,7 +136,7 @@ impl<'a> Phase<'a> {
         })
     }
 
-    /// That step's name.
+    /// The name of that step.
     pub fn step_name(&self) -> StepName
         ensures { result ≡ step_name self.now }
     {
@@ -157,7 +157,7 @@ impl<'a> Phase<'a> {
         }
     }
 
-    /// Whether the call is to put this name into use for a strong owner.
+    /// Whether the call reserves this name for a strong owner.
     pub fn reserves(&self, name: &Handle<'_>) -> bool
         ensures { result ≡ says_reserves name.now self.now }
     {
@@ -169,7 +169,7 @@ impl<'a> Phase<'a> {
         }
     }
 
-    /// Whether the call is to put this name into use for a weak owner.
+    /// Whether the call reserves this name for a weak owner.
     pub fn reserves_weakly(&self, name: &Handle<'_>) -> bool
         ensures { result ≡ says_reserves_weakly name.now self.now }
     {
@@ -179,7 +179,7 @@ impl<'a> Phase<'a> {
         }
     }
 
-    /// Whether the call uses this owner, so that its name can't be given up.
+    /// Whether the call uses this owner, so that its name can't be dropped.
     pub fn uses(&self, owner: usize) -> bool
         ensures { result ≡ says_uses owner self.now }
     {
@@ -220,7 +220,7 @@ impl<'a> Phase<'a> {
         matches!(self, Phase::Seek(_, _) | Phase::Gain(_, _))
     }
 
-    /// Whether the window stays for the call as it is, which is an update or upgrades entries.
+    /// Whether the call, an update or one that upgrades entries, needs the window unchanged.
     pub fn bars(&self) -> bool
         ensures { result ≡ says_bars self.now }
     {
@@ -229,7 +229,7 @@ impl<'a> Phase<'a> {
 }
 
 impl<'a> Purpose<'a> {
-    /// Whether an owner is in use of the version that is served, so that its name can't be given up.
+    /// Whether this is the owner of the version that the transfer serves, so that its name can't be dropped.
     fn uses(&self, owner: usize) -> bool
         ensures { result ≡ uses_for owner self.now }
     {

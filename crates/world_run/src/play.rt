@@ -1,4 +1,4 @@
-//! The zone versions in the words of a cell, the names of their owners, the versions that are kept, and the calls under way, a
+//! The zone versions in the words of a cell, the names of their owners, the versions that are kept, and the calls under way, changed by one
 //! line at a time.
 ghost use Rattle.std.specs.Prelude.{◌≡◌, ◌++◌, ◌∷◌, [], nat_lt, if◌then◌else◌, IsTrue, IsFalse, Some, None, IfOk, IfErr, OnOk};
 ghost use Rattle.world_run.specs.declared.entries.Entry.{Entry as EntryRow};
@@ -30,15 +30,15 @@ use std::marker::Model;
 use std::mem;
 use zone_tree::{Version, Zone};
 
-/// The weak owner of its entry.
+/// The weak owner of the first version's entry.
 const FIRST_WEAK_OWNER: usize = 1;
 
-/// At most so many calls are under way.
+/// The greatest number of calls under way.
 const MOST_CALLS: usize = 64;
 
-/// The words of a cell of zone versions, the names in use of strong and of weak owners, and the calls under way; how many versions are kept beside the last,
-/// and their owners, the oldest first; how many entries the window has at most from which changes are sent (RFC 1995, 5), and the
-/// entries, the oldest first.
+/// The words of a cell of zone versions; the names in use for strong and for weak owners; the calls under way; how many versions are kept besides the last,
+/// and their owners, the oldest first; the greatest number of entries of the window, which is what incremental transfers are made from (RFC 1995, 5), and
+/// the entries, the oldest first.
 #[derive(Drop)]
 pub struct Play<'a> {
     pub(crate) machine: WordMachine<Published>,
@@ -60,9 +60,9 @@ impl<'a> Model for Play<'a> {
 }
 
 impl<'a> Play<'a> {
-    /// One version is published and kept, and entered where there is a window, no name is in use, and no call is under way.
+    /// One version is published and kept, and has an entry where there is a window; no name is in use, and no call is under way.
     ///
-    /// `NoMemory` where a growth was refused.
+    /// `NoMemory` where an allocation was refused.
     pub fn new(alloc: Global, zone: Zone, options: Options) -> Result<Play<'a>, WorldFault>
         ensures made { IfOk result (λ play. play ≡ started zone options.keep options.window) }
         ensures refused { IfErr result (λ fault. fault ≡ WorldFault.NoMemory) }
@@ -87,9 +87,9 @@ impl<'a> Play<'a> {
         })
     }
 
-    /// Plays a line, and gives its reply.
+    /// Executes a line, and gives its reply.
     ///
-    /// `NoMemory` where a growth was refused, `Limit` where the line begins a call and 64 are under way.
+    /// `NoMemory` where an allocation was refused, `Limit` where the line begins a call and 64 are under way.
     pub fn turn(&mut self, alloc: Global, line: &WorldStep<'a>) -> Result<WorldReply, WorldFault>
         ensures ok { IfOk result (λ reply. says_turn self.old line.now ≡ Some (reply, self.new)) }
         ensures limit { IfErr result (λ fault. fault ≡ WorldFault.Limit → says_turn self.old line.now ≡ None) }
@@ -114,7 +114,7 @@ impl<'a> Play<'a> {
         }
     }
 
-    /// What a call gives that takes no step, where there is room for one more.
+    /// The answer of a call that takes no step, where there is room for one more call.
     fn answered(&self, answer: Answer) -> Result<WorldReply, WorldFault>
         ensures ok { IfOk result (λ reply. reply ≡ Answered answer) }
         ensures room { OnOk result (IsFalse (says_full self.now)) }
@@ -129,7 +129,7 @@ impl<'a> Play<'a> {
         }
     }
 
-    /// Takes the steps of a call, where there is room for one more.
+    /// Takes the steps of a call, where there is room for one more call.
     fn take_in_room(
         &mut self,
         alloc: Global,
@@ -148,7 +148,7 @@ impl<'a> Play<'a> {
         }
     }
 
-    /// Puts a call under way.
+    /// Begins a call, to be made step by step.
     fn begin(
         &mut self,
         alloc: Global,
@@ -169,7 +169,7 @@ impl<'a> Play<'a> {
         }
     }
 
-    /// Puts a call under way that takes a step, where there is room for one more.
+    /// Begins a call that takes a step, where there is room for one more call.
     fn begin_in_room(
         &mut self,
         name: &Handle<'a>,
@@ -214,7 +214,7 @@ impl<'a> Play<'a> {
         }
     }
 
-    /// Puts a call that was taken out under way again behind its step, or gives what it gives at its end.
+    /// Puts a call back among those under way after its step, or gives its answer at its end.
     fn go_on(
         &mut self,
         alloc: Global,
@@ -237,7 +237,7 @@ impl<'a> Play<'a> {
         }
     }
 
-    /// Room for one call more.
+    /// Checks that there is room for one more call.
     fn room(&self) -> Result<(), WorldFault>
         ensures ok { OnOk result (IsFalse (says_full self.now)) }
         ensures full { IfErr result (λ fault. (fault ≡ WorldFault.Limit) × IsTrue (says_full self.now)) }
@@ -248,7 +248,7 @@ impl<'a> Play<'a> {
         Ok(())
     }
 
-    /// Takes the steps of a call from its first one on.
+    /// Takes the steps of a call from the first.
     fn take_all(
         &mut self,
         alloc: Global,
@@ -264,7 +264,7 @@ impl<'a> Play<'a> {
         }
     }
 
-    /// What a call gives that has made its steps; where one couldn't be made, it isn't enabled.
+    /// The answer of a call that has made its steps; where one couldn't be made, the call isn't enabled.
     fn come_to(
         &mut self,
         alloc: Global,
@@ -290,7 +290,7 @@ impl<'a> Play<'a> {
         }
     }
 
-    /// Puts a name into use, or keeps a version, where a call ends with one, and gives what the call gives.
+    /// Puts a name into use, or keeps a version, where a call ends so, and gives the call's answer.
     fn finish(&mut self, alloc: Global, end: End<'a>) -> Result<Answer, WorldFault>
         ensures ok { IfOk result (λ answer. (answer ≡ answer_at end.entry)
             × (self.new ≡ record self.old { names = names_at end.entry self.old.names; weak_names = weak_names_at end.entry self.old.weak_names; kept = kept_at self.old.keep end.entry self.old.kept; entries = entries_at self.old.window end.entry self.old.entries })) }
@@ -310,7 +310,7 @@ impl<'a> Play<'a> {
         }
     }
 
-    /// Keeps a version under its owner, and enters it in the window, where it has an entry; gives the reply to its update, which repeats this.
+    /// Keeps a version under its owner, and enters it in the window, where it has an entry; gives the reply to its update, with this heading.
     fn keep_version(
         &mut self,
         alloc: Global,
@@ -334,7 +334,7 @@ impl<'a> Play<'a> {
     }
 }
 
-/// Puts a name into use for an owner of the version of a number, and gives what the call that got it gives.
+/// Puts a name into use for an owner of the version of a number, and gives the answer of the call that got it.
 fn put_owner<'a>(
     alloc: Global,
     names: &mut Vec<Named<'a>>,
@@ -355,7 +355,7 @@ fn put_owner<'a>(
     }
 }
 
-/// The entry of a first version, where there is a window.
+/// The entry of the first version, where there is a window.
 fn first_entries(alloc: Global, serial: Serial, window: usize) -> Result<Vec<Entry>, WorldFault>
     ensures ok { IfOk result (λ entries. entries.items ≡ (if nat_lt 0 window then record { number = 0; serial = serial; owner = 1 } ∷ [] else [])) }
     ensures refused { IfErr result (λ fault. fault ≡ WorldFault.NoMemory) }

@@ -1,4 +1,4 @@
-//! Versions of a zone that several hold.
+//! Versions of a zone with a count of references.
 ghost use Rattle.std.specs.Prelude.{◌≡◌, IfOk, IfErr};
 
 use crate::fault::WorldFault;
@@ -8,7 +8,7 @@ use std::mem;
 use std::sync::Arc;
 use zone_tree::Version;
 
-/// A version of a zone that several hold. Contracts see the version.
+/// A version of a zone with a count of references. Contracts see the version.
 #[derive(Drop)]
 pub struct Published {
     version: Arc<Version>,
@@ -23,9 +23,9 @@ impl Model for Published {
 }
 
 impl Published {
-    /// A version that one holds.
+    /// A version with one reference.
     ///
-    /// `NoMemory` where a growth was refused.
+    /// `NoMemory` where an allocation was refused.
     pub fn new(alloc: Global, version: Version) -> Result<Published, WorldFault>
         ensures ok { IfOk result (λ published. published ≡ version) }
         ensures refused { IfErr result (λ fault. fault ≡ WorldFault.NoMemory) }
@@ -39,9 +39,9 @@ impl Published {
         }
     }
 
-    /// The same version, which one more holds.
+    /// Another reference to the same version.
     ///
-    /// `NoMemory` where so many hold it that they can't be counted.
+    /// `NoMemory` where there are so many references that they can't be counted.
     pub fn share(&self) -> Result<Published, WorldFault>
         ensures ok { IfOk result (λ published. published ≡ self.now) }
         ensures refused { IfErr result (λ fault. fault ≡ WorldFault.NoMemory) }

@@ -1,4 +1,4 @@
-//! Transfers of what changed, as far as they have come: the versions that were got of those after the asker's (RFC 1995, 4).
+//! Incremental transfers under way: the versions that were got of those after the client's (RFC 1995, 4).
 ghost use Rattle.std.specs.Prelude.{◌≡◌, ◌++◌, ◌∷◌, [], true, IfOk, IfErr, OnOk};
 ghost use Rattle.serve_core.specs.declared.transport.Transport.TheVariants.{Tcp};
 ghost use Rattle.serve_core.specs.Transfers.{peer_over, is_permitted, messages_to};
@@ -37,7 +37,7 @@ impl Model for GotVersions {
 }
 
 impl GotVersions {
-    /// None yet.
+    /// No versions yet.
     pub fn new(alloc: Global) -> GotVersions
         ensures { result ≡ [] }
     {
@@ -46,7 +46,7 @@ impl GotVersions {
         }
     }
 
-    /// One more behind them.
+    /// Adds a version at the end.
     fn push(&mut self, version: Published) -> Result<(), WorldFault>
         ensures ok { OnOk result (self.new ≡ self.old ++ version ∷ []) }
         ensures refused { IfErr result (λ fault. fault ≡ WorldFault.NoMemory) }
@@ -58,7 +58,7 @@ impl GotVersions {
     }
 }
 
-/// The versions after the asker's, or that they weren't all got.
+/// The versions after the client's, or that not all of them were got.
 struct Chain<'a> {
     whole: bool,
     versions: &'a GotVersions,
@@ -96,25 +96,25 @@ impl<'a> ChainView for Chain<'a> {
     }
 }
 
-/// A transfer of what changed, as far as it has come.
+/// A transfer, with the versions that were got for it so far.
 #[derive(Drop)]
 pub struct Sending<'a> {
     /// The owner of the version that is served.
     pub served: usize,
-    /// That version.
+    /// The version that is served.
     pub version: Published,
     /// The question.
     pub request: Request<'a>,
-    /// Whether each version after the asker's, up to the served one, was got.
+    /// Whether each version after the client's, up to the served one, was got.
     pub whole: bool,
-    /// Those that were got, the oldest first.
+    /// The versions that were got, the oldest first.
     pub got: GotVersions,
 }
 
 impl<'a> Sending<'a> {
     /// What the question gets: the messages of the transfer (RFC 5936, 2.2).
     ///
-    /// `NoMemory` where a growth was refused.
+    /// `NoMemory` where an allocation was refused.
     pub fn answer(self, alloc: Global) -> Result<Answer, WorldFault>
         ensures ok { IfOk result (λ answer. answer ≡ sent_answer self.entry) }
         ensures refused { IfErr result (λ fault. fault ≡ WorldFault.NoMemory) }
@@ -129,7 +129,7 @@ impl<'a> Sending<'a> {
         }
     }
 
-    /// What a query gets; nothing where it isn't for a transfer that is sent.
+    /// What a query gets; nothing where it doesn't ask for a transfer that may be sent.
     fn answer_query(&self, alloc: Global, query: &Query) -> Result<Answer, WorldFault>
         ensures ok { IfOk result (λ answer. answer ≡ messages_answer (sent_for self.now (Asks query.now))) }
         ensures refused { IfErr result (λ fault. fault ≡ WorldFault.NoMemory) }
@@ -143,7 +143,7 @@ impl<'a> Sending<'a> {
         }
     }
 
-    /// Whether a query is for a transfer of the version that is sent.
+    /// Whether a query asks for a transfer of the served version that may be sent.
     pub fn is_permitted(&self, query: &Query) -> bool
         ensures { result ≡ is_permitted self.now.version.zone (peer_over Tcp true) query.now }
     {
@@ -154,9 +154,9 @@ impl<'a> Sending<'a> {
         )
     }
 
-    /// The messages of the transfer: what changed, where each version was got that it asks for (RFC 1995, 4).
+    /// The messages of the transfer: an incremental one where each version was got that it asks for (RFC 1995, 4).
     ///
-    /// `NoMemory` where a growth was refused.
+    /// `NoMemory` where an allocation was refused.
     fn messages(&self, alloc: Global, query: &Query) -> Result<MessageList, WorldFault>
         requires { is_permitted self.now.version.zone (peer_over Tcp true) query.now ≡ true }
         ensures ok { IfOk result (λ messages. messages
@@ -175,21 +175,21 @@ impl<'a> Sending<'a> {
     }
 }
 
-/// A transfer of what changed, while entries are upgraded.
+/// A transfer while entries of the window are being upgraded for it.
 #[derive(Drop)]
 pub struct Seeking<'a> {
-    /// The transfer, as far as it has come.
+    /// The transfer so far.
     pub sending: Sending<'a>,
-    /// The weak owners of the entries that are to be upgraded behind the one whose turn it is, the oldest first.
+    /// The weak owners of the entries that are to be upgraded after the present one, the oldest first.
     pub left: OwnerList,
-    /// The owners that were got, the oldest first.
+    /// The strong owners that were got, the oldest first.
     pub owners: OwnerList,
 }
 
 impl<'a> Seeking<'a> {
-    /// One more owner was got, which finds this version.
+    /// Adds an owner that was got, which finds this version.
     ///
-    /// `NoMemory` where a growth was refused, or so many hold the version that they can't be counted.
+    /// `NoMemory` where an allocation was refused, or where the version has so many references that they can't be counted.
     pub fn put_got(&mut self, owner: usize, version: &Published) -> Result<(), WorldFault>
         ensures ok { OnOk result (self.new ≡ with_got owner version.now self.old) }
         ensures refused { IfErr result (λ fault. fault ≡ WorldFault.NoMemory) }

@@ -30,14 +30,14 @@ use zone_tree::Version;
 pub enum Start<'a> {
     /// It isn't enabled.
     Refused,
-    /// It takes no step, and gives this.
+    /// It takes no step, and gives this answer.
     Answers(Answer),
-    /// It takes this step first.
+    /// This is its first step.
     Takes(Phase<'a>),
 }
 
 impl<'a> Start<'a> {
-    /// A call that takes no step begins with its answer; with none it isn't enabled.
+    /// A call that takes no step begins with its answer; where there is none, it isn't enabled.
     pub fn answering(answer: Option<Answer>) -> Start<'a>
         ensures { result ≡ answering answer }
     {
@@ -103,7 +103,7 @@ impl<'a> Play<'a> {
         }
     }
 
-    /// How a weak owner is begun.
+    /// How the making of a weak owner begins.
     fn weaken(&self, given: &Handle<'_>, name: &Handle<'a>) -> Start<'a>
         ensures { result ≡ says_start self.now (Weak given.now name.now) }
     {
@@ -141,7 +141,7 @@ impl<'a> Play<'a> {
         }
     }
 
-    /// How a request begins that is asked in the version of a name.
+    /// How a request in the version of a name begins.
     fn ask(
         &self,
         alloc: Global,
@@ -191,7 +191,7 @@ impl<'a> Play<'a> {
         }
     }
 
-    /// How an update begins, by what it comes to.
+    /// How an update begins, given its outcome.
     fn update_judged(&self, alloc: Global, judged: Judged) -> Result<Start<'a>, WorldFault>
         ensures ok { IfOk result (λ how. how ≡ update_start self.now (Some judged)) }
         ensures refused { IfErr result (λ fault. fault ≡ WorldFault.NoMemory) }
@@ -231,7 +231,7 @@ impl<'a> Play<'a> {
         Ok(Start::Takes(Phase::Probe(version, keeping)))
     }
 
-    /// What an update is to do behind its publication of a version of a serial.
+    /// What an update does after it has published a version of this serial.
     fn keeping(
         &self,
         alloc: Global,
@@ -253,21 +253,21 @@ impl<'a> Play<'a> {
         }
     }
 
-    /// Whether a weak owner can be made, where the window is to have one.
+    /// Whether a weak owner can be made, where the window is to get an entry.
     fn can_enter(&self) -> bool
         ensures { result ≡ says_can_enter self.now.words self.now.window }
     {
         self.window == 0 || self.machine.has_notes()
     }
 
-    /// Whether a name is in use, or a call under way is to put it into use.
+    /// Whether a name is in use for a strong owner, or reserved by a call under way.
     fn is_taken(&self, name: &Handle<'_>) -> bool
         ensures { result ≡ says_taken name.now self.now }
     {
         is_in_use(&self.names, name) || is_reserved(&self.calls, name)
     }
 
-    /// Whether a name is in use for a weak owner, or a call under way is to put it into use.
+    /// Whether a name is in use for a weak owner, or reserved by a call under way.
     fn is_taken_weakly(&self, name: &Handle<'_>) -> bool
         ensures { result ≡ says_taken_weakly name.now self.now }
     {

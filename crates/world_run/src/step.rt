@@ -1,4 +1,4 @@
-//! What is asked of the world, and what it replies.
+//! The lines of a script and their replies.
 ghost use Rattle.std.specs.Prelude.{◌≡◌, Some};
 ghost use Rattle.world_run.specs.Told.{step_words};
 
@@ -10,21 +10,21 @@ use std::marker::Model;
 /// A call. All but `Ask` and `Transfer` take steps on the words of the cell.
 #[derive(Drop)]
 pub enum Call<'a> {
-    /// A strong owner of the version that is published last, under this name.
+    /// Gets a strong owner of the version that is published last, under this name.
     Load(Handle<'a>),
-    /// A strong owner is given up.
+    /// Releases a strong owner.
     Drop(Handle<'a>),
-    /// Another strong owner of the version that the first name's has, under the second name.
+    /// Gets another strong owner of the first name's version, under the second name.
     Copy(Handle<'a>, Handle<'a>),
-    /// A weak owner of the version that the first name's strong owner has, under the second name.
+    /// Gets a weak owner of the version that the first name's strong owner has, under the second name.
     Weak(Handle<'a>, Handle<'a>),
-    /// A weak owner is given up.
+    /// Releases a weak owner.
     Fade(Handle<'a>),
-    /// A strong owner of the version that the first name's weak owner has, under the second name, or none where it is buried.
+    /// Gets a strong owner of the version that the first name's weak owner has, under the second name, or none where it is buried.
     Up(Handle<'a>, Handle<'a>),
-    /// A request over UDP that asks for no update and for no transfer that is sent, answered in the version that a strong owner has.
+    /// A request over UDP, other than an update or a question for a transfer that may be sent, answered in the version that a strong owner has.
     Ask(Handle<'a>, Request<'a>),
-    /// A question over TCP for a transfer that is sent, with the version that a strong owner has as the one that is served
+    /// A question over TCP for a transfer that may be sent; the served version is the one that a strong owner has
     /// (RFC 1995, 2; RFC 5936, 2.2).
     Transfer(Handle<'a>, Request<'a>),
     /// A dynamic update from a peer that may update (RFC 2136).
@@ -34,47 +34,47 @@ pub enum Call<'a> {
 /// A line of a script.
 #[derive(Drop)]
 pub enum WorldStep<'a> {
-    /// A call with all its steps.
+    /// Makes a call with all its steps.
     Whole(Call<'a>),
-    /// A call under way from now on, under this name, without a step.
+    /// Begins a call under this name; it takes no step yet.
     Begin(Handle<'a>, Call<'a>),
-    /// One step of the call under way of this name.
+    /// Takes one step of the call under way of this name.
     Next(Handle<'a>),
 }
 
 /// The name of a step on a word.
 #[derive(Clone, Copy, Debug, PartialEq, Eq)]
 pub enum StepName {
-    /// A share is given out of W.
+    /// A share is granted from W.
     Load,
-    /// The publisher looks whether a slot is free.
+    /// The publisher checks whether a slot is free.
     Probe,
     /// The publisher puts the version into its slot.
     Prepare,
     /// The publisher puts its slot into W.
     Swap,
-    /// The publisher gives the shares back that weren't given out, but one.
+    /// The publisher gives back all but one of the shares that weren't granted.
     Settle,
     /// An owner gives its share back.
     Release,
     /// An owner tries to bury the version that it left without an owner.
     Bury,
-    /// It is seen whether a version is buried.
+    /// It is checked whether a version is buried.
     Look,
-    /// A share of a version is given out that isn't buried.
+    /// A share of a version that isn't buried is granted.
     Raise,
     /// The publisher makes a weak owner.
     Note,
-    /// An owner is counted no more among those that keep a slot from being used again.
+    /// An owner is no longer counted among those that keep a slot from being used again.
     Fade,
-    /// The owner that is the last of them opens the slot again.
+    /// The last of these owners to fade opens the slot again.
     Reset,
-    /// It gives the slot free.
+    /// That owner marks the slot as free.
     Free,
 }
 
 impl StepName {
-    /// Its word.
+    /// The word that scripts use for it.
     fn word(self) -> &'static str
         ensures { result.now ≡ step_words self }
     {
@@ -104,7 +104,7 @@ impl fmt::Display for StepName {
     }
 }
 
-/// Octets of the world's own.
+/// Octets that the world itself holds.
 #[derive(Drop)]
 pub struct Octets {
     items: Vec<u8>,
@@ -121,7 +121,7 @@ impl Model for Octets {
 impl Octets {
     ghost use Rattle.std.specs.Prelude.{◌≡◌};
 
-    /// Octets of a Vec.
+    /// Octets from a Vec.
     pub fn new(items: Vec<u8>) -> Octets
         ensures { result ≡ items.items }
     {
@@ -136,40 +136,40 @@ impl Octets {
     }
 }
 
-/// What a call gave.
+/// The answer of a call.
 #[derive(Drop)]
 pub enum Answer {
-    /// The name of the strong or weak owner, and the number of the version that it has, from 0 on.
+    /// The name of the strong or weak owner, and the number of its version; the first version is number 0.
     Owner(Octets, u64),
-    /// The strong owner is gone, and the call has buried nothing.
+    /// The strong owner is released, and the call has buried nothing.
     Left,
-    /// The strong owner is gone, and the call has buried the version of this number.
+    /// The strong owner is released, and the call has buried the version of this number.
     Buried(u64),
-    /// The weak owner is gone.
+    /// The weak owner is released.
     Faded,
     /// There is no strong owner, since the version is buried.
     Nothing,
     /// The reply to a request, as on the wire.
     Reply(Octets),
-    /// A request that gets no reply.
+    /// The request gets no reply.
     Silent,
     /// The messages of a transfer.
     Messages(MessageList),
 }
 
-/// What a line gave.
+/// The reply to a line.
 #[derive(Drop)]
 pub enum WorldReply {
-    /// The call of the line has made all its steps.
+    /// The call of the line has made all its steps, and gives this answer.
     Answered(Answer),
-    /// The call of the line is under way.
+    /// The call of the line has begun.
     Begun,
-    /// The step that the call under way has taken.
+    /// The call under way has taken this step.
     Step(StepName),
-    /// The step that the call under way has taken, its last, and what the call gave.
+    /// The call under way has taken this step, its last, and gives this answer.
     Last(StepName, Answer),
-    /// The line wasn't enabled, and changed nothing: a name that is in use already, or that is in no use; an update, or a question
-    /// for what changed, while an update is under way; a request of another kind than the call's; a step that the words don't
-    /// have.
+    /// The line wasn't enabled, and changed nothing: a name that is in use already, or that isn't in use; an update, or a question for an
+    /// incremental transfer, while an update is under way; a request of another kind than the call's; a step that is impossible on the
+    /// words.
     NotEnabled,
 }

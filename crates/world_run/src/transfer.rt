@@ -17,7 +17,7 @@ use dns_message::{Parsed, Query, parse};
 use std::alloc::Global;
 use std::mem;
 
-/// A transfer of an owner's version of which nothing is got yet.
+/// A transfer of an owner's version, for which no version is got yet.
 fn none_got<'a>(
     alloc: Global,
     owner: usize,
@@ -40,9 +40,9 @@ fn none_got<'a>(
 }
 
 impl<'a> Play<'a> {
-    /// How a request over TCP begins that asks for a transfer of the version that an owner has.
+    /// How a request over TCP for a transfer of an owner's version begins.
     ///
-    /// `NoMemory` where a growth was refused, or so many hold the version that they can't be counted.
+    /// `NoMemory` where an allocation was refused, or where the version has so many references that they can't be counted.
     pub(crate) fn transfer(
         &self,
         alloc: Global,
@@ -68,8 +68,8 @@ impl<'a> Play<'a> {
         }
     }
 
-    /// How a question over TCP for a transfer that is sent begins; another isn't enabled, and none for what changed while the window stays
-    /// for another call as it is.
+    /// How a question over TCP for a transfer that may be sent begins. Any other isn't enabled, nor is one for an incremental transfer while another call
+    /// under way needs the window unchanged.
     fn transfer_asked(
         &self,
         alloc: Global,
@@ -97,7 +97,7 @@ impl<'a> Play<'a> {
         }
     }
 
-    /// How a transfer begins that upgrades the entries of these owners.
+    /// How a transfer begins that upgrades the entries with these owners.
     fn seek(
         &self,
         alloc: Global,

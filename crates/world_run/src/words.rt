@@ -14,10 +14,10 @@ use std::mem;
 /// The owner of the first version that is kept.
 pub(crate) const FIRST_OWNER: usize = 0;
 
-/// No call takes more steps.
+/// No call takes more steps than this.
 const MOST_STEPS: usize = 127;
 
-/// Makes the next step of a call on the words, and gives what that told; none where the words have no such step.
+/// Makes the next step of a call on the words, and gives the event that it reported; None where the words have no such step.
 pub(crate) fn make_step(
     machine: &mut WordMachine<Published>,
     phase: &Phase<'_>,
@@ -37,7 +37,7 @@ pub(crate) fn make_step(
     }
 }
 
-/// Takes the steps of a call up to its end; where one can't be made, it stays there.
+/// Takes the steps of a call up to its end; at a step that can't be made, it stops.
 pub(crate) fn take_steps<'a>(
     machine: &mut WordMachine<Published>,
     first: Phase<'a>,
@@ -64,7 +64,7 @@ pub(crate) fn take_steps<'a>(
     Ok(Progress::On(phase))
 }
 
-/// The words at the start: a version is published, and loaded once, and owned weakly where there is a window.
+/// The words at the start: a version is published and loaded once, and has a weak owner where there is a window.
 pub(crate) fn started_words(
     alloc: Global,
     first: Published,
@@ -86,7 +86,7 @@ pub(crate) fn started_words(
     }
 }
 
-/// The words in which a version is published, and loaded once.
+/// The words in which a version is published and loaded once.
 fn loaded_once(alloc: Global, first: Published) -> Result<WordMachine<Published>, WorldFault>
     ensures made { IfOk result (λ machine. machine ≡ says_loaded_once first) }
     ensures refused { IfErr result (λ fault. fault ≡ WorldFault.NoMemory) }

@@ -1,4 +1,4 @@
-//! The lines of a script, played in turn.
+//! The lines of a script, executed in turn.
 ghost use Rattle.std.specs.Prelude.{◌≡◌, ◌++◌, ◌∷◌, List, [], Some, None, IfOk, OnOk, IfErr};
 ghost use Rattle.std.specs.Option.{option_map};
 ghost use Rattle.world_run.specs.World.{World, play as says_play, replies_of, turn};
@@ -11,10 +11,10 @@ use crate::step::{WorldReply, WorldStep};
 use std::alloc::Global;
 use zone_tree::Zone;
 
-/// Plays the lines in turn, from a world in which one version is published, and gives a reply for each. The last version is kept,
-/// and so many older ones as the options say, of whose window changes are sent (RFC 1995, 5).
+/// Executes the lines in turn, from a world in which one version is published, and gives a reply for each. The last version is kept,
+/// and as many older ones as the options say; incremental transfers are made from the window (RFC 1995, 5).
 ///
-/// `NoMemory` where a growth was refused, `Limit` where a line begins a call and 64 are under way.
+/// `NoMemory` where an allocation was refused, `Limit` where a line begins a call and 64 are under way.
 pub fn run<'a>(
     alloc: Global,
     zone: Zone,
@@ -30,7 +30,7 @@ pub fn run<'a>(
     }
 }
 
-/// Plays the lines in turn, and gives a reply for each.
+/// Executes the lines in turn, and gives a reply for each.
 fn play_lines<'a>(
     alloc: Global,
     play: &mut Play<'a>,
@@ -46,7 +46,7 @@ fn play_lines<'a>(
     Ok(replies)
 }
 
-/// Plays a line, and puts its reply behind those of the lines before it.
+/// Executes a line, and adds its reply to those of the lines before it.
 fn play_line<'a>(
     alloc: Global,
     play: &mut Play<'a>,
