@@ -1,19 +1,19 @@
--- What calls make of a file's octets, where the system does what it tells (own).
+-- A file's octets by the calls made on it, where the system does what its results say (own).
 use Rattle.std.specs.Prelude.{ℕ, ◌+◌, List, [], ◌∷◌, ◌++◌, take, slice_index, ◌==◌, if◌then◌else◌}
 
--- a call, as it was told
+-- a call, with its result
 pub data FileCall : Type 0 where
-  -- the file was begun with these octets, on the disk
+  -- the file was created with these octets, on the disk
   begun : List ℕ → FileCall
-  -- these were appended
+  -- these octets were appended
   appended : List ℕ → FileCall
-  -- all were brought to the disk
+  -- all octets were synced to the disk
   synced : FileCall
-  -- what stood behind so many was cut off
+  -- all octets after the first so many were cut off
   cut : ℕ → FileCall
-  -- that was tried, and failed
+  -- a cut was tried, and failed
   not_cut : ℕ → FileCall
-  -- all were to be brought to the disk, which failed
+  -- a sync was tried, and failed
   not_synced : FileCall
 
 -- the call of two numbers and octets
@@ -26,7 +26,7 @@ call_of numbers octets =
     else if slice_index numbers 0 == 4 then not_cut (slice_index numbers 1)
     else not_synced
 
--- the octets as they are after calls, the last one first
+-- the octets as they are after calls, the last call first
 abbrev pub written_by : List FileCall → List ℕ
 written_by [] = []
 written_by (begun octets ∷ calls) = octets
@@ -36,7 +36,7 @@ written_by (cut len ∷ calls) = take len (written_by calls)
 written_by (not_cut len ∷ calls) = written_by calls
 written_by (not_synced ∷ calls) = written_by calls
 
--- those that are on the disk
+-- the octets that are on the disk after calls
 abbrev pub synced_by : List FileCall → List ℕ
 synced_by [] = []
 synced_by (begun octets ∷ calls) = octets
@@ -46,7 +46,7 @@ synced_by (cut len ∷ calls) = take len (synced_by calls)
 synced_by (not_cut len ∷ calls) = take len (synced_by calls)
 synced_by (not_synced ∷ calls) = synced_by calls
 
--- how many of them failed so that nobody knows what is written
+-- how many of the calls failed so that it is unknown what is written
 abbrev pub lost_by : List FileCall → ℕ
 lost_by [] = 0
 lost_by (begun octets ∷ calls) = lost_by calls

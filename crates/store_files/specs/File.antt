@@ -1,4 +1,4 @@
--- What a file as a disk tells.
+-- The octets of a file as a disk.
 use Rattle.std.specs.Prelude.{ℕ, List}
 use Rattle.store_files.specs.Calls.{written_by, synced_by, lost_by}
 use Rattle.store_files.specs.declared.file.FileDisk.{FileDisk}

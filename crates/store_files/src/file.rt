@@ -10,34 +10,34 @@ use std::io::{self, ErrorKind, Read, Seek, SeekFrom, Write};
 use std::os::fd::AsRawFd;
 use std::os::unix::fs::MetadataExt;
 
-/// It was begun with these octets.
+/// The call created the file with these octets.
 const BEGUN: u64 = 0;
 
-/// These octets were appended.
+/// The call appended these octets.
 const APPENDED: u64 = 1;
 
-/// All octets were brought to the disk.
+/// The call synced all octets to the disk.
 const SYNCED: u64 = 2;
 
-/// What stood behind so many octets was cut off.
+/// The call cut off all octets after the first so many.
 const CUT: u64 = 3;
 
-/// That was tried, and failed.
+/// The call tried to cut, and failed.
 pub const NOT_CUT: u64 = 4;
 
-/// All octets were to be brought to the disk, which failed.
+/// The call tried to sync, and failed.
 pub const NOT_SYNCED: u64 = 5;
 
-/// How many octets of room are made at once behind what is appended: zeros, with which a sync needn't bring the file's new length to the disk each time (own).
+/// How many octets of room are allocated at once after what is appended: zeros, so that a sync needn't bring the file's new length to the disk each time (own).
 const ROOM: u64 = 65_536;
 
-/// A file as a disk. That its name is in its folder, on the disk, is for who made it to see to.
+/// A file as a disk. The caller that created it is to sync its name in its directory.
 #[derive(Drop)]
 pub struct FileDisk {
     file: File,
-    /// Where its octets end.
+    /// The position after its octets.
     end: u64,
-    /// How long the file is: behind its octets is room.
+    /// The length of the file: after its octets is room.
     len: u64,
     calls: CallList,
 }
@@ -59,8 +59,8 @@ impl FileDisk {
         })
     }
 
-    /// A file that stands, and its octets as the disk has them: it is brought to the disk, and the kernel lets go of its pages, which a failed
-    /// sync may have left other than the disk has them, before it is read. It takes memory.
+    /// An existing file, and its octets as the disk has them: before it is read it is synced, and its pages are dropped from the cache, since a failed
+    /// sync may have left them other than the disk has them. It allocates memory.
     pub fn read(alloc: Global, file: File) -> io::Result<(FileDisk, Vec<u8>)>
         ensures { IfOk result (λ r. (written r.0 ≡ r.1.items) × (synced r.0 ≡ r.1.items)) }
     {
@@ -85,7 +85,7 @@ impl FileDisk {
         Ok((disk, octets))
     }
 
-    /// Whether a path leads to this very file, by the numbers that the system has for both (stat(2)): false where it leads to another one, or nowhere.
+    /// Whether a path leads to this very file, by the device and inode numbers of both (stat(2)): false where it leads to another one, or nowhere.
     pub fn is_at<R: Files>(&self, files: &R, path: &str) -> io::Result<bool> {
         let own = self.file.metadata()?;
         match fs::metadata(files, path) {
@@ -95,7 +95,7 @@ impl FileDisk {
         }
     }
 
-    /// Writes octets behind all that it has, in room that is made ahead; those that it is begun with have none behind them.
+    /// Writes octets after all that it has, in room that is allocated ahead; a file that has no octets yet gets no room after the first ones.
     fn write_behind(&mut self, octets: &[u8]) -> io::Result<()>
         ensures { self.new.calls ≡ self.old.calls }
     {
@@ -109,7 +109,7 @@ impl FileDisk {
         Ok(())
     }
 
-    /// Makes the file so long.
+    /// Makes the file this long.
     fn make_long(&mut self, len: u64) -> io::Result<()>
         ensures { self.new.calls ≡ self.old.calls }
     {

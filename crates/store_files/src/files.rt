@@ -1,4 +1,4 @@
-//! Whole files, and folders (own).
+//! Whole files, and directories (own).
 ghost use Rattle.std.specs.Prelude.{◌≡◌, ◌≢◌, Ok, Err, Some, None, IfOk, IfErr};
 ghost use Rattle.std.specs.IoError.{error_kind};
 
@@ -6,12 +6,12 @@ use std::alloc::Global;
 use std::fs::{File, Files, OpenFile};
 use std::io::{self, ErrorKind, Read, Write};
 
-/// A file that is there, open to be read; else None.
+/// Opens a file to be read; None where there is none.
 pub(crate) fn open_there<R: Files>(rt: &R, path: &str) -> io::Result<Option<R::File>> {
     there(File::open(rt, path))
 }
 
-/// A file that was to be opened; None where there is none. One that is there and can't be opened, as where the right is missing, is an error.
+/// The result of opening a file; None where there is none. A file that exists and can't be opened, as where permission is denied, is an error.
 pub(crate) fn there<F: Drop>(opened: io::Result<F>) -> io::Result<Option<F>>
     ensures found { IfOk opened (λ file. result ≡ Ok (Some file)) }
     ensures none { IfErr opened (λ error. error_kind error ≡ ErrorKind.NotFound → result ≡ Ok None) }
@@ -24,7 +24,7 @@ pub(crate) fn there<F: Drop>(opened: io::Result<F>) -> io::Result<Option<F>>
     }
 }
 
-/// The octets of a file that is there; else None. It takes memory.
+/// The octets of a file; None where there is none. It allocates memory.
 pub(crate) fn read_there<R: Files>(
     rt: &R,
     alloc: Global,
@@ -38,14 +38,14 @@ pub(crate) fn read_there<R: Files>(
     Ok(Some(octets))
 }
 
-/// Writes the octets of a file that has none, and brings them to the disk.
+/// Writes the octets of a file that has none, and syncs them to the disk.
 pub(crate) fn write_synced<F: Write + OpenFile + Drop>(file: F, octets: &[u8]) -> io::Result<()> {
     let mut file = file;
     file.write_all(octets)?;
     file.sync_all()
 }
 
-/// Brings the names of a folder to the disk.
+/// Syncs the names of a directory to the disk.
 pub(crate) fn sync_folder<R: Files>(rt: &R, dir: &str) -> io::Result<()> {
     File::open(rt, dir)?.sync_all()
 }

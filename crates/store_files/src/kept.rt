@@ -1,4 +1,4 @@
-//! What else stands in a store's folder (own).
+//! The other files in a store's directory (own).
 ghost use Rattle.std.specs.Prelude.{◌≢◌, ◌↔◌, IsTrue, ℕ, [], MatchOption};
 ghost use Rattle.store_files.specs.Names.{IsTextName, IsLaid, IsLeftOver};
 
@@ -8,12 +8,12 @@ use std::alloc::Global;
 use std::fs::{self, File, Files};
 use std::io::{self, ErrorKind};
 
-/// How many pairs are kept at most.
+/// The greatest number of pairs that are kept.
 const MOST: u64 = 10_000;
 
-/// Keeps the octets that stand behind the last whole batch of a journal, before they are cut off, in a file of their own: its path, `torn-N`, of the first number that
-/// none has. A file of such a name that has these octets keeps them already, and one without octets keeps none, and is replaced. They are on the disk before the file has
-/// its name, and where they can't be none is left. It takes memory.
+/// Keeps the octets after the last whole batch of a journal, before they are cut off, in a file of their own, and gives its path, `torn-N`, of the first number
+/// that is free. A file of such a name that has these octets keeps them already, and one without octets is replaced. They are on the disk before the file has
+/// its name, and where they can't be written no file is left. It allocates memory.
 pub fn keep_torn<R: Files<File = File>>(
     rt: &R,
     alloc: Global,
@@ -36,18 +36,18 @@ pub fn keep_torn<R: Files<File = File>>(
     Err(io::Error::from(ErrorKind::StorageFull))
 }
 
-/// What a file keeps of octets that are to be kept.
+/// What a file has of octets that are to be kept.
 #[derive(Clone, Copy)]
 enum KeptThere {
-    /// Nothing: it isn't there, or has no octets.
+    /// Nothing: the file doesn't exist, or has no octets.
     Nothing,
     /// These octets.
     These,
-    /// Others.
+    /// Other octets.
     Others,
 }
 
-/// What a file of this path keeps. It takes memory where it is as long as the octets.
+/// What the file of this path has. It allocates memory where the file is as long as the octets.
 fn kept_at<R: Files>(rt: &R, alloc: Global, path: &str, octets: &[u8]) -> io::Result<KeptThere> {
     let about = match fs::metadata(rt, path) {
         Ok(about) => about,
@@ -66,7 +66,7 @@ fn kept_at<R: Files>(rt: &R, alloc: Global, path: &str, octets: &[u8]) -> io::Re
     }
 }
 
-/// Keeps octets in a file of this path; where they can't be written none is left of them. It takes memory.
+/// Keeps octets in a file of this path; where they can't be written, no file is left. It allocates memory.
 fn keep_as<R: Files<File = File>>(
     rt: &R,
     alloc: Global,
@@ -83,7 +83,7 @@ fn keep_as<R: Files<File = File>>(
     sync_folder(rt, dir)
 }
 
-/// Writes the octets of a file, brings them to the disk, and gives it its path.
+/// Writes the octets of a file, syncs them to the disk, and renames it to its path.
 fn write_renamed<R: Files<File = File>>(
     rt: &R,
     laid: &str,
@@ -94,8 +94,8 @@ fn write_renamed<R: Files<File = File>>(
     fs::rename(rt, laid, path)
 }
 
-/// Keeps a zone text of a number and the journal that names it, before another pair is the store's, in a folder of their own, which is a store itself: its path. It takes
-/// memory.
+/// Keeps a zone text of a number and the journal that names it, before another pair becomes the store's, in a directory of their own, which is itself a store; gives its path. It
+/// allocates memory.
 pub fn keep_pair<R: Files<File = File>>(
     rt: &R,
     alloc: Global,
@@ -124,14 +124,14 @@ pub fn keep_pair<R: Files<File = File>>(
     ))
 }
 
-/// Writes the octets of a file that is new.
+/// Writes the octets of a file that doesn't exist yet.
 fn write_kept<R: Files<File = File>>(rt: &R, path: &str, octets: &[u8]) -> io::Result<()> {
     write_synced(File::create_new(rt, path)?, octets)
 }
 
-/// Removes what a crash has left of a pair that isn't the store's, and the zone texts of other numbers than its own and the one before it: who copies
-/// a store and has copied the journal before finds its text still. The folder's names are brought to the disk first: a rename that isn't there yet could leave a
-/// journal whose text is gone; at an error nothing is removed. It takes memory.
+/// Removes what a crash has left of a pair that isn't the store's, and the zone texts of other numbers than the store's own and the one before it: a backup
+/// that copied the journal before still finds its text. The directory's names are synced to the disk first: a rename that isn't on the disk yet could leave a
+/// journal whose text is gone; at an error of that sync nothing is removed. It allocates memory.
 pub fn drop_others<R: Files + Alloc + Clone + Drop>(
     rt: &R,
     dir: &str,
@@ -145,7 +145,7 @@ pub fn drop_others<R: Files + Alloc + Clone + Drop>(
                     fs::remove_file(rt, entry.path())?;
                 }
             }
-            // A name that isn't UTF-8 is none of the store's.
+            // A name that isn't UTF-8 isn't the store's.
             Err(error) if error.kind() == ErrorKind::InvalidFilename => {}
             Err(error) => return Err(error),
         }
@@ -153,7 +153,7 @@ pub fn drop_others<R: Files + Alloc + Clone + Drop>(
     Ok(())
 }
 
-/// Whether a file of this name goes where the store's text has this number.
+/// Whether a file of this name is removed where the store's text has this number.
 fn is_left_over(name: &str, number: u64) -> bool
     ensures { IsTrue result ↔ IsLeftOver name.now number }
 {
@@ -166,14 +166,14 @@ fn is_left_over(name: &str, number: u64) -> bool
     }
 }
 
-/// Whether a file of this name waits to be renamed.
+/// Whether a file of this name hasn't been renamed yet.
 fn is_laid(name: &str) -> bool
     ensures { IsTrue result ↔ IsLaid name.now }
 {
     name == NEW_JOURNAL || name == NEW_TORN
 }
 
-/// The number of a zone text by its name; None where it is none.
+/// The number in the name of a zone text; None where the name isn't a zone text's.
 pub(crate) fn number_of(name: &str) -> Option<u64>
     ensures { MatchOption result ((n : ℕ) → IsTextName name.now n → ⊥) (λ n. IsTextName name.now n) }
 {

@@ -1,11 +1,11 @@
 //! The files of a store, and a file as a disk (own).
 //!
-//! A store is a directory that one process holds ([`open_store`]). `zone-N` has a zone text, and is never changed; `journal` begins with a head that names its N and the text's sum
-//! (`journal`), and is appended to; `lock` has no octets, and a lock of its own, since `journal` is replaced. [`begin_pair`] writes the first of each, and [`NewText`] and
-//! [`replace_journal`], or [`write_pair`], the next; one rename decides which journal a start finds. [`read_store`] reads a store that another process may hold.
+//! A store is a directory that is locked by one process ([`open_store`]). `zone-N` has a zone text, and is never changed; `journal` begins with a head that names its N and the text's
+//! SHA-256 (`journal`), and is appended to; `lock` has no octets, and is a file of its own because `journal` is replaced. [`begin_pair`] writes the first text and journal, and [`NewText`] and
+//! [`replace_journal`], or [`write_pair`], the next; one rename decides which journal a start finds. [`read_store`] reads a store that another process may have locked.
 //!
-//! A [`FileDisk`] makes one call of the system for each call of [`journal::Disk`], and notes it with its answer in a list that only clauses read. What the octets are by this list is what
-//! contracts see: that a file has them is a premise.
+//! A [`FileDisk`] makes one system call for each call of [`journal::Disk`], and notes it with its result in a list that only clauses read. Contracts speak of the octets that follow
+//! from this list: that the file has them is a premise.
 #![tactic(auto)]
 
 mod file;

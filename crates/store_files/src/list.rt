@@ -5,7 +5,7 @@ ghost use Rattle.store_files.specs.Calls.{FileCall, call_of};
 
 use std::marker::{Model, PhantomData};
 
-/// The calls of a file, the last one first. No memory holds them.
+/// The calls on a file, the last one first. They take no memory.
 #[derive(Drop)]
 pub struct CallList {
     marker: PhantomData<u8>,
@@ -27,7 +27,7 @@ impl CallList {
         }
     }
 
-    /// One call more: its numbers, which call it is and a length, and its octets.
+    /// Adds a call: its numbers, which are the kind of call and a length, and its octets.
     pub fn note(&mut self, _numbers: &[u64], _octets: &[u8])
         ensures { self.new.calls ≡ call_of _numbers.now _octets.now ∷ self.old.calls }
     {}

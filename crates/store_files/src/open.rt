@@ -1,4 +1,4 @@
-//! A store that is held (own).
+//! Opening and locking a store (own).
 ghost use Rattle.std.specs.Prelude.{IfOk};
 ghost use Rattle.store_files.specs.Store.{IsAsNoted};
 
@@ -11,7 +11,7 @@ use std::alloc::Global;
 use std::fs::{File, Files, OpenOptions, TryLockError};
 use std::io;
 
-/// A store that this process holds, until it is dropped.
+/// The lock on a store, which this process has until it is dropped.
 #[derive(Drop)]
 pub struct StoreLock {
     file: File,
@@ -20,7 +20,7 @@ pub struct StoreLock {
 /// A zone text, and the journal of the updates since.
 #[derive(Drop)]
 pub struct Pair {
-    /// The zone text that the journal names; no octets where it begins with no head, which a start then tells.
+    /// The zone text that the journal names; no octets where the journal doesn't begin with a head, which a start then reports.
     pub text: Vec<u8>,
     /// The journal's octets, as the disk has them.
     pub journal: Vec<u8>,
@@ -28,22 +28,22 @@ pub struct Pair {
     pub disk: FileDisk,
 }
 
-/// A store, as it is found.
+/// What is found when a store is opened.
 #[derive(Drop)]
 pub enum OpenedFolder {
-    /// Another process holds it.
+    /// Another process has the lock.
     Locked,
-    /// No store was begun in it, or a crash has left a part of a first one, over which it can be begun (`begin_pair`).
+    /// No store was created in the directory, or a crash has left a part of a first one, over which it can be created (`begin_pair`).
     Empty(StoreLock),
-    /// It has zone texts, of which this is the greatest number, and no journal: that is lost, with the updates since.
+    /// The directory has zone texts, of which this is the greatest number, and no journal: it is lost, with the updates since.
     NoJournal(u64),
-    /// It has a journal, which names the zone text of this number, and that isn't there.
+    /// The directory has a journal, but the zone text of the number that it names isn't there.
     NoText(u64),
-    /// It has a journal, and the zone text that it names.
+    /// The directory has a journal, and the zone text that it names.
     Found(StoreLock, Pair),
 }
 
-/// Holds the store of a folder that is there, and reads it: its journal as the disk has it (`store_files`). It takes memory.
+/// Locks the store of an existing directory, and reads it: its journal as the disk has it (`store_files`). It allocates memory.
 pub fn open_store<R: Files<File = File> + Alloc + Clone + Drop>(
     rt: &R,
     alloc: Global,
@@ -74,7 +74,7 @@ pub fn open_store<R: Files<File = File> + Alloc + Clone + Drop>(
     }
 }
 
-/// Holds a store; None where another process does (flock(2)).
+/// Locks a store; None where another process has the lock (flock(2)).
 fn take_lock<R: Files<File = File>>(
     rt: &R,
     alloc: Global,
@@ -93,7 +93,7 @@ fn take_lock<R: Files<File = File>>(
     }
 }
 
-/// The journal's file, to be read and written; None where there is none.
+/// The journal's file, open to be read and written; None where there is none.
 fn open_journal<R: Files<File = File>>(
     rt: &R,
     alloc: Global,

@@ -1,4 +1,4 @@
-//! A zone text and a journal that replace those before them (own).
+//! Writing a zone text and a journal that replace those before them (own).
 ghost use Rattle.std.specs.Prelude.{◌≡◌, IfOk};
 ghost use Rattle.store_files.specs.File.{written, synced};
 
@@ -13,14 +13,14 @@ use std::io::{self, ErrorKind, Write};
 /// Why a journal isn't the store's.
 #[derive(Debug, Drop)]
 pub enum PairFault {
-    /// The store has the journal that it had, whatever crashes.
+    /// The store has the journal that it had before, even after a crash.
     Before(io::Error),
-    /// Nobody knows which of the two journals a crash leaves: what is appended to either doesn't last.
+    /// It is unknown which of the two journals is there after a crash: what is appended to either may be lost.
     Unknown(io::Error),
 }
 
-/// Writes a zone text of a number that the store's journal doesn't name, and a journal that names it, which is then the store's. At an error it is
-/// told which journal the store has. It takes memory.
+/// Writes a zone text of a number that the store's journal doesn't name, and a journal that names it, which becomes the store's. An error
+/// says which journal the store has. It allocates memory.
 pub fn write_pair<R: Files<File = File>>(
     rt: &R,
     alloc: Global,
@@ -37,9 +37,9 @@ pub fn write_pair<R: Files<File = File>>(
     replace_journal(rt, alloc, dir, journal)
 }
 
-/// Begins the first store of a folder in which [`open_store`](crate::open_store) finds none: a zone text of number 0, and a journal that names it, which is then the
-/// store's. The journal is on the disk as `journal.new` before the text is begun, and gets its name last: so a crash leaves no text without either, and the next start
-/// can tell that from a store whose journal is lost. At an error no store was begun, or nobody knows whether a crash leaves it. It takes memory.
+/// Creates the first store of a directory in which [`open_store`](crate::open_store) finds none: a zone text of number 0, and a journal that names it, which becomes the
+/// store's. The journal is on the disk as `journal.new` before the text is created, and is renamed last: so a crash leaves no text without either, and the next start
+/// can distinguish that from a store whose journal is lost. At an error no store was created, or it is unknown whether it is there after a crash. It allocates memory.
 pub fn begin_pair<R: Files<File = File>>(
     rt: &R,
     alloc: Global,
@@ -63,7 +63,7 @@ pub fn begin_pair<R: Files<File = File>>(
     }
 }
 
-/// Brings a journal to the disk, and its name, and then the first zone text, which it names. It takes memory.
+/// Syncs a journal and its name to the disk, and then the first zone text, which it names. It allocates memory.
 fn lay_first<R: Files<File = File>>(
     rt: &R,
     alloc: Global,
@@ -81,16 +81,16 @@ fn lay_first<R: Files<File = File>>(
     Ok(disk)
 }
 
-/// Removes the first zone text, if a crash has left it, before the journal that names it is written over: the folder has no text then, whatever crashes. It takes memory.
+/// Removes the first zone text, if a crash has left it, before the journal that names it is overwritten: so the directory has no text then, even after a crash. It allocates memory.
 fn remove_first<R: Files>(rt: &R, alloc: Global, dir: &str) -> io::Result<()> {
     match remove_text(rt, alloc, dir, FIRST_TEXT) {
         Err(error) if error.kind() != ErrorKind::NotFound => Err(error),
-        // Also where there was none: one may have been removed before, and its name still be on the disk.
+        // Also where there was none: one may have been removed before, while its name is still on the disk.
         _ => sync_folder(rt, dir),
     }
 }
 
-/// Writes a zone text of a number that the store's journal doesn't name: it is on the disk, and its name. It takes memory.
+/// Writes a zone text of a number that the store's journal doesn't name: at Ok it and its name are on the disk. It allocates memory.
 fn write_text<R: Files<File = File>>(
     rt: &R,
     alloc: Global,
@@ -101,12 +101,12 @@ fn write_text<R: Files<File = File>>(
     NewText::create(rt, alloc, dir, number)?.write(text)
 }
 
-/// Removes a zone text of a number that no journal names. It takes memory.
+/// Removes a zone text of a number that no journal names. It allocates memory.
 pub fn remove_text<R: Files>(rt: &R, alloc: Global, dir: &str, number: u64) -> io::Result<()> {
     fs::remove_file(rt, text_path(alloc, dir, number)?.as_str())
 }
 
-/// The file of a zone text that is to be written, and its folder: who has them needs no names, and may be another thread.
+/// The open file of a zone text that is to be written, and its directory: the thread that writes them needs no names.
 #[derive(Drop)]
 pub struct NewText {
     file: File,
@@ -114,7 +114,7 @@ pub struct NewText {
 }
 
 impl NewText {
-    /// That of a zone text of a number that the store's journal doesn't name. It takes memory.
+    /// Creates the file of a zone text of a number that the store's journal doesn't name. It allocates memory.
     pub fn create<R: Files<File = File>>(
         rt: &R,
         alloc: Global,
@@ -127,7 +127,7 @@ impl NewText {
         Ok(NewText { file, folder })
     }
 
-    /// Writes the text: it is on the disk, and its name. At an error what was written is cut off, so that it takes no room of a full disk.
+    /// Writes the text: at Ok it and its name are on the disk. At an error what was written is cut off, so that it takes no space of a full disk.
     pub fn write(self, text: &[u8]) -> io::Result<()> {
         let NewText { mut file, folder } = self;
         let written = write_all_synced(&mut file, text);
@@ -139,13 +139,13 @@ impl NewText {
     }
 }
 
-/// Writes octets to a file, and brings them to the disk.
+/// Writes octets to a file, and syncs them to the disk.
 fn write_all_synced(file: &mut File, octets: &[u8]) -> io::Result<()> {
     file.write_all(octets)?;
     file.sync_all()
 }
 
-/// Makes a journal the store's whose zone text is on the disk: its octets are on the disk before the one rename, and then the name. It takes memory.
+/// Makes a journal the store's, whose zone text is on the disk: its octets are synced before the one rename, and its name after it. It allocates memory.
 pub fn replace_journal<R: Files<File = File>>(
     rt: &R,
     alloc: Global,
@@ -168,8 +168,8 @@ pub fn replace_journal<R: Files<File = File>>(
     }
 }
 
-/// Whether the journal in a folder is this very file: not so where the folder has none, or another one, since it was moved or removed, or another is in its place. It
-/// takes memory.
+/// Whether the journal in a directory is this very file: false where the directory has no journal, or another one, because this one was moved, removed or replaced. It
+/// allocates memory.
 pub fn is_in_place<R: Files>(
     rt: &R,
     alloc: Global,
@@ -179,7 +179,7 @@ pub fn is_in_place<R: Files>(
     journal.is_at(rt, path_of(alloc, dir, JOURNAL)?.as_str())
 }
 
-/// The paths of a journal.
+/// The paths of a journal, before and after its rename.
 #[derive(Drop)]
 struct Paths {
     laid: String,
@@ -187,7 +187,7 @@ struct Paths {
 }
 
 impl Paths {
-    /// Those in a folder.
+    /// The paths in a directory.
     fn of(alloc: Global, dir: &str) -> io::Result<Paths> {
         Ok(Paths {
             laid: path_of(alloc, dir, NEW_JOURNAL)?,
@@ -196,7 +196,7 @@ impl Paths {
     }
 }
 
-/// Brings a journal to the disk that isn't the store's yet.
+/// Writes a journal that isn't the store's yet, and syncs it to the disk.
 fn lay_journal<R: Files<File = File>>(rt: &R, paths: &Paths, journal: &[u8]) -> io::Result<FileDisk>
     ensures { IfOk result (λ disk. (written disk ≡ journal.now) × (synced disk ≡ journal.now)) }
 {
@@ -211,7 +211,7 @@ fn lay_journal<R: Files<File = File>>(rt: &R, paths: &Paths, journal: &[u8]) -> 
     Ok(disk)
 }
 
-/// Makes a journal the store's: its name, and that on the disk.
+/// Makes a journal the store's: renames it, and syncs its name to the disk.
 fn put_in_place<R: Files>(rt: &R, dir: &str, paths: &Paths) -> io::Result<()> {
     fs::rename(rt, paths.laid.as_str(), paths.in_place.as_str())?;
     sync_folder(rt, dir)

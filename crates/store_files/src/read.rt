@@ -1,4 +1,4 @@
-//! How a store is read (own).
+//! Reading a store (own).
 ghost use Rattle.std.specs.Prelude.{◌≡◌, ◌↔◌, IsTrue, ℕ, MatchOption, IfOk};
 ghost use Rattle.journal.specs.Head.{IsHeadFault};
 ghost use Rattle.journal.specs.declared.heads.HeadFault.{HeadFault};
@@ -12,19 +12,19 @@ use std::alloc::Global;
 use std::fs::Files;
 use std::io::{self, ErrorKind};
 
-/// How often a store is read anew that changes while it is read.
+/// How often a store that changes while it is read is read again.
 const TRIES: u64 = 100;
 
-/// The zone text that a journal names.
+/// The zone text that a journal names, as it was found.
 #[derive(Drop)]
 pub(crate) enum Text {
     /// Its octets.
     There(Vec<u8>),
-    /// That of this number isn't there.
+    /// The text of this number doesn't exist.
     Gone(u64),
 }
 
-/// The number of the zone text that a journal names; None where it begins with no head.
+/// The number of the zone text that a journal names; None where the journal doesn't begin with a head.
 pub(crate) fn number_in(journal: &[u8]) -> Option<u64>
     ensures { MatchOption result ((fault : HeadFault) × IsHeadFault journal.now fault) (λ number. Names journal.now number) }
 {
@@ -34,7 +34,7 @@ pub(crate) fn number_in(journal: &[u8]) -> Option<u64>
     }
 }
 
-/// The zone text that a journal names. Where it begins with no head no text is its own, and none is read: the octets are none. It takes memory.
+/// Reads the zone text that a journal names. Where the journal doesn't begin with a head it names no text, and none is read: the text's octets are none. It allocates memory.
 pub(crate) fn read_text<R: Files>(
     rt: &R,
     alloc: Global,
@@ -51,7 +51,7 @@ pub(crate) fn read_text<R: Files>(
     }
 }
 
-/// What stands in front of the zeros that octets end with.
+/// The octets without the zeros at their end.
 fn in_front_of_zeros(octets: &[u8]) -> &[u8]
     ensures { IsInFront octets.now result.now }
 {
@@ -65,16 +65,16 @@ fn in_front_of_zeros(octets: &[u8]) -> &[u8]
     front
 }
 
-/// Whether octets of a journal that were read stand still where they stood when it is read again, but for zeros at their end: these are room, which the next
-/// batches are written over. Else it was cut behind a batch that failed, or replaced: what was read may be the front of what failed with what came behind it,
-/// and is no journal.
+/// Whether octets of a journal that were read are still at its start when it is read again, except for zeros at their end: these are room, which the next
+/// batches overwrite. If not, the journal was cut after a batch that failed, or was replaced: what was read may mix a part of that batch with what was written after the
+/// cut, and then it is no journal.
 fn stands_still(octets: &[u8], again: &[u8]) -> bool
     ensures { IsTrue result ↔ StandsStill octets.now again.now }
 {
     again.starts_with(in_front_of_zeros(octets))
 }
 
-/// The zone text and the journal of a store that another process may hold; None where they change meanwhile. It takes memory.
+/// Reads the zone text and the journal of a store that another process may have locked; None where they change meanwhile. It allocates memory.
 fn read_once<R: Files>(
     rt: &R,
     alloc: Global,
@@ -91,7 +91,7 @@ fn read_once<R: Files>(
     judged_again(text, journal, &again)
 }
 
-/// The zone text and the journal that were read, where the journal stands still when it is read again; None where it doesn't.
+/// The zone text and the journal that were read, where the journal is unchanged when it is read again; None where it isn't.
 fn judged_again(
     text: Text,
     journal: Vec<u8>,
@@ -112,9 +112,9 @@ fn judged_again(
     }
 }
 
-/// The zone text and the journal of a store that another process may hold. The journal is read first, and again behind its text: where what was read of it no longer
-/// stands there, all is read anew. So what a batch that failed left in front of others is never read with those, and a last batch that isn't on the disk yet may be.
-/// It takes memory.
+/// Reads the zone text and the journal of a store that another process may have locked. The journal is read before the text, and again after it: where what was read of it has
+/// changed, all is read again. So a part of a batch that failed is never read together with later batches; a last batch that isn't on the disk yet may be read.
+/// It allocates memory.
 pub fn read_store<R: Files>(rt: &R, alloc: Global, dir: &str) -> io::Result<(Vec<u8>, Vec<u8>)> {
     let path = path_of(alloc, dir, JOURNAL)?;
     for _ in 0..TRIES {

@@ -1,4 +1,4 @@
-//! What a folder without a journal is (own).
+//! Directories without a journal (own).
 ghost use Rattle.std.specs.Prelude.{◌↔◌, IsTrue};
 ghost use Rattle.store_files.specs.Names.{IsGreatestOf, IsUnbegun, Names};
 
@@ -10,8 +10,8 @@ use std::alloc::Global;
 use std::fs::{self, Files};
 use std::io::{self, ErrorKind};
 
-/// The greatest number of the zone texts of a folder without a journal, where that is lost; None where no store was begun in it, or a crash has left a part of a first one.
-/// It takes memory.
+/// The greatest number of the zone texts of a directory whose journal is lost; None where no store was created in it, or a crash has left a part of a first one.
+/// It allocates memory.
 pub(crate) fn lost_journal<R: Files + Alloc + Clone + Drop>(
     rt: &R,
     alloc: Global,
@@ -25,7 +25,7 @@ pub(crate) fn lost_journal<R: Files + Alloc + Clone + Drop>(
     Ok(greatest)
 }
 
-/// The octets of a journal that isn't renamed, where a folder has no zone text but the first; else none, as where there is no such journal. It takes memory.
+/// The octets of `journal.new`, where a directory has no zone text but the first; else none, as where there is no such file. It allocates memory.
 fn read_laid<R: Files>(
     rt: &R,
     alloc: Global,
@@ -41,13 +41,13 @@ fn read_laid<R: Files>(
     }
 }
 
-/// The greatest number of a folder's zone texts.
+/// The greatest number of a directory's zone texts.
 fn greatest_text<R: Files + Alloc + Clone + Drop>(rt: &R, dir: &str) -> io::Result<Option<u64>> {
     let mut greatest = None;
     for entry in fs::read_dir(rt, dir)? {
         match entry {
             Ok(entry) => greatest = greatest_of(greatest, entry.file_name()),
-            // A name that isn't UTF-8 is none of the store's.
+            // A name that isn't UTF-8 isn't the store's.
             Err(error) if error.kind() == ErrorKind::InvalidFilename => {}
             Err(error) => return Err(error),
         }
@@ -55,7 +55,7 @@ fn greatest_text<R: Files + Alloc + Clone + Drop>(rt: &R, dir: &str) -> io::Resu
     Ok(greatest)
 }
 
-/// The greatest number of zone texts, of which `before` is that of some names, and one more name.
+/// The greatest number of the zone texts of some names and one more; `before` is that of the names without this one.
 fn greatest_of(before: Option<u64>, name: &str) -> Option<u64>
     ensures { IsGreatestOf before name.now result }
 {
@@ -68,7 +68,7 @@ fn greatest_of(before: Option<u64>, name: &str) -> Option<u64>
     }
 }
 
-/// Whether no store was begun in a folder without a journal, whose zone texts have this greatest number, and whose journal that isn't renamed has these octets.
+/// Whether no store was created in a directory without a journal, whose zone texts have this greatest number, and whose `journal.new` has these octets.
 fn is_unbegun(greatest: Option<u64>, laid: &[u8]) -> bool
     ensures { IsTrue result ↔ IsUnbegun greatest laid.now }
 {
