@@ -1,4 +1,4 @@
--- What a disk in memory tells.
+-- The octets of a disk in memory.
 use Rattle.std.specs.Prelude.{ℕ, List}
 use Rattle.store_files.specs.Calls.{lost_by}
 use Rattle.told_disks.specs.declared.memory_disk.MemoryDisk.{MemoryDisk}

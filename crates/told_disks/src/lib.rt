@@ -1,4 +1,4 @@
-//! A disk that lies in memory and tells its octets, for logs of `journal` to be tried on: it fails when it is told to, and a crash of it
+//! A disk in memory that shows its octets, to test logs of `journal` with: it fails as planned, and a crash of it
 //! drops, keeps, or turns what wasn't synced.
 #![tactic(auto)]
 

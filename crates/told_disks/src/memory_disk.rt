@@ -6,10 +6,10 @@ use journal::Disk;
 use std::alloc::{AllocError, Global};
 use store_files::{CallList, NOT_CUT, NOT_SYNCED};
 
-/// Why a call of a disk in memory has failed.
+/// Why a call of a disk in memory failed.
 #[derive(Clone, Copy, Debug, PartialEq, Eq)]
 pub enum DiskFault {
-    /// It was to fail.
+    /// It failed by plan.
     Planned,
     /// There is no memory.
     NoMemory,
@@ -22,7 +22,7 @@ pub struct MemoryDisk {
     written: Vec<u8>,
     synced: Vec<u8>,
     plan: Vec<u8>,
-    /// Its syncs and cuts that have failed.
+    /// How many of its syncs and cuts have failed.
     failures: CallList,
 }
 
@@ -45,8 +45,8 @@ impl MemoryDisk {
         })
     }
 
-    /// That disk, whose calls do what the plan says, from its last number on: 0 works, any other number fails, and an append has then written one octet less than
-    /// it says. After the plan all work.
+    /// This disk with a plan for its next calls, from the plan's last number to its first: at 0 a call works, at any other number it fails, and an append has then written
+    /// one octet less than the number. After the plan all calls work.
     pub fn planned(mut self, plan: Vec<u8>) -> MemoryDisk
         ensures written { written result ≡ written self }
         ensures synced { synced result ≡ synced self }
@@ -62,8 +62,8 @@ impl MemoryDisk {
         &self.written
     }
 
-    /// What a crash leaves: the octets that are on the disk, and behind them, of those that are only written, as many as there are fates, each by
-    /// its own: 0 loses it, which leaves a zero; 1 keeps it; any other turns some of its bits.
+    /// What a crash leaves: the octets that are on the disk, and after them, of those that are only written, as many as there are fates, each by
+    /// its own: 0 loses the octet, which leaves a zero; 1 keeps it; any other turns some of its bits.
     pub fn crashed(&self, alloc: Global, fates: &[u8]) -> Result<Vec<u8>, AllocError>
         ensures { IfOk result (λ image. BeginsWith image.items (synced self.now)) }
     {
@@ -135,7 +135,7 @@ impl Disk for MemoryDisk {
                 }
             },
             Some(_) => {
-                // What wasn't synced is dropped, and the next sync says nothing of it.
+                // What wasn't synced is dropped, and the next sync reports nothing of it.
                 let start = self.synced.len().min(self.written.len());
                 self.written[start..].fill(0);
                 self.failures.note(&[NOT_SYNCED, 0], &[]);
