@@ -15,15 +15,15 @@ use Rattle.store_recovery.specs.declared.choices.Take.TheVariants.{Store as TheS
 use Rattle.store_recovery.specs.declared.choices.Choice.{Choice}
 use Rattle.store_recovery.specs.declared.choices.Choice.TheVariants.{Same, Store, Zone, StoreThoughOther, RefuseNewer, RefuseNotNewer, RefuseOtherApex}
 
--- a text is another one than this
+-- a text isn't the one with this length and SHA-256
 abbrev pub IsOther : TextSum → List ℕ → Type 0
 IsOther begun text = IsText begun text → ⊥
 
--- a text that is a zone has the apex of a store's zone (RFC 4343, 3)
+-- a text, if it is a zone, has the apex of a store's zone (RFC 4343, 3)
 abbrev pub HasNoOtherApex : List Record → Name → List ℕ → Type 0
 HasNoOtherApex last origin text = (zone : List Record) → zone_of_text origin text ≡ Ok zone → is_same (apex_of zone) (apex_of last) ≡ true
 
--- a text is a zone, of this apex, which is another one than that of a store's zone
+-- a text is a zone of this apex, which differs from that of a store's zone
 abbrev pub HasOtherApex : List Record → Name → List ℕ → Name → Type 0
 HasOtherApex last origin text apex = (zone : List Record) × (zone_of_text origin text ≡ Ok zone) × (apex ≡ apex_of zone) × (is_same apex (apex_of last) ≡ false)
 
@@ -31,14 +31,14 @@ HasOtherApex last origin text apex = (zone : List Record) × (zone_of_text origi
 abbrev pub HasSerial : List Record → Name → List ℕ → ℕ → Type 0
 HasSerial last origin text serial = (zone : List Record) × (zone_of_text origin text ≡ Ok zone) × (is_same (apex_of zone) (apex_of last) ≡ true) × (zone_serial zone ≡ serial)
 
--- a text that isn't taken, and another one than this, is a zone of this serial; and whether that is greater than that of a store's zone (RFC 1982, 3.2)
+-- a text, where nothing is chosen and the store was created from another one, is a zone of this serial; and whether that is greater than that of a store's zone (RFC 1982, 3.2)
 abbrev pub IsUntaken : TextSum → List Record → Name → List ℕ → Option Take → ℕ → Bool → Type 0
 IsUntaken begun last origin text taken serial greater =
     IsOther begun text × (taken ≡ None) × HasSerial last origin text serial × (serial_less (zone_serial last) serial ≡ greater)
 
--- what is served, of a store that was begun from a text and whose last version has this zone, and of a zone text. Nothing, where that text is a zone of another apex than
--- the store's, whatever else it is, and whatever is taken. Else the store, where the text is the one that it was begun from; else the store, where it is taken, and the
--- text's zone, where that is and has a greater serial; where neither is taken, the store, if the text's serial isn't greater. Else nothing is served: so never a text
+-- what is served, of a store that was created from a text and whose last version has this zone, and of a zone text. Nothing, where that text is a zone of another apex than
+-- the store's, whatever else it is, and whatever is chosen. Else the store, where the text is the one that it was created from; else the store, where it is chosen, and the
+-- text's zone, where that is chosen and has a greater serial; where neither is chosen, the store, if the text's serial isn't greater. Else nothing is served: so never a text
 -- whose serial isn't greater than the store's (RFC 1982, 3.2)
 abbrev pub IsChoice : TextSum → List Record → Name → List ℕ → Option Take → Choice → Type 0
 IsChoice begun last origin text taken Same = IsText begun text × HasNoOtherApex last origin text
@@ -51,7 +51,7 @@ IsChoice begun last origin text taken (RefuseNotNewer serial) =
     IsOther begun text × (taken ≡ Some TheZone) × HasSerial last origin text serial.0 × (serial_less (zone_serial last) serial.0 ≡ false)
 IsChoice begun last origin text taken (RefuseOtherApex apex) = HasOtherApex last origin text apex
 
--- why nothing is chosen: there is no memory; or the text is no zone, and another one than the store was begun from, and the store isn't taken
+-- why nothing is decided: there is no memory; or the text is no zone, the store was created from another one, and the store isn't chosen
 abbrev pub IsChoiceFault : TextSum → Name → List ℕ → Option Take → FileFault → Type 0
 IsChoiceFault begun origin text taken fault =
     (fault ≡ no_memory) ⊎ (IsOther begun text × (taken ≢ Some TheStore) × (zone_of_text origin text ≡ Err fault))

@@ -1,4 +1,4 @@
--- What only private contracts cite.
+-- Definitions that only private contracts cite.
 use Rattle.std.specs.Prelude.{ℕ, Bool, ◌==◌, if◌then◌else◌}
 use Rattle.journal.specs.declared.start.Refused.{Refused}
 use Rattle.journal.specs.declared.start.Refused.TheVariants.{NoMemory as Starved}
@@ -23,6 +23,6 @@ of_cause why _ = Text why
 abbrev pub of_text : FileFault → StartFault
 of_text why = of_cause why why.cause
 
--- what stands behind so many octets of so many
+-- what is after so many octets of a journal of so many
 abbrev pub ending_of : Bool → ℕ → ℕ → Ending
 ending_of torn end len = if torn then Torn end else if end == len then Clean else Blank

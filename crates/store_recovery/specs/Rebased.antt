@@ -1,4 +1,4 @@
--- The newest versions of a zone, as a cell begins with them, in which they are published anew (own).
+-- The newest versions of a zone, as a cell begins with them and publishes them again (own).
 use Rattle.std.specs.Prelude.{ℕ, ◌+◌, List, [], ◌∷◌, ◌++◌, Option, map}
 use Rattle.zone_tree.specs.Version.{Version, Changes}
 use Rattle.store_recovery.specs.declared.recent_versions.RecentVersions.{RecentVersions}
@@ -17,11 +17,11 @@ abbrev pub numbered_from : ℕ → List Version → List Version
 numbered_from number [] = []
 numbered_from number (version ∷ versions) = with_number number version ∷ numbered_from (number + 1) versions
 
--- versions as a cell begins with them: the oldest is the first version of its zone, and the others stand behind it with numbers from 1 on
+-- versions as a cell begins with them: the oldest is the first version of its zone, and the others follow it with numbers from 1 on
 abbrev pub rebased : List Version → List Version
 rebased [] = []
 rebased (oldest ∷ later) = first_version oldest.zone ∷ numbered_from 1 later
 
--- what versions changed, each of the one before it (RFC 1995, 4)
+-- the changes of versions, each since the one before it (RFC 1995, 4)
 abbrev pub changes_of : List Version → List (Option Changes)
 changes_of versions = map (λ v. v.changes) versions

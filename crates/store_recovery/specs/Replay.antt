@@ -1,4 +1,4 @@
--- What messages make of a zone, one upon the other, as an engine makes it that takes them (RFC 2136, 3).
+-- The versions that messages make of a zone, one after another, as an engine that applies them makes them (RFC 2136, 3).
 use Rattle.std.specs.Prelude.{◌≡◌, ℕ, ◌+◌, true, List, [], ◌∷◌, take, slice_get, None, Some, unwrap_or, ⊤}
 use Rattle.dns_rdata.specs.Record.{Record}
 use Rattle.dns_message.specs.declared.query.Parsed.TheVariants.{Update as Asks}
@@ -29,7 +29,7 @@ AreRead [] [] = Unit {0}
 AreRead (message ∷ messages) (update ∷ updates) = IsRead message update × AreRead messages updates
 AreRead _ _ = ⊥
 
--- what a zone changed of the one before it (RFC 1995, 4)
+-- the changes from a zone to the one after it (RFC 1995, 4)
 abbrev pub changes_from : List Record → List Record → Changes
 changes_from before after = record { old_soa = soa_of before; deletions = left_out before after; additions = left_out after before }
 
@@ -37,31 +37,31 @@ changes_from before after = record { old_soa = soa_of before; deletions = left_o
 abbrev pub first_version : List Record → Version
 first_version zone = record { number = 0; zone = zone; changes = None }
 
--- the version with a zone behind another one
+-- the version with this zone after another version
 abbrev pub version_behind : Version → List Record → Version
 version_behind version zone = record { number = version.number + 1; zone = zone; changes = Some (changes_from version.zone zone) }
 
--- the version that an update makes behind another one
+-- the version that an update makes after another version
 abbrev pub version_by : Version → Update → Version
 version_by version update = version_behind version (unwrap_or (act version.zone update) version.zone)
 
--- what an engine holds when it is made: the first version, which alone is published
+-- what an engine holds when it is made: the first version, the only one published
 abbrev pub begun : List Record → Held
 begun zone = record { published = first_version zone ∷ []; last = first_version zone; keep = KEPT; older = [] }
 
--- what it holds once it has taken updates, one after another
+-- what it holds after it has applied updates, one after another
 abbrev pub held_from : Held → List Update → Held
 held_from held [] = held
 held_from held (update ∷ updates) = held_from (held_with held (version_by held.last update)) updates
 
--- a message makes of a version the next one
+-- a message makes the next version of a version
 pub record IsMade (version : Version) (message : List ℕ) (next : Version) : Type 0 where
   pub update : Update
   pub read : IsRead message update
   pub makes : Makes update version next
 
--- messages are replayed on a zone: each is an update that is taken and changes what those before it leave, and the newest versions are those that an
--- engine of this zone holds which has taken them
+-- messages are replayed on a zone: each is an update that is accepted and changes the zone after those before it, and the newest versions are those that an
+-- engine of this zone holds after it has applied them
 pub record IsReplayed (zone : List Record) (messages : List (List ℕ)) (newest : RecentVersions) : Type 0 where
   pub updates : List Update
   pub read : AreRead messages updates
@@ -69,13 +69,13 @@ pub record IsReplayed (zone : List Record) (messages : List (List ℕ)) (newest 
   pub last : newest.last ≡ (held_from (begun zone) updates).last
   pub older : newest.older.items ≡ (held_from (begun zone) updates).older
 
--- why a message makes no next version of a zone: it is read as no update; a rule or a limit gives the update this code; it is taken, and changes nothing
+-- why a message makes no next version of a zone: it isn't read as an update; a rule or a limit gives the update this code; it is accepted, and changes nothing
 abbrev pub IsUpdateFault : List Record → List ℕ → UpdateFault → Type 0
 IsUpdateFault zone message NotAnUpdate = (update : Update) → IsRead message update → ⊥
 IsUpdateFault zone message (Refused code) = (update : Update) × IsRead message update × (code_of zone update true ≡ Some code)
 IsUpdateFault zone message ChangesNothing = (update : Update) × IsRead message update × (verdict zone update true ≡ None) × (act zone update ≡ Some zone)
 
--- the message at a place isn't taken, and those before it are
+-- the message at a place can't be applied, and those before it can
 pub record IsNotTaken (zone : List Record) (messages : List (List ℕ)) (place : ℕ) (fault : UpdateFault) : Type 0 where
   pub before : List Update
   pub read : AreRead (take place messages) before

@@ -1,4 +1,4 @@
--- What a start has of a zone text and a journal, or why it has none (own).
+-- Recovery of a zone from a zone text and a journal, or why there is none (own).
 use Rattle.std.specs.Prelude.{◌≡◌, ◌≢◌, ℕ, ◌<◌, Bool, List, [], length, drop, Ok, Err, ⊤}
 use Rattle.dns_rdata.specs.Record.{Record}
 use Rattle.zone_tree.specs.Version.{zone_serial}
@@ -15,13 +15,13 @@ use Rattle.store_recovery.specs.declared.start.Ending.TheVariants.{Clean, Blank,
 use Rattle.store_recovery.specs.declared.start.Recovery.{Recovery}
 use Rattle.store_recovery.specs.Replay.{IsReplayed, IsNotTaken}
 
--- what stands behind so many octets: nothing; only zeros; others, from this place on
+-- what is after so many octets: nothing; only zeros; others, from this position on
 abbrev pub IsEnding : List ℕ → ℕ → Ending → Type 0
 IsEnding octets end Clean = length octets ≡ end
 IsEnding octets end Blank = (end < length octets) × IsBlank (drop end octets)
 IsEnding octets end (Torn at) = (at ≡ end) × (IsBlank (drop end octets) → ⊥)
 
--- a start: the journal is this text's, the text is a zone of the serial that the head says, and the journal's updates are replayed on that zone
+-- a recovery: the journal is this text's, the text is a zone of the serial in the head, and the journal's updates are replayed on that zone
 pub record IsStarted (text octets : List ℕ) (start : Recovery) : Type 0 where
   pub messages : List (List ℕ)
   pub zone : List Record
@@ -40,15 +40,15 @@ pub record IsSound (text octets : List ℕ) (head : Head) (messages : List (List
   pub torn : Bool
   pub recovered : IsRecovered text octets head messages number end torn
 
--- a text that is a zone, and a journal that is its own, whose messages are to be replayed on it
+-- a text that is a zone, and its journal, whose messages are to be replayed on it
 pub record IsPair (text octets : List ℕ) (zone : List Record) (messages : List (List ℕ)) : Type 0 where
   pub head : Head
   pub sound : IsSound text octets head messages
   pub is_zone : zone_of_text [] text ≡ Ok zone
   pub serial : zone_serial zone ≡ head.serial
 
--- why there is no start, the first of these: the journal is refused; the text is no zone; the zone has another serial than the head says; an update isn't
--- taken again
+-- why there is no recovery, the first of these: the journal is refused; the text is no zone; the zone's serial isn't the one in the head; an update can't be
+-- applied again
 abbrev pub IsStartFault : List ℕ → List ℕ → StartFault → Type 0
 IsStartFault text octets (Journal why) = IsRefused text octets why × (why ≢ Starved)
 IsStartFault text octets (Text fault) = (head : Head) × (messages : List (List ℕ)) × IsSound text octets head messages × (zone_of_text [] text ≡ Err fault)

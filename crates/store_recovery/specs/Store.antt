@@ -1,4 +1,4 @@
--- What a server has on its disk: a zone text, and the journal of the updates that it took since (own).
+-- What a server has on its disk: a zone text, and the journal of the updates that it accepted since (own).
 use Rattle.std.specs.Prelude.{◌≡◌, ℕ, List, [], All, map, Ok}
 use Rattle.dns_rdata.specs.Record.{Record}
 use Rattle.dns_message.specs.declared.update.Update.{Update}
@@ -12,8 +12,8 @@ use Rattle.journal.specs.Recovered.{updates_in}
 use Rattle.dns_engine.specs.Replayed.{EachChanges}
 use Rattle.store_recovery.specs.Replay.{AreRead}
 
--- a zone text and batches under a head that says which text it is: the text is a zone, and their updates are taken in it, one after another, each of
--- which changes what those before it leave
+-- a zone text and batches under a head that names the text: the text is a zone, and their updates are accepted in it, one after another, each of
+-- which changes the zone after those before it
 pub record IsStore (text : List ℕ) (head : Head) (batches : List (List (List ℕ))) (zone : List Record) (updates : List Update) : Type 0 where
   pub is_head : IsHead head
   pub same_text : IsText head.text text

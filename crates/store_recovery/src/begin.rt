@@ -1,4 +1,4 @@
-//! A store that begins with a zone (own).
+//! Creating a store from a zone (own).
 ghost use Rattle.std.specs.Prelude.{IfOk, string_bytes};
 ghost use Rattle.store_recovery.specs.Begun.{IsBegun};
 
@@ -7,8 +7,8 @@ use master_file::write_zone;
 use std::alloc::{AllocError, Global};
 use zone_tree::{Zone, ZoneRead};
 
-/// A store that begins with a zone: the zone as text, and the head of its journal, which has no batch yet. `number` is the text's, the N of `zone-N`; `random` are
-/// octets that nobody outside knows; and `origin` says which text all began from, as it was given. It takes memory.
+/// A store created from a zone: the zone as text, and the head of its journal, which has no batch yet. `number` is the text's, the N of `zone-N`; `random` are
+/// octets that no client knows; and `origin` identifies the text that the store was first created from, as the operator gave it. It allocates memory.
 pub fn begin_store(
     alloc: Global,
     zone: &Zone,
@@ -18,7 +18,7 @@ pub fn begin_store(
 ) -> Result<(String, Head), AllocError>
     ensures { IfOk result (λ r. IsBegun zone.now number random origin (string_bytes r.0) r.1) }
 {
-    // That the records are a zone is known from here on.
+    // From here on it is known that the records are a zone.
     let _soa = zone.soa();
     let text = write_zone(alloc, zone)?;
     let sum = TextSum::of(text.as_bytes());

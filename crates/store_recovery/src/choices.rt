@@ -12,41 +12,41 @@ use master_file::{Cause, FileFault, read_zone};
 use std::alloc::Global;
 use zone_tree::{Zone, ZoneRead};
 
-/// What the operator takes, of a store and the zone text that he names, where that is another one than the store was begun from.
+/// What the operator chooses, of a store and the zone text that he names, where that is another one than the store was created from.
 #[derive(Clone, Copy, Debug, PartialEq, Eq)]
 pub enum Take {
-    /// The store: of the text no more is looked at than its zone's apex.
+    /// The store: of the text only its zone's apex is compared.
     Store,
-    /// The zone text, whose serial has to be greater than the store's: a new store is begun from it.
+    /// The zone text, whose serial must be greater than the store's: a new store is created from it.
     Zone,
 }
 
 /// Which is served at a start.
 #[derive(Drop)]
 pub enum Choice {
-    /// The store: the zone text is the one that it was begun from.
+    /// The store: the zone text is the one that it was created from.
     Same,
-    /// The store, which is taken.
+    /// The store, which is chosen.
     Store,
-    /// The zone text, which is taken: its zone.
+    /// The zone text, which is chosen: its zone.
     Zone(Zone),
     /// The store, though the zone text is another one: its zone has this serial, which isn't greater than that of the store's last version.
     StoreThoughOther(Serial),
-    /// Neither, until one of them is taken: the zone text is another one, and its zone has this serial, which is greater.
+    /// Neither, until one of them is chosen: the zone text is another one, and its zone has this serial, which is greater.
     RefuseNewer(Serial),
-    /// Neither: the zone text is taken, and its zone has this serial, which isn't greater than that of the store's last version, so that secondaries would not
+    /// Neither: the zone text is chosen, and its zone has this serial, which isn't greater than that of the store's last version, so that secondaries would not
     /// see the change (RFC 1982, 3.2; RFC 1996, 4.5).
     RefuseNotNewer(Serial),
-    /// Neither, whatever is taken: the zone text is a zone of this apex, which is another one than the store's.
+    /// Neither, whatever is chosen: the zone text is a zone of this apex, which differs from the store's.
     RefuseOtherApex(Name),
 }
 
-/// Which is served at a start: a store that was begun from the text `begun` and whose last version has the zone `last`, or the zone text that the operator names,
-/// in which names are relative to the origin; with what he takes of the two, if anything. Apexes are compared as names are (RFC 4343, 3), and serials as RFC 1982, 3.2
-/// says. Where the text is the one that the store was begun from, or the store is taken, nothing but its zone's apex is looked at, if it is a zone.
+/// Decides which is served at a start: a store that was created from the text `begun` and whose last version has the zone `last`, or the zone text that the operator names,
+/// in which names are relative to the origin; `taken` is his choice of the two, if any. Apexes are compared as names are (RFC 4343, 3), and serials as in RFC 1982,
+/// 3.2. Where the text is the one that the store was created from, or the store is chosen, only its zone's apex is compared, if it is a zone.
 ///
-/// The fault is that of a text that is no zone, is another one than the store was begun from, and is to be compared with it; or `NoMemory`, at line 0, where a growth
-/// was refused.
+/// The fault is that of a text that is no zone, is another one than the store was created from, and is needed for the decision; or `NoMemory`, at line 0, where an
+/// allocation was refused.
 pub fn choose(
     alloc: Global,
     begun: &TextSum,
@@ -65,8 +65,8 @@ pub fn choose(
     }
 }
 
-/// Which is served of a store whose last version has the zone `last` and a text of this zone, by whether the text is the one that the store was begun from, and what is
-/// taken.
+/// Which is served, of a store whose last version has the zone `last` and a text of this zone, by whether the text is the one that the store was created from, and what is
+/// chosen.
 fn of_zones(last: &Zone, zone: Zone, same: bool, taken: Option<Take>) -> Choice
     ensures { result ≡ of_zones last.now zone same taken }
 {
@@ -84,7 +84,7 @@ fn of_zones(last: &Zone, zone: Zone, same: bool, taken: Option<Take>) -> Choice
     }
 }
 
-/// Which is served where a text has this fault: the store, where the text is the one that it was begun from, or it is taken; but nothing where memory is wanted.
+/// Which is served where a text has this fault: the store, where the text is the one that it was created from, or the store is chosen; but nothing where there is no memory.
 fn without_zone(fault: FileFault, same: bool, taken: Option<Take>) -> Result<Choice, FileFault>
     ensures chosen { IfOk result (λ choice. (fault ≢ no_memory) × IsWithoutZone same taken choice) }
     ensures fault { IfErr result (λ told. (told ≡ fault) × ((fault ≡ no_memory) ⊎ ((same ≡ false) × (taken ≢ Some TheStore)))) }
@@ -101,7 +101,7 @@ fn without_zone(fault: FileFault, same: bool, taken: Option<Take>) -> Result<Cho
     }
 }
 
-/// Which is served where a text is taken, whose zone this is: the zone, if its serial is greater than that of the store's last version (RFC 1982, 3.2).
+/// Which is served where a text with this zone is chosen: the zone, if its serial is greater than that of the store's last version (RFC 1982, 3.2).
 fn taken_zone(last: Serial, zone: Zone) -> Choice
     ensures { result ≡ taken_zone last.0 zone }
 {
@@ -113,7 +113,7 @@ fn taken_zone(last: Serial, zone: Zone) -> Choice
     }
 }
 
-/// Which is served where nothing is taken, by the serial of the store's last version and that of another text's zone (RFC 1982, 3.2).
+/// Which is served where nothing is chosen, by the serial of the store's last version and that of another text's zone (RFC 1982, 3.2).
 fn by_serial(last: Serial, given: Serial) -> Choice
     ensures { result ≡ by_serial last.0 given }
 {

@@ -1,4 +1,4 @@
-//! Why there is no start.
+//! Why a store can't be recovered.
 ghost use Rattle.std.specs.Prelude.{◌≡◌};
 ghost use Rattle.store_recovery.specs.Private.{of_journal, of_text};
 
@@ -7,28 +7,28 @@ use journal::Refused;
 use master_file::{Cause, FileFault};
 use std::alloc::AllocError;
 
-/// Why an update of a journal isn't taken again.
+/// Why an update of a journal can't be applied again.
 #[derive(Clone, Copy, Debug, PartialEq, Eq)]
 pub enum UpdateFault {
-    /// Its octets are read as no update (RFC 2136, 2).
+    /// Its octets aren't read as an update (RFC 2136, 2).
     NotAnUpdate,
-    /// A rule gives it this code, or it passes a limit and gets SERVFAIL (RFC 2136, 3; own).
+    /// A rule refuses it with this code, or it passes a limit and gets SERVFAIL (RFC 2136, 3; own).
     Refused(Rcode),
-    /// It is taken and changes nothing: no journal has such a one.
+    /// It is accepted and changes nothing: no journal has such an update.
     ChangesNothing,
 }
 
-/// Why a zone text and a journal give no start. The first fault is told.
+/// Why a zone text and a journal can't be recovered. The first fault is reported.
 #[derive(Clone, Copy, Debug, PartialEq, Eq)]
 pub enum StartFault {
-    /// The journal is refused: its head is wrong, it is another text's, batches that were brought to the disk are damaged, or one of its batches
-    /// is none.
+    /// The journal is refused: its head is wrong, it belongs to another text, batches that were synced to the disk are damaged, or the body of a frame
+    /// is no batch.
     Journal(Refused),
-    /// The zone text is the one that the head names, and is no zone.
+    /// The zone text is the one that the head names, but it is no zone.
     Text(FileFault),
-    /// The zone has another serial than the head says.
+    /// The zone's serial isn't the one in the head.
     OtherSerial,
-    /// The update at this place of the journal, counted from 0 over all its batches, isn't taken in the zone that those before it leave.
+    /// The update at this place of the journal, counted from 0 over all its batches, can't be applied to the zone after those before it.
     Update(u64, UpdateFault),
     /// There is no memory.
     NoMemory,

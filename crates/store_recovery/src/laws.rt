@@ -1,4 +1,4 @@
-//! Laws of starts: each is the contract of a function that does nothing.
+//! Laws of recoveries: each is the contract of a function that does nothing.
 ghost use Rattle.std.specs.Prelude.{◌≡◌, ◌⊎◌, ◌+◌, ◌≤◌, [], ◌∷◌, ◌++◌, ℕ, List, length, take, drop};
 ghost use Rattle.dns_rdata.specs.Record.{Record};
 ghost use Rattle.dns_message.specs.declared.update.Update.{Update};
@@ -20,16 +20,16 @@ ghost use Rattle.store_recovery.specs.Rebased.{versions_in, rebased, changes_of}
 ghost use Rattle.store_recovery.specs.Start.{IsStarted, IsStartFault};
 ghost use Rattle.store_recovery.specs.Store.{IsStore};
 
-/// What an engine holds that has taken updates is the newest of the versions that it has published, of which the last has the zone with the
-/// updates replayed, and as its number how many they are (RFC 2136, 3).
+/// After updates an engine holds the newest of the versions that it has published; the last of them has the zone with the
+/// updates replayed, and its number is the number of updates (RFC 2136, 3).
 pub fn what_is_replayed_is_held()
     ensures newest { (zone : List Record) (updates : List Update) → EachChanges zone updates → IsNewest zone (held_from (begun zone) updates) }
     ensures zone { (zone : List Record) (updates : List Update) → (held_from (begun zone) updates).last.zone ≡ replay zone updates }
     ensures number { (zone : List Record) (updates : List Update) → (held_from (begun zone) updates).last.number ≡ length updates }
 {}
 
-/// What an engine holds that begins with a start's newest versions is the newest of all versions that an engine has published which took the
-/// updates: their zones are the same, and behind the oldest of them what they changed (RFC 1995, 4).
+/// An engine that begins with a recovery's newest versions holds the newest of all versions that an engine has published which applied the
+/// updates: their zones are the same, and so are the changes of all but the oldest of them (RFC 1995, 4).
 pub fn what_is_resumed_is_held()
     ensures zones { (zone : List Record) (messages : List (List ℕ)) (kept : RecentVersions) (first : Version) (later : List Version) (keep : ℕ) (is : IsReplayed zone messages kept)
         → keep ≤ KEPT → first ∷ later ≡ rebased (versions_in kept)
@@ -39,7 +39,7 @@ pub fn what_is_resumed_is_held()
         → drop 1 (changes_of (all_held (held_through (held_alone (first ∷ []) first keep) later))) ≡ drop 1 (newest (keep + 1) (changes_of (held_from (begun zone) is.updates).published)) }
 {}
 
-/// A store gives a start, with all of its updates, and is refused for want of memory alone.
+/// A store is recovered with all of its updates, and is refused only for lack of memory.
 pub fn what_is_accepted_is_recovered()
     ensures taken { (text : List ℕ) (head : Head) (batches : List (List (List ℕ))) (zone : List Record) (updates : List Update) (start : Recovery)
         → IsStore text head batches zone updates → IsStarted text (journal_of head batches) start
@@ -48,7 +48,7 @@ pub fn what_is_accepted_is_recovered()
         → IsStore text head batches zone updates → IsStartFault text (journal_of head batches) fault → fault ≡ NoMemory }
 {}
 
-/// Whatever octets stand behind a store's journal, a start has all of the store's updates first. It rests on no property of the sum.
+/// Whatever octets are after a store's journal, a recovery has all of the store's updates first. It assumes nothing of the checksum.
 pub fn what_was_synced_is_replayed_first()
     ensures { (text left : List ℕ) (head : Head) (batches : List (List (List ℕ))) (zone : List Record) (updates : List Update) (start : Recovery)
         → IsStore text head batches zone updates → IsStarted text (journal_of head batches ++ left) start
@@ -56,8 +56,8 @@ pub fn what_was_synced_is_replayed_first()
         × (start.newest.last.number ≡ length (updates ++ more)) }
 {}
 
-/// Wherever a store's journal is cut behind batches that were brought to the disk, a start has a beginning of its updates, with those of these
-/// batches; and it is refused for want of memory alone, or since a piece of a batch looks like a later frame.
+/// Wherever a store's journal is cut after batches that were synced to the disk, a recovery has the first of its updates, and at least those of these
+/// batches; and it is refused only for lack of memory, or because a piece of a batch looks like a later frame.
 pub fn each_cut_is_a_replay()
     ensures taken { (text : List ℕ) (head : Head) (synced later : List (List (List ℕ))) (zone : List Record) (updates : List Update) (n : ℕ) (start : Recovery)
         → IsStore text head (synced ++ later) zone updates → IsStarted text (take (length (journal_of head synced) + n) (journal_of head (synced ++ later))) start
@@ -67,7 +67,7 @@ pub fn each_cut_is_a_replay()
         → (fault ≡ NoMemory) ⊎ ((at : ℕ) × (fault ≡ Journal (Damaged at))) }
 {}
 
-/// In front of damage a start has what stands there. Of a journal that isn't damaged it is what a start has; damage is never told; and whatever octets stand behind
+/// Before damage a recovery has what is there. Of a journal that isn't damaged it has what `recover_zone` gives; damage is never reported; and whatever octets are after
 /// a store's journal, all of the store's updates come first.
 pub fn damage_takes_nothing_in_front()
     ensures same { (text octets : List ℕ) (start before : Recovery) → IsStarted text octets start → IsStartedBefore text octets before

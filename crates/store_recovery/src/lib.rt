@@ -1,13 +1,13 @@
-//! What the octets of a store mean, and which zone is served at a start (RFC 2136, 3; own). No file is here, and nothing is written.
+//! What the octets of a store mean, and which zone is served at a start (RFC 2136, 3; own). This crate opens no file, and writes nothing.
 //!
 //! A store is a zone text and a journal of the updates since. [`recover_zone`] reads both, and applies the journal's updates one after another by the call that applied them first. A
-//! [`Recovery`] has what an engine had just then: the newest versions, each with what it changed. All updates are applied or none: an update that isn't is named with its place
+//! [`Recovery`] has what an engine had after them: the newest versions, each with its changes. All updates are applied or none: one that can't be applied is reported with its place
 //! ([`StartFault`]). What a crash may leave after the last batch is an [`Ending`]. [`start_of`] takes a journal that has been read. Where batches that were on the disk are damaged,
-//! [`recover_before`] has what stands before them.
+//! [`recover_before`] gives what is before them.
 //!
-//! [`begin_store`] makes a store of a zone, with no update yet; made of a version of a store, and with the batches after it, it is a store of the same versions
-//! ([`compacted_is_the_same`]), whichever step of the way is the last one that the disk has ([`each_step_keeps_the_meaning`], [`what_a_folder_means_is_started`]). [`choose`] says which is
-//! served at a start, the store or the zone text that the operator names.
+//! [`begin_store`] makes a store of a zone, with no update yet. Made of a version of a store, and with the batches after it, it is a store of the same versions
+//! ([`compacted_is_the_same`]), whichever step of a compaction is the last one that is on the disk ([`each_step_keeps_the_meaning`], [`what_a_folder_means_is_started`]). [`choose`] decides
+//! which is served at a start, the store or the zone text that the operator names.
 #![tactic(auto)]
 
 mod before;

@@ -11,7 +11,7 @@ use zone_tree::Version;
 
 impl RecentVersions {
     /// These versions as a cell begins with them: the oldest as the first version of its zone, and the others, which may be published one after
-    /// another behind it, each with what it changed and with numbers from 1 on. It takes no memory.
+    /// another after it, each with its changes and with numbers from 1 on. It allocates no memory.
     pub fn rebased(self) -> (Version, Vec<Version>)
         ensures same { result.0 ∷ result.1.items ≡ rebased (versions_in self) }
         ensures made { (zone : List Record) (messages : List (List ℕ)) → IsReplayed zone messages self → IsFirst result.0.zone result.0 × AreNext result.0 result.1.items }
@@ -22,7 +22,7 @@ impl RecentVersions {
     }
 }
 
-/// The oldest of versions, and those behind it.
+/// The oldest of versions, and those after it.
 fn oldest_first(newest: RecentVersions) -> (Version, Vec<Version>)
     ensures all { result.0 ∷ result.1.items ≡ versions_in newest }
     ensures few { length result.1.items ≤ KEPT }
@@ -36,7 +36,7 @@ fn oldest_first(newest: RecentVersions) -> (Version, Vec<Version>)
     (oldest, older)
 }
 
-/// Gives versions numbers from 1 on, in their order.
+/// Numbers versions from 1 on, in their order.
 fn number_all(later: &mut Vec<Version>)
     requires { length later.old.items ≤ KEPT }
     ensures { later.new.items ≡ numbered_from 1 later.old.items }

@@ -7,18 +7,18 @@ use std::mem;
 use transfer_core::KEPT;
 use zone_tree::{Version, Zone};
 
-/// The newest versions of a zone, each with what it changed of the one before it (RFC 1995, 4).
+/// The newest versions of a zone, each with its changes since the one before it (RFC 1995, 4).
 #[derive(Drop)]
 pub struct RecentVersions {
-    /// The last one.
+    /// The last version.
     pub last: Version,
-    /// Those before it that are kept, at most [`KEPT`], the oldest first.
+    /// The versions before it that are kept, at most [`KEPT`], the oldest first.
     pub older: Vec<Version>,
     ghost few: { length older.items ≤ KEPT },
 }
 
 impl RecentVersions {
-    /// The first version of a zone alone. It takes no memory.
+    /// The first version of a zone alone. It allocates no memory.
     pub(crate) fn of(alloc: Global, zone: Zone) -> RecentVersions
         ensures last { result.last ≡ record { number = 0; zone = zone; changes = None } }
         ensures older { result.older.items ≡ [] }
@@ -29,7 +29,7 @@ impl RecentVersions {
         }
     }
 
-    /// Puts a version behind the last one, which is kept with the newest before it.
+    /// Adds a version after the last one, which is kept with the newest before it.
     pub(crate) fn push(&mut self, next: Version) -> Result<(), AllocError>
         ensures last { OnOk result (self.new.last ≡ next) }
         ensures older { OnOk result (self.new.older.items ≡ newest KEPT (self.old.older.items ++ self.old.last ∷ [])) }
@@ -41,7 +41,7 @@ impl RecentVersions {
     }
 }
 
-/// Lets the oldest of versions go where there are [`KEPT`].
+/// Removes the oldest of versions where there are [`KEPT`].
 fn make_room(older: &mut Vec<Version>)
     requires { length older.old.items ≤ KEPT }
     ensures { older.new.items ≡ newest (KEPT - 1) older.old.items }

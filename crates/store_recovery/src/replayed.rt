@@ -1,4 +1,4 @@
-//! A journal's updates taken again, one after another (RFC 2136, 3).
+//! Applying a journal's updates again, one after another (RFC 2136, 3).
 ghost use Rattle.std.specs.Prelude.{◌≡◌, ◌+◌, ◌<◌, ◌^◌, map, IfOk, IfErr, MatchOption, MatchResult};
 ghost use Rattle.dns_message.specs.declared.update.Update.{Update as DynamicUpdate};
 ghost use Rattle.store_recovery.specs.Replay.{IsRead, IsMade, IsUpdateFault, IsReplayed, IsReplayFault};
@@ -10,7 +10,7 @@ use std::alloc::{AllocError, Global};
 use update_core::{Outcome, apply};
 use zone_tree::{Version, Zone};
 
-/// The update that octets are read as; None where they are none (RFC 2136, 2).
+/// The update that octets are read as; None where they aren't an update (RFC 2136, 2).
 fn read_update(alloc: Global, octets: &[u8]) -> Result<Option<Update>, AllocError>
     ensures { IfOk result (λ found. MatchOption found ((update : DynamicUpdate) → IsRead octets.now update → ⊥) (λ update. IsRead octets.now update)) }
 {
@@ -23,7 +23,7 @@ fn read_update(alloc: Global, octets: &[u8]) -> Result<Option<Update>, AllocErro
     }
 }
 
-/// The version that a message makes behind another, by a peer that may update; or why it makes none (RFC 2136, 3).
+/// The version that a message from a peer that may update makes after another; or why it makes none (RFC 2136, 3).
 fn next_version(
     alloc: Global,
     version: &Version,

@@ -1,4 +1,4 @@
-//! A start (own).
+//! Recovery of a zone from a zone text and a journal (own).
 ghost use Rattle.std.specs.Prelude.{◌≡◌, map, IfOk, IfErr};
 ghost use Rattle.journal.specs.Head.{salt_of};
 ghost use Rattle.journal.specs.Recovered.{IsRecovered};
@@ -13,37 +13,37 @@ use journal::{Head, Recovered, SUM, recover};
 use master_file::read_zone;
 use std::alloc::Global;
 
-/// What stands behind the last whole batch of a journal.
+/// What is after the last whole batch of a journal.
 #[derive(Clone, Copy, Debug, PartialEq, Eq)]
 pub enum Ending {
     /// Nothing.
     Clean,
-    /// Only zeros: room that was made ahead, or what a crash has lost.
+    /// Only zeros: room that was allocated ahead, or pages that a crash lost.
     Blank,
-    /// Octets from this one on that are no frame: what a crash leaves of the last batch, or damage in it. No rule over the octets tells these
-    /// apart.
+    /// Octets from this position on that are no frame: what a crash leaves of the last batch, or damage in it. The octets don't show which of
+    /// the two.
     Torn(usize),
 }
 
-/// What a start has of a zone text and a journal.
+/// What is recovered from a zone text and a journal.
 #[derive(Drop)]
 pub struct Recovery {
-    /// What the journal says of itself.
+    /// The journal's head.
     pub head: Head,
     /// The salt of its frames.
     pub salt: [u8; SUM],
-    /// How many batches it has: the number of the next frame.
+    /// The number of batches, which is the number of the next frame.
     pub number: u64,
-    /// Where the last batch ends: how many octets of the journal are read.
+    /// The position after the last batch: how many octets of the journal are read.
     pub end: usize,
-    /// What stands behind it.
+    /// What is after it.
     pub ending: Ending,
-    /// The newest versions of the zone, the last one of which is served.
+    /// The newest versions of the zone; the last one is served.
     pub newest: RecentVersions,
 }
 
-/// The zone of a zone text with all updates of its journal, of which each is taken as it was when it was sent; and what stands behind them. It
-/// takes memory.
+/// The zone of a zone text with all updates of its journal, each applied as it was when it was received; and what is after them. It
+/// allocates memory.
 pub fn recover_zone(alloc: Global, text: &[u8], journal: &[u8]) -> Result<Recovery, StartFault>
     ensures started { IfOk result (λ start. IsStarted text.now journal.now start) }
     ensures refused { IfErr result (λ fault. IsStartFault text.now journal.now fault) }
@@ -52,7 +52,7 @@ pub fn recover_zone(alloc: Global, text: &[u8], journal: &[u8]) -> Result<Recove
     start_of(alloc, text, journal, &found)
 }
 
-/// The start of a zone text and its journal, of which this is what was recovered: the journal isn't read again. It takes memory.
+/// The recovery from a zone text and a journal that was read as `found`; the journal isn't read again. It allocates memory.
 pub fn start_of(
     alloc: Global,
     text: &[u8],
@@ -80,7 +80,7 @@ pub fn start_of(
     })
 }
 
-/// What stands behind so many octets of so many, if it is torn, or isn't.
+/// What is after the first `end` octets of `len`, if it is torn, or isn't.
 fn ending_of(torn: bool, end: usize, len: usize) -> Ending
     ensures { result ≡ ending_of torn end len }
 {

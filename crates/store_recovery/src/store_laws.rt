@@ -24,7 +24,7 @@ ghost use Rattle.store_recovery.specs.Behind.{AreBehind, batches_behind};
 ghost use Rattle.store_recovery.specs.Choice.{HasNoOtherApex, HasOtherApex, IsChoice, IsChoiceFault};
 ghost use Rattle.store_recovery.specs.Folder.{Folder, Means, HasPair, with_text, without_text, with_journal};
 
-/// A start has one choice at most; and where it has one, want of memory is the only fault.
+/// A start has at most one choice; and where it has one, lack of memory is the only fault.
 pub fn one_choice()
     ensures once { (begun : TextSum) (last : List Record) (origin : Name) (text : List ℕ) (taken : Option Take) (choice other : Choice)
         → IsChoice begun last origin text taken choice → IsChoice begun last origin text taken other → choice ≡ other }
@@ -32,8 +32,8 @@ pub fn one_choice()
         → IsChoice begun last origin text taken choice → IsChoiceFault begun origin text taken fault → fault ≡ no_memory }
 {}
 
-/// Where the zone text is the one that the store was begun from, the store is served, whatever is taken: so at the start behind one at which the zone text was taken. But
-/// where names of the text are relative to another origin, so that its zone has another apex, that is refused; and want of memory is the only fault.
+/// Where the zone text is the one that the store was created from, the store is served, whatever is chosen: so at the start after one at which the zone text was chosen. But
+/// where names of the text are relative to another origin, so that its zone has another apex, it is refused; and lack of memory is the only fault.
 pub fn begun_from_is_served()
     ensures same { (begun : TextSum) (last : List Record) (origin : Name) (text : List ℕ) (taken : Option Take) (choice : Choice)
         → IsText begun text → HasNoOtherApex last origin text → IsChoice begun last origin text taken choice → choice ≡ Same }
@@ -41,14 +41,14 @@ pub fn begun_from_is_served()
         → IsText begun text → IsChoiceFault begun origin text taken fault → fault ≡ no_memory }
 {}
 
-/// A zone text of another apex than the store's is refused, whichever text the store was begun from, and whatever is taken.
+/// A zone text of another apex than the store's is refused, whichever text the store was created from, and whatever is chosen.
 pub fn other_apex_is_refused()
     ensures { (begun : TextSum) (last : List Record) (origin : Name) (text : List ℕ) (taken : Option Take) (apex : Name) (choice : Choice)
         → HasOtherApex last origin text apex → IsChoice begun last origin text taken choice → choice ≡ RefuseOtherApex apex }
 {}
 
-/// A store that is begun of the version behind the first updates of another, with the batches behind them, is a store of the versions from there on: each is the same
-/// zone. A start of it has the zone that a start of the other has, with as many updates fewer. What is left of a store's batches fits a journal of its own.
+/// A store that is made of the version after the first updates of another, with the batches after them, is a store of the versions from there on: each is the same
+/// zone. Its recovery has the same zone as that of the other, with as many updates fewer. What is left of a store's batches fits a journal of its own.
 pub fn compacted_is_the_same()
     ensures store { (text written : List ℕ) (head next : Head) (batches rest : List (List (List ℕ))) (zone : List Record) (updates : List Update) (k : ℕ)
         → IsStore text head batches zone updates → IsStore written next [] (replay zone (take k updates)) [] → AreBehind k batches rest
@@ -63,8 +63,8 @@ pub fn compacted_is_the_same()
     ensures behind { (batches : List (List (List ℕ))) (k : ℕ) → All (All IsShort) batches → Fit 0 (map batch_of batches) → AreBehind k batches (batches_behind k batches) }
 {}
 
-/// A start of a folder that means a store, of its journal and the zone text that the journal's head names, has the store's last version; and it is refused for want of
-/// memory alone.
+/// A recovery of a directory that means a store, from its journal and the zone text that the journal's head names, has the store's last version; and it is refused only for
+/// lack of memory.
 pub fn what_a_folder_means_is_started()
     ensures taken { (folder : Folder) (head : Head) (batches : List (List (List ℕ))) (zone : List Record) (updates : List Update) (octets text : List ℕ) (start : Recovery)
         → Means folder head batches zone updates → HasPair folder octets text → IsStarted text octets start
@@ -73,9 +73,9 @@ pub fn what_a_folder_means_is_started()
         → Means folder head batches zone updates → HasPair folder octets text → IsStartFault text octets fault → fault ≡ NoMemory }
 {}
 
-/// A folder means one store at most. Each step of a compaction leaves it a meaning: the next zone text is written, and the store is the one that it was; a journal that
-/// names that text is renamed over the one before, and the store is that of the later version, with the batches behind it; and a text that the journal doesn't name
-/// goes. So whatever a crash leaves between two steps, the versions are the same ([`compacted_is_the_same`]).
+/// A directory means at most one store. Each step of a compaction leaves it a meaning: when the next zone text is written, the store is the same as before; when a journal
+/// that names that text is renamed over the one before, the store is that of the later version, with the batches after it; and when a text that the journal doesn't name is
+/// removed, the store stays the same. So whatever a crash leaves between two steps, the versions are the same ([`compacted_is_the_same`]).
 pub fn each_step_keeps_the_meaning()
     ensures once { (folder : Folder) (head other : Head) (batches others : List (List (List ℕ))) (zone other_zone : List Record) (updates other_updates : List Update)
         → Means folder head batches zone updates → Means folder other others other_zone other_updates
