@@ -6,11 +6,11 @@ use Rattle.peer_groups.specs.declared.group.PeerGroup.{PeerGroup}
 use Rattle.peer_groups.specs.declared.group.PeerGroup.TheVariants.{V4, V6}
 use Rattle.peer_groups.specs.declared.group.Groups.{Groups}
 
--- an address's group: its number in IPv4, its first 64 bits in IPv6
+-- an address's group: the number of an IPv4 address, the first 64 bits of an IPv6 address
 abbrev pub IsOwnGroup : IpAddr → PeerGroup → Type 0
 IsOwnGroup address group = MatchIp address (λ ip. group ≡ V4 (ipv4_bits ip)) (λ ip. group ≡ V6 (ipv6_bits ip / 2 ^ 64))
 
--- the same, where an IPv4-mapped address of IPv6 stands for that of IPv4 (RFC 4291, 2.5.5.2)
+-- the same, where an IPv4-mapped IPv6 address stands for its IPv4 address (RFC 4291, 2.5.5.2)
 abbrev pub IsGroupOf : IpAddr → PeerGroup → Type 0
 IsGroupOf address group = (own : IpAddr) × MatchIp address (λ _. own ≡ address) (λ ip. IsCanonicalOf ip own) × IsOwnGroup own group
 
@@ -21,11 +21,11 @@ is_same (V6 a) (V6 b) = a == b
 is_same (V4 a) (V6 b) = false
 is_same (V6 a) (V4 b) = false
 
--- whether a group is there, and is this one
+-- whether there is a group, and it is this one
 abbrev pub is_group : PeerGroup → Option PeerGroup → Bool
 is_group group None = false
 is_group group (Some own) = is_same own group
 
--- whether a group is one of three at most
+-- whether a group is one of at most three
 abbrev pub has_group : Groups → PeerGroup → Bool
 has_group groups group = is_group group groups.first || (is_group group groups.second || is_group group groups.third)

@@ -1,10 +1,10 @@
--- Groups of which there are more than a quarter (own).
+-- Groups that make up more than a quarter of what was added (own).
 use Rattle.std.specs.Prelude.{◌≡◌, ℕ, ◌+◌, ◌*◌, ◌≤◌, Bool, true, false, cond}
 use Rattle.peer_groups.specs.Group.{is_same, is_group}
 use Rattle.peer_groups.specs.declared.group.PeerGroup.{PeerGroup}
 use Rattle.peer_groups.specs.declared.survey.Survey.{Survey}
 
--- the number beside a group among three candidates; 0 where it is none of them
+-- the number of a group among three candidates; 0 if it is none of them
 abbrev pub picked : Bool → Bool → Bool → ℕ → ℕ → ℕ → ℕ
 picked first second third a b c = cond first a (cond second b (cond third c 0))
 
@@ -12,7 +12,8 @@ abbrev pub number_of : Survey → PeerGroup → ℕ
 number_of survey group =
     picked (is_group group survey.first.group) (is_group group survey.second.group) (is_group group survey.third.group) survey.first.number survey.second.number survey.third.number
 
--- so many groups were told in all, and so many of each: so many rounds of four different ones are struck out, and of each group at most one in each round
+-- so many groups were added in all, and so many of each: so many rounds of four different ones are struck out, and of each group at most
+-- one in each round
 pub record IsSurvey (total : ℕ) (count : PeerGroup → ℕ) (survey : Survey) : Type 0 where
   pub rounds : ℕ
   pub left : survey.first.number + survey.second.number + survey.third.number + 4 * rounds ≤ total

@@ -4,17 +4,17 @@ ghost use Rattle.peer_groups.specs.Group.{IsGroupOf, is_same, is_group, has_grou
 
 use std::net::IpAddr;
 
-/// Peers that count as one: those at an address of IPv4, or at addresses of IPv6 whose first 64 bits are the same (own).
+/// Peers that count as one: those at an IPv4 address, or at IPv6 addresses whose first 64 bits are the same (own).
 #[derive(Clone, Copy, Debug)]
 pub enum PeerGroup {
-    /// The number of an address of IPv4.
+    /// The number of an IPv4 address.
     V4(u32),
-    /// The first 64 bits of an address of IPv6.
+    /// The first 64 bits of an IPv6 address.
     V6(u64),
 }
 
 impl PeerGroup {
-    /// The group of the peers at an address. An IPv4-mapped one of IPv6 stands for that of IPv4 (RFC 4291, 2.5.5.2).
+    /// The group of the peers at an address. An IPv4-mapped IPv6 address stands for its IPv4 address (RFC 4291, 2.5.5.2).
     pub fn of(address: IpAddr) -> PeerGroup
         ensures { IsGroupOf address result }
     {
@@ -47,7 +47,7 @@ pub(crate) fn is_group(found: Option<PeerGroup>, group: PeerGroup) -> bool
     }
 }
 
-/// Three groups at most.
+/// At most three groups.
 #[derive(Clone, Copy, Debug)]
 pub struct Groups {
     /// One of them.
@@ -59,7 +59,7 @@ pub struct Groups {
 }
 
 impl Groups {
-    /// One group alone.
+    /// A single group.
     pub fn one(group: PeerGroup) -> Groups
         ensures { (other : PeerGroup) → has_group result other ≡ is_same group other }
     {

@@ -1,7 +1,7 @@
-//! The groups of peers that count as one where places are scarce (own).
+//! The groups of peers that count as one when places are scarce (own).
 //!
-//! A [`PeerGroup`] is an address of IPv4, or the 64 bits in front of one of IPv6. A [`Survey`] of groups, one after another, finds those of which
-//! there are more than a quarter: there are three at most.
+//! A [`PeerGroup`] is an IPv4 address, or the first 64 bits of an IPv6 address. A [`Survey`], which groups are added to one after another,
+//! finds those that make up more than a quarter of what was added: there are at most three.
 #![tactic(auto)]
 
 mod group;

@@ -1,4 +1,4 @@
-//! The groups of which there are most.
+//! The most frequent groups.
 ghost use Rattle.std.specs.Prelude.{◌≡◌, ◌<◌, ◌+◌, ◌-◌, ◌*◌, ◌^◌, ℕ, None, Some, true};
 ghost use Rattle.peer_groups.specs.Group.{has_group};
 ghost use Rattle.peer_groups.specs.Survey.{IsSurvey, with_one};
@@ -24,7 +24,7 @@ impl Candidate {
         }
     }
 
-    /// One of a group.
+    /// A single one of a group.
     fn one(group: PeerGroup) -> Candidate
         ensures group { result.group ≡ Some group }
         ensures number { result.number ≡ 1 }
@@ -36,9 +36,9 @@ impl Candidate {
     }
 }
 
-/// Groups that were told one after another: those of which there are more than a quarter are among three candidates. One that is told is struck out
-/// against one of each candidate where it is none of them and all three still have some, so that four different ones go at once (J. Misra and
-/// D. Gries, "Finding repeated elements", 1982).
+/// A survey of groups that are added one after another: those that make up more than a quarter are among three candidates. A group that is
+/// added and is none of the candidates, while all three have a number above 0, is struck out against one of each candidate, so that four
+/// different ones go at once (J. Misra and D. Gries, "Finding repeated elements", 1982).
 #[derive(Clone, Copy, Debug)]
 pub struct Survey {
     first: Candidate,
@@ -47,7 +47,7 @@ pub struct Survey {
 }
 
 impl Survey {
-    /// Nothing is told.
+    /// Nothing is added yet.
     pub fn new() -> Survey
         ensures { IsSurvey 0 (λ _. 0) result }
     {
@@ -58,7 +58,7 @@ impl Survey {
         }
     }
 
-    /// One more of a group is told.
+    /// Adds one of a group.
     pub fn add(&mut self, group: PeerGroup)
         ensures { (total : ℕ) → (count : PeerGroup → ℕ) → total < 2 ^ 64 - 1 → IsSurvey total count self.old → IsSurvey (total + 1) (with_one group count) self.new }
     {
@@ -81,7 +81,7 @@ impl Survey {
         }
     }
 
-    /// The candidates: each group is one of them of which more than a quarter was told.
+    /// The candidates: each group that makes up more than a quarter of what was added is one of them.
     pub fn candidates(&self) -> Groups
         ensures { (total : ℕ) → (count : PeerGroup → ℕ) → IsSurvey total count self.now → (group : PeerGroup) → total < 4 * count group → has_group result group ≡ true }
     {

@@ -1,4 +1,4 @@
--- What is sent by datagrams: the reply to each that was received, to who sent it, in their order (RFC 1035, 4.2.1).
+-- What is sent as datagrams: the reply to each that was received, to its sender, in their order (RFC 1035, 4.2.1).
 use Rattle.std.specs.Prelude.{◌≡◌, ℕ, ◌+◌, ◌<◌, List, [], ◌∷◌, ◌++◌, length, Option, None, Some}
 use Rattle.std.specs.declared.net.ip_addr.IpAddr.{IpAddr}
 use Rattle.std.specs.declared.net.socket_addr.SocketAddr.{SocketAddr}
@@ -10,9 +10,9 @@ use Rattle.requests.specs.Served.{Learned, Grows}
 use Rattle.requests.specs.declared.udp.DatagramsEnd.{DatagramsEnd}
 use Rattle.requests.specs.declared.udp.DatagramsEnd.TheVariants.{Done, Device, Spent}
 
--- what a reply is, by who asks, by what is known before it and when it is made, the request, and the reply's messages
+-- what a reply is, by the peer, by what is known before it and when it is made, the request, and the reply's messages
 module _ {T : Type 0} (IsReply : Peer → Learned T → Learned T → List ℕ → List (List ℕ) → Type 0) where
-  -- a request's reply goes to who asked, by what is known then; how many of its messages failed to be sent is counted
+  -- a request's reply goes to its sender, by what is known then; how many of its messages failed to be sent is counted
   pub record RepliesTo (peer : Peer) (seen : Learned T) (request : List ℕ) (from : SocketAddr) (later : Learned T) (old : Option (List Datagram × List Datagram)) (faults : ℕ) (new : Option (List Datagram × List Datagram)) (more : ℕ) : Type 0 where
     pub messages : List (List ℕ)
     pub reply : IsReply peer seen later request messages
@@ -24,15 +24,15 @@ module _ {T : Type 0} (IsReply : Peer → Learned T → Learned T → List ℕ �
 
 -- the same, and the addresses that may update and transfer
 module _ {T : Type 0} (IsReply : Peer → Learned T → Learned T → List ℕ → List (List ℕ) → Type 0) (addresses : List IpAddr) where
-  -- datagrams that were received, those that were sent, how many failed to be, and what is known then: each that was
-  -- received has its reply, which goes to who sent it, as a peer by its address; and nothing that was known before is forgotten
+  -- datagrams that were received, those that were sent, how many failed to be sent, and what is known then: each received datagram has its
+  -- reply, which goes to its sender, a peer by its address; and nothing that was known before is forgotten
   pub data Exchanges (start : Learned T) : List Datagram → List Datagram → ℕ → Learned T → Type 0 where
     none : Exchanges start [] [] 0 start
     next : {received more sent longer datagrams : List Datagram} {faults failed all : ℕ} {seen before later : Learned T} {from : SocketAddr} {peer : Peer} {request : List ℕ} {messages : List (List ℕ)} → Exchanges start received sent faults seen
         → Grows before seen → Grows later before → IsPeer addresses Udp from peer → IsReply peer before later request messages → AreSent from messages datagrams failed
         → more ≡ received ++ (request, from) ∷ [] → longer ≡ sent ++ datagrams → all ≡ faults + failed → Exchanges start more longer all later
 
-  -- from one state of the datagrams to another so many that were received have been answered
+  -- between two states of the datagrams, so many that were received have been answered
   pub record Exchanged (start : Learned T) (old : List Datagram × List Datagram) (faults done : ℕ) (seen : Learned T) (new : List Datagram × List Datagram) (more : ℕ) : Type 0 where
     pub received : List Datagram
     pub datagrams : List Datagram
@@ -63,7 +63,7 @@ module _ {T : Type 0} (IsReply : Peer → Learned T → Learned T → List ℕ �
     pub output : new.1 ≡ old.1 ++ datagrams
     pub counted : more ≡ count_of faults failed
 
-  -- how a turn goes: it is made; or no datagram is received, which is counted; or one is received and gets no reply, since no version can
+  -- how a turn ends: it is made; or no datagram is received, which is counted; or one is received and gets no reply, since no version can
   -- be loaded
   abbrev pub TurnsBy : Option DatagramsEnd → Learned T → List Datagram × List Datagram → ℕ → Learned T → Option (List Datagram × List Datagram) → ℕ → Type 0
   TurnsBy None seen old faults later new more = (next : List Datagram × List Datagram) × (new ≡ Some next) × TurnMade seen old faults later next more
@@ -71,8 +71,8 @@ module _ {T : Type 0} (IsReply : Peer → Learned T → Learned T → List ℕ �
   TurnsBy (Some Device) seen old faults later new more = (new ≡ Some old) × (later ≡ seen) × (more ≡ count_of faults 1)
   TurnsBy (Some Spent) seen old faults later new more = Grows later seen × (datagram : Datagram) × Receives (Some old) new datagram × (more ≡ faults)
 
-  -- how the answering ends: as many are answered as may be; or fewer, where the next one fails to be received, which is counted; or fewer,
-  -- and the next one is received and gets no reply, since no version can be loaded
+  -- how the answering ends: as many are answered as were asked for; or fewer, since the next one fails to be received, which is counted; or
+  -- fewer, since the next one is received and gets no reply, because no version can be loaded
   abbrev pub EndsBy : DatagramsEnd → Learned T → List Datagram × List Datagram → ℕ → ℕ → Learned T → Option (List Datagram × List Datagram) → ℕ → Type 0
   EndsBy Done start old faults most seen new more = (m : List Datagram × List Datagram) × (new ≡ Some m) × Exchanged start old faults most seen m more
   EndsBy Device start old faults most seen new more = (m : List Datagram × List Datagram) × (done before : ℕ) × (new ≡ Some m) × (done < most) × Exchanged start old faults done seen m before × (more ≡ count_of before 1)

@@ -12,8 +12,8 @@ BeginsWith {T} longer shorter = (more : List T) × (longer ≡ shorter ++ more)
 abbrev pub EndsWith : {T : Type 0} → List T → List T → Type 0
 EndsWith {T} longer shorter = (more : List T) × (longer ≡ more ++ shorter)
 
--- what is known of values that are published one after another and are buried later: those that are published, the first one first, and the numbers of those
--- that are buried, the last one to be known first (own)
+-- what is known of values that are published one after another and buried later: those that are published, the first one first, and the
+-- numbers of those that are buried, the last known one first (own)
 pub record Learned (T : Type 0) : Type 0 where
   pub published : List T
   pub buried : List ℕ
@@ -31,7 +31,7 @@ module _ {T : Type 0} (IsReply : Learned T → Learned T → List ℕ → List (
     next : {requests more : List (List ℕ)} {octets longer : List ℕ} {seen before later : Learned T} {request : List ℕ} {messages : List (List ℕ)} → Answers start requests octets seen
         → Grows before seen → Grows later before → IsReply before later request messages → more ≡ requests ++ request ∷ [] → longer ≡ octets ++ frames_of messages → Answers start more longer later
 
-  -- from one state of a stream to another all the frames that were read have been answered
+  -- between two states of a stream, all frames that were read have been answered
   pub record Served (start : Learned T) (old : List ℕ × List ℕ) (seen : Learned T) (new : List ℕ × List ℕ) : Type 0 where
     pub requests : List (List ℕ)
     pub octets : List ℕ
@@ -41,7 +41,7 @@ module _ {T : Type 0} (IsReply : Learned T → Learned T → List ℕ → List (
     pub input : old.0 ≡ frames_of requests ++ new.0
     pub output : new.1 ≡ old.1 ++ octets
 
-  -- a beginning of what such an answering writes has been written
+  -- a prefix of what such an answering writes has been written
   pub record PartlyServed (start : Learned T) (old : List ℕ × List ℕ) (seen : Learned T) (new : Option (List ℕ × List ℕ)) : Type 0 where
     pub left : List ℕ
     pub front : List ℕ
@@ -51,8 +51,8 @@ module _ {T : Type 0} (IsReply : Learned T → Learned T → List ℕ → List (
     pub written : whole.1 ≡ (old.1 ++ front) ++ back
     pub now : new ≡ Some (left, old.1 ++ front)
 
-  -- how a stream ends: with all its frames answered, nothing or a torn frame behind them, and nothing left to be read; else with a beginning
-  -- of the replies written
+  -- how a stream ends: with all its frames answered, nothing or a torn frame after them, and nothing left to be read; otherwise with a
+  -- prefix of the replies written
   abbrev pub EndsAs : StreamEnd → Learned T → List ℕ × List ℕ → Learned T → Option (List ℕ × List ℕ) → Type 0
   EndsAs Clean start old seen new = (written : List ℕ) × (new ≡ Some ([], written)) × Served start old seen ([], written)
   EndsAs Torn start old seen new = (torn written : List ℕ) × (new ≡ Some ([], written)) × IsTorn torn × Served start old seen (torn, written)

@@ -5,10 +5,10 @@ ghost use Rattle.requests.specs.Allowed.{AreOne, IsAllowed, IsPeer};
 use serve_core::{Peer, Transport};
 use std::net::{IpAddr, Ipv4Addr, SocketAddr};
 
-/// The addresses whose peers may update the zone and have it sent (RFC 2136, 3.3; RFC 5936, 5).
+/// The addresses from which clients may update the zone and transfer it (RFC 2136, 3.3; RFC 5936, 5).
 #[derive(Clone, Copy)]
 pub struct Allowed<'a> {
-    /// The addresses; one of IPv4 also stands for its form in IPv6 (RFC 4291, 2.5.5.2).
+    /// The addresses. An IPv4 address also covers its IPv4-mapped IPv6 address (RFC 4291, 2.5.5.2).
     pub addresses: &'a [IpAddr],
 }
 
@@ -20,8 +20,7 @@ impl<'a> Allowed<'a> {
         Allowed { addresses }
     }
 
-    /// The peer at an address, over a transport. It may update and transfer where the addresses have its own, from
-    /// whichever port it asks.
+    /// The peer at an address, over a transport. It may update and transfer if its address is one of these, from any port.
     pub fn peer(self, from: SocketAddr, transport: Transport) -> Peer
         ensures { IsPeer self.entry.addresses.now transport from result }
     {
@@ -34,14 +33,14 @@ impl<'a> Allowed<'a> {
     }
 }
 
-/// Whether addresses have an address.
+/// Whether a list of addresses has an address.
 fn has_address(addresses: &[IpAddr], address: IpAddr) -> bool
     ensures { IsTrue result ↔ IsAllowed addresses.now address }
 {
     addresses.iter().any(|allowed| is_one(*allowed, address))
 }
 
-/// Whether two addresses stand for one.
+/// Whether two addresses are the same one, where an IPv4-mapped IPv6 address counts as its IPv4 address.
 fn is_one(a: IpAddr, b: IpAddr) -> bool
     ensures { IsTrue result ↔ AreOne a b }
 {
@@ -51,7 +50,7 @@ fn is_one(a: IpAddr, b: IpAddr) -> bool
     }
 }
 
-/// Whether two addresses of IPv4 are the same, by the numbers that their octets make.
+/// Whether two IPv4 addresses are the same, by the numbers that their octets make.
 fn is_same(a: Ipv4Addr, b: Ipv4Addr) -> bool
     ensures { IsTrue result ↔ (a ≡ b) }
 {

@@ -5,19 +5,19 @@ ghost use Rattle.requests.specs.Octets.{Gives, Takes, IsAtEnd};
 
 use std::io;
 
-/// A stream of octets in both directions. One that lies in memory may tell its octets, which contracts then speak of.
+/// A stream of octets in both directions. If a stream in memory reports its octets, contracts speak of them.
 pub trait Stream {
-    /// The octets that are left to be read, and those that were written; none where the stream doesn't tell.
+    /// The octets that are left to be read, and those that were written; none if the stream doesn't report them.
     ghost octets: { Self → Option (List ℕ × List ℕ) };
 
-    /// Reads some octets to the front of a buffer, and gives how many; 0 only where nothing is left, if the buffer isn't empty.
+    /// Reads some octets to the start of a buffer, and returns how many; 0 only if nothing is left, unless the buffer is empty.
     fn read(&mut self, buf: &mut [u8]) -> io::Result<usize>
         ensures bound { ReadsAtMost result buf.new }
         ensures gives { IfOk result (λ n. Gives (octets self.old) (octets self.new) (take n buf.new)) }
         ensures end { IfOk result (λ n. n ≡ 0 → 0 < length buf.new → IsAtEnd (octets self.new)) }
         ensures failed { OnErr result (Gives (octets self.old) (octets self.new) []) };
 
-    /// Writes the first of some octets, and gives how many.
+    /// Writes the first of some octets, and returns how many.
     fn write(&mut self, buf: &[u8]) -> io::Result<usize>
         ensures bound { WritesAtMost result buf.now }
         ensures takes { IfOk result (λ n. Takes (octets self.old) (octets self.new) (take n buf.now)) }
@@ -38,7 +38,7 @@ pub struct Counted<S> {
 }
 
 impl<S> Counted<S> {
-    /// A stream none of whose failures are counted yet.
+    /// A stream with no failures counted yet.
     pub fn new(inner: S) -> Counted<S>
         ensures { result ≡ record { inner = inner; faults = 0 } }
     {
@@ -47,8 +47,8 @@ impl<S> Counted<S> {
 }
 
 impl<S: Stream> Counted<S> {
-    /// Reads some octets to the front of a buffer, and gives how many; 0 only where nothing is left, if the buffer isn't empty. A
-    /// failure is counted.
+    /// Reads some octets to the start of a buffer, and returns how many; 0 only if nothing is left, unless the buffer is empty. A failure
+    /// is counted.
     pub fn read(&mut self, buf: &mut [u8]) -> Result<usize, DeviceFailed>
         ensures bound { IfOk result (λ n. n ≤ length buf.new) }
         ensures gives { IfOk result (λ n. Gives (S.octets self.old.inner) (S.octets self.new.inner) (take n buf.new)) }
@@ -66,8 +66,8 @@ impl<S: Stream> Counted<S> {
         }
     }
 
-    /// Writes the first of some octets, and gives how many: of none 0, and of others at least 1. A failure is counted, and so is a
-    /// write that takes none of them.
+    /// Writes the first of some octets, and returns how many: 0 of none, and at least 1 of others. A failure is counted, and so is a write
+    /// that takes none of them.
     pub fn write(&mut self, buf: &[u8]) -> Result<usize, DeviceFailed>
         requires { 0 < length buf.now }
         ensures bound { IfOk result (λ n. (0 < n) × (n ≤ length buf.now)) }

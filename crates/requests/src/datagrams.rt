@@ -5,17 +5,16 @@ ghost use Rattle.requests.specs.Datagrams.{Datagram, Receives, SendsOrFails, cou
 
 use std::net::SocketAddr;
 
-/// Where requests come from and replies go to, a datagram each. One that lies in memory may tell its datagrams, which contracts then
-/// speak of.
+/// Where requests come from and replies go to, one datagram each. If a device in memory reports its datagrams, contracts speak of them.
 pub trait Datagrams {
-    /// The datagrams that are left to be received, and those that were sent; none where the device doesn't tell.
+    /// The datagrams that are left to be received, and those that were sent; none if the device doesn't report them.
     ghost datagrams: { Self → Option (List Datagram × List Datagram) };
 
     /// How many sends and receives have failed; at most 2^64 - 1 are counted.
     ghost failed: { Self → ℕ };
 
-    /// Receives a datagram into the front of a buffer that has room for any, and gives how many octets it has there and who sent it.
-    /// None where the receiving fails, which is counted.
+    /// Receives a datagram to the start of a buffer that has room for any datagram, and returns its number of octets and its sender. None
+    /// if the receive fails, which is counted.
     fn receive(&mut self, buf: &mut [u8]) -> Option<(usize, SocketAddr)>
         requires { message_limit ≤ length buf.old }
         ensures bound { IfSome result (λ received. received.0 ≤ length buf.new) }
@@ -24,11 +23,12 @@ pub trait Datagrams {
         ensures nothing { result ≡ None → datagrams self.new ≡ datagrams self.old }
         ensures counted { result ≡ None → failed self.new ≡ count_of (failed self.old) 1 };
 
-    /// Sends a datagram, or holds it back until it can receive no more without waiting. A failure is counted.
+    /// Sends a datagram, or keeps it until no more can be received without waiting. A failure is counted.
     fn send(&mut self, octets: &[u8], to: SocketAddr)
         ensures { SendsOrFails (datagrams self.old) (failed self.old) (datagrams self.new) (failed self.new) (octets.now, to) };
 
-    /// Sends what it was given to send and holds back yet. One that tells its datagrams holds none back; another counts then what has failed, too.
+    /// Sends the datagrams that are kept to be sent. A device that reports its datagrams keeps none; another one also counts the failures
+    /// of these sends.
     fn flush(&mut self)
         ensures same { datagrams self.new ≡ datagrams self.old }
         ensures counted { IfSome (datagrams self.old) (λ _. failed self.new ≡ failed self.old) };

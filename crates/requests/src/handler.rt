@@ -1,4 +1,4 @@
-//! Who answers requests that come as datagrams.
+//! What answers requests that come as datagrams.
 ghost use Rattle.std.specs.Prelude.{◌≡◌, ℕ, ◌≤◌, List, length, IfOk, IfSome};
 ghost use Rattle.dns_message.specs.Message.{message_limit};
 ghost use Rattle.zone_tree.specs.Version.{Version};
@@ -12,25 +12,25 @@ use snapshot_cell::Spent;
 use std::net::SocketAddr;
 use std::sync::Wait;
 
-/// Who answers requests that come as datagrams. Contracts know of it which versions it has seen published and buried, as far as it tells
-/// them, and what a reply to a request is.
+/// Answers requests that come as datagrams. Contracts know which versions it has seen published and buried, as far as it reports them, and
+/// what a reply to a request is.
 pub trait Handler {
     /// What is known of the versions: those published, and the numbers of those buried.
     ghost seen: { Self → Learned Version };
 
-    /// Who asks.
+    /// The peer that sends the request.
     ghost peer: { Self → PeerAsking };
 
-    /// What the messages of a reply to a request are, by who asks, by what is known before the reply, and by what is when it is made.
+    /// What the messages of a reply to a request are, by the peer, by what is known before the reply, and by what is known when it is made.
     ghost is_reply: { PeerAsking → Learned Version → Learned Version → List ℕ → List (List ℕ) → Type 0 };
 
-    /// Turns to another peer, who asks from an address.
+    /// Changes to another peer, which sends from an address.
     fn turn_to(&mut self, other: Peer, from: SocketAddr)
         ensures other { peer self.new ≡ other }
         ensures grows { Grows (seen self.new) (seen self.old) };
 
-    /// Answers a request: writes the one message of the reply to the front of a buffer, and gives how many octets it has; None where
-    /// there is no reply. [`Spent`] where no version can be loaded.
+    /// Answers a request: writes the one message of the reply to the start of a buffer, and returns its number of octets; None if there is
+    /// no reply. [`Spent`] if no version can be loaded.
     fn answer<R: Wait>(
         &mut self,
         rt: &R,

@@ -1,8 +1,9 @@
 //! Requests and replies on streams and by datagrams (RFC 1035, 4.2), with no device and no zone.
 //!
-//! [`serve_udp`] answers the requests of datagrams one after another; over datagrams that tell themselves its contract says what is sent: the replies, in order, each to the peer that asked
-//! (`EndsBy`). What a reply is, a [`Handler`] says. Of streams it has their octets and how their failures are counted ([`Counted`]), and what is written on one when it ends: the frames of
-//! the replies, in order, whole or a beginning of them (`EndsAs`); `tcp_connections` serves them.
+//! [`serve_udp`] answers requests in datagrams one after another. For a device that reports its datagrams, its contract says what is sent:
+//! the replies, in order, each to the client that sent the request (`EndsBy`). A [`Handler`] says what a reply is. For streams, this crate
+//! has their octets, the count of their failures ([`Counted`]), and what is written on a stream by the time it ends: the frames of the
+//! replies, in order, all of them or a prefix (`EndsAs`). `tcp_connections` serves streams.
 #![tactic(auto)]
 
 mod allowed;

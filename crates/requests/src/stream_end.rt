@@ -3,14 +3,14 @@
 /// How the requests of a stream end.
 #[derive(Clone, Copy, PartialEq, Eq)]
 pub enum StreamEnd {
-    /// Behind the last request's reply, with nothing left to be read.
+    /// After the last request's reply, with nothing left to be read.
     Clean,
     /// Inside a frame, with nothing left to be read.
     Torn,
-    /// By a read or a write that failed.
+    /// With a read or a write that failed.
     Device,
     /// No version could be loaded.
     Spent,
-    /// No memory was to be had for what is held or to be written.
+    /// There was no memory for what is held or to be written.
     NoMemory,
 }

@@ -17,16 +17,16 @@ use std::sync::Wait;
 /// How the answering of datagrams ends.
 #[derive(Clone, Copy, PartialEq, Eq)]
 pub enum DatagramsEnd {
-    /// As many are answered as may be.
+    /// As many are answered as were asked for.
     Done,
-    /// By a datagram that couldn't be received.
+    /// A datagram couldn't be received.
     Device,
     /// No version could be loaded.
     Spent,
 }
 
-/// Answers a request that came as a datagram: its reply goes to who sent it, and a send that fails is counted. [`Spent`] where no
-/// version can be loaded; nothing is then sent.
+/// Answers a request that came as a datagram: its reply goes to the sender, and a send that fails is counted. [`Spent`] if no version can
+/// be loaded; then nothing is sent.
 fn reply<R: Wait, A: Handler, D: Datagrams>(
     rt: &R,
     answering: &mut A,
@@ -51,7 +51,7 @@ fn reply<R: Wait, A: Handler, D: Datagrams>(
     }
 }
 
-/// Receives a datagram and answers it; how the answering ends where it does so by this.
+/// Receives a datagram and answers it. Returns how the answering ends, if it ends with this datagram.
 fn turn<R: Wait, A: Handler, D: Datagrams, G: Gate>(
     rt: &R,
     answering: &mut A,
@@ -80,7 +80,7 @@ fn turn<R: Wait, A: Handler, D: Datagrams, G: Gate>(
     None
 }
 
-/// Answers requests that come as datagrams one after another, so many; fewer where one can't be received, or no version can be loaded.
+/// Answers at most `most` requests that come as datagrams, one after another; fewer if one can't be received, or no version can be loaded.
 fn answer_all<R: Wait, A: Handler, D: Datagrams, G: Gate>(
     rt: &R,
     answering: &mut A,
@@ -105,9 +105,10 @@ fn answer_all<R: Wait, A: Handler, D: Datagrams, G: Gate>(
     DatagramsEnd::Done
 }
 
-/// Answers requests that come as datagrams one after another, so many; fewer where one can't be received, or no version can be loaded.
-/// Over datagrams that tell themselves, what is sent is the replies in the order of the requests, each to who asked, who may update
-/// and transfer by its own address; but for those that fail to be sent, which are counted (RFC 1035, 4.2.1). None is held back at the end.
+/// Answers at most `most` requests that come as datagrams, one after another; fewer if one can't be received, or no version can be loaded.
+/// For a device that reports its datagrams, the replies are sent in the order of the requests, each to the sender of the request, which may
+/// update and transfer according to its own address. Replies that fail to be sent are left out, and are counted (RFC 1035, 4.2.1). None is
+/// kept unsent at the end.
 pub fn serve_udp<R: Wait, A: Handler, D: Datagrams, G: Gate>(
     rt: &R,
     answering: &mut A,

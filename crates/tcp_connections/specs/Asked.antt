@@ -1,4 +1,4 @@
--- What is asked for on connections, each under a key of its own (own).
+-- Requests on connections, each under a key of its own (own).
 use Rattle.std.specs.Prelude.{◌≡◌, ℕ, List, ◌++◌}
 use Rattle.dns_message.specs.Frame.{frame_of}
 use Rattle.requests.specs.Served.{Learned, Grows}
@@ -7,6 +7,6 @@ use Rattle.requests.specs.Served.{Learned, Grows}
 abbrev pub EachGrows : {T : Type 0} → (ℕ → Learned T) → (ℕ → Learned T) → Type 0
 EachGrows later before = (key : ℕ) → Grows (later key) (before key)
 
--- the first of the requests that octets hold is one of those that are answered later: it waits for its reply, and those behind it for theirs
+-- the first of the requests that octets hold is one of those that are answered later: it waits for its reply, and those after it for theirs
 abbrev pub Waits : (List ℕ → Type 0) → List ℕ → Type 0
 Waits is_later held = (request rest : List ℕ) × (held ≡ frame_of request ++ rest) × is_later request

@@ -7,26 +7,26 @@ use Rattle.tcp_connections.specs.Rate.{is_slow, window_at}
 use Rattle.tcp_connections.specs.declared.limits.Limits.{Limits}
 use Rattle.tcp_connections.specs.declared.connection.Connection.{Connection}
 
--- how long a peer may take: to ask again, to bring a request whole that is begun, to take what is written to it; there is no limit where it waits
--- itself, for the reply to a request that it has brought whole
+-- how long a peer may take: for its next request, for the rest of a request that is begun, for taking what is written to it; there is no
+-- limit while the peer itself waits, for the reply to a whole request
 abbrev pub patience : Limits → Waiting → Option ℕ
 patience limits Request = Some limits.idle
 patience limits Rest = Some limits.message
 patience limits Answer = None
 patience limits Taking = Some limits.reply
 
--- whether one has taken as long as it may, if there is a limit
+-- whether a peer has taken as long as it may, if there is a limit
 abbrev pub is_late : Option ℕ → ℕ → Bool
 is_late None taken = false
 is_late (Some most) taken = nat_le most taken
 
--- whether a connection is over at a time, of which something was brought to its end last at another: what it waits for since then has
--- taken as long as it may
+-- whether a connection is over at a time, whose peer finished something last at another: what it waits for since then has taken as long as
+-- it may
 abbrev pub is_over : Limits → ℕ → ℕ → Kept → Bool
 is_over limits now begun kept = is_late (patience limits (awaited kept)) (now - begun)
 
--- since when what a connection waits for is waited for, behind a share of its work at a time: since then where its peer has brought something
--- to its end, be that by a request or by the taking of a reply, and else as before; octets alone change nothing
+-- since when what a connection waits for is waited for, after a share of its work at a time: since then if its peer has finished something,
+-- be that a request or the taking of a reply, and otherwise as before; octets alone change nothing
 abbrev pub begun_behind : ℕ → ℕ → ℕ → ℕ → ℕ
 begun_behind passed more begun now = if more == passed then begun else now
 
@@ -35,7 +35,7 @@ abbrev pub IsBegun : ℕ → ℕ → ℕ → ℕ → ℕ → Type 0
 IsBegun now passed begun more later = (later ≡ now) ⊎ ((more ≡ passed) × (later ≡ begun))
 
 module _ {S M : Type 0} where
-  -- a connection goes on at a time: its window begins anew where nothing waits to be taken, or its ten seconds are over
+  -- a connection goes on at a time: its window begins anew if nothing waits to be taken, or its ten seconds are over
   abbrev pub gone_on : ℕ → Connection S M → Connection S M
   gone_on now link = record link { window = window_at now link.window link.conversation }
 

@@ -1,4 +1,4 @@
--- How connections have ended, counted (own).
+-- Counts of how connections have ended (own).
 use Rattle.std.specs.Prelude.{◌≡◌, ◌≢◌, ℕ, ◌+◌, ◌-◌, ◌^◌, min}
 use Rattle.requests.specs.declared.stream_end.StreamEnd.{StreamEnd}
 use Rattle.requests.specs.declared.stream_end.StreamEnd.TheVariants.{Clean, Torn, Device, Spent, NoMemory}
@@ -18,14 +18,14 @@ one_more Device ends = record ends { device = one_up ends.device }
 one_more Spent ends = record ends { spent = one_up ends.spent }
 one_more NoMemory ends = record ends { no_memory = one_up ends.no_memory }
 
--- one more is over, by what it waited for: never is one that waits for the answering of a request
+-- one more is over, by what it waited for; a connection that waits for the reply to a request never is
 abbrev pub one_late : Waiting → Ends → Ends
 one_late Request ends = record ends { idle = one_up ends.idle }
 one_late Rest ends = record ends { message = one_up ends.message }
 one_late Answer ends = ends
 one_late Taking ends = record ends { reply = one_up ends.reply }
 
--- one more is over, since its peer took too slowly what was to be written
+-- one more is over, because its peer took too slowly what was to be written
 abbrev pub one_slow : Ends → Ends
 one_slow ends = record ends { slow = one_up ends.slow }
 
@@ -37,7 +37,7 @@ late_of ends = min (ends.idle + ends.message + ends.reply + ends.slow) (2 ^ 64 -
 abbrev pub all_of : Ends → ℕ
 all_of ends = min (ends.clean + ends.torn + ends.device + ends.spent + ends.no_memory + ends.idle + ends.message + ends.reply + ends.slow) (2 ^ 64 - 1)
 
--- so many more have ended, and each is counted, by how it did, by what it waited for too long, or as one that took too slowly
+-- so many more have ended, and each is counted, by how it did, by what it waited for too long, or as one whose peer took too slowly
 pub data Counts (old : Ends) : ℕ → Ends → Type 0 where
   none : Counts old 0 old
   one : {number more : ℕ} {ends new : Ends} (end : StreamEnd) → Counts old number ends → more ≡ number + 1 → new ≡ one_more end ends → Counts old more new

@@ -12,22 +12,22 @@ pub record IsHeldUp (is_later : List ℕ → Type 0) (kept : Kept) : Type 0 wher
   pub ready : kept.ready ≡ []
   pub later : kept.later ≡ []
 
--- what a reply is, by the list of what is known to be published before it and that of what is when it is made, the request, and the reply's
--- messages
+-- what a reply is, by the list of what is known to be published before it and that of what is known when it is made, the request, and the
+-- reply's messages
 module _ {T : Type 0} (IsReply : Learned T → Learned T → List ℕ → List (List ℕ) → Type 0) where
-  -- all frames between two states of a stream have been answered, where it tells its octets
+  -- all frames between two states of a stream have been answered, if it reports its octets
   abbrev pub Known : Learned T → Option (List ℕ × List ℕ) → Learned T → Option (List ℕ × List ℕ) → Type 0
   Known start old seen new = IfSome old (λ o. (mid : List ℕ × List ℕ) × (new ≡ Some mid) × Served IsReply start o seen mid)
 
-  -- whatever has been answered still is, and maybe more, from whichever state it began
+  -- whatever has been answered still is, and maybe more, from any state in which it began
   abbrev pub Goes : Learned T → Option (List ℕ × List ℕ) → Learned T → Option (List ℕ × List ℕ) → Type 0
   Goes seen told later new = (start : Learned T) (old : Option (List ℕ × List ℕ)) → Known start old seen told → Known start old later new
 
-  -- the same of what a connection keeps, whatever its stream tells
+  -- the same of what a connection keeps, whatever its stream reports
   abbrev pub Keeps : Learned T → Kept → Learned T → Kept → Type 0
   Keeps seen kept later more = (octets : Option (List ℕ × List ℕ)) → Goes seen (told_by kept octets) later (told_by more octets)
 
-  -- a beginning of what was written before and of what such an answering writes has been written
+  -- a prefix of what was written before and of what such an answering writes has been written
   pub record PartlyTold (start : Learned T) (old : List ℕ × List ℕ) (seen : Learned T) (new : Option (List ℕ × List ℕ)) : Type 0 where
     pub left : List ℕ
     pub front : List ℕ
@@ -37,7 +37,7 @@ module _ {T : Type 0} (IsReply : Learned T → Learned T → List ℕ → List (
     pub written : whole.1 ≡ front ++ back
     pub now : new ≡ Some (left, front)
 
-  -- how a connection ends, from some state of its stream: all is answered and written but for a torn frame, or a beginning of it is
+  -- how a connection ends, from some state of its stream: all is answered and written except for a torn frame, or a prefix of it is
   abbrev pub Ends : StreamEnd → Learned T → List ℕ × List ℕ → Learned T → Option (List ℕ × List ℕ) → Type 0
   Ends Clean start old seen new = EndsAs IsReply Clean start old seen new
   Ends Torn start old seen new = EndsAs IsReply Torn start old seen new
@@ -45,6 +45,6 @@ module _ {T : Type 0} (IsReply : Learned T → Learned T → List ℕ → List (
   Ends Spent start old seen new = PartlyTold start old seen new
   Ends NoMemory start old seen new = PartlyTold start old seen new
 
-  -- a connection ends, from whichever state it began
+  -- a connection ends, from any state in which it began
   abbrev pub Stops : StreamEnd → Learned T → Option (List ℕ × List ℕ) → Learned T → Option (List ℕ × List ℕ) → Type 0
   Stops end seen told later new = (start : Learned T) (old : Option (List ℕ × List ℕ)) → Known start old seen told → IfSome old (λ o. Ends end start o later new)

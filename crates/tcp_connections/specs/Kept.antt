@@ -1,4 +1,4 @@
--- What a connection keeps, beside what its device has (own).
+-- What a connection keeps, besides what its device has (own).
 use Rattle.std.specs.Prelude.{◌≡◌, ℕ, ◌+◌, ◌-◌, ◌%◌, ◌^◌, min, Bool, true, false, List, [], ◌∷◌, ◌++◌, take, Option, None, Some, option_map}
 use Rattle.dns_message.specs.Frame.{frame_in}
 use Rattle.requests.specs.Octets.{frames_of}
@@ -7,9 +7,9 @@ use Rattle.tcp_connections.specs.declared.waiting.Waiting.TheVariants.{Request, 
 use Rattle.tcp_connections.specs.declared.handler.Reply.{Reply}
 use Rattle.tcp_connections.specs.declared.handler.Reply.TheVariants.{Silent, One, Many}
 
--- octets that were read and aren't answered, octets that are to be written, and messages whose frames are to be written behind these; whether
--- messages are being made; how many times the peer has brought something to its end: a request that came whole and is answered, or all
--- that was ready, taken by it (modulo 2^64); and how many octets it has taken, up to 2^64 - 1
+-- octets that were read and aren't answered, octets that are to be written, and messages whose frames are to be written after these;
+-- whether messages are being made; how many times the peer has finished something: has sent a whole request that is answered, or taken all
+-- that was ready (modulo 2^64); and how many octets it has taken, up to 2^64 - 1
 pub record Kept : Type 0 where
   pub held : List ℕ
   pub ready : List ℕ
@@ -26,16 +26,16 @@ nothing_kept = record { held = []; ready = []; later = []; making = false; passe
 abbrev pub one_passed : ℕ → ℕ
 one_passed passed = (passed + 1) % 2 ^ 64
 
--- how many have passed behind a write, by what it leaves ready: one more where that is nothing
+-- how many have passed after a write, by what it leaves ready: one more if that is nothing
 abbrev pub passed_behind : List ℕ → ℕ → ℕ
 passed_behind [] passed = one_passed passed
 passed_behind (octet ∷ octets) passed = passed
 
--- how many octets are taken behind a write of so many, up to 2^64 - 1
+-- how many octets are taken after a write of so many, up to 2^64 - 1
 abbrev pub taken_behind : ℕ → ℕ → ℕ
 taken_behind count taken = min (taken + count) (2 ^ 64 - 1)
 
--- what a connection waits for that holds something, by the frame in front, if that is whole
+-- what a connection waits for that holds something, by the frame at its start, if that is whole
 abbrev pub awaited_in : Option (List ℕ × List ℕ) → Waiting
 awaited_in None = Rest
 awaited_in (Some frame) = Answer
@@ -54,17 +54,18 @@ awaited kept = awaited_by kept.making kept.ready kept.held
 abbrev pub due : Kept → List ℕ
 due kept = kept.ready ++ frames_of kept.later
 
--- a connection waits for octets: no frame is held in whole, and nothing is to be written
+-- a connection waits for octets: no whole frame is held, and nothing is to be written
 pub record IsWaiting (kept : Kept) : Type 0 where
   pub part : frame_in kept.held ≡ None
   pub ready : kept.ready ≡ []
   pub later : kept.later ≡ []
 
--- a stream as its connection has it: what is left to be answered, held or not yet read, and what was written with what is to be
+-- a stream as its connection has it: what is left to be answered, held or not yet read, and what was written together with what is to be
+-- written
 abbrev pub told_by : Kept → Option (List ℕ × List ℕ) → Option (List ℕ × List ℕ)
 told_by kept octets = option_map (λ o. (kept.held ++ o.0, o.1 ++ due kept)) octets
 
--- the messages of a reply: none, the one of so many octets at the front of a buffer, or those that are left of something that makes them
+-- the messages of a reply: none, the one of so many octets at the start of a buffer, or those that are left of something that makes them
 abbrev pub messages_of : {M : Type 0} → (M → List (List ℕ)) → Reply M → List ℕ → List (List ℕ)
 messages_of left Silent out = []
 messages_of left (One len) out = take len out ∷ []

@@ -1,4 +1,4 @@
--- What becomes of each connection of a worker (own).
+-- What becomes of each connection of a worker thread (own).
 use Rattle.std.specs.Prelude.{◌≡◌, ◌⊎◌, ℕ, List, Option, None, Some, IfSome, ⊤, if◌then◌else◌}
 use Rattle.serve_core.specs.declared.peer.Peer.{Peer}
 use Rattle.requests.specs.Served.{Learned, Grows}
@@ -13,7 +13,7 @@ use Rattle.tcp_connections.specs.declared.ends.Ends.{Ends}
 use Rattle.tcp_connections.specs.declared.limits.Limits.{Limits}
 use Rattle.tcp_connections.specs.declared.connection.Connection.{Connection}
 
--- what contracts see of a connection: who asks on it, its stream's octets, what it keeps, and since when its peer is waited for
+-- what contracts see of a connection: its peer, its stream's octets, what it keeps, and since when its peer is waited for
 pub record Seen : Type 0 where
   pub peer : Peer
   pub octets : Option (List ℕ × List ℕ)
@@ -24,8 +24,8 @@ pub record Seen : Type 0 where
 abbrev pub told_of : Seen → Option (List ℕ × List ℕ)
 told_of seen = told_by seen.kept seen.octets
 
--- what a reply is, by who asks, the list of what is known to be published before it and that of what is when it is made, the request, and the
--- reply's messages
+-- what a reply is, by the peer, the list of what is known to be published before it and that of what is known when it is made, the request,
+-- and the reply's messages
 module _ {T : Type 0} (IsReply : Peer → Learned T → Learned T → List ℕ → List (List ℕ) → Type 0) where
   -- a connection has ended, with all its requests answered by its peer's rights, or some of them
   pub record HasEnded (seen : Learned T) (old : Seen) (later : Learned T) : Type 0 where
@@ -37,7 +37,7 @@ module _ {T : Type 0} (IsReply : Peer → Learned T → Learned T → List ℕ �
     pub written : Writes old.octets octets
 
   -- a connection has gone on at a time: it is its peer's as before, on its own stream that peer's requests are answered by that peer's
-  -- rights, and the peer is waited for since now, or since when it was where it has brought nothing to its end
+  -- rights, and the peer is waited for from now, or from when it was if it has finished nothing
   pub record HasGone (now : ℕ) (seen : Learned T) (old : Seen) (later : Learned T) (new : Seen) : Type 0 where
     pub peer : new.peer ≡ old.peer
     pub goes : Goes (IsReply old.peer) seen (told_of old) later (told_of new)
@@ -55,12 +55,12 @@ module _ {T : Type 0} (IsReply : Peer → Learned T → Learned T → List ℕ �
 abbrev pub HasStopped : {S M : Type 0} → (S → Type 0) → (Peer → List ℕ → Type 0) → Option (Connection S M) → Type 0
 HasStopped would_block is_later link = IfSome link (λ l. would_block l.stream ⊎ IsHeldUp (is_later l.peer) l.conversation)
 
--- what contracts see of a connection, by how its stream tells its octets
+-- what contracts see of a connection, by how its stream reports its octets
 abbrev pub seen_of : {S M : Type 0} → (S → Option (List ℕ × List ℕ)) → Connection S M → Seen
 seen_of octets link = record { peer = link.peer; octets = octets link.stream; kept = link.conversation; begun = link.begun }
 
--- the count of ends where the connection under a key, if there is one, ends if it is over at a time, by what it waits for or since its peer takes
--- too slowly
+-- the count of ends if the connection under a key, if there is one, ends when it is over at a time, by what it waits for or because its
+-- peer takes too slowly
 abbrev pub ends_at : {S M : Type 0} → Limits → ℕ → Option (Connection S M) → Ends → Ends
 ends_at limits now None ends = ends
 ends_at limits now (Some link) ends = if is_over limits now link.begun link.conversation then one_late (awaited link.conversation) ends else if is_slow limits.rate now link.window link.conversation then one_slow ends else ends

@@ -1,4 +1,4 @@
--- Which connection gives its place to a newcomer where all are taken (RFC 7766, 6.2.3; own).
+-- Which connection gives up its place to a newcomer when all are taken (RFC 7766, 6.2.3; own).
 use Rattle.std.specs.Prelude.{◌≡◌, ℕ, ◌/◌, ◌<◌, ◌≤◌, Bool, true, false, nat_lt, max, Option, None, Some, if◌then◌else◌, count_by}
 use Rattle.tcp_connections.specs.Kept.{awaited}
 use Rattle.tcp_connections.specs.declared.waiting.Waiting.{Waiting}
@@ -11,14 +11,14 @@ use Rattle.tcp_connections.specs.declared.connection.Connection.{Connection}
 use Rattle.tcp_connections.specs.declared.room.Among.{Among}
 use Rattle.tcp_connections.specs.declared.room.Among.TheVariants.{All, These}
 
--- since when a connection waits for a whole request, be it that nothing has come or a part
+-- since when a connection waits for a whole request, whether nothing of it has come or a part
 abbrev pub waits_by : Waiting → ℕ → Option ℕ
 waits_by Request begun = Some begun
 waits_by Rest begun = Some begun
 waits_by Answer begun = None
 waits_by Taking begun = None
 
--- whether a group is among those whose peers' connections are looked at
+-- whether a group is among those whose peers' connections are considered
 abbrev pub among_has : Among → PeerGroup → Bool
 among_has All group = true
 among_has (These groups) group = has_group groups group
@@ -33,7 +33,7 @@ module _ {S M : Type 0} where
   abbrev pub IsLongest : (PeerGroup → Bool) → Slab (Connection S M) → Option ℕ → Type 0
   IsLongest among links found = IsLeast (λ key. waits_in among (get links key)) found
 
-  -- whether there is a connection, and it is of a group's peer
+  -- whether there is a connection, and its peer is of a group
   abbrev pub is_of : PeerGroup → Option (Connection S M) → Bool
   is_of group None = false
   is_of group (Some link) = is_same link.group group
@@ -42,7 +42,7 @@ module _ {S M : Type 0} where
   abbrev pub held : PeerGroup → Slab (Connection S M) → ℕ
   held group links = count_by (is_of group) links.slots
 
-  -- a quarter of the places that are taken, one at least
+  -- a quarter of the places that are taken, at least one
   abbrev pub quarter : Slab (Connection S M) → ℕ
   quarter links = max (slab_len links / 4) 1
 
@@ -50,13 +50,14 @@ module _ {S M : Type 0} where
   abbrev pub is_crowd : Slab (Connection S M) → PeerGroup → Bool
   is_crowd links group = nat_lt (quarter links) (held group links)
 
-  -- a group, if there is one, and it is such a one
+  -- a group, if there is one, and its peers have more than a quarter
   abbrev pub crowd_of : Slab (Connection S M) → Option PeerGroup → Option PeerGroup
   crowd_of links None = None
   crowd_of links (Some group) = if is_crowd links group then Some group else None
 
-  -- the connection that gives its place to a newcomer of a group, if one does. Where that group's peers have a quarter of the places already, it is one
-  -- of theirs; else one of a group that has more than a quarter; and where none of these waits for a request, any. Of those it waits longest
+  -- the connection that gives up its place to a newcomer of a group, if one does. If that group's peers have a quarter of the places
+  -- already, it is one of theirs; otherwise one of a group that has more than a quarter; and if none of these waits for a request, any. Of
+  -- those it is the one that waits longest
   pub data IsGiver (newcomer : PeerGroup) (links : Slab (Connection S M)) (found : Option ℕ) : Type 0 where
     own : quarter links ≤ held newcomer links → IsLongest (is_same newcomer) links found → IsGiver newcomer links found
     crowd : (key : ℕ) → held newcomer links < quarter links → found ≡ Some key → IsLongest (is_crowd links) links found → IsGiver newcomer links found

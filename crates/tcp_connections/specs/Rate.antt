@@ -20,7 +20,7 @@ is_taking Taking = true
 abbrev pub slow_by : ℕ → ℕ → Window → Waiting → ℕ → Bool
 slow_by rate now window awaited taken = is_taking awaited && (nat_le span (now - window.since) && nat_lt (taken - window.taken) rate)
 
--- the window at a time: the same while something waits to be taken and its ten seconds aren't over; else one that begins then
+-- the window at a time: the same while something waits to be taken and its ten seconds aren't over; otherwise one that begins then
 abbrev pub window_by : ℕ → Window → Waiting → ℕ → Window
 window_by now window awaited taken = if is_taking awaited && nat_lt (now - window.since) span then window else record { since = now; taken = taken }
 

@@ -1,4 +1,4 @@
--- What becomes of a stream that tells its octets (own).
+-- What becomes of a stream that reports its octets (own).
 use Rattle.std.specs.Prelude.{◌≡◌, ℕ, ◌-◌, ◌^◌, ◌<◌, List, [], ◌++◌, Option, Some, IfSome}
 use Rattle.requests.specs.Octets.{IsTorn}
 use Rattle.requests.specs.declared.stream_end.StreamEnd.{StreamEnd}
@@ -6,16 +6,16 @@ use Rattle.requests.specs.declared.stream_end.StreamEnd.TheVariants.{Clean, Torn
 use Rattle.tcp_connections.specs.declared.blocking.Fault.{Fault}
 use Rattle.tcp_connections.specs.declared.blocking.Fault.TheVariants.{Blocked, Failed}
 
--- a stream is told as it was
+-- a stream's octets are as they were
 abbrev pub Stays : Option (List ℕ × List ℕ) → Option (List ℕ × List ℕ) → Type 0
 Stays old new = IfSome old (λ o. new ≡ Some o)
 
--- what was written stays in front
+-- what was written stays, and more may follow
 abbrev pub Writes : Option (List ℕ × List ℕ) → Option (List ℕ × List ℕ) → Type 0
 Writes old new = IfSome old (λ o. (left front : List ℕ) × (new ≡ Some (left, o.1 ++ front)))
 
--- how a connection ends of which something is told: with nothing left to be answered, or a torn frame, and all written; else with a
--- beginning written of what was or is to be
+-- how a connection ends whose octets are known: with nothing left to be answered, or a torn frame, and all written; otherwise with a prefix
+-- written of what was written or is to be
 abbrev pub EndsTold : StreamEnd → Option (List ℕ × List ℕ) → Option (List ℕ × List ℕ) → Type 0
 EndsTold Clean told new = IfSome told (λ o. (o.0 ≡ []) × (new ≡ Some ([], o.1)))
 EndsTold Torn told new = IfSome told (λ o. IsTorn o.0 × (new ≡ Some ([], o.1)))
@@ -28,7 +28,7 @@ abbrev pub IsCounted : Fault → ℕ → ℕ → Type 0
 IsCounted Blocked faults more = more ≡ faults
 IsCounted Failed faults more = faults < 2 ^ 64 - 1 → faults < more
 
--- an end and the count of failures: one by the device is counted, and nothing has failed at any other
+-- an end and the count of failures: an end by the device is counted, and nothing has failed at any other
 abbrev pub EndCounted : StreamEnd → ℕ → ℕ → Type 0
 EndCounted Device faults more = faults < 2 ^ 64 - 1 → faults < more
 EndCounted Clean faults more = more ≡ faults

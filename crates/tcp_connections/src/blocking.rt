@@ -1,4 +1,4 @@
-//! Streams that tell whether they would block.
+//! Streams that report when they would block.
 ghost use Rattle.std.specs.Prelude.{◌≡◌, ℕ, ◌<◌, ◌≤◌, List, [], length, take, Option, IfOk, IfErr, OnOk, OnErr};
 ghost use Rattle.requests.specs.Octets.{Gives, Takes, IsAtEnd};
 ghost use Rattle.tcp_connections.specs.Told.{IsCounted};
@@ -9,25 +9,25 @@ use requests::{Counted, DeviceFailed, Stream};
 /// Why nothing was read or written.
 #[derive(Clone, Copy)]
 pub enum Fault {
-    /// It can't be done yet.
+    /// It would block.
     Blocked,
     /// The stream has failed.
     Failed,
 }
 
-/// A stream of octets in both directions, which may tell that it would block. One that lies in memory may tell its octets, which contracts
-/// then speak of.
+/// A stream of octets in both directions, which may report that it would block. If a stream in memory reports its octets, contracts speak
+/// of them.
 pub trait Blocking {
-    /// The octets that are left to be read, and those that were written; none where the stream doesn't tell.
+    /// The octets that are left to be read, and those that were written; none if the stream doesn't report them.
     ghost octets: { Self → Option (List ℕ × List ℕ) };
 
     /// How many reads and writes have failed; at most 2^64 - 1 are counted.
     ghost faults: { Self → ℕ };
 
-    /// That it would block, as it has told.
+    /// That it would block, as it has reported.
     ghost would_block: { Self → Type 0 };
 
-    /// Reads some octets to the front of a buffer, and gives how many; 0 only where nothing is left, if the buffer isn't empty.
+    /// Reads some octets to the start of a buffer, and returns how many; 0 only if nothing is left, unless the buffer is empty.
     fn read(&mut self, buf: &mut [u8]) -> Result<usize, Fault>
         ensures bound { IfOk result (λ n. n ≤ length buf.new) }
         ensures gives { IfOk result (λ n. Gives (octets self.old) (octets self.new) (take n buf.new)) }
@@ -37,7 +37,7 @@ pub trait Blocking {
         ensures counted { IfErr result (λ fault. IsCounted fault (faults self.old) (faults self.new)) }
         ensures blocked { IfErr result (λ fault. fault ≡ FaultOf.Blocked → would_block self.new) };
 
-    /// Writes the first of some octets, and gives how many: at least 1.
+    /// Writes the first of some octets, and returns how many: at least 1.
     fn write(&mut self, buf: &[u8]) -> Result<usize, Fault>
         requires { 0 < length buf.now }
         ensures bound { IfOk result (λ n. (0 < n) × (n ≤ length buf.now)) }
@@ -53,7 +53,7 @@ impl<S: Stream> Blocking for Counted<S> {
 
     ghost faults = { λ stream. stream.faults };
 
-    // It waits.
+    // A call waits until it is done.
     ghost would_block = { λ _. ⊥ };
 
     fn read(&mut self, buf: &mut [u8]) -> Result<usize, Fault> {

@@ -1,4 +1,4 @@
-//! A connection with who asks on it.
+//! A connection with its peer.
 ghost use Rattle.std.specs.Prelude.{◌≡◌, ◌<◌, ◌≤◌, length, IfErr, OnOk};
 ghost use Rattle.std.specs.Net.Socket.{socket_ip};
 ghost use Rattle.dns_message.specs.Message.{message_limit};
@@ -24,8 +24,8 @@ use std::alloc::Global;
 use std::net::SocketAddr;
 use std::sync::Wait;
 
-/// A connection: its stream, what is held of it and is to be written to it, who asks, from where, of which group, since when its peer is waited
-/// for, in nanoseconds of a worker's clock, and the window in which the octets that the peer takes are counted.
+/// A connection: its stream; what is held of it and is to be written to it; its peer, the address and the group of that; since when the
+/// peer is waited for, in nanoseconds of a worker thread's clock; and the window in which the octets that the peer takes are counted.
 #[derive(Drop)]
 pub struct Connection<S: Drop, M: Messages> {
     pub(crate) stream: S,
@@ -38,7 +38,7 @@ pub struct Connection<S: Drop, M: Messages> {
 }
 
 impl<S: Drop, M: Messages> Connection<S, M> {
-    /// A connection of which nothing is read yet: its stream, who asks on it, from where, and the time.
+    /// A connection of which nothing is read yet: its stream, its peer and the address of that, and the time.
     pub fn new(stream: S, alloc: Global, peer: Peer, from: SocketAddr, now: u64) -> Connection<S, M>
         ensures stream { result.stream ≡ stream }
         ensures fresh { result.conversation ≡ nothing_kept }
@@ -69,7 +69,7 @@ impl<S: Drop, M: Messages> Connection<S, M> {
         &self.stream
     }
 
-    /// Whether it is over at a time: its peer has taken as long as it may to bring to an end what is waited for.
+    /// Whether it is over at a time: its peer has taken as long as it may to finish what is waited for.
     pub(crate) fn is_over(&self, limits: Limits, now: u64) -> bool
         ensures { result ≡ is_over limits now self.now.begun self.now.conversation }
     {
@@ -79,7 +79,7 @@ impl<S: Drop, M: Messages> Connection<S, M> {
         )
     }
 
-    /// Whether it is over at a time since its peer takes what is written to it at less than a rate, in octets in ten seconds.
+    /// Whether it is over at a time because its peer takes what is written to it at less than a rate, in octets in ten seconds.
     pub(crate) fn is_slow(&self, rate: u64, now: u64) -> bool
         ensures { result ≡ is_slow rate now self.now.window self.now.conversation }
     {
@@ -91,7 +91,7 @@ impl<S: Drop, M: Messages> Connection<S, M> {
         )
     }
 
-    /// Goes on at a time: its window begins anew where nothing waits to be taken, or its ten seconds are over.
+    /// Goes on at a time: its window begins anew if nothing waits to be taken, or its ten seconds are over.
     pub(crate) fn go_on(&mut self, now: u64)
         ensures { self.new ≡ record self.old { window = window_at now self.old.window self.old.conversation } }
     {
@@ -101,7 +101,7 @@ impl<S: Drop, M: Messages> Connection<S, M> {
     }
 }
 
-/// How long a peer may take for what is waited for; None where it has nothing to bring.
+/// How long a peer may take for what is waited for; None if it has nothing to do.
 fn patience(limits: Limits, awaited: Waiting) -> Option<u64>
     ensures { result ≡ patience limits awaited }
 {
@@ -113,7 +113,7 @@ fn patience(limits: Limits, awaited: Waiting) -> Option<u64>
     }
 }
 
-/// Whether one that may take so long, if there is a limit, has taken it.
+/// Whether a peer that may take so long, if there is a limit, has taken that long.
 fn is_late(most: Option<u64>, taken: u64) -> bool
     ensures { result ≡ is_late most taken }
 {
@@ -123,7 +123,7 @@ fn is_late(most: Option<u64>, taken: u64) -> bool
     }
 }
 
-/// Since when a peer is waited for behind a share: since then where it has brought something to its end, else as before.
+/// Since when a peer is waited for after a share: since this share if the peer has finished something in it, otherwise as before.
 fn begun_by(passed: u64, more: u64, begun: u64, now: u64) -> u64
     ensures { result ≡ begun_behind passed more begun now }
 {
@@ -133,8 +133,8 @@ fn begun_by(passed: u64, more: u64, begun: u64, now: u64) -> u64
     now
 }
 
-/// Serves the connection under a key by a share, as its peer, at a time. From then on its peer is waited for anew where it has brought something to
-/// its end.
+/// Serves the connection under a key by a share, as its peer, at a time. If the peer has finished something, it is waited for anew from
+/// then on.
 pub(crate) fn serve_connection<R: Wait, S: Blocking + Drop, M: Messages, A: Handler<M>>(
     rt: &R,
     answering: &mut A,

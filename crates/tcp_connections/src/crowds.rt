@@ -10,7 +10,7 @@ use crate::handler::Messages;
 use peer_groups::{Groups, PeerGroup, Survey};
 use slab::Slab;
 
-/// Whether there is a connection under a key, and it is of a group's peer.
+/// Whether there is a connection under a key, and its peer is of a group.
 fn is_of<S: Drop, M: Messages>(links: &Slab<Connection<S, M>>, group: PeerGroup, key: usize) -> bool
     ensures { result ≡ is_of group (get links.now key) }
 {
@@ -33,7 +33,7 @@ fn held_by<S: Drop, M: Messages>(links: &Slab<Connection<S, M>>, group: PeerGrou
     held
 }
 
-/// A quarter of the places that are taken, one at least.
+/// A quarter of the places that are taken, at least one.
 fn quarter_of<S: Drop, M: Messages>(links: &Slab<Connection<S, M>>) -> usize
     ensures { result ≡ quarter links.now }
 {
@@ -50,7 +50,7 @@ pub(crate) fn has_quarter<S: Drop, M: Messages>(
     quarter_of(links) <= held_by(links, group)
 }
 
-/// Three groups at most, with each that has more than a quarter of the connections.
+/// At most three groups, which include each that has more than a quarter of the connections.
 fn candidates<S: Drop, M: Messages>(links: &Slab<Connection<S, M>>) -> Groups
     ensures { (group : Group) → is_crowd links.now group ≡ true → has_group result group ≡ true }
 {

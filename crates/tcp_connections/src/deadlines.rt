@@ -11,7 +11,7 @@ use crate::handler::Messages;
 use crate::limits::Limits;
 use slab::Slab;
 
-/// Has the connection under a key, if there is one, go on at a time.
+/// Lets the connection under a key, if there is one, go on at a time.
 fn go_on<S: Drop, M: Messages>(links: &mut Slab<Connection<S, M>>, now: u64, key: usize)
     ensures own { get links.new key ≡ option_map (gone_on now) (get links.old key) }
     ensures others { (other : ℕ) → other ≢ key → get links.new other ≡ get links.old other }
@@ -23,7 +23,7 @@ fn go_on<S: Drop, M: Messages>(links: &mut Slab<Connection<S, M>>, now: u64, key
     }
 }
 
-/// Ends the connection under a key where it is over at a time, and counts it by what it waited for, or as one whose peer took too slowly.
+/// Ends the connection under a key if it is over at a time, and counts it by what it waited for, or as one whose peer took too slowly.
 fn sweep_key<S: Drop, M: Messages>(
     links: &mut Slab<Connection<S, M>>,
     limits: Limits,
@@ -53,8 +53,9 @@ fn sweep_key<S: Drop, M: Messages>(
     go_on(links, now, key);
 }
 
-/// Ends the connections that are over at a time, in nanoseconds of the clock by which they have begun, and counts them by what they waited for, or
-/// as those whose peers took too slowly what was written to them. The others stay as they were, but for the windows in which what is taken is counted.
+/// Ends the connections that are over at a time, in nanoseconds of the clock by which they began, and counts them by what they waited for,
+/// or as those whose peers took too slowly what was written to them. The others stay as they were, except for the windows in which what is
+/// taken is counted.
 pub fn sweep<S: Drop, M: Messages>(
     links: &mut Slab<Connection<S, M>>,
     limits: Limits,

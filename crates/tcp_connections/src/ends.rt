@@ -1,4 +1,4 @@
-//! How connections have ended, counted.
+//! Counts of how connections have ended.
 ghost use Rattle.std.specs.Prelude.{◌≡◌, ◌≢◌};
 ghost use Rattle.tcp_connections.specs.declared.waiting.Waiting.{Waiting as Awaiting};
 ghost use Rattle.tcp_connections.specs.Ends.{one_more, one_late, one_slow, late_of, all_of};
@@ -9,23 +9,23 @@ use requests::StreamEnd;
 /// How many connections have ended, by how they did; at most 2^64 - 1 of each are counted.
 #[derive(Clone, Copy, Default, PartialEq, Eq, Debug)]
 pub struct Ends {
-    /// Behind the last request's reply, with nothing left to be read.
+    /// After the last request's reply, with nothing left to be read.
     pub clean: u64,
     /// Inside a request, with nothing left to be read.
     pub torn: u64,
-    /// By a read or a write that failed.
+    /// With a read or a write that failed.
     pub device: u64,
-    /// Since no version could be loaded.
+    /// Because no version could be loaded.
     pub spent: u64,
-    /// For want of memory.
+    /// Because there was no memory.
     pub no_memory: u64,
-    /// Since no request came for too long.
+    /// Because no request came for too long.
     pub idle: u64,
-    /// Since the rest of a request didn't come for too long.
+    /// Because the rest of a request didn't come for too long.
     pub message: u64,
-    /// Since what was to be written wasn't taken for too long.
+    /// Because what was to be written wasn't taken for too long.
     pub reply: u64,
-    /// Since what was to be written was taken too slowly.
+    /// Because what was to be written was taken too slowly.
     pub slow: u64,
 }
 
@@ -56,14 +56,14 @@ impl Ends {
         }
     }
 
-    /// Counts one more, which is over since its peer took too slowly what was to be written.
+    /// Counts one more, which is over because its peer took too slowly what was to be written.
     pub(crate) fn count_slow(&mut self)
         ensures { self.new ≡ one_slow self.old }
     {
         self.slow = self.slow.saturating_add(1);
     }
 
-    /// How many are over in all, since their peers took too long, or took too slowly; at most 2^64 - 1 are told.
+    /// How many are over in all, because their peers took too long, or took too slowly; at most 2^64 - 1.
     pub fn late(&self) -> u64
         ensures { result ≡ late_of self.now }
     {
@@ -73,7 +73,7 @@ impl Ends {
             .saturating_add(self.slow)
     }
 
-    /// How many have ended in all; at most 2^64 - 1 are told.
+    /// How many have ended in all; at most 2^64 - 1.
     pub fn total(&self) -> u64
         ensures { result ≡ all_of self.now }
     {

@@ -1,4 +1,4 @@
-//! Who answers the requests of connections.
+//! What answers the requests of connections.
 ghost use Rattle.std.specs.Prelude.{◌≡◌, ℕ, ◌≤◌, List, [], ◌∷◌, length, take, IfOk, IfErr, MatchOption};
 ghost use Rattle.dns_message.specs.Message.{message_limit};
 ghost use Rattle.zone_tree.specs.Version.{Version};
@@ -11,12 +11,12 @@ use serve_core::Peer;
 use std::net::SocketAddr;
 use std::sync::Wait;
 
-/// What makes the messages of a reply one after another, as of a transfer.
+/// Makes the messages of a reply one after another, as of a transfer.
 pub trait Messages: Drop {
     /// The messages that are left.
     ghost left: { Self → List (List ℕ) };
 
-    /// Writes the next message to the front of a buffer, and gives how many octets it has; None where none is left.
+    /// Writes the next message to the start of a buffer, and returns its number of octets; None if none is left.
     fn next_message(&mut self, out: &mut [u8]) -> Option<usize>
         requires { message_limit ≤ length out.old }
         ensures { MatchOption result ((left self.old ≡ []) × (left self.new ≡ [])) (λ len. (left self.old ≡ take len out.new ∷ left self.new) × (len ≤ length out.new) × (len ≤ message_limit)) };
@@ -27,7 +27,7 @@ pub trait Messages: Drop {
 pub enum Reply<M> {
     /// There is none.
     Silent,
-    /// A message of so many octets, at the front of the buffer.
+    /// A message of so many octets, at the start of the buffer.
     One(usize),
     /// These messages.
     Many(M),
@@ -38,40 +38,43 @@ pub enum Reply<M> {
 pub enum Unmade {
     /// No version can be loaded.
     Spent,
-    /// It is made later: the request is to be asked for again.
+    /// It is made later: the request has to be answered again.
     Later,
 }
 
-/// Who answers requests. Contracts know of it which versions it has seen published, as far as it tells them, what a reply to a request is, and
+/// Answers requests. Contracts know which versions it has seen published, as far as it reports them, what a reply to a request is, and
 /// which requests it may answer later.
 pub trait Handler<M: Messages> {
-    /// What is known of versions, by the key of a connection: those that are published, the first one first, and the numbers of those that are
-    /// buried. Where its request is to be answered later, what was known when that was taken up; else what is.
+    /// What is known of versions, by the key of a connection: those that are published, the first one first, and the numbers of those that
+    /// are buried. If a connection's request is to be answered later, what was known when that request was taken up; otherwise what is
+    /// known.
     ghost seen: { Self → ℕ → Learned Version };
 
-    /// Who asks.
+    /// The peer that sends the request.
     ghost peer: { Self → PeerAsking };
 
-    /// The key of the connection on which it asks.
+    /// The key of the peer's connection.
     ghost asker: { Self → ℕ };
 
-    /// What the messages of a reply to a request are, by who asks, by such versions before the reply, and by those when it is made.
+    /// What the messages of a reply to a request are, by the peer, by the versions known before the reply, and by those known when it is
+    /// made.
     ghost is_reply: { PeerAsking → Learned Version → Learned Version → List ℕ → List (List ℕ) → Type 0 };
 
-    /// Which requests may be answered later, by who asks.
+    /// Which requests may be answered later, by the peer.
     ghost is_later: { PeerAsking → List ℕ → Type 0 };
 
     /// It can load no version any more.
     ghost spent: { Self → Type 0 };
 
-    /// Turns to another peer, who asks from an address, on the connection under a key.
+    /// Changes to another peer, which sends from an address, on the connection under a key.
     fn turn_to(&mut self, other: Peer, from: SocketAddr, key: usize)
         ensures other { peer self.new ≡ other }
         ensures asker { asker self.new ≡ key }
         ensures grows { EachGrows (seen self.new) (seen self.old) };
 
-    /// Makes the reply to a request: its one message at the front of a buffer, or what makes its messages. One that is told to be made later is
-    /// had by asking for it again, once the key of its connection is told; until then it is told so each time.
+    /// Makes the reply to a request: its one message at the start of a buffer, or what makes its messages. A reply that is to be made later
+    /// is made by another call with the same request, once the key of its connection is reported; until then each such call says that it is
+    /// to be made later.
     fn reply<R: Wait>(&mut self, rt: &R, request: &[u8], out: &mut [u8]) -> Result<Reply<M>, Unmade>
         requires { message_limit ≤ length out.old }
         ensures same { peer self.new ≡ peer self.old }

@@ -1,12 +1,14 @@
-//! TCP connections as machines without a device, and the connections of one worker (RFC 1035, 4.2.2; RFC 7766).
+//! TCP connections as machines without a device, and the connections of a worker thread (RFC 1035, 4.2.2; RFC 7766).
 //!
-//! A [`ConnectionState`] gets the octets that came and gives those that are to go. It holds a request until it is answered, and replies until they are written: the frames of the
-//! replies, in the order of the requests. [`serve_some`] moves octets between it and a stream, by a bounded share; [`serve_stream`] serves a stream to its end. While anything is to be
-//! written, nothing more is read. A request whose reply is made later stays held, and those after it, until it is asked for again.
+//! A [`ConnectionState`] is given the octets that came, and gives those that are to be sent. It holds a request until it is answered, and
+//! replies until they are written: the frames of the replies, in the order of the requests. [`serve_some`] moves octets between it and a
+//! stream, by a bounded share; [`serve_stream`] serves a stream to its end. While anything is to be written, nothing more is read. A
+//! request whose reply is made later stays held, and those after it, until it is answered.
 //!
-//! A [`Connection`] of a worker is that machine with its peer, under a key. [`serve_ready`] serves those under some keys by a share each: each by its own peer's rights, on its own
-//! stream, and none is dropped but those that end. [`sweep`] ends those whose peers take too long or too slowly, and [`make_room`] the one that has gone longest without a whole request
-//! where there is no place for one more. There is no clock here: each call gets the time.
+//! A [`Connection`] of a worker thread is that machine with its peer, under a key. [`serve_ready`] serves those under some keys by a share
+//! each: each by its own peer's rights, on its own stream, and none is removed except those that end. [`sweep`] ends those whose peers take
+//! too long or too slowly, and [`make_room`] the one that has gone longest without a whole request when there is no place for one more.
+//! There is no clock here: each call is given the time.
 #![tactic(auto)]
 
 mod blocking;

@@ -16,7 +16,7 @@ use std::alloc::{AllocError, Global};
 use std::marker::Model;
 use std::sync::Wait;
 
-/// So many octets to be written hold up the answering of further requests, so that a share is as short for long replies (own).
+/// With so many octets to be written no further request is answered, so that a share is as short for long replies (own).
 const MOST_DUE: usize = 16_384;
 
 /// Why a request isn't answered.
@@ -26,11 +26,11 @@ pub enum Broken {
     Later,
     /// No version could be loaded.
     Spent,
-    /// No memory was to be had for its reply.
+    /// There was no memory for its reply.
     NoMemory,
 }
 
-/// A connection's requests and replies: octets that came and aren't answered, and octets and messages that are to go.
+/// A connection's requests and replies: octets that came and aren't answered, and octets and messages that are to be sent.
 #[derive(Drop)]
 pub struct ConnectionState<M: Messages> {
     held: Queue,
@@ -51,7 +51,7 @@ impl<M: Messages> Model for ConnectionState<M> {
 }
 
 impl<M: Messages> ConnectionState<M> {
-    /// A conversation that holds nothing, and of which nothing is to be written.
+    /// A connection that holds nothing, and for which nothing is to be written.
     pub fn new(alloc: Global) -> ConnectionState<M>
         ensures { result ≡ nothing_kept }
     {
@@ -64,7 +64,7 @@ impl<M: Messages> ConnectionState<M> {
         }
     }
 
-    /// Holds octets that came, behind those that are held. Where there is no memory all is as it was.
+    /// Holds octets that came, after those already held. If there is no memory, nothing changes.
     pub fn take(&mut self, octets: &[u8]) -> Result<(), AllocError>
         requires { IsWaiting self.old }
         ensures taken { OnOk result (self.new ≡ record self.old { held = self.old.held ++ octets.now }) }
@@ -80,7 +80,8 @@ impl<M: Messages> ConnectionState<M> {
         self.ready.as_slice()
     }
 
-    /// The first of the octets that are to be written have been, and are counted. Where nothing is ready behind them, one more has passed.
+    /// Removes the first of the octets that are to be written, which have been written, and counts them. If nothing is ready after them,
+    /// one more has passed.
     #[tactic(auto, using(crate::proofs::PassLemmas::passed_as))]
     pub fn advance(&mut self, count: usize)
         requires { count ≤ length self.old.ready }
@@ -93,8 +94,8 @@ impl<M: Messages> ConnectionState<M> {
         self.passed = passed_by(self.ready.is_empty(), self.passed);
     }
 
-    /// How many times its peer has brought something to its end, modulo 2^64: a request that came whole and is answered, or all that was
-    /// ready, taken. A mere octet, come or gone, doesn't count.
+    /// How many times its peer has finished something, modulo 2^64: has sent a whole request that is then answered, or taken all that was
+    /// ready. Octets alone, sent or taken, don't count.
     pub fn passed(&self) -> u64
         ensures { result ≡ self.now.passed }
     {
@@ -108,7 +109,7 @@ impl<M: Messages> ConnectionState<M> {
         self.taken
     }
 
-    /// Whether it waits for octets. Only then is more read: not while a request is held in whole, or anything is to be written.
+    /// Whether it waits for octets. Only then is more read: not while a whole request is held, or anything is to be written.
     pub fn wants(&self) -> bool
         ensures { IsTrue result → IsWaiting self.now }
     {
@@ -143,7 +144,7 @@ impl<M: Messages> ConnectionState<M> {
         !self.held.is_empty()
     }
 
-    /// Whether so much is to be written that no further request is answered before.
+    /// Whether so much is to be written that no further request is answered before that.
     fn is_full(&self) -> bool
         ensures later { result ≡ false → self.now.later ≡ [] }
         ensures few { result ≡ false → length self.now.ready < 16384 }
@@ -151,7 +152,7 @@ impl<M: Messages> ConnectionState<M> {
         self.rest.is_some() || self.ready.as_slice().len() >= MOST_DUE
     }
 
-    /// Puts a reply behind what is to be written. Where there is no memory all is as it was.
+    /// Adds a reply after what is to be written. If there is no memory, nothing changes.
     fn queue(&mut self, reply: Reply<M>, out: &[u8]) -> Result<(), AllocError>
         requires none { self.old.later ≡ [] }
         requires bound { (len : ℕ) → reply ≡ Reply.One len → (len ≤ message_limit) × (len ≤ length out.now) }
@@ -174,9 +175,9 @@ impl<M: Messages> ConnectionState<M> {
         }
     }
 
-    /// Answers the first request that is held in whole, and puts the reply behind what is to be written. It goes through the gate, which is
-    /// left once the reply is made, or told to be made later. False where none is held, or so much is to be written that this goes first. There, and
-    /// where the request isn't answered, all is as it was.
+    /// Answers the first whole request that is held, and adds the reply after what is to be written. The request passes the gate, which is
+    /// left once the reply is made, or is to be made later. Returns false if no whole request is held, or so much is to be written that
+    /// this comes first. In that case, and if the request isn't answered, nothing changes.
     #[tactic(auto, using(crate::proofs::AskedLemmas::each_itself))]
     pub fn answer<R: Wait, A: Handler<M>, G: Gate>(
         &mut self,
@@ -220,7 +221,7 @@ impl<M: Messages> ConnectionState<M> {
         Ok(true)
     }
 
-    /// Writes the next message, where any is left, to the front of a buffer, and gives how many octets it has.
+    /// Writes the next message, if any is left, to the start of a buffer, and returns its number of octets.
     fn next(&mut self, out: &mut [u8]) -> Option<usize>
         requires { message_limit ≤ length out.old }
         ensures held { self.new.held ≡ self.old.held }
@@ -243,7 +244,7 @@ impl<M: Messages> ConnectionState<M> {
         }
     }
 
-    /// Makes the next message ready to be written where nothing is ready and one is left. Where there is no memory that message is lost.
+    /// Makes the next message ready to be written, if nothing is ready and one is left. If there is no memory, that message is lost.
     pub fn refill(&mut self, out: &mut [u8]) -> Result<(), AllocError>
         requires { message_limit ≤ length out.old }
         ensures held { OnOk result (self.new.held ≡ self.old.held) }
@@ -274,7 +275,7 @@ fn broken_by(unmade: Unmade) -> Broken
     }
 }
 
-/// How many have passed: one more where all that was ready is taken.
+/// How many have passed: one more if all that was ready is taken.
 fn passed_by(is_all: bool, passed: u64) -> u64
     ensures { result ≡ (if is_all then one_passed passed else passed) }
 {
@@ -284,7 +285,7 @@ fn passed_by(is_all: bool, passed: u64) -> u64
     passed
 }
 
-/// The request whose frame octets begin with; None where they end before it does (RFC 1035, 4.2.2).
+/// The request in the frame at the start of octets; None if they end before the frame does (RFC 1035, 4.2.2).
 fn first_request(octets: &[u8]) -> Option<&[u8]>
     ensures frame { IfSome result (λ request. octets.now ≡ frame_of request.now ++ drop (2 + length request.now) octets.now) }
     ensures bound { IfSome result (λ request. 2 + length request.now ≤ length octets.now) }

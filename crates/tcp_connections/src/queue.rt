@@ -1,4 +1,4 @@
-//! Octets that come at one end and go at the other.
+//! Octets that are added at one end and removed at the other.
 ghost use Rattle.std.specs.Prelude.{◌≡◌, ◌≤◌, [], ◌++◌, length, drop, IsTrue, ◌↔◌, OnOk, OnErr};
 ghost use Rattle.dns_message.specs.Frame.{frame_of};
 ghost use Rattle.dns_message.specs.Message.{message_limit};
@@ -9,7 +9,7 @@ use std::marker::Model;
 /// The octets of a frame's length (RFC 1035, 4.2.2).
 pub(crate) const LENGTH: usize = 2;
 
-/// Octets in a row, those that came first in front.
+/// Octets in a row, the first to come first.
 #[derive(Drop)]
 pub(crate) struct Queue {
     octets: Vec<u8>,
@@ -51,7 +51,7 @@ impl Queue {
         self.as_slice().is_empty()
     }
 
-    /// Lets the first octets go.
+    /// Removes the first octets.
     #[tactic(auto, using(crate::proofs::QueueLemmas::advanced))]
     pub(crate) fn advance(&mut self, count: usize)
         requires { count ≤ length self.old }
@@ -60,7 +60,7 @@ impl Queue {
         self.at += count;
     }
 
-    /// Gives the room of octets that are gone to others, where they are as many as those that are left.
+    /// Frees the room of removed octets for others, if they are at least as many as those that are left.
     #[tactic(auto, using(crate::proofs::QueueLemmas::compacted))]
     fn compact(&mut self)
         ensures { self.new ≡ self.old }
@@ -73,7 +73,7 @@ impl Queue {
         }
     }
 
-    /// Adds octets behind the others. Where there is no memory the octets are as they were.
+    /// Adds octets after the others. If there is no memory, the octets stay as they were.
     #[tactic(auto, using(crate::proofs::QueueLemmas::pushed))]
     pub(crate) fn push(&mut self, octets: &[u8]) -> Result<(), AllocError>
         ensures pushed { OnOk result (self.new ≡ self.old ++ octets.now) }
@@ -83,7 +83,7 @@ impl Queue {
         self.octets.extend_from_slice(octets)
     }
 
-    /// Adds a message's frame behind the other octets (RFC 1035, 4.2.2). Where there is no memory the octets are as they were.
+    /// Adds a message's frame after the other octets (RFC 1035, 4.2.2). If there is no memory, the octets stay as they were.
     #[tactic(auto, using(crate::proofs::QueueLemmas::pushed_both))]
     pub(crate) fn push_frame(&mut self, message: &[u8]) -> Result<(), AllocError>
         requires { length message.now ≤ message_limit }

@@ -13,7 +13,7 @@ use crate::waiting::Waiting;
 use peer_groups::{Groups, PeerGroup};
 use slab::Slab;
 
-/// The groups of peers whose connections are looked at.
+/// The groups of peers whose connections are considered.
 #[derive(Clone, Copy)]
 pub(crate) enum Among {
     /// All of them.
@@ -34,7 +34,7 @@ impl Among {
     }
 }
 
-/// Since when a connection that waits so since then waits for a whole request; None where it doesn't.
+/// Since when a connection waits for a whole request, by what it waits for and since when; None if it doesn't.
 fn waits_by(awaited: Waiting, begun: u64) -> Option<u64>
     ensures { result ≡ waits_by awaited begun }
 {
@@ -46,7 +46,7 @@ fn waits_by(awaited: Waiting, begun: u64) -> Option<u64>
     }
 }
 
-/// Since when the connection under a key waits for a whole request; None where there is none of a peer of these groups, or it doesn't.
+/// Since when the connection under a key waits for a whole request; None if there is none of a peer of these groups, or it doesn't.
 fn waits_at<S: Drop, M: Messages>(
     links: &Slab<Connection<S, M>>,
     among: Among,
@@ -73,7 +73,7 @@ fn lesser(least: Option<(usize, u64)>, key: usize, number: u64) -> Option<(usize
     Some((key, number))
 }
 
-/// The connection that waits longest of those under the keys up to one, by that of those before it.
+/// The connection that waits longest of those under the keys up to one, given the one of those before it.
 fn longest_up_to<S: Drop, M: Messages>(
     links: &Slab<Connection<S, M>>,
     among: Among,
@@ -88,7 +88,7 @@ fn longest_up_to<S: Drop, M: Messages>(
     }
 }
 
-/// The key of the connection of a peer of some groups that waits longest for a whole request; None where none waits for one.
+/// The key of the connection, of a peer of some groups, that waits longest for a whole request; None if none waits for one.
 fn longest<S: Drop, M: Messages>(links: &Slab<Connection<S, M>>, among: Among) -> Option<usize>
     ensures { IsLongest (among_has among) links.now result }
 {
@@ -102,7 +102,7 @@ fn longest<S: Drop, M: Messages>(links: &Slab<Connection<S, M>>, among: Among) -
     }
 }
 
-/// The key of the connection that gives its place to a newcomer of a group; None where none does.
+/// The key of the connection that gives up its place to a newcomer of a group; None if none does.
 fn giver<S: Drop, M: Messages>(links: &Slab<Connection<S, M>>, newcomer: PeerGroup) -> Option<usize>
     ensures { IsGiver newcomer links.now result }
 {
@@ -126,9 +126,9 @@ pub enum Room {
     Full,
 }
 
-/// Makes a place for one more connection, of a peer of a group, where as many are open as may be: ends the one that has gone longest without a whole
-/// request (RFC 7766, 6.2.3). Where the newcomer's group has a quarter of the places already, that is one of its own; else, first, one of a group that
-/// has more than a quarter (own).
+/// Makes a place for one more connection, of a peer of a group, if as many are open as may be: ends the connection that has gone longest
+/// without a whole request (RFC 7766, 6.2.3). If the newcomer's group has a quarter of the places already, that is one of its own;
+/// otherwise it is, first, one of a group that has more than a quarter (own).
 pub fn make_room<S: Drop, M: Messages>(
     links: &mut Slab<Connection<S, M>>,
     places: usize,

@@ -1,4 +1,4 @@
-//! Octets between a stream and its conversation, by shares.
+//! Octets moved between a stream and its connection, by shares.
 ghost use Rattle.std.specs.Prelude.{◌≡◌, ◌↔◌, ◌⊎◌, ◌<◌, ◌≤◌, [], length, IsTrue, IfErr, OnOk};
 ghost use Rattle.dns_message.specs.Message.{message_limit};
 ghost use Rattle.tcp_connections.specs.Asked.{EachGrows, Waits};
@@ -31,7 +31,7 @@ pub enum Flow {
     More,
     /// The stream would block.
     Blocked,
-    /// The first request that is held is answered later, and nothing else can be done before.
+    /// The first request that is held is answered later, and nothing else can be done before that.
     Waits,
 }
 
@@ -59,7 +59,7 @@ enum Written {
     Done,
 }
 
-/// Answers requests that are held in whole, in their order, so many at most.
+/// Answers whole requests that are held, in their order, a limited number of them.
 fn answer_some<R: Wait, M: Messages, A: Handler<M>, G: Gate>(
     rt: &R,
     answering: &mut A,
@@ -142,7 +142,7 @@ fn write_some<M: Messages, S: Blocking>(
     }
 }
 
-/// Writes what is to be written, by so many writes at most.
+/// Writes what is to be written, by a limited number of writes.
 fn flush<M: Messages, S: Blocking>(
     conversation: &mut ConnectionState<M>,
     stream: &mut S,
@@ -171,7 +171,7 @@ fn flush<M: Messages, S: Blocking>(
     Ok(Written::More)
 }
 
-/// Reads some octets, and holds them. The stream ends in front of a frame or inside one.
+/// Reads some octets, and holds them. The stream ends before a frame or inside one.
 fn read_some<M: Messages, S: Blocking>(
     conversation: &mut ConnectionState<M>,
     stream: &mut S,
@@ -205,7 +205,7 @@ fn read_some<M: Messages, S: Blocking>(
     }
 }
 
-/// Writes what is to be written, and reads once where nothing is left of it.
+/// Writes what is to be written, and reads once if nothing is left of it.
 fn write_and_read<M: Messages, S: Blocking>(
     conversation: &mut ConnectionState<M>,
     stream: &mut S,
@@ -264,7 +264,7 @@ fn write_and_wait<M: Messages, S: Blocking>(
     }
 }
 
-/// Answers requests that are held, writes what is to be written, and reads once, where nothing is left to be written and no request waits for
+/// Answers requests that are held, writes what is to be written, and reads once, if nothing is left to be written and no request waits for
 /// its reply.
 fn turn<R: Wait, M: Messages, A: Handler<M>, S: Blocking, G: Gate>(
     rt: &R,
@@ -303,10 +303,11 @@ fn turn<R: Wait, M: Messages, A: Handler<M>, S: Blocking, G: Gate>(
     }
 }
 
-/// Serves a connection by a share: some turns of its conversation with its stream. Over a stream that tells its octets, what is written and
-/// what is to be is the frames of the replies to the requests that are read, in their order, each by what was known then to be published;
-/// where the stream ends by itself, all of it is written, else a beginning of it (RFC 1035, 4.2.2; RFC 7766, 6.2.1.1). Each request goes
-/// through the gate, which is left once its reply is made. Where that is made later, those behind it wait, and nothing more is read.
+/// Serves a connection by a share: some turns, which move octets between it and its stream. If the stream reports its octets, what is
+/// written and what is to be written is the frames of the replies to the requests that are read, in their order, each by what was known
+/// then to be published. If the stream ends by itself, all of it is written, otherwise a prefix of it (RFC 1035, 4.2.2; RFC 7766, 6.2.1.1).
+/// Each request passes the gate, which is left once its reply is made. If a reply is made later, the requests after it wait, and nothing
+/// more is read.
 pub fn serve_some<R: Wait, M: Messages, A: Handler<M>, S: Blocking, G: Gate>(
     rt: &R,
     answering: &mut A,

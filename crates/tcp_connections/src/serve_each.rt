@@ -1,4 +1,4 @@
-//! Connections that are served each under its key.
+//! Connections that are served, each under its key.
 ghost use Rattle.std.specs.Prelude.{◌≡◌, ◌≢◌, ◌<◌, ◌≤◌, ◌⊎◌, ℕ, false, length, option_map, All, Contains, OnOk, OnErr};
 ghost use Rattle.dns_message.specs.Message.{message_limit};
 ghost use Rattle.requests.specs.Served.{BeginsWith};
@@ -15,8 +15,8 @@ use slab::Slab;
 use std::alloc::AllocError;
 use std::sync::Wait;
 
-/// Serves the connection under a key, if there is one, by a share, and tells whether it could go on: where not, there is none, its stream would
-/// block, or its first request waits for its reply. One that ends is removed, and counted by how it ended.
+/// Serves the connection under a key, if there is one, by a share, and returns whether it could go on. If not, there is none, its stream
+/// would block, or its first request waits for its reply. A connection that ends is removed, and counted by how it ended.
 #[tactic(auto, using(crate::proofs::AskedLemmas::each_itself))]
 fn serve_key<R: Wait, S: Blocking + Drop, M: Messages, A: Handler<M>>(
     rt: &R,
@@ -49,10 +49,10 @@ fn serve_key<R: Wait, S: Blocking + Drop, M: Messages, A: Handler<M>>(
     }
 }
 
-/// Serves the connections under some keys, each by a share, at a time, and puts behind `next` those keys whose connections could go on: a key
-/// that isn't among them has no connection, one whose stream would block, or one whose first request waits for its reply. One that ends is removed,
-/// and counted by how it ended. Each is answered by its own peer's rights, on its own stream; none appears, and none is dropped that hasn't ended,
-/// whatever the keys. Where there is no memory for the keys nothing is served.
+/// Serves the connections under some keys, each by a share, at a time, and appends to `next` those keys whose connections could go on: a
+/// key that isn't among them has no connection, one whose stream would block, or one whose first request waits for its reply. A connection
+/// that ends is removed, and counted by how it ended. Each is answered by its own peer's rights, on its own stream; none appears, and none
+/// is removed that hasn't ended, whatever the keys. If there is no memory for the keys, nothing is served.
 #[tactic(auto, using(crate::proofs::AskedLemmas::each_itself))]
 pub fn serve_ready<R: Wait, S: Blocking + Drop, M: Messages, A: Handler<M>>(
     rt: &R,

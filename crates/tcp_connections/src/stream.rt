@@ -12,10 +12,10 @@ use requests::{Counted, Gate, Stream, StreamEnd};
 use std::alloc::Global;
 use std::sync::Wait;
 
-/// Answers the requests of a stream one after another, until it ends. Over a stream that tells its octets, what is written is the
-/// frames of the replies, in the order of the requests: where the stream ends by itself all of them, and nothing is left to be
-/// read; else a beginning of them (RFC 1035, 4.2.2). Each request goes through the gate, which is left once its reply is made. One whose reply is
-/// made later is asked for again and again.
+/// Answers the requests of a stream one after another, until it ends. If the stream reports its octets, what is written is the frames of
+/// the replies, in the order of the requests: all of them, with nothing left to be read, if the stream ends by itself; otherwise a prefix
+/// of them (RFC 1035, 4.2.2). Each request passes the gate, which is left once its reply is made. A request whose reply is made later is
+/// answered again and again until it is made.
 pub fn serve_stream<R: Wait, M: Messages, A: Handler<M>, S: Stream, G: Gate>(
     rt: &R,
     alloc: Global,

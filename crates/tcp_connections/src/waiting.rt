@@ -1,14 +1,14 @@
 //! What a connection waits for.
 
-/// What a connection waits for: from its peer, or for its peer.
+/// What a connection waits for: what its peer has to do, or what its peer waits for.
 #[derive(Clone, Copy, PartialEq, Eq, Debug)]
 pub enum Waiting {
     /// A request, of which nothing has come: it is idle.
     Request,
     /// The rest of a request.
     Rest,
-    /// The answering of a request that came whole: its peer has nothing to bring.
+    /// The reply to a whole request: its peer has nothing to do.
     Answer,
-    /// The taking of what is to be written.
+    /// That its peer takes what is to be written.
     Taking,
 }

@@ -4,10 +4,10 @@ ghost use Rattle.tcp_connections.specs.Rate.{is_taking, slow_by, window_by};
 
 use crate::waiting::Waiting;
 
-/// How long a window is at least, in nanoseconds (own).
+/// The least length of a window, in nanoseconds (own).
 const SPAN: u64 = 10_000_000_000;
 
-/// Since when the octets that a peer takes are counted, in nanoseconds of a worker's clock, and how many it had taken by then.
+/// Since when the octets that a peer takes are counted, in nanoseconds of a worker thread's clock, and how many it had taken by then.
 #[derive(Clone, Copy, Debug)]
 pub struct Window {
     pub(crate) since: u64,
@@ -27,8 +27,8 @@ fn is_taking(awaited: Waiting) -> bool
 }
 
 impl Window {
-    /// Whether something waits to be taken at a time, and the ten seconds of the window are over, in which fewer octets than the rate were taken.
-    /// At a rate of 0 that is never so.
+    /// Whether something waits to be taken at a time, and the ten seconds of the window are over, in which fewer octets than the rate were
+    /// taken. At a rate of 0 that is never so.
     pub(crate) fn is_slow(self, rate: u64, now: u64, awaited: Waiting, taken: u64) -> bool
         ensures { result ≡ slow_by rate now self awaited taken }
     {
@@ -37,7 +37,7 @@ impl Window {
             && taken.saturating_sub(self.taken) < rate
     }
 
-    /// The window at a time: this one while something waits to be taken and its ten seconds aren't over; else one that begins then.
+    /// The window at a time: this one while something waits to be taken and its ten seconds aren't over; otherwise one that begins then.
     pub(crate) fn at(self, now: u64, awaited: Waiting, taken: u64) -> Window
         ensures { result ≡ window_by now self awaited taken }
     {

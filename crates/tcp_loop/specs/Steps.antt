@@ -1,4 +1,4 @@
--- What becomes of a worker's connections, from one state to the next (RFC 7766, 6.2; own).
+-- What becomes of a worker thread's connections, from one state to the next (RFC 7766, 6.2; own).
 use Rattle.std.specs.Prelude.{◌≡◌, ◌≢◌, ℕ, ◌/◌, ◌⊎◌, List, All, Contains, Option, None, Some, option_map}
 use Rattle.requests.specs.Served.{Learned}
 use Rattle.std.specs.declared.net.ip_addr.IpAddr.{IpAddr}
@@ -19,7 +19,7 @@ use Rattle.tcp_connections.specs.declared.limits.Limits.{Limits}
 use Rattle.tcp_connections.specs.declared.connection.Connection.{Connection}
 use Rattle.tcp_loop.specs.declared.tally.Tally.{Tally}
 
--- the limits where places are scarce: idle ones have a quarter of their time (RFC 7766, 6.2.3; own)
+-- the limits when places are scarce: idle connections have a quarter of their time (RFC 7766, 6.2.3; own)
 abbrev pub scarce : Limits → Limits
 scarce limits = record limits { idle = limits.idle / 4 }
 
@@ -33,15 +33,15 @@ nothing_counted = record {
   no_room = 0;
 }
 
--- of connections under some keys, each that could go on is among the next ones: under another key there is none any more, its stream would block, or its
--- first request waits for its reply
+-- of connections under some keys, each that could go on is among the next ones: for any other key there is no connection any more, its
+-- stream would block, or its first request waits for its reply
 abbrev pub GoOn : {S M : Type 0} → (S → Type 0) → (Peer → List ℕ → Type 0) → Slab (Connection S M) → List ℕ → List ℕ → Type 0
 GoOn would_block is_later links keys next = All (λ key. Contains next key ⊎ HasStopped would_block is_later (get links key)) keys
 
--- the address that a stream comes from, and what its octets are, as far as it tells them
+-- the address that a stream comes from, and what its octets are, as far as it reports them
 module _ {S M : Type 0} (origin : S → SocketAddr) (octets : S → Option (List ℕ × List ℕ)) where
-  -- a connection has begun at a time: who asks on it is the peer of the address that its stream comes from, by that alone, and nothing is
-  -- kept of it
+  -- a connection has begun at a time: its peer is the one at the address that its stream comes from, by that alone, and nothing is kept of
+  -- it
   pub record HasBegun (allowed : List IpAddr) (now : ℕ) (link : Connection S M) : Type 0 where
     pub from : link.from ≡ origin link.stream
     pub peer : IsPeer allowed Tcp (origin link.stream) link.peer
@@ -50,31 +50,32 @@ module _ {S M : Type 0} (origin : S → SocketAddr) (octets : S → Option (List
     pub group : IsGroupOf (socket_ip (origin link.stream)) link.group
     pub window : link.window ≡ record { since = now; taken = 0 }
 
-  -- a place is taken, or given to another: a connection begins under a key that had none; the one gives its place that is to for a newcomer whose
-  -- stream comes from an address of the newcomer's group; or all rests
+  -- a place is taken, or given up to another: a connection begins under a key that had none; the connection that has to gives up its place
+  -- for a newcomer whose stream comes from an address of the newcomer's group; or nothing changes
   pub data Move (allowed : List IpAddr) (now : ℕ) (old new : Slab (Connection S M)) : Type 0 where
     begins : (key : ℕ) (link : Connection S M) → get old key ≡ None → get new key ≡ Some link → HasBegun allowed now link → ((other : ℕ) → other ≢ key → get new other ≡ get old other) → Move allowed now old new
     gives : (stream : S) (newcomer : PeerGroup) (key : ℕ) → IsGroupOf (socket_ip (origin stream)) newcomer → IsGiver newcomer old (Some key) → get new key ≡ None → ((other : ℕ) → other ≢ key → get new other ≡ get old other) → Move allowed now old new
     rests : ((key : ℕ) → get new key ≡ get old key) → Move allowed now old new
 
-  -- so many such moves, one behind the other
+  -- so many such moves, one after another
   pub data Moves (allowed : List IpAddr) (now : ℕ) (old : Slab (Connection S M)) : Slab (Connection S M) → Type 0 where
     stay : Moves allowed now old old
     move : {between new : Slab (Connection S M)} → Moves allowed now old between → Move allowed now between new → Moves allowed now old new
 
-  -- places are given back at a time: by those that are over by the limits, or by those where places are scarce; or all rests
+  -- places are given back at a time: by connections that are over by the limits, or by the limits when places are scarce; or nothing
+  -- changes
   abbrev pub Sweeps : Limits → ℕ → Slab (Connection S M) → Slab (Connection S M) → Type 0
   Sweeps limits now old new = (new ≡ old) ⊎ ((key : ℕ) → get new key ≡ kept_at limits now (get old key)) ⊎ ((key : ℕ) → get new key ≡ kept_at (scarce limits) now (get old key))
 
-  -- what a reply is, by who asks, the list of what is known to be published before it and that of what is when it is made, the request, and the
-  -- reply's messages
+  -- what a reply is, by the peer, the list of what is known to be published before it and that of what is known when it is made, the
+  -- request, and the reply's messages
   module _ {T : Type 0} (IsReply : Peer → Learned T → Learned T → List ℕ → List (List ℕ) → Type 0) where
     -- connections are served at a time, each by its own peer's rights and on its own stream
     abbrev pub Serves : ℕ → (ℕ → Learned T) → Slab (Connection S M) → (ℕ → Learned T) → Slab (Connection S M) → Type 0
     Serves now seen old later new = (key : ℕ) → OwnServed IsReply now (seen key) (option_map (seen_of octets) (get old key)) (later key) (option_map (seen_of octets) (get new key))
 
-    -- a turn at a time, by what is known on each connection to be published before it and behind it: places are taken; connections are served; and places are given
-    -- back
+    -- a turn at a time, by what is known on each connection to be published before it and after it: places are taken; connections are
+    -- served; and places are given back
     pub record HasTurned (allowed : List IpAddr) (limits : Limits) (now : ℕ) (seen : ℕ → Learned T) (old : Slab (Connection S M)) (later : ℕ → Learned T) (new : Slab (Connection S M)) : Type 0 where
       pub come : Slab (Connection S M)
       pub served : Slab (Connection S M)
@@ -82,7 +83,7 @@ module _ {S M : Type 0} (origin : S → SocketAddr) (octets : S → Option (List
       pub own : Serves now seen come later served
       pub last : Sweeps limits now served new
 
-    -- turns, one behind the other
+    -- turns, one after another
     pub data Turned (allowed : List IpAddr) (limits : Limits) (seen : ℕ → Learned T) (old : Slab (Connection S M)) : (ℕ → Learned T) → Slab (Connection S M) → Type 0 where
       unturned : Turned allowed limits seen old seen old
       turned : {mid later : ℕ → Learned T} {between new : Slab (Connection S M)} (now : ℕ) → Turned allowed limits seen old mid between → HasTurned allowed limits now mid between later new → Turned allowed limits seen old later new

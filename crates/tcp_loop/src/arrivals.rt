@@ -1,38 +1,38 @@
-//! Where connections come in (RFC 1035, 4.2.2).
+//! Listeners, which accept connections (RFC 1035, 4.2.2).
 ghost use Rattle.std.specs.Prelude.{◌≡◌};
 ghost use Rattle.std.specs.declared.net.socket_addr.SocketAddr.{SocketAddr as Address};
 
 use std::net::SocketAddr;
 use tcp_connections::Blocking;
 
-/// A connection's stream that tells from where it comes.
+/// A connection's stream that reports the address of its peer.
 pub trait Remote {
-    /// The address that it comes from.
+    /// The address of its peer.
     ghost origin: { Self → Address };
 
-    /// The address that it comes from.
+    /// The address of its peer.
     fn address(&self) -> SocketAddr
         ensures { result ≡ origin self.now };
 }
 
-/// Why no connection is taken.
+/// Why no connection is accepted.
 #[derive(Clone, Copy, PartialEq, Eq, Debug)]
 pub enum Refusal {
-    /// None waits.
+    /// No connection is waiting.
     Blocked,
-    /// It failed before it was taken, which is its client's alone.
+    /// A connection failed before it was accepted, which concerns its client alone.
     Client,
-    /// There is no room for it: no descriptor, or no memory.
+    /// There is no room for a connection: no descriptor, or no memory.
     Room,
-    /// Nothing can come in any more.
+    /// No connection can be accepted any more.
     Broken,
 }
 
-/// Where connections come in.
+/// A listener, which accepts connections.
 pub trait Arrivals {
-    /// What a connection's requests are read from, and its replies written to.
+    /// The stream from which a connection's requests are read, and to which its replies are written.
     type Stream: Blocking + Remote + Drop;
 
-    /// Takes the connection that comes next.
+    /// Accepts the next connection.
     fn take(&mut self) -> Result<Self::Stream, Refusal>;
 }

@@ -1,16 +1,16 @@
-//! Replies that are had later.
+//! Replies that are made later.
 ghost use Rattle.std.specs.Prelude.{◌≡◌};
 
 use crate::readiness::{NotWatched, Readiness};
 use tcp_connections::Blocking;
 
-/// What tells of which connections the replies can be had now that were told to be made later.
+/// Reports the connections whose replies were to be made later and are now ready.
 pub trait Finished {
-    /// The key of the next one; None where no more is told for now.
+    /// The key of the next one; None if there are no more for now.
     fn next(&mut self) -> Option<usize>;
 }
 
-/// A poll that also tells the keys of connections whose replies can be had. Who makes a reply ends its wait.
+/// A poll that also reports the keys of connections whose replies are ready. What makes a reply has to end the poll's wait.
 #[derive(Drop)]
 pub struct Woken<P, F> {
     poll: P,
@@ -18,7 +18,7 @@ pub struct Woken<P, F> {
 }
 
 impl<P, F> Woken<P, F> {
-    /// A poll, and what tells of replies.
+    /// A poll, and what reports finished replies.
     pub fn new(poll: P, finished: F) -> Woken<P, F>
         ensures { result ≡ record { poll = poll; finished = finished } }
     {
@@ -40,7 +40,7 @@ impl<S: Blocking, P: Readiness<S>, F: Finished> Readiness<S> for Woken<P, F> {
     }
 }
 
-/// Puts the keys of connections whose replies can be had now behind `keys`.
+/// Appends to `keys` the keys of connections whose replies are now ready.
 fn put_finished<F: Finished>(finished: &mut F, keys: &mut Vec<usize>) -> Result<(), NotWatched> {
     for _told in 0..u64::MAX {
         let Some(key) = finished.next() else {

@@ -1,8 +1,9 @@
-//! A worker's loop over many connections (RFC 7766, 6.2).
+//! A worker thread's loop over many connections (RFC 7766, 6.2).
 //!
-//! An [`EventLoop`] has the connections of a worker. [`EventLoop::poll_once`] waits until something may be ready, takes connections that come, serves those that may go on by a share each,
-//! and, once a second, ends those whose peers take too long. A [`Readiness`] says what may be ready, which may be wrong, and connections come in by [`Arrivals`]. A connection whose request
-//! is answered later goes on once a [`Woken`] gives its key.
+//! An [`EventLoop`] has the connections of a worker thread. [`EventLoop::poll_once`] waits until something may be ready, accepts new
+//! connections, serves those that may go on by a share each, and, once a second, ends those whose peers take too long. A [`Readiness`] says
+//! what may be ready, which may be wrong, and connections are accepted through [`Arrivals`]. A connection whose request is answered later
+//! goes on once a [`Woken`] reports its key.
 #![tactic(auto)]
 
 mod arrivals;

@@ -3,23 +3,23 @@
 use std::alloc::{AllocError, Global};
 use std::mem;
 
-/// How many keys of those that could go on get a turn beside those that were told (own).
+/// How many keys of connections that could go on get a turn beside those reported ready (own).
 const OTHERS: usize = 16;
 
-/// Keys that wait for their turn, each once. Those that were told to be ready all get the next one; of those that had one and could go on as many
-/// as [`OTHERS`], round after round, so that who asks anew waits for few of those that ask without end.
+/// Keys that wait for their turn, each once. All those reported ready get the next turn; of those that had a turn and could go on, at most
+/// [`OTHERS`] do, round robin, so that a client with a new request waits for few of the clients that send requests without end.
 #[derive(Drop)]
 pub(crate) struct Waiting {
     told: Vec<usize>,
-    /// Those that could go on: of this round, and of the next one.
+    /// Keys of connections that could go on: in this round, and in the next one.
     others: Vec<usize>,
     after: Vec<usize>,
-    /// By key, whether it waits.
+    /// For each key, whether it waits.
     is_in: Vec<bool>,
 }
 
 impl Waiting {
-    /// No keys; each is under `most`.
+    /// No keys; each is to be below `most`.
     pub(crate) fn new(alloc: Global, most: usize) -> Result<Waiting, AllocError> {
         Ok(Waiting {
             told: Vec::with_capacity(alloc, most)?,
@@ -34,7 +34,8 @@ impl Waiting {
         self.told.is_empty() && self.others.is_empty() && self.after.is_empty()
     }
 
-    /// Whether a key is to be put, which it then is: one that waits already isn't, nor one that isn't under the most, which is nobody's.
+    /// Whether a key is to be added, in which case it is marked as waiting: not if it waits already, or isn't below the most, since then it
+    /// belongs to no connection.
     fn enters(&mut self, key: usize) -> bool {
         let Some(is_in) = self.is_in.get_mut(key) else {
             return false;
@@ -42,7 +43,7 @@ impl Waiting {
         !mem::replace(is_in, true)
     }
 
-    /// Puts a key that was told to be ready behind the others, if it doesn't wait already.
+    /// Adds a key that was reported ready, after the others, if it doesn't wait already.
     pub(crate) fn put(&mut self, key: usize) {
         // There is room for as many as may wait.
         if self.enters(key) {
@@ -50,7 +51,7 @@ impl Waiting {
         }
     }
 
-    /// Puts keys that could go on into the next round, each if it doesn't wait already.
+    /// Adds keys of connections that could go on to the next round, each if it doesn't wait already.
     pub(crate) fn put_after(&mut self, keys: &[usize]) {
         for key in keys {
             if self.enters(*key) {
@@ -59,7 +60,7 @@ impl Waiting {
         }
     }
 
-    /// The next of those that could go on.
+    /// The next key of those that could go on.
     fn next_other(&mut self) -> Option<usize> {
         if self.others.is_empty() {
             mem::swap(&mut self.others, &mut self.after);
@@ -67,7 +68,7 @@ impl Waiting {
         self.others.pop()
     }
 
-    /// Lets the keys whose turn it is go to `taken`, which is empty, and which they then wait in no more.
+    /// Moves the keys whose turn it is to `taken`, which has to be empty; they then wait no more.
     pub(crate) fn take(&mut self, taken: &mut Vec<usize>) {
         mem::swap(&mut self.told, taken);
         for _other in 0..OTHERS {

@@ -1,4 +1,4 @@
-//! A worker's connections, and its turns.
+//! A worker thread's connections, and its turns.
 ghost use Rattle.std.specs.Prelude.{◌≡◌, ◌<◌, ◌≤◌, ◌⊎◌, ◌-◌, ◌/◌, ℕ, List, length, replicate, true, None, IfOk, OnOk};
 ghost use Rattle.std.specs.declared.net.ip_addr.IpAddr.{IpAddr};
 ghost use Rattle.dns_message.specs.Message.{message_limit};
@@ -22,54 +22,55 @@ use tcp_connections::{
     Blocking, Connection, Handler, Limits, Messages, Room, make_room, serve_ready, sweep,
 };
 
-/// A second, in nanoseconds: the longest wait, the time between two sweeps, and that for which nothing is taken for want of room (own).
+/// A second, in nanoseconds: the longest wait, the time between two sweeps, and the time for which nothing is accepted when there was no
+/// room (own).
 const SECOND: u64 = 1_000_000_000;
 
-/// How many connections a place where they come in gives at a turn, at most, and no more than there are places (own).
+/// How many connections a listener accepts in a turn, at most; never more than there are places (own).
 const ARRIVALS: usize = 128;
 
-/// How a worker has its connections.
+/// How a worker thread treats its connections.
 #[derive(Clone, Copy)]
 pub struct Plan<'a> {
     /// How long each may wait for its peer.
     pub limits: Limits,
-    /// Who may update and transfer.
+    /// Which addresses may update and transfer.
     pub allowed: Allowed<'a>,
 }
 
-/// Why a worker takes no more turns.
+/// Why a worker thread can take no more turns.
 #[derive(Clone, Copy, PartialEq, Eq, Debug)]
 pub enum TurnEnd {
-    /// Nothing can be waited for, or a place where connections come in is broken.
+    /// Nothing can be waited for, or a listener can accept no connections any more.
     Device,
-    /// No memory was to be had for keys.
+    /// There was no memory for keys.
     NoMemory,
 }
 
-/// The connections of a worker.
+/// The connections of a worker thread.
 #[derive(Drop)]
 pub struct EventLoop<S: Drop, M: Messages> {
     links: Slab<Connection<S, M>>,
     /// How many may be open.
     places: usize,
     waiting: Waiting,
-    /// Keys that were told to be ready, those that are served, and those that could go on.
+    /// Keys that were reported ready, those that are served, and those that could go on.
     told: Vec<usize>,
     served: Vec<usize>,
     next: Vec<usize>,
-    /// By place where connections come in, whether one may wait there.
+    /// For each listener, whether a connection may be waiting there.
     may_come: Vec<bool>,
-    /// Until when nothing is taken, for want of room.
+    /// Until when nothing is accepted, since there was no room.
     shut_until: u64,
-    /// When it was swept last.
+    /// When the connections were last swept.
     swept: u64,
     tally: Tally,
     alloc: Global,
 }
 
 impl<S: Blocking + Remote + Drop, M: Messages> EventLoop<S, M> {
-    /// A worker without connections, for so many places, and where connections come in at so many: at each of them one may wait. Nothing is
-    /// counted yet, and nothing keeps it from taking any.
+    /// A worker thread without connections, with `places` places for them, and with `arrivals` listeners, at each of which one may be
+    /// waiting. Nothing is counted yet, and nothing keeps it from accepting any.
     pub fn new(alloc: Global, places: usize, arrivals: usize) -> Result<EventLoop<S, M>, AllocError>
         ensures empty { IfOk result (λ turns. (key : ℕ) → get turns.links key ≡ None) }
         ensures places { IfOk result (λ turns. turns.places ≡ places) }
@@ -106,7 +107,7 @@ impl<S: Blocking + Remote + Drop, M: Messages> EventLoop<S, M> {
         &self.links
     }
 
-    /// How long is waited at most: not at all where something could be done at once.
+    /// How long to wait at most: not at all if something could be done at once.
     fn patience(&self) -> u64 {
         if !self.waiting.is_empty() {
             return 0;
@@ -117,7 +118,7 @@ impl<S: Blocking + Remote + Drop, M: Messages> EventLoop<S, M> {
         SECOND
     }
 
-    /// Marks what was told to be ready: connections, and where others may come in.
+    /// Marks what was reported ready: connections, and listeners at which others may be waiting.
     fn mark(&mut self)
         ensures { self.new.links ≡ self.old.links }
     {
@@ -125,8 +126,8 @@ impl<S: Blocking + Remote + Drop, M: Messages> EventLoop<S, M> {
         self.told.clear();
     }
 
-    /// Whether there is a place for one more connection, of a peer of a group, be it that of the one that has gone longest without a whole request,
-    /// which is then ended.
+    /// Whether there is a place for one more connection, of a peer of a group, if need be that of the connection that has gone longest
+    /// without a whole request, which is then ended.
     fn make_place(&mut self, newcomer: PeerGroup) -> bool
         ensures { (allowed : List IpAddr) (now : ℕ) (stream : S) → IsGroupOf (socket_ip (S.origin stream)) newcomer → Moves S.origin S.octets allowed now self.old.links self.new.links }
     {
@@ -143,14 +144,14 @@ impl<S: Blocking + Remote + Drop, M: Messages> EventLoop<S, M> {
         }
     }
 
-    /// Has a connection watched under the next key.
+    /// Watches a connection under the next key.
     fn watch<P: Readiness<S>>(&self, poll: &mut P, stream: &mut S) -> Result<(), NotWatched>
         ensures { P.time poll.new ≡ P.time poll.old }
     {
         poll.watch(stream, self.links.vacant_key())
     }
 
-    /// Gives a connection that has come a place, as that of the peer at the address that it comes from.
+    /// Gives a new connection a place, as that of the peer at the address that it comes from.
     fn put(&mut self, plan: Plan<'_>, stream: S, now: u64)
         ensures { Moves S.origin S.octets plan.entry.allowed.addresses.now now self.old.links self.new.links }
     {
@@ -161,7 +162,7 @@ impl<S: Blocking + Remote + Drop, M: Messages> EventLoop<S, M> {
         self.note(put);
     }
 
-    /// Counts a connection that has a key now, which waits for its turn; or one that got none for want of memory.
+    /// Counts a connection that has a key now, which waits for its turn; or one that got none since there was no memory.
     fn note(&mut self, put: Option<usize>)
         ensures { self.new.links ≡ self.old.links }
     {
@@ -173,7 +174,7 @@ impl<S: Blocking + Remote + Drop, M: Messages> EventLoop<S, M> {
         self.waiting.put(key);
     }
 
-    /// Gives a connection that has come a place, where there is one, and has it watched.
+    /// Gives a new connection a place, if there is one, and watches it.
     fn begin<P: Readiness<S>>(&mut self, poll: &mut P, plan: Plan<'_>, stream: S, now: u64)
         ensures moves { Moves S.origin S.octets plan.entry.allowed.addresses.now now self.old.links self.new.links }
         ensures time { P.time poll.new ≡ P.time poll.old }
@@ -189,7 +190,7 @@ impl<S: Blocking + Remote + Drop, M: Messages> EventLoop<S, M> {
         self.put(plan, stream, now);
     }
 
-    /// Takes the connection that comes next. Some where no other is taken there in this turn: whether one may still wait there.
+    /// Accepts the listener's next connection. Some if it is to accept no more in this turn: whether one may still be waiting there.
     fn take_one<P: Readiness<S>, L: Arrivals<Stream = S>>(
         &mut self,
         poll: &mut P,
@@ -216,7 +217,8 @@ impl<S: Blocking + Remote + Drop, M: Messages> EventLoop<S, M> {
         }
     }
 
-    /// Takes connections where they come in, so many at most that none gives its place to another before it is served once, and tells whether one may still wait there; an error where it is broken.
+    /// Accepts a listener's connections, so many at most that none gives up its place to another before it is served once. Returns whether
+    /// one may still be waiting there; an error if the listener can accept no more.
     fn take_some<P: Readiness<S>, L: Arrivals<Stream = S>>(
         &mut self,
         poll: &mut P,
@@ -236,12 +238,12 @@ impl<S: Blocking + Remote + Drop, M: Messages> EventLoop<S, M> {
         Ok(true)
     }
 
-    /// Whether connections may wait at a place.
+    /// Whether connections may be waiting at a listener.
     fn may_wait(&self, place: usize) -> bool {
         self.may_come.get(place).copied().unwrap_or(false)
     }
 
-    /// Marks whether connections may wait at a place.
+    /// Marks whether connections may be waiting at a listener.
     fn mark_place(&mut self, place: usize, may: bool)
         ensures { self.new.links ≡ self.old.links }
     {
@@ -250,7 +252,7 @@ impl<S: Blocking + Remote + Drop, M: Messages> EventLoop<S, M> {
         }
     }
 
-    /// Takes connections at a place, where one may wait, and there was room so far.
+    /// Accepts a listener's connections, if one may be waiting there, and there was room so far.
     fn take_at<P: Readiness<S>, L: Arrivals<Stream = S>>(
         &mut self,
         poll: &mut P,
@@ -270,7 +272,7 @@ impl<S: Blocking + Remote + Drop, M: Messages> EventLoop<S, M> {
         Ok(())
     }
 
-    /// Takes connections at each place where one may wait, but not for a while after there was no room.
+    /// Accepts connections at each listener where one may be waiting, but not for a while after there was no room.
     fn take_all<P: Readiness<S>, L: Arrivals<Stream = S>>(
         &mut self,
         poll: &mut P,
@@ -338,10 +340,11 @@ impl<S: Blocking + Remote + Drop, M: Messages> EventLoop<S, M> {
         sweep(&mut self.links, limits, now, &mut self.tally.ends);
     }
 
-    /// A turn: waits until something may be ready, takes the connections that come, serves those that may go on by a share each, and ends those
-    /// that are over. Who asks on each is the peer of its address; none gets another's replies, and none is dropped but by its end, for its
-    /// peer's delay, or, where all places are taken, the one that has gone longest without a whole request. Of the connections that are served, each that is there still,
-    /// whose stream wouldn't block, and whose first request doesn't wait for its reply, is among those that could go on.
+    /// One turn: waits until something may be ready, accepts new connections, serves those that may go on by a share each, and ends those
+    /// that are over. The peer of each connection is the one at its address; no connection gets another's replies. A connection is removed
+    /// only if it ends, if its peer takes too long, or, when all places are taken, if it has gone longest without a whole request. Of the
+    /// connections that are served, each that is still open, whose stream wouldn't block, and whose first request doesn't wait for its
+    /// reply, is among those that could go on.
     #[tactic(auto, using(tcp_connections::proofs::AskedLemmas::each_itself))]
     pub fn poll_once<R: Wait, P: Readiness<S>, L: Arrivals<Stream = S>, A: Handler<M>>(
         &mut self,
@@ -369,12 +372,12 @@ impl<S: Blocking + Remote + Drop, M: Messages> EventLoop<S, M> {
         Ok(())
     }
 
-    /// How many connections have given their places.
+    /// How many connections have given up their places.
     fn gone(&self) -> u64 {
         self.tally.ends.total().saturating_add(self.tally.evicted)
     }
 
-    /// Takes turns until so many connections have given their places, or no more turns can be taken.
+    /// Takes turns until so many connections have given up their places, or no more turns can be taken.
     pub fn run<R: Wait, P: Readiness<S>, L: Arrivals<Stream = S>, A: Handler<M>>(
         &mut self,
         rt: &R,
@@ -401,7 +404,7 @@ impl<S: Blocking + Remote + Drop, M: Messages> EventLoop<S, M> {
     }
 }
 
-/// Marks what was told to be ready: places where connections may come in, the first one under the greatest key, and connections.
+/// Marks what was reported ready: listeners at which connections may be waiting, the first one under the greatest key, and connections.
 fn mark_told(told: &[usize], may_come: &mut Vec<bool>, waiting: &mut Waiting) {
     for key in told {
         match may_come.get_mut(usize::MAX - *key) {
@@ -411,7 +414,7 @@ fn mark_told(told: &[usize], may_come: &mut Vec<bool>, waiting: &mut Waiting) {
     }
 }
 
-/// How long connections may wait where so many are open: idle ones a quarter of it where less than a quarter of the places is free
+/// How long connections may wait when so many are open: idle ones a quarter of that time unless more than a quarter of the places is free
 /// (RFC 7766, 6.2.3; own).
 fn limits_at(limits: Limits, open: usize, places: usize) -> Limits
     ensures either { (result ≡ limits) ⊎ (result ≡ scarce limits) }
