@@ -1,12 +1,12 @@
 -- What a log holds once a batch is appended.
-use Rattle.std.proofs.Common.{◌≡◌, ℕ, ◌+◌, ◌^◌, ◌<◌, ◌≤◌, true, false, List, [], ◌∷◌, ◌++◌, length, take, sym, ap, ◌∙◌, append_assoc, length-append, arith}
+use Rattle.std.proofs.Common.{◌≡◌, ℕ, ◌+◌, ◌^◌, ◌<◌, ◌≤◌, true, false, List, [], ◌∷◌, ◌++◌, length, take, sym, ap, ◌∙◌, append-nil, append_assoc, length-append, arith}
 use Rattle.std.proofs.lemmas.List.{take_at, take_all, length_push}
 use Rattle.journal.specs.declared.heads.Head.{Head}
 use Rattle.journal.specs.Head.{head_of, salt_of}
 use Rattle.journal.specs.Frame.{body_limit, framed, frames_of, Fit}
 use Rattle.journal.proofs.FramesLemmas.{frames_push, fit_more}
 use Rattle.journal.specs.declared.log.Log.{Log}
-use Rattle.journal.specs.Disk.{BeginsWith}
+use Rattle.journal.specs.Disk.{BeginsWith, LeavesOnly}
 use Rattle.journal.specs.Log.{octets_of, Holds, IsStuck}
 
 -- the octets of a journal with one batch more
@@ -22,6 +22,20 @@ cut_back octets front len begins is_len = ap (λ (o : List ℕ). take len o) beg
 
 pub long_enough : (octets front : List ℕ) (len : ℕ) → BeginsWith octets front → len ≡ length front → len ≤ length octets
 long_enough octets front len begins is_len = omega (arith, is_len, ap length begins.1, length-append front begins.0)
+
+-- octets that are these begin with them
+pub begins_as : (octets front : List ℕ) → octets ≡ front → BeginsWith octets front
+begins_as octets front is = ([], is ∙ sym (append-nil front))
+
+-- what is left of octets that are cut where these end begins with them
+pub begins_cut : (octets front left : List ℕ) (len : ℕ) → BeginsWith octets front → left ≡ take len octets → len ≡ length front → BeginsWith left front
+begins_cut octets front left len begins is_left is_len = begins_as left front (is_left ∙ cut_back octets front len begins is_len)
+
+-- two calls, and what is on the disk after each
+pub leaves_two : (old mid new : List (List ℕ)) (first second octets : List ℕ) → mid ≡ first ∷ old → new ≡ second ∷ mid → BeginsWith first octets → BeginsWith second octets
+    → LeavesOnly old new octets
+leaves_two old mid new first second octets made_mid made_new first_begins second_begins =
+    record { since = second ∷ first ∷ []; made = made_new ∙ ap (λ (h : List (List ℕ)). second ∷ h) made_mid; each = (second_begins, (first_begins, tt)) }
 
 module _ {D F : Type 0} (written synced : D → List ℕ) where
   -- a log to which a frame was appended, and brought to the disk

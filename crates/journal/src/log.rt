@@ -42,14 +42,16 @@ impl<D: Disk> Log<D> {
     ghost use Rattle.journal.specs.declared.heads.Head.{Head};
     ghost use Rattle.journal.specs.Frame.{body_limit, Fit};
     ghost use Rattle.journal.specs.Head.{salt_of, IsHead};
-    ghost use Rattle.journal.specs.Disk.{BeginsWith};
+    ghost use Rattle.journal.specs.Disk.{BeginsWith, LeavesOnly};
     ghost use Rattle.journal.specs.Log.{octets_of, Holds, IsStuck, disk_of, is_stuck, IsFull};
 
     /// Continues a journal of so many batches that ends at this octet: what is after it is cut off, and that cut is on the disk at Ok.
     pub fn resume(disk: D, salt: &[u8; SUM], number: u64, end: u64) -> Result<Log<D>, D::Fault>
-        ensures { IfOk result (λ log. (head : Head) (bodies : List (List ℕ)) → BeginsWith (D.written disk) (octets_of head bodies)
+        ensures holds { IfOk result (λ log. (head : Head) (bodies : List (List ℕ)) → BeginsWith (D.written disk) (octets_of head bodies)
             → salt.now ≡ salt_of head → number ≡ length bodies → end ≡ length (octets_of head bodies) → Fit 0 bodies
             → Holds D.written D.synced head log bodies) }
+        ensures crash { IfOk result (λ log. (octets : List ℕ) → BeginsWith (D.synced disk) octets → BeginsWith (D.written disk) octets → end ≡ length octets
+            → LeavesOnly (D.history disk) (D.history (disk_of log)) octets) }
     {
         let mut disk = disk;
         disk.cut(end)?;
@@ -71,6 +73,9 @@ impl<D: Disk> Log<D> {
             → Holds D.written D.synced head self.new (bodies ++ body.now ∷ [])) }
         ensures kept { OnErr result ((head : Head) (bodies : List (List ℕ)) → Holds D.written D.synced head self.old bodies
             → Holds D.written D.synced head self.new bodies ⊎ IsStuck D.synced head self.new bodies) }
+        // Whether it succeeds or fails, a crash at any moment of it leaves what the journal had.
+        ensures crash { (head : Head) (bodies : List (List ℕ)) → Holds D.written D.synced head self.old bodies
+            → LeavesOnly (D.history (disk_of self.old)) (D.history (disk_of self.new)) (octets_of head bodies) }
         // An append that fails and is cut off again leaves the journal usable: a disk that was full is written again once it has room.
         ensures goes_on { OnErr result (D.lost (disk_of self.new) ≡ D.lost (disk_of self.old) → is_stuck self.new ≡ is_stuck self.old) }
         ensures stuck { IsErrOf result LogFault.Stuck ↔ (is_stuck self.old ≡ true) }
