@@ -7,8 +7,8 @@ use Rattle.zone_tree.specs.Version.{Version}
 use Rattle.dns_engine.specs.Versions.{Makes}
 use Rattle.update_batches.specs.declared.verdict.Verdict.{Verdict}
 use Rattle.update_batches.specs.Batch.{newest_of, Judged, nothing, told, starved, changed}
-use Rattle.update_batches.specs.declared.update_request.UpdateRequest.{UpdateRequest}
-use Rattle.update_batches.specs.UpdateRequest.{passes, tells, makes, octets_of, serial_in}
+use Rattle.update_batches.specs.declared.queued_update.QueuedUpdate.{QueuedUpdate}
+use Rattle.update_batches.specs.UpdateRequest.{octets_of}
 use Rattle.update_batches.specs.Journal.{AreMadeBy}
 
 made_more : (first : Version) (versions : List Version) (updates : List (List ℕ)) (octets : List ℕ) (update : Update) (next : Version) → AreMadeBy first versions updates → reads octets ≡ Says update → Makes update (newest_of first versions) next
@@ -18,8 +18,8 @@ made_more first [] (other ∷ updates) octets update next are read is = absurd a
 made_more first (version ∷ versions) [] octets update next are read is = absurd are
 made_more first (version ∷ versions) (other ∷ updates) octets update next are read is = (are.0, made_more version versions updates octets update next are.1 read is)
 
-pub judged_by : {first : Version} {asked : List UpdateRequest} {verdicts : List Verdict} {made : List Version} {updates : List (List ℕ)} → Judged passes tells makes octets_of serial_in first asked verdicts made updates → AreMadeBy first made updates
+pub judged_by : {first : Version} {asked : List QueuedUpdate} {verdicts : List Verdict} {made : List Version} {updates : List (List ℕ)} → Judged first asked verdicts made updates → AreMadeBy first made updates
 judged_by nothing = tt
 judged_by (told one code judged is) = judged_by judged
 judged_by (starved one judged is) = judged_by judged
-judged_by {first} (changed {asked} {verdicts} {made} {updates} one next judged lets is) = made_more first made updates (octets_of one) one.update next (judged_by judged) one.read is
+judged_by {first} (changed {requests} {verdicts} {made} {updates} one next judged lets is) = made_more first made updates (octets_of one.request) one.request.update next (judged_by judged) one.request.read is

@@ -2,9 +2,7 @@ pub mod Batch
 pub mod Done
 pub mod Engine
 pub mod Journal
-pub mod Private
 pub mod Replies
-pub mod Stored
 pub mod Turned
 pub mod UpdateRequest
 pub mod Verdict

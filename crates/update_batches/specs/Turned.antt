@@ -1,70 +1,78 @@
--- What becomes of updates that waited: they are judged one upon the other, brought to the disk, published and replied to (RFC 2136, 3 and 3.5).
+-- What becomes of queued updates: they are judged one after another, written to the disk, published and replied to (RFC 2136, 3 and 3.5).
 use Rattle.std.specs.Prelude.{◌≡◌, ◌⊎◌, ◌+◌, ◌<◌, ℕ, List, [], ◌++◌, length, replicate, min, max, Option, MatchOption}
 use Rattle.dns_rdata.specs.Record.{Record}
-use Rattle.journal.specs.declared.log.LogFault.{LogFault}
+use Rattle.zone_tree.specs.Version.{Version}
 use Rattle.update_batches.specs.declared.verdict.Verdict.{Verdict}
 use Rattle.update_batches.specs.Verdict.{failed}
+use Rattle.update_batches.specs.declared.queued_update.QueuedUpdate.{QueuedUpdate}
 use Rattle.update_batches.specs.Engine.{IsLast}
 use Rattle.update_batches.specs.Batch.{newest_of, Judged}
 use Rattle.update_batches.specs.Done.{replies_to}
 use Rattle.update_batches.specs.Replies.{Reply}
 
--- the versions that are published; how many more are sure to find room; what requests were replied; where updates are brought; and the requests that were taken, and
+-- the state of an update thread: the versions that are published; how many more are sure to find room; the replies to requests; the store; and the requests that were taken, and
 -- wait for their batch
-pub record ThreadState (V A S : Type 0) : Type 0 where
-  pub published : List V
+pub record ThreadState (S : Type 0) : Type 0 where
+  pub published : List Version
   pub room : ℕ
   pub replied : List Reply
   pub store : S
-  pub waiting : List A
+  pub waiting : List QueuedUpdate
 
-abbrev pub state_of : {V A S : Type 0} → List V → ℕ → List Reply → S → List A → ThreadState V A S
+abbrev pub state_of : {S : Type 0} → List Version → ℕ → List Reply → S → List QueuedUpdate → ThreadState S
 state_of published room replied store waiting = record { published = published; room = room; replied = replied; store = store; waiting = waiting }
 
--- `writes` says of octets that they make one version of another; `has` says of where updates are brought that, after a zone, it has these updates on the disk, in this
--- order, and that they end at the last of the versions that are published
-module _ {V A S : Type 0} (passes : V → A → Type 0) (tells : V → A → ℕ → Type 0) (makes : V → A → V → Type 0) (octets : A → List ℕ) (serial : V → ℕ)
-    (writes : V → List ℕ → V → Type 0) (has : List Record → S → List V → List (List ℕ) → Type 0) where
-  -- what a request makes its octets make too
-  abbrev pub AreRead : Type 0
-  AreRead = (version : V) (request : A) (next : V) → passes version request → makes version request next → writes version (octets request) next
+-- requests get verdicts from a version on, batch after batch, each batch in the version that those before it make: the versions that they make, and the octets of those that make
+-- one. A batch lasts; or some of it would change the zone, and it cannot be written: each of it gets SERVFAIL, and makes nothing
+pub data AreAnswered (first : Version) : List QueuedUpdate → List Verdict → List Version → List (List ℕ) → Type 0 where
+  unasked : AreAnswered first [] [] [] []
+  lasting : {requests : List QueuedUpdate} {verdicts : List Verdict} {versions : List Version} {updates : List (List ℕ)} {batch : List QueuedUpdate}
+      {batch_verdicts : List Verdict} {made : List Version} {batch_updates : List (List ℕ)} → AreAnswered first requests verdicts versions updates
+      → Judged (newest_of first versions) batch batch_verdicts made batch_updates
+      → AreAnswered first (requests ++ batch) (verdicts ++ batch_verdicts) (versions ++ made) (updates ++ batch_updates)
+  failing : {requests : List QueuedUpdate} {verdicts : List Verdict} {versions : List Version} {updates : List (List ℕ)} {batch : List QueuedUpdate}
+      {batch_verdicts : List Verdict} {made : List Version} {batch_updates : List (List ℕ)} → AreAnswered first requests verdicts versions updates
+      → Judged (newest_of first versions) batch batch_verdicts made batch_updates → 0 < length made
+      → AreAnswered first (requests ++ batch) (verdicts ++ replicate (length batch) failed) versions updates
 
-  -- each request gets what it gets in the version published last, or in the one that those before it make of that; the updates of those that change the zone are on
-  -- the disk, and what they make is published, in their order
-  pub record Lasts (published later : List V) (batch : List A) (verdicts : List Verdict) (before after : S) : Type 0 where
-    pub first : V
-    pub versions : List V
+-- `has` says of a store that, after a zone, it has these updates on the disk, in this order, and that they end at the last of the versions that are published
+module _ {S : Type 0} (has : List Record → S → List Version → List (List ℕ) → Type 0) where
+  -- each request gets what it gets in the version published last, or in the one that those before it make of that; the updates of those that change the zone are on the disk, and
+  -- what they make is published, in their order
+  pub record Lasts (published later : List Version) (batch : List QueuedUpdate) (verdicts : List Verdict) (before after : S) : Type 0 where
+    pub first : Version
+    pub versions : List Version
     pub updates : List (List ℕ)
     pub last : IsLast published first
-    pub judged : Judged passes tells makes octets serial first batch verdicts versions updates
+    pub judged : Judged first batch verdicts versions updates
     pub later_are : later ≡ published ++ versions
-    pub stored : AreRead → (zone : List Record) (stood : List (List ℕ)) → has zone before published stood → has zone after later (stood ++ updates)
+    pub stored : (zone : List Record) (stood : List (List ℕ)) → has zone before published stood → has zone after later (stood ++ updates)
 
-  -- some would change the zone, and don't get to the disk: each of the batch gets SERVFAIL, nothing is published, and what was on the disk is there
-  pub record Fails (published later : List V) (batch : List A) (verdicts : List Verdict) (before after : S) : Type 0 where
-    pub first : V
+  -- some would change the zone, and cannot be written: each of the batch gets SERVFAIL, nothing is published, and what was on the disk is there
+  pub record Fails (published later : List Version) (batch : List QueuedUpdate) (verdicts : List Verdict) (before after : S) : Type 0 where
+    pub first : Version
     pub judged_verdicts : List Verdict
-    pub versions : List V
+    pub versions : List Version
     pub updates : List (List ℕ)
     pub last : IsLast published first
-    pub judged : Judged passes tells makes octets serial first batch judged_verdicts versions updates
+    pub judged : Judged first batch judged_verdicts versions updates
     pub some : 0 < length versions
     pub told : verdicts ≡ replicate (length batch) failed
     pub later_are : later ≡ published
     pub stored : (zone : List Record) (stood : List (List ℕ)) → has zone before published stood → has zone after later stood
 
-  -- a batch lasts, or fails, which is told
-  abbrev pub IsTold : {F : Type 0} → List V → List V → List A → List Verdict → Option (LogFault F) → S → S → Type 0
+  -- a batch lasts, or fails, for this reason
+  abbrev pub IsTold : {F : Type 0} → List Version → List Version → List QueuedUpdate → List Verdict → Option F → S → S → Type 0
   IsTold published later batch verdicts fault before after =
       MatchOption fault
       (Lasts published later batch verdicts before after)
       (λ _. Fails published later batch verdicts before after)
 
-  -- a turn: requests arrive after those that wait, and the first of all are a batch, as many as versions are sure to find room when it is begun, but one at least and 64
-  -- at most; the others wait on. The batch lasts, or fails, with nothing published but what it makes, for which the room is used; and each of it gets its reply
-  pub record HasTurned {F : Type 0} (fault : Option (LogFault F)) (old new : ThreadState V A S) : Type 0 where
-    pub arrived : List A
-    pub batch : List A
+  -- a turn: requests arrive after those that wait, and the first of all are a batch, as many as versions are sure to find room when it is begun, but one at least and 64 at most;
+  -- the others wait on. The batch lasts, or fails, with nothing published but what it makes, for which the room is used; and each of it gets its reply
+  pub record HasTurned {F : Type 0} (fault : Option F) (old new : ThreadState S) : Type 0 where
+    pub arrived : List QueuedUpdate
+    pub batch : List QueuedUpdate
     pub taken : old.waiting ++ arrived ≡ batch ++ new.waiting
     pub some : 0 < length batch
     pub room : ℕ
@@ -72,32 +80,19 @@ module _ {V A S : Type 0} (passes : V → A → Type 0) (tells : V → A → ℕ
     pub left : new.room + length new.published ≡ room + length old.published
     pub verdicts : List Verdict
     pub told : IsTold old.published new.published batch verdicts fault old.store new.store
-    pub replied : new.replied ≡ old.replied ++ replies_to octets verdicts batch
+    pub replied : new.replied ≡ old.replied ++ replies_to verdicts batch
 
-  -- requests get verdicts from a version on, batch after batch, each batch in the version that those before it make: the versions that they make, and the octets of those
-  -- that make one. A batch lasts; or some of it would change the zone, and it isn't brought to the disk: each of it gets SERVFAIL, and makes nothing
-  pub data AreAnswered (first : V) : List A → List Verdict → List V → List (List ℕ) → Type 0 where
-    unasked : AreAnswered first [] [] [] []
-    lasting : {requests : List A} {verdicts : List Verdict} {versions : List V} {updates : List (List ℕ)} {batch : List A} {batch_verdicts : List Verdict} {made : List V}
-        {batch_updates : List (List ℕ)} → AreAnswered first requests verdicts versions updates
-        → Judged passes tells makes octets serial (newest_of first versions) batch batch_verdicts made batch_updates
-        → AreAnswered first (requests ++ batch) (verdicts ++ batch_verdicts) (versions ++ made) (updates ++ batch_updates)
-    failing : {requests : List A} {verdicts : List Verdict} {versions : List V} {updates : List (List ℕ)} {batch : List A} {batch_verdicts : List Verdict} {made : List V}
-        {batch_updates : List (List ℕ)} → AreAnswered first requests verdicts versions updates
-        → Judged passes tells makes octets serial (newest_of first versions) batch batch_verdicts made batch_updates → 0 < length made
-        → AreAnswered first (requests ++ batch) (verdicts ++ replicate (length batch) failed) versions updates
-
-  -- turns, one after the other: the requests that waited and arrived since, but for those that wait still, are answered in order, each in the version that those before it
-  -- make of the one published last; what they make is published, in that order; each gets its reply; and where updates were on the disk after a zone, these are after them
-  pub record HasServed (old new : ThreadState V A S) : Type 0 where
-    pub arrived : List A
-    pub requests : List A
+  -- turns, one after the other: the requests that waited and arrived since, but for those that wait still, are answered in order, each in the version that those before it make of
+  -- the one published last; what they make is published, in that order; each gets its reply; and where updates were on the disk after a zone, these are after them
+  pub record HasServed (old new : ThreadState S) : Type 0 where
+    pub arrived : List QueuedUpdate
+    pub requests : List QueuedUpdate
     pub taken : old.waiting ++ arrived ≡ requests ++ new.waiting
     pub verdicts : List Verdict
     pub each : length verdicts ≡ length requests
-    pub versions : List V
+    pub versions : List Version
     pub updates : List (List ℕ)
-    pub answered : (first : V) → IsLast old.published first → AreAnswered first requests verdicts versions updates
+    pub answered : (first : Version) → IsLast old.published first → AreAnswered first requests verdicts versions updates
     pub published : new.published ≡ old.published ++ versions
-    pub replied : new.replied ≡ old.replied ++ replies_to octets verdicts requests
-    pub stored : AreRead → (zone : List Record) (stood : List (List ℕ)) → has zone old.store old.published stood → has zone new.store new.published (stood ++ updates)
+    pub replied : new.replied ≡ old.replied ++ replies_to verdicts requests
+    pub stored : (zone : List Record) (stood : List (List ℕ)) → has zone old.store old.published stood → has zone new.store new.published (stood ++ updates)

@@ -1,6 +1,5 @@
--- What an update that is asked for does in a version (RFC 2136, 3).
+-- What a requested update does in a version (RFC 2136, 3).
 use Rattle.std.specs.Prelude.{◌≡◌, ℕ, List, None}
-use Rattle.dns_rdata.specs.Numbers.{rcode_number}
 use Rattle.dns_rdata.specs.declared.numbers.Rcode.{Rcode}
 use Rattle.zone_tree.specs.Version.{Version, zone_serial}
 use Rattle.update_core.specs.Verdict.{verdict}
@@ -12,9 +11,9 @@ use Rattle.update_batches.specs.declared.update_request.UpdateRequest.{UpdateReq
 abbrev pub passes : Version → UpdateRequest → Type 0
 passes version asked = verdict version.zone asked.update asked.may ≡ None
 
--- it is told the code of this number, and makes no version
-abbrev pub tells : Version → UpdateRequest → ℕ → Type 0
-tells version asked number = (code : Rcode) × (rcode_number code ≡ number) × Tells version asked.update asked.may code
+-- it gets this code, and makes no version
+abbrev pub tells : Version → UpdateRequest → Rcode → Type 0
+tells version asked code = Tells version asked.update asked.may code
 
 -- it makes this version
 abbrev pub makes : Version → UpdateRequest → Version → Type 0

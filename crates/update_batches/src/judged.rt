@@ -1,109 +1,98 @@
-//! Updates judged one upon the other, in versions that nobody sees yet (own).
-ghost use Rattle.std.specs.Prelude.{◌≡◌, ◌≤◌, List, [], ◌∷◌, ◌++◌, length, vec_capacity, MatchBool};
-ghost use Rattle.journal.specs.Batch.{counted, IsShort};
-ghost use Rattle.update_batches.specs.Batch.{newest_of, IsGroup};
-ghost use Rattle.update_batches.specs.Private.{SoFar};
+//! Updates judged one after another, in versions that nobody sees yet (RFC 2136, 3; own).
+ghost use Rattle.std.specs.Prelude.{◌≡◌, ◌≤◌, ◌<◌, ◌^◌, List, [], ◌∷◌, ◌++◌, length, vec_capacity, MatchBool};
+ghost use Rattle.update_batches.specs.Batch.{newest_of, versions_in, IsBatch};
+ghost use Rattle.update_batches.specs.declared.queued_update.QueuedUpdate.{QueuedUpdate as Queued};
 ghost use Rattle.update_batches.specs.declared.verdict.Verdict.{Verdict as VerdictOf};
+ghost use Rattle.update_batches.specs.declared.version_update.VersionUpdate.{VersionUpdate as Made};
 
-use crate::batch::Batch;
-use crate::judging::{Judgement, Judging};
+use crate::queued_update::QueuedUpdate;
 use crate::verdict::Verdict;
-use journal::put_update;
+use crate::version_update::VersionUpdate;
+use dns_engine::{Judged, SharedVersion, judge};
 use std::alloc::Global;
 
 /// How many updates of a batch make a version at most.
 pub const MOST: usize = 64;
 
-/// The versions that updates make, and the batch of these updates.
-#[derive(Drop)]
-struct BatchSoFar<V: Drop> {
-    versions: Vec<V>,
-    body: Vec<u8>,
-}
-
-/// What updates do in a version, one upon the other, of which at most `room` make one, and 64 at most: their verdicts, in place of what was there, and what they
-/// make. It takes memory for what they make; an update for which there is none gets SERVFAIL.
-pub fn judge_group<J: Judging>(
-    judging: &J,
+/// Judges updates in a version, each in the version that those before it make, of which at most `room` make one. Gives the updates that make a version, and puts the verdict of
+/// each update into `verdicts`, in place of what was there. Allocates memory for what they make; an update for which there is none gets SERVFAIL.
+pub fn judge_batch(
     alloc: Global,
-    last: &J::Version,
-    asked: &[J::Asked],
+    last: &SharedVersion,
+    requests: &[QueuedUpdate],
     room: usize,
     verdicts: &mut Vec<Verdict>,
-) -> Batch<J::Version>
-    requires few { room ≤ 64 }
-    requires verdicts_room { length asked.now ≤ vec_capacity verdicts.old }
-    ensures judged { IsGroup J.passes J.tells J.makes J.octets J.serial last.now asked.now verdicts.new.items result room }
+) -> Vec<VersionUpdate>
+    requires verdicts_room { length requests.now ≤ vec_capacity verdicts.old }
+    ensures judged { IsBatch last.now requests.now verdicts.new.items result.items room }
     ensures verdicts_room { vec_capacity verdicts.new ≡ vec_capacity verdicts.old }
 {
     verdicts.clear();
-    let mut batch = BatchSoFar {
-        versions: Vec::new(alloc),
-        body: Vec::new(alloc),
-    };
-    for one in asked {
-        let verdict = judge_one(judging, alloc, last, one, room, &mut batch);
+    let mut updates = Vec::new(alloc);
+    for one in requests {
+        let verdict = judge_one(alloc, last, one, room, &mut updates);
         verdicts.push_reserved(verdict);
     }
-    Batch {
-        versions: batch.versions,
-        body: batch.body,
-    }
+    updates
 }
 
-/// What one more update does, behind others that are judged from a first version on.
-fn judge_one<J: Judging>(
-    judging: &J,
+/// Judges one more update, after others that were judged from a first version on.
+fn judge_one(
     alloc: Global,
-    first: &J::Version,
-    one: &J::Asked,
+    first: &SharedVersion,
+    one: &QueuedUpdate,
     room: usize,
-    batch: &mut BatchSoFar<J::Version>,
+    updates: &mut Vec<VersionUpdate>,
 ) -> Verdict
-    requires { room ≤ 64 }
-    ensures { (asked : List J.Asked) (verdicts : List VerdictOf)
-        → SoFar J.passes J.tells J.makes J.octets J.serial first.now asked verdicts batch.old.versions.items batch.old.body.items room
-        → SoFar J.passes J.tells J.makes J.octets J.serial first.now (asked ++ one.now ∷ []) (verdicts ++ result ∷ []) batch.new.versions.items batch.new.body.items room }
+    ensures { (requests : List Queued) (verdicts : List VerdictOf) → IsBatch first.now requests verdicts updates.old.items room
+        → IsBatch first.now (requests ++ one.now ∷ []) (verdicts ++ result ∷ []) updates.new.items room }
 {
-    let newest = newest_of(first, &batch.versions);
-    let before = judging.serial_of(newest);
-    match judging.judge(alloc, newest, one) {
-        Judgement::Told(code) => Verdict::told(code, before),
-        Judgement::Starved => Verdict::failed(),
-        Judgement::Made(next) => {
-            let made = Verdict::made(before, judging.serial_of(&next));
-            let failed = Verdict::failed();
-            if batch.versions.len() < room && put(batch, next, judging.octets_of(one)) {
+    let newest = newest_of(first, updates);
+    let before = newest.get().serial();
+    match judge(alloc, newest, one.request.update(), one.request.may()) {
+        Judged::Told(code) => Verdict::told(code, before),
+        Judged::Starved => Verdict::failed(),
+        Judged::Made(next) => {
+            let made = Verdict::made(before, next.get().serial());
+            if put(alloc, updates, next, one.request.octets(), room) {
                 made
             } else {
-                failed
+                Verdict::failed()
             }
         }
     }
 }
 
-/// The newest of versions, the first one where they are none.
-fn newest_of<'a, V>(first: &'a V, versions: &'a [V]) -> &'a V
-    ensures { result.now ≡ newest_of first.now versions.now }
+/// The newest of the versions that updates make, or the first one if there are none.
+fn newest_of<'a>(first: &'a SharedVersion, updates: &'a [VersionUpdate]) -> &'a SharedVersion
+    ensures { result.now ≡ newest_of first.now (versions_in updates.now) }
 {
-    match versions.last() {
-        Some(version) => version,
+    match updates.last() {
+        Some(update) => update.version(),
         None => first,
     }
 }
 
-/// Adds a version, and its update: whether there was memory for both; else nothing is added.
-fn put<V: Drop>(batch: &mut BatchSoFar<V>, next: V, update: &[u8]) -> bool
-    requires { IsShort update.now }
+/// Adds a version, with the bytes of its update. Gives whether there were fewer than `room`, and memory for both; otherwise nothing is added.
+fn put(
+    alloc: Global,
+    updates: &mut Vec<VersionUpdate>,
+    next: SharedVersion,
+    octets: &[u8],
+    room: usize,
+) -> bool
+    requires { length octets.now < 2 ^ 16 }
     ensures { MatchBool result
-        ((batch.new.versions.items ≡ batch.old.versions.items ++ next ∷ []) × (batch.new.body.items ≡ batch.old.body.items ++ counted update.now))
-        ((batch.new.versions.items ≡ batch.old.versions.items) × (batch.new.body.items ≡ batch.old.body.items)) }
+        ((update : Made) × (updates.new.items ≡ updates.old.items ++ update ∷ []) × (update.version ≡ next) × (update.octets.items ≡ octets.now) × (length updates.old.items < room))
+        (updates.new.items ≡ updates.old.items) }
 {
-    if batch.versions.push(next).is_err() {
+    if updates.len() >= room {
         return false;
     }
-    if put_update(&mut batch.body, update).is_err() {
-        let _ = batch.versions.pop();
+    let Ok(update) = VersionUpdate::of(alloc, next, octets) else {
+        return false;
+    };
+    if updates.push(update).is_err() {
         return false;
     }
     true

@@ -1,42 +1,40 @@
-//! What keeps the updates of batches (RFC 2136, 3.5; own).
-ghost use Rattle.std.specs.Prelude.{◌≡◌, ◌++◌, ℕ, List, MatchOption};
+//! Storing the updates of batches (RFC 2136, 3.5; own).
+ghost use Rattle.std.specs.Prelude.{◌≡◌, ◌≤◌, ◌<◌, ◌++◌, ℕ, List, length, OnOk, OnErr};
 ghost use Rattle.dns_rdata.specs.Record.{Record};
+ghost use Rattle.zone_tree.specs.Version.{Version};
 ghost use Rattle.update_batches.specs.Engine.{IsLast};
-ghost use Rattle.update_batches.specs.Batch.{versions_of, IsBatch, IsGivenUp};
-ghost use Rattle.update_batches.specs.Stored.{AreWritten};
+ghost use Rattle.update_batches.specs.Batch.{versions_in, updates_of};
+ghost use Rattle.update_batches.specs.Journal.{AreMadeBy};
 
-use crate::batch::Batch;
-use journal::LogFault;
+use crate::version_update::VersionUpdate;
 use std::alloc::Global;
 use std::sync::Wait;
 
-/// Where the updates of batches are brought before what they make is published, and what is done there between two batches.
-pub trait UpdateStore<V: Drop>: Drop {
-    /// Why a disk has failed.
+/// Where the updates of batches are written before their versions are published, and what is done there between two batches.
+pub trait UpdateStore: Drop {
+    /// Why a batch could not be written.
     type Fault: Drop;
 
-    /// The octets of an update make one version of another.
-    ghost writes: { V → List ℕ → V → Type 0 };
+    /// After this zone it has these updates on the disk, in this order, and they end at the last of the versions that are published. What that means is said where a store is
+    /// defined.
+    ghost has: { List Record → Self → List Version → List (List ℕ) → Type 0 };
 
-    /// After this zone it has these updates on the disk, in this order, and they end at the last of the versions that are published. What it means is said where a
-    /// store is.
-    ghost has: { List Record → Self → List V → List (List ℕ) → Type 0 };
-
-    /// Does what is to be done between two batches, so that none is brought there meanwhile: what it has stays. It takes memory; what is wanted for it stays undone.
+    /// Does what is to be done between two batches: what it has stays. Allocates memory; what there is none for stays undone.
     fn tend<R: Wait>(&mut self, rt: &R, alloc: Global)
-        ensures { (zone : List Record) (versions : List V) (updates : List (List ℕ)) → has zone self.old versions updates → has zone self.new versions updates };
+        ensures { (zone : List Record) (versions : List Version) (updates : List (List ℕ)) → has zone self.old versions updates → has zone self.new versions updates };
 
-    /// Brings the updates of a group that make a version there, as one batch. At a fault there is no version to publish. It takes memory, before anything is
+    /// Writes the updates of a batch that make a version, at most 64, as one batch. After a fault their versions may not be published. Allocates memory, before anything is
     /// written.
     fn append<R: Wait>(
         &mut self,
         rt: &R,
         alloc: Global,
-        group: &mut Batch<V>,
-    ) -> Option<LogFault<Self::Fault>>
-        ensures told { MatchOption result (group.new ≡ group.old) (λ _. IsGivenUp group.old group.new) }
-        ensures stored { MatchOption result
-            ((updates : List (List ℕ)) → IsBatch group.old updates → (zone : List Record) (versions : List V) (stood : List (List ℕ)) (last : V) → has zone self.old versions stood
-            → IsLast versions last → AreWritten writes last (versions_of group.old) updates → has zone self.new (versions ++ versions_of group.old) (stood ++ updates))
-            (λ _. (zone : List Record) (versions : List V) (stood : List (List ℕ)) → has zone self.old versions stood → has zone self.new versions stood) };
+        updates: &[VersionUpdate],
+    ) -> Result<(), Self::Fault>
+        requires few { length updates.now ≤ 64 }
+        ensures stored { OnOk result ((zone : List Record) (versions : List Version) (stood : List (List ℕ)) (last : Version) → has zone self.old versions stood
+            → IsLast versions last → AreMadeBy last (versions_in updates.now) (updates_of updates.now)
+            → has zone self.new (versions ++ versions_in updates.now) (stood ++ updates_of updates.now)) }
+        ensures kept { OnErr result ((zone : List Record) (versions : List Version) (stood : List (List ℕ)) → has zone self.old versions stood → has zone self.new versions stood) }
+        ensures some { OnErr result (0 < length updates.now) };
 }

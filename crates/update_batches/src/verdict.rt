@@ -1,72 +1,76 @@
 //! What updates get (RFC 2136, 2.2 and 3.8).
-ghost use Rattle.std.specs.Prelude.{◌≡◌, length, replicate, vec_capacity, MatchOption};
-ghost use Rattle.update_batches.specs.Verdict.{told_verdict, made_verdict, failed};
+ghost use Rattle.std.specs.Prelude.{◌≡◌, length, replicate, vec_capacity};
+ghost use Rattle.update_batches.specs.Verdict.{serials_with, told_verdict, made_verdict, failed};
 
-/// NOERROR (RFC 2136, 2.2).
-const NOERROR: u8 = 0;
+use dns_rdata::{Rcode, Serial};
 
-/// SERVFAIL (RFC 2136, 2.2).
-const SERVFAIL: u8 = 2;
+/// The serials of the zone before and after an update.
+#[derive(Clone, Copy)]
+pub struct Serials {
+    /// The serial of the zone before it.
+    pub before: Serial,
+    /// The serial of the zone after it.
+    pub after: Serial,
+}
 
 /// What an update gets: its code, and the serials of the zone that are its own.
-#[derive(Clone, Copy, Debug, PartialEq, Eq)]
+#[derive(Clone, Copy)]
 pub struct Verdict {
     /// The code (RFC 2136, 2.2).
-    pub code: u8,
-    /// The serials of the zone that it found and of the one that it left, which are the same where it changes nothing; none where its code isn't NOERROR.
-    pub serials: Option<(u32, u32)>,
+    pub code: Rcode,
+    /// The serials of the zone in which it was judged and of the one that it left, which are equal if it changed nothing. None if its code is not NOERROR.
+    pub serials: Option<Serials>,
+}
+
+/// The serials of an update with a code that makes no version, in a version of this serial: none but with NOERROR, which leaves the serial as it is (own).
+fn serials_with(code: Rcode, serial: Serial) -> Option<Serials>
+    ensures { result ≡ serials_with serial.0 code }
+{
+    match code {
+        Rcode::NoError => Some(Serials {
+            before: serial,
+            after: serial,
+        }),
+        _ => None,
+    }
 }
 
 impl Verdict {
-    /// Of an update that gets this code in a version of this serial, and makes none.
-    pub fn told(code: u8, serial: u32) -> Verdict
-        ensures { result ≡ told_verdict serial code }
+    /// The verdict of an update that gets this code in a version of this serial, and makes none.
+    pub fn told(code: Rcode, serial: Serial) -> Verdict
+        ensures { result ≡ told_verdict serial.0 code }
     {
         Verdict {
             code,
-            serials: if code == NOERROR {
-                Some((serial, serial))
-            } else {
-                None
-            },
+            serials: serials_with(code, serial),
         }
     }
 
-    /// Of an update that makes a version of a serial from one of another serial.
-    pub fn made(before: u32, after: u32) -> Verdict
-        ensures { result ≡ made_verdict before after }
+    /// The verdict of an update that makes a version of one serial from a version of another.
+    pub fn made(before: Serial, after: Serial) -> Verdict
+        ensures { result ≡ made_verdict before.0 after.0 }
     {
         Verdict {
-            code: NOERROR,
-            serials: Some((before, after)),
+            code: Rcode::NoError,
+            serials: Some(Serials { before, after }),
         }
     }
 
-    /// SERVFAIL, of an update for which memory, room or the disk is wanted.
+    /// SERVFAIL, for want of memory, of room or of the disk.
     pub fn failed() -> Verdict
         ensures { result ≡ failed }
     {
         Verdict {
-            code: SERVFAIL,
+            code: Rcode::ServFail,
             serials: None,
         }
     }
 }
 
-/// Fails each update of a batch: none changes the zone.
-fn fail_all(verdicts: &mut Vec<Verdict>)
+/// Gives each update of a batch SERVFAIL: none changes the zone.
+pub(crate) fn fail_all(verdicts: &mut Vec<Verdict>)
     ensures failed { verdicts.new.items ≡ replicate (length verdicts.old.items) failed }
     ensures room { vec_capacity verdicts.new ≡ vec_capacity verdicts.old }
 {
     verdicts.fill(Verdict::failed());
-}
-
-/// Fails each update of a batch, if there is a fault for which it isn't on the disk.
-pub fn fail_unkept<F>(verdicts: &mut Vec<Verdict>, fault: &Option<F>)
-    ensures failed { MatchOption fault.now (verdicts.new.items ≡ verdicts.old.items) (λ _. verdicts.new.items ≡ replicate (length verdicts.old.items) failed) }
-    ensures room { vec_capacity verdicts.new ≡ vec_capacity verdicts.old }
-{
-    if fault.is_some() {
-        fail_all(verdicts);
-    }
 }
