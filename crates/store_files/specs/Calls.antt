@@ -15,6 +15,8 @@ pub data FileCall : Type 0 where
   not_cut : ℕ → FileCall
   -- a sync was tried, and failed
   not_synced : FileCall
+  -- an append of these octets was tried, and failed
+  not_appended : List ℕ → FileCall
 
 -- the call of two numbers and octets
 abbrev pub call_of : List ℕ → List ℕ → FileCall
@@ -24,7 +26,8 @@ call_of numbers octets =
     else if slice_index numbers 0 == 2 then synced
     else if slice_index numbers 0 == 3 then cut (slice_index numbers 1)
     else if slice_index numbers 0 == 4 then not_cut (slice_index numbers 1)
-    else not_synced
+    else if slice_index numbers 0 == 5 then not_synced
+    else not_appended octets
 
 -- the octets as they are after calls, the last call first
 abbrev pub written_by : List FileCall → List ℕ
@@ -35,6 +38,7 @@ written_by (synced ∷ calls) = written_by calls
 written_by (cut len ∷ calls) = take len (written_by calls)
 written_by (not_cut len ∷ calls) = written_by calls
 written_by (not_synced ∷ calls) = written_by calls
+written_by (not_appended octets ∷ calls) = written_by calls
 
 -- the octets that are on the disk after calls
 abbrev pub synced_by : List FileCall → List ℕ
@@ -45,6 +49,7 @@ synced_by (synced ∷ calls) = written_by calls
 synced_by (cut len ∷ calls) = take len (synced_by calls)
 synced_by (not_cut len ∷ calls) = take len (synced_by calls)
 synced_by (not_synced ∷ calls) = synced_by calls
+synced_by (not_appended octets ∷ calls) = synced_by calls
 
 -- how many of the calls failed so that it is unknown what is written
 abbrev pub lost_by : List FileCall → ℕ
@@ -55,3 +60,9 @@ lost_by (synced ∷ calls) = lost_by calls
 lost_by (cut len ∷ calls) = lost_by calls
 lost_by (not_cut len ∷ calls) = lost_by calls + 1
 lost_by (not_synced ∷ calls) = lost_by calls + 1
+lost_by (not_appended octets ∷ calls) = lost_by calls
+
+-- what was on the disk after each call, the last call first
+abbrev pub history_by : List FileCall → List (List ℕ)
+history_by [] = []
+history_by (call ∷ calls) = synced_by (call ∷ calls) ∷ history_by calls

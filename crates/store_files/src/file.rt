@@ -11,7 +11,7 @@ use std::os::fd::AsRawFd;
 use std::os::unix::fs::MetadataExt;
 
 /// The call created the file with these octets.
-const BEGUN: u64 = 0;
+pub const BEGUN: u64 = 0;
 
 /// The call appended these octets.
 const APPENDED: u64 = 1;
@@ -27,6 +27,9 @@ pub const NOT_CUT: u64 = 4;
 
 /// The call tried to sync, and failed.
 pub const NOT_SYNCED: u64 = 5;
+
+/// The call tried to append these octets, and failed.
+const NOT_APPENDED: u64 = 6;
 
 /// How many octets of room are allocated at once after what is appended: zeros, so that a sync needn't bring the file's new length to the disk each time (own).
 const ROOM: u64 = 65_536;
@@ -120,7 +123,7 @@ impl FileDisk {
 }
 
 impl Disk for FileDisk {
-    ghost use Rattle.store_files.specs.File.{written as file_written, synced as file_synced, lost as file_lost};
+    ghost use Rattle.store_files.specs.File.{written as file_written, synced as file_synced, lost as file_lost, history as file_history};
 
     type Fault = io::Error;
 
@@ -130,10 +133,15 @@ impl Disk for FileDisk {
 
     ghost lost = { file_lost };
 
+    ghost history = { file_history };
+
     fn append(&mut self, octets: &[u8]) -> io::Result<()> {
-        self.write_behind(octets)?;
-        self.calls.note(&[APPENDED, 0], octets);
-        Ok(())
+        let appended = self.write_behind(octets);
+        match appended {
+            Ok(()) => self.calls.note(&[APPENDED, 0], octets),
+            Err(_) => self.calls.note(&[NOT_APPENDED, 0], octets),
+        }
+        appended
     }
 
     fn sync(&mut self) -> io::Result<()> {

@@ -18,7 +18,7 @@ mod pair;
 mod read;
 mod unbegun;
 
-pub use file::{FileDisk, NOT_CUT, NOT_SYNCED};
+pub use file::{BEGUN, FileDisk, NOT_CUT, NOT_SYNCED};
 pub use kept::{drop_others, keep_pair, keep_torn};
 pub use list::CallList;
 pub use names::FIRST_TEXT;
