@@ -6,9 +6,9 @@ text of a crate of the program names it: of another one, or of its own beyond it
 names is no use, so what one alone needs is listed beside it. Crates of tests (those with `#[test]` in src) and memory devices aren't of
 the program: what they alone use is listed.
 
-Names are found over the text, without types: a method is used where a crate that may have its type calls one of its name, so that of two
-with one name the one that nobody calls may not be found. Functions and methods are looked for in what runs, types and constants in
-contracts too. A law, a function without code, is used where another crate's contracts or proofs name it, and allowed where
+Names are found over the text, without types: a method is used where a crate that may have its type calls one of its name with as many
+arguments, so that of two such methods the one that nobody calls isn't found. Functions and methods are looked for in what runs, types and
+constants in contracts too. A law, a function without code, is used where another crate's contracts or proofs name it, and allowed where
 docs/PROVED.md names it. `--private` prints what isn't public and isn't used, too."""
 import glob
 import os
@@ -52,6 +52,7 @@ LEFT = {
     "snapshot_cell::NamedPublisher::ready": "used by nobody",
     "snapshot_cell::NamedCell::newest": "used by tests alone",
     "snapshot_cell::Publisher::ready": "used by nobody",
+    "store_compaction::CompactedStore::writer": "used by tests alone",
     "store_compaction::RecentUpdates::oldest": "used by tests alone",
     "store_compaction::RecentUpdates::steps": "used by tests alone",
     "store_compaction::VersionUpdate::version": "used by tests alone",
@@ -62,6 +63,7 @@ LEFT = {
     "tcp_loop::Woken": "used by tests alone",
     "tcp_loop::Woken::new": "used by tests alone",
     "tcp_loop::EventLoop::links": "used by tests alone",
+    "tcp_loop::EventLoop::run": "used by tests alone",
     "update_batches::UpdateRequest::read": "used by tests alone",
     "wire_names::read_name_into": "used by nobody",
     "zone_server::NoLog": "used by tests alone",
@@ -184,6 +186,7 @@ class Item:
     def __init__(self, crate, path, kind, name, holder, lines):
         self.crate, self.path, self.kind, self.name, self.holder, self.lines = crate, path, kind, name, holder, lines
         self.law = self.method = self.public = False
+        self.taken = 0  # parameters, with `self`
 
     def key(self):
         return f"{self.crate}::" + (f"{self.holder}::" if self.holder else "") + self.name
@@ -243,7 +246,11 @@ class File:
             if kind == "fn":
                 body = "".join(self.runs[at : last + 1]).replace(" ", "")
                 item.law = body.endswith("){}") and not indent
-                item.method = bool(indent) and bool(re.search(rf"fn {name}(?:<[^(]*>)?\(\s*(?:&(?:'\w+ )?)?(?:mut )?self\b", "\n".join(self.runs[at : last + 1])))
+                taken = "\n".join(self.runs[at : last + 1])
+                opens = re.search(rf"fn {name}(?:<[^(]*>)?\(", taken)
+                taken = taken[opens.end() : end_of_group(taken, opens.end() - 1) - 1] if opens else ""
+                item.method = bool(indent) and re.match(r"\s*(?:&(?:'\w+ )?)?(?:mut )?self\b", taken) is not None
+                item.taken = count(taken)
             if not indent and kind == "trait":
                 holder, until, public, made = name, last, line.startswith("pub "), False
             if not indent and kind == "type":
@@ -295,19 +302,6 @@ def crates():
     return files, direct, on
 
 
-class Uses:
-    """Where names are mentioned: name -> (file, line, column) in what runs, and with contracts."""
-
-    def __init__(self, files):
-        self.runs, self.told = {}, {}
-        for found in files.values():
-            for file in found:
-                for lines, places in ((file.runs, self.runs), (file.told, self.told)):
-                    for at, line in enumerate(lines):
-                        for match in WORD.finditer(line):
-                            places.setdefault(match.group(0), []).append((file, at, match.start()))
-
-
 def is_definition(file, at, column):
     return re.search(r"\b(?:fn|struct|enum|union|trait|type|const|static|mod) $", file.told[at][:column]) is not None
 
@@ -329,128 +323,175 @@ def proofs():
     return names
 
 
-def main():
-    files, direct, on = crates()
-    words = {crate: {word for file in found for text in [*file.told, *file.imports, *file.exports] for word in WORD.findall(text)} for crate, found in files.items()}
-    uses = Uses(files)
-    cited = proofs()
-    with open(os.path.join(ROOT, "docs", "PROVED.md"), encoding="utf-8") as file:
-        proved = set(re.findall(r"`([\w:]+)`", file.read()))
-    items = [item for found in files.values() for file in found for item in file.items]
-    makers = {}  # how many items have a name
-    for item in items:
-        makers.setdefault(item.name, set()).add(item.key())
-    declared = {(item.crate, item.name) for item in items if not item.holder}
-    traits = {item.name for item in items if item.kind == "trait"}
-    gone = {}  # file -> lines of items that aren't used
+def arguments(text, at):
+    """How many arguments a call has whose parentheses open at this position; None where a closure is among them."""
+    end = end_of_group(text, at)
+    inside = text[at + 1 : end - 1]
+    if "|" in inside:
+        return None
+    return count(inside)
 
-    def is_seen(crate, item):
+
+def count(text):
+    """How many parts a list has, in brackets of any kind, with commas between them."""
+    depth, parts, some = 0, 0, False
+    for at, char in enumerate(text):
+        if char in "([{" or char == "<" and not text[at - 1 : at].isspace():
+            depth += 1
+        elif char in ")]}" or char == ">" and text[at - 1] not in "-= ":
+            depth -= 1
+        if char == "," and depth == 0:
+            parts, some = parts + 1, False
+        elif not char.isspace():
+            some = True
+    return parts + some
+
+
+class Program:
+    """The crates of the program, and which of their items are used."""
+
+    def __init__(self):
+        self.files, self.direct, self.on = crates()
+        self.cited = proofs()
+        with open(os.path.join(ROOT, "docs", "PROVED.md"), encoding="utf-8") as file:
+            self.proved = set(re.findall(r"`([\w:]+)`", file.read()))
+        every = [file for found in self.files.values() for file in found]
+        self.items = [item for file in every for item in file.items]
+        self.imports = [(file.crate, text) for file in every for text in file.imports]
+        self.declared = {(item.crate, item.name) for item in self.items if not item.holder}
+        self.traits = {item.name for item in self.items if item.kind == "trait"}
+        self.makers = {}  # name -> the items that have it
+        for item in self.items:
+            self.makers.setdefault(item.name, set()).add(item.key())
+        self.words, self.runs, self.told = {}, {}, {}  # names of a crate; name -> where what runs mentions it, or contracts too
+        for file in every:
+            texts = [*file.told, *file.imports, *file.exports]
+            self.words.setdefault(file.crate, set()).update(word for text in texts for word in WORD.findall(text))
+            for lines, places in ((file.runs, self.runs), (file.told, self.told)):
+                for at, line in enumerate(lines):
+                    for match in WORD.finditer(line):
+                        places.setdefault(match.group(0), []).append((file, at, match.start()))
+        self.gone = {}  # file -> lines of items that aren't used
+
+    def is_seen(self, crate, item):
         """Whether a crate stands on that of an item, or on one that stands on it and names the item or its type."""
-        if crate == item.crate or item.crate in direct.get(crate, ()):
+        near = self.direct.get(crate, ())
+        if crate == item.crate or item.crate in near:
             return True
-        return any(item.crate in on.get(near, ()) and (item.holder or item.name) in words.get(near, ()) for near in direct.get(crate, ()))
+        return any(item.crate in self.on.get(one, ()) and (item.holder or item.name) in self.words.get(one, ()) for one in near)
 
-    def is_another(file, item):
+    def is_another(self, file, item):
         """Whether a file means an item of its own crate by this name."""
+        if item.holder or file.crate == item.crate or (file.crate, item.name) not in self.declared:
+            return False
         others = [text for text in file.imports if not text.startswith(("crate::", "super::", "self::"))]
-        return file.crate != item.crate and (file.crate, item.name) in declared and not any(item.name in WORD.findall(text) for text in others)
+        return not any(item.name in WORD.findall(text) for text in others)
 
-    def counts(item, file, at, column):
+    def is_use(self, item, file, at, column):
         """Whether this mention of an item's name is a use of it."""
-        if not is_seen(file.crate, item) or not item.holder and is_another(file, item):
+        if not self.is_seen(file.crate, item) or self.is_another(file, item) or is_definition(file, at, column):
             return False
-        if is_definition(file, at, column):
-            return False
-        if any(first <= at <= last for first, last in gone.get(file.path, ())):
+        if any(first <= at <= last for first, last in self.gone.get(file.path, ())):
             return False
         if file.path == item.path and item.lines[0] <= at <= item.lines[1] and item.kind != "trait":
             return False
-        line = file.told[at]
-        before, after = line[:column].rstrip(), line[column + len(item.name) :]
-        if not before and at and not file.told[at - 1].strip().endswith(("{", "}", ";")):
-            before = file.told[at - 1].rstrip()
-        if item.kind == "fn" and item.holder:
-            path = before.endswith("::")
-            if not path and not before.endswith("."):
-                return False
-            if not path and (not item.method or not re.match(r"\(|::<", after)):
-                return False
-            if path and len(makers[item.name]) > 1:
-                plain = re.sub(r"[-=]>", "", before)
-                while plain != (plain := re.sub(r"<[^<>]*>", "", plain)):
-                    pass
-                head = re.search(r"(\w+)(?:::)+$", plain)
-                return head is None or named(item, file, at, head.group(1))
+        if item.kind in ("struct", "enum", "union") and file.crate == item.crate:
+            return not any(holder == item.name and first <= at <= last for holder, first, last, _ in file.impls)
+        if item.kind != "fn":
             return True
-        if item.kind == "fn" and before.endswith(".") and not before.endswith(".."):
-            return False
-        if item.kind == "fn" and not before.endswith("::") and not re.match(r"\(|::", after):
-            # A variable or a field of that name, but where a function is passed.
-            bound = rf"\b{item.name}\s*:(?!:)|\blet\b[^=;]*\b{item.name}\b|\|[^|\n]*\b{item.name}\b[^|\n]*\||\bfor {item.name}\b|\(\s*{item.name}\s*\)\s*=>"
-            return re.match(r"[),]", after) is not None and not re.search(bound, "\n".join(file.runs))
-        if item.kind in ("struct", "enum", "union"):
-            return not any(holder == item.name and first <= at <= last for holder, first, last, _ in file.impls) or file.crate != item.crate
-        return True
+        before = file.runs[at][:column].rstrip()
+        if not before and at and not file.runs[at - 1].strip().endswith(("{", "}", ";")):
+            before = file.runs[at - 1].rstrip()
+        after = "\n".join([file.runs[at][column + len(item.name) :], *file.runs[at + 1 : at + 30]])
+        return self.is_call_of_type(item, file, at, before, after) if item.holder else self.is_call(item, file, before, after)
 
-    def named(item, file, at, head):
+    def is_call(self, item, file, before, after):
+        """Whether a free function is called, or passed, between these texts."""
+        if before.endswith(".") and not before.endswith(".."):
+            return False
+        if before.endswith("::") or re.match(r"\(|::", after):
+            return True
+        if not re.match(r"[),]", after):
+            return False
+        # A variable of that name, where the file has one.
+        bound = rf"\b{item.name}\s*:(?!:)|\blet\b[^=;]*\b{item.name}\b|\|[^|\n]*\b{item.name}\b[^|\n]*\||\bfor {item.name}\b|\(\s*{item.name}\s*\)\s*=>"
+        return re.search(bound, "\n".join(file.runs)) is None
+
+    def is_call_of_type(self, item, file, at, before, after):
+        """Whether a type's function is called, or named by a path, between these texts."""
+        path = before.endswith("::")
+        if not path and not (before.endswith(".") and item.method and re.match(r"\(|::<", after)):
+            return False
+        call = re.match(r"(?:::<[^()]*>)?\(", after)
+        given = arguments(after, call.end() - 1) if call else None
+        if given is not None and given != item.taken - (item.method and not path):
+            return False
+        if not path:
+            return True
+        plain = re.sub(r"[-=]>", "", before)
+        while plain != (plain := re.sub(r"<[^<>]*>", "", plain)):
+            pass
+        head = re.search(r"(\w+)(?:::)+$", plain)
+        if head and head.group(1)[0].islower():
+            return False  # a module's
+        return head is None or len(self.makers[item.name]) == 1 or self.is_named(item, file, at, head.group(1))
+
+    def is_named(self, item, file, at, head):
         """Whether a path that begins with this word may name the item's type."""
         if head == "Self":
             return any(holder == item.holder and first <= at <= last for holder, first, last, _ in file.impls)
         if head == item.holder:
             return True
         if len(head) == 1:  # a type that is given: its functions are a trait's
-            return item.holder in traits
-        aliases = [
-            text
-            for crate in {file.crate, *on.get(file.crate, ())} & set(files)
-            for one in files[crate]
-            for name, text, public in one.aliases
-            if name == head and (public or crate == file.crate)
-        ]
-        return any(item.holder in WORD.findall(text) for text in aliases) or item.kind == "fn" and head in bounds(item)
+            return item.holder in self.traits
+        for crate in {file.crate, *self.on.get(file.crate, ())} & set(self.files):
+            for one in self.files[crate]:
+                for name, text, public in one.aliases:
+                    if name == head and (public or crate == file.crate) and item.holder in WORD.findall(text):
+                        return True
+        made = item.holder in self.traits  # of a trait: any type that has an impl of one
+        return made and any(holder == head and of for found in self.files.values() for one in found for holder, _, _, of in one.impls)
 
-    def bounds(item):
-        """Types that have an item of a trait: those with an impl of any trait."""
-        if item.holder not in traits:
-            return ()
-        return {holder for found in files.values() for one in found for holder, _, _, of in one.impls if of}
-
-    def is_used(item):
-        if item.name == "main":
+    def is_used(self, item):
+        if item.name == "main" or item.key() in PUBLIC:
             return True
         if item.law:
-            words = {item.name, f"{item.crate}::{item.name}"}
-            return bool(words & proved) or any(item.name in found for crate, found in cited.items() if crate != item.crate)
-        places = uses.runs if item.kind == "fn" else uses.told
-        if any(counts(item, *place) for place in places.get(item.name, ())):
+            named = bool({item.name, item.key()} & self.proved)
+            return named or any(item.name in found for crate, found in self.cited.items() if crate != item.crate)
+        places = self.runs if item.kind == "fn" else self.told
+        if any(self.is_use(item, *place) for place in places.get(item.name, ())):
             return True
-        if item.kind == "trait":
-            return any(
-                item.name in WORD.findall(text) for crate, found in files.items() if crate != item.crate for file in found for text in file.imports
-            )
-        return any(
-            re.search(rf"\b{item.name} as \w", text) for found in files.values() for file in found for text in file.imports
-        )
+        if item.kind == "trait":  # a trait whose functions are called
+            return any(item.name in WORD.findall(text) for crate, text in self.imports if crate != item.crate)
+        return any(re.search(rf"\b{item.name} as \w", text) for _, text in self.imports)
 
-    found, last = [], None
-    while found != last:
-        last = found
-        found = [item for item in items if item.key() not in PUBLIC and not is_used(item)]
-        gone = {}
-        for item in found:
-            gone.setdefault(item.path, []).append(item.lines)
-            if item.kind in ("struct", "enum", "union"):
-                for file in files[item.crate]:
-                    gone.setdefault(file.path, []).extend((first, end) for holder, first, end, _ in file.impls if holder == item.name)
+    def unused(self):
+        """The items that aren't used, nor by any that is."""
+        found, last = [], None
+        while found != last:
+            last = found
+            found = [item for item in self.items if not self.is_used(item)]
+            self.gone = {}
+            for item in found:
+                self.gone.setdefault(item.path, []).append(item.lines)
+                if item.kind in ("struct", "enum", "union"):
+                    for file in self.files[item.crate]:
+                        own = [(first, end) for holder, first, end, _ in file.impls if holder == item.name]
+                        self.gone.setdefault(file.path, []).extend(own)
+        return found
+
+
+def main():
+    program = Program()
+    found = program.unused()
     if "--private" in sys.argv:
         print(*[f"{item.key()}  {item.path}:{item.lines[0] + 1}" for item in found if not item.public], sep="\n")
-    found = [item for item in found if item.public]
-    keys = {item.key() for item in found}
-    left = {**LEFT, **{f"{crate}::{name}": "" for crate, names in LAWS.items() for name in names.split()}}
-    faults = [f"{item.key()}  {item.path}:{item.lines[0] + 1}" for item in found if item.key() not in left]
-    known = {item.key() for item in items}
-    faults += [f"{key} is in the list of this script, and isn't there" for key in [*PUBLIC, *left] if key not in known]
-    faults += [f"{key} is in the list of this script, and is used" for key in LEFT if key in known and key not in keys]
+    found = {item.key(): item for item in found if item.public}
+    known = {item.key() for item in program.items}
+    left = {*LEFT, *[f"{crate}::{name}" for crate, names in LAWS.items() for name in names.split()]}
+    faults = [f"{key}  {item.path}:{item.lines[0] + 1}" for key, item in found.items() if key not in left]
+    faults += [f"{key} is in the list of this script, and isn't there" for key in [*PUBLIC, *sorted(left)] if key not in known]
+    faults += [f"{key} is in the list of this script, and is used" for key in LEFT if key in known and key not in found]
     for fault in faults:
         print(fault, file=sys.stderr)
     return 1 if faults else 0
