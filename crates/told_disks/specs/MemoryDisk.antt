@@ -1,6 +1,6 @@
 -- The octets of a disk in memory.
 use Rattle.std.specs.Prelude.{ℕ, List}
-use Rattle.store_files.specs.Calls.{lost_by}
+use Rattle.store_files.specs.Calls.{lost_by, history_by}
 use Rattle.told_disks.specs.declared.memory_disk.MemoryDisk.{MemoryDisk}
 
 -- the octets as they are
@@ -14,3 +14,7 @@ synced disk = disk.synced.items
 -- how many of its syncs and cuts have failed
 abbrev pub lost : MemoryDisk → ℕ
 lost disk = lost_by disk.failures.calls
+
+-- what was on the disk after each call so far, the last call first
+abbrev pub history : MemoryDisk → List (List ℕ)
+history disk = history_by disk.calls.calls

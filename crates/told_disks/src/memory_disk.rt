@@ -4,7 +4,7 @@ ghost use Rattle.journal.specs.Disk.{BeginsWith};
 
 use journal::Disk;
 use std::alloc::{AllocError, Global};
-use store_files::{CallList, NOT_CUT, NOT_SYNCED};
+use store_files::{BEGUN, CallList, NOT_CUT, NOT_SYNCED};
 
 /// Why a call of a disk in memory failed.
 #[derive(Clone, Copy, Debug, PartialEq, Eq)]
@@ -24,6 +24,8 @@ pub struct MemoryDisk {
     plan: Vec<u8>,
     /// How many of its syncs and cuts have failed.
     failures: CallList,
+    /// What is on the disk after each of its calls, noted as a disk that is created with it.
+    calls: CallList,
 }
 
 impl MemoryDisk {
@@ -42,6 +44,7 @@ impl MemoryDisk {
             synced: octets.to_vec(alloc)?,
             plan: Vec::new(alloc),
             failures: CallList::new(),
+            calls: CallList::new(),
         })
     }
 
@@ -80,6 +83,7 @@ impl MemoryDisk {
         ensures written { written self.new ≡ written self.old }
         ensures synced { synced self.new ≡ synced self.old }
         ensures failures { self.new.failures ≡ self.old.failures }
+        ensures calls { self.new.calls ≡ self.old.calls }
     {
         match self.plan.pop() {
             None | Some(0) => None,
@@ -98,7 +102,7 @@ fn left_of(octet: u8, fate: u8) -> u8 {
 }
 
 impl Disk for MemoryDisk {
-    ghost use Rattle.told_disks.specs.MemoryDisk.{written as told_written, synced as told_synced, lost as told_lost};
+    ghost use Rattle.told_disks.specs.MemoryDisk.{written as told_written, synced as told_synced, lost as told_lost, history as told_history};
 
     type Fault = DiskFault;
 
@@ -108,7 +112,10 @@ impl Disk for MemoryDisk {
 
     ghost lost = { told_lost };
 
+    ghost history = { told_history };
+
     fn append(&mut self, octets: &[u8]) -> Result<(), DiskFault> {
+        self.calls.note(&[BEGUN, 0], &self.synced);
         match self.next_call() {
             None => match self.written.extend_from_slice(octets) {
                 Ok(()) => Ok(()),
@@ -127,10 +134,12 @@ impl Disk for MemoryDisk {
             None => match self.written.to_vec(self.alloc) {
                 Ok(copy) => {
                     self.synced = copy;
+                    self.calls.note(&[BEGUN, 0], &self.synced);
                     Ok(())
                 }
                 Err(_) => {
                     self.failures.note(&[NOT_SYNCED, 0], &[]);
+                    self.calls.note(&[BEGUN, 0], &self.synced);
                     Err(DiskFault::NoMemory)
                 }
             },
@@ -139,6 +148,7 @@ impl Disk for MemoryDisk {
                 let start = self.synced.len().min(self.written.len());
                 self.written[start..].fill(0);
                 self.failures.note(&[NOT_SYNCED, 0], &[]);
+                self.calls.note(&[BEGUN, 0], &self.synced);
                 Err(DiskFault::Planned)
             }
         }
@@ -147,6 +157,7 @@ impl Disk for MemoryDisk {
     fn cut(&mut self, len: u64) -> Result<(), DiskFault> {
         let most = len as usize;
         self.synced.truncate(most);
+        self.calls.note(&[BEGUN, 0], &self.synced);
         match self.next_call() {
             None => {
                 self.written.truncate(most);

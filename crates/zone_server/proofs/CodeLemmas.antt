@@ -3,7 +3,7 @@ use Rattle.std.proofs.Common.{◌≡◌, ◌≢◌, refl, ℕ, Bool, true, false
 use Rattle.std.specs.Prelude.{◌&&◌, ◌||◌, not, ◌==◌, if◌then◌else◌}
 use Rattle.std.specs.Option.{option_or, is_some}
 use Rattle.dns_name.specs.Name.{is_same, is_under}
-use Rattle.dns_rdata.specs.Numbers.{rcode_number, type_NS, type_SOA, type_ANY, class_IN, class_NONE, class_ANY}
+use Rattle.dns_rdata.specs.Numbers.{type_NS, type_SOA, type_ANY, class_IN, class_NONE, class_ANY}
 use Rattle.dns_rdata.specs.Record.{Record}
 use Rattle.dns_rdata.specs.Raw.{RawRecord}
 use Rattle.dns_rdata.specs.declared.numbers.Rcode.{Rcode}
@@ -15,8 +15,8 @@ use Rattle.zone_tree.specs.Version.{Version}
 use Rattle.update_core.specs.Verdict.{is_in_use, has_rrset, is_empty, first_code, zone_section, prerequisite, prerequisites, are_met, permission, is_recognised, has_form, prescan_of, prescan, check, verdict}
 use Rattle.update_core.specs.Act.{act}
 use Rattle.update_core.specs.Applied.{code_of}
-use Rattle.update_batches.specs.Verdict.{told_verdict}
-use Rattle.zone_server.specs.UpdateResult.{AreOwn, serials_of}
+use Rattle.update_batches.specs.Verdict.{serials_with}
+use Rattle.zone_server.specs.UpdateResult.{AreOwn}
 
 -- it is another code, or none
 abbrev IsOther : Option Rcode → Type 0
@@ -104,8 +104,8 @@ pub code_other : (zone : List Record) (update : Update) (may : Bool) (code : Rco
 code_other zone update may code coded same =
     either (verdict zone update may) _ (in_verdict zone update may) (choose (is_some (act zone update)) _ _ none of_fail) (coded ∙ ap Some same)
 
--- with another code than NOERROR no serials are told
-pub own_other : (version : Version) (update : Update) (serial : ℕ) (code : Rcode) → code ≢ NoError → AreOwn version update code (serials_of (told_verdict serial (rcode_number code)).serials)
+-- with another code than NOERROR there are no serials
+pub own_other : (version : Version) (update : Update) (serial : ℕ) (code : Rcode) → code ≢ NoError → AreOwn version update code (serials_with serial code)
 own_other version update serial NoError other = absurd (other refl)
 own_other version update serial FormErr other = other
 own_other version update serial ServFail other = other

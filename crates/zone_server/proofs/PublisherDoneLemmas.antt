@@ -1,7 +1,6 @@
--- What is told of an update that waits is so by the versions that are known to be published.
-use Rattle.std.proofs.Common.{◌≡◌, refl, ℕ, ◌+◌, ◌≤◌, List, [], ◌∷◌, ◌++◌, inl, inr, sym, ap, ◌∙◌, subst, append_assoc, arith}
-use Rattle.std.specs.Prelude.{true, take, Option, None}
-use Rattle.dns_rdata.specs.Numbers.{rcode_number}
+-- The verdict of a queued update holds for the versions that are known to be published.
+use Rattle.std.proofs.Common.{◌≡◌, refl, ℕ, ◌+◌, ◌≤◌, List, [], ◌∷◌, ◌++◌, inl, inr, sym, ap, ◌∙◌, subst, append_assoc, append-nil, length, suc, arith}
+use Rattle.std.specs.Prelude.{true, take, drop, map, Option, None, Some}
 use Rattle.dns_rdata.specs.Record.{Record}
 use Rattle.dns_rdata.specs.declared.numbers.Rcode.{Rcode}
 use Rattle.dns_rdata.specs.declared.numbers.Rcode.TheVariants.{NoError, ServFail}
@@ -13,24 +12,24 @@ use Rattle.cell_core.specs.Cell.{EachFollows}
 use Rattle.counted_handles.specs.History.{IsHistory}
 use Rattle.dns_engine.specs.Versions.{IsFirst, IsNext}
 use Rattle.dns_engine.specs.Held.{IsLatest}
+use Rattle.std.proofs.lemmas.List.{take_all}
 use Rattle.dns_engine.proofs.ReplayLemmas.{number_of, latest_replay}
 use Rattle.update_batches.specs.declared.update_request.UpdateRequest.{UpdateRequest}
 use Rattle.update_batches.specs.declared.verdict.Verdict.{Verdict}
-use Rattle.update_batches.specs.Verdict.{told_verdict, made_verdict, failed}
+use Rattle.update_batches.specs.Verdict.{serials_with, told_verdict, made_verdict, failed}
 use Rattle.update_batches.specs.UpdateRequest.{serial_in}
-use Rattle.zone_server.specs.declared.update_result.Serials.{Serials}
-use Rattle.zone_server.specs.UpdateResult.{IsDoneBy, IsGiven, serials_of}
+use Rattle.zone_server.specs.UpdateResult.{IsDoneBy, AreResults, queued_results}
 use Rattle.zone_server.proofs.StateLemmas.{done_grows}
 use Rattle.zone_server.proofs.JudgedLemmas.{tells_done, starved_done, made_done}
-use Rattle.update_batches.specs.Done.{IsDone as IsDoneIn, IsToldIn, IsMadeIn}
-use Rattle.zone_server.specs.declared.submit.QueuedUpdate.{QueuedUpdate}
+use Rattle.update_batches.specs.Done.{first_verdict, IsDone as IsDoneIn, AreDone as AreDoneIn, IsToldIn, IsMadeIn}
+use Rattle.update_batches.specs.declared.queued_update.QueuedUpdate.{QueuedUpdate}
 use Rattle.serve_core.specs.declared.transport.Transport.{Transport}
 use Rattle.serve_core.specs.declared.transport.Transport.TheVariants.{Udp}
 use Rattle.serve_core.specs.Heading.{heading_of_update, coded}
 use Rattle.serve_core.specs.Transport.{limit_of}
 use Rattle.zone_server.proofs.ReplyDoneLemmas.{done_replied}
-use Rattle.zone_server.specs.Brought.{IsTold}
-use Rattle.zone_server.specs.Waits.{passes_queued, tells_queued, makes_queued}
+use Rattle.zone_server.specs.Replied.{IsReplied}
+use Rattle.zone_server.specs.Brought.{Brought, brought_after, brought_by, brought_for, all_brought, coded_reply, IsReplyTo, AreReplies}
 
 each_front : (version : Version) (front newer : List Version) → EachFollows IsNext (version ∷ (front ++ newer)) → EachFollows IsNext (version ∷ front)
 each_front version [] newer each = tt
@@ -47,31 +46,35 @@ front_latest first front newer version history =
     let own = front_history first front newer version history in
     record { before = front; history = own; ends = refl; number = sym (number_of first front version own) }
 
+-- the message with the code of a result is the reply to its update
+reply_told : (first : List Record) (seen : List Version) (number : ℕ) (asked : UpdateRequest) (given : Verdict) → IsDoneBy first seen asked number given.code given.serials
+    → reads asked.octets.items ≡ SaysUpdate asked.update → asked.may ≡ true → IsReplyTo first seen (number + 1) asked.octets.items (coded_reply asked given.code)
+reply_told first seen number asked given done reading may = λ peer known udp may_update fresh.
+    let octets : List ℕ = coded_reply asked given.code in
+    let whole : take (length octets) octets ≡ octets = take_all (length octets) octets (omega arith) in
+    subst (λ (o : List ℕ). IsReplied first peer known (record { published = seen; buried = [] }) asked.octets.items (o ∷ [])) whole
+    (done_replied first peer known (record { published = seen; buried = [] }) asked.octets.items octets (length octets)
+    (record { asked = asked; least = number; code = given.code; serials = given.serials })
+    done fresh reading (may ∙ sym may_update) (whole ∙ ap (λ (t : Transport). fit (coded (heading_of_update asked.update) given.code) (limit_of t None)) (sym udp)))
+
 module _ (first : List Record) (published : List Version) (latest_version : Version) (latest : IsLatest first published latest_version) (number : ℕ) (least : number ≤ latest_version.number) where
   put_behind : (front newer : List Version) (version : Version) → published ≡ front ++ version ∷ newer → IsHistory (IsFirst first) IsNext ((front ++ version ∷ []) ++ newer)
   put_behind front newer version place = subst (IsHistory (IsFirst first) IsNext) (place ∙ sym (append_assoc front (version ∷ []) newer)) latest.history
 
-  told_done : (waiting : QueuedUpdate) (verdict : Verdict) → IsToldIn passes_queued tells_queued makes_queued serial_in published (number + 1) waiting verdict
-      → IsGiven first published number waiting.asked verdict
+  told_done : (waiting : QueuedUpdate) (verdict : Verdict) → IsToldIn published (number + 1) waiting verdict → IsDoneBy first published waiting.request number verdict.code verdict.serials
   told_done waiting verdict told =
       let history = put_behind told.front told.newer told.version told.place in
       let here = front_latest first told.front told.newer told.version history in
       let late : number ≤ told.version.number = omega (arith, told.late, number_of first told.front told.version (front_history first told.front told.newer told.version history)) in
-      let is : Rcode = told.tells_it.0 in
-      let done : IsDoneBy first (told.front ++ told.version ∷ []) waiting.asked number is (serials_of (told_verdict (serial_in told.version) told.code).serials) =
-      subst (λ (n : ℕ). IsDoneBy first (told.front ++ told.version ∷ []) waiting.asked number is (serials_of (told_verdict (serial_in told.version) n).serials)) told.tells_it.1
-      (tells_done first (told.front ++ told.version ∷ []) told.version here (latest_replay first _ told.version here) number late waiting.asked is told.tells_it.2) in
-      let given : IsGiven first published number waiting.asked (told_verdict (serial_in told.version) told.code) = (
-        is,
-        told.tells_it.1,
-        subst (λ (l : List Version). IsDoneBy first l waiting.asked number is (serials_of (told_verdict (serial_in told.version) told.code).serials))
-            (append_assoc told.front (told.version ∷ []) told.newer ∙ sym told.place)
-            (done_grows first (told.front ++ told.version ∷ []) told.newer history _ done),
-      ) in
-      subst (λ (v : Verdict). IsGiven first published number waiting.asked v) (sym told.told) given
+      let done = tells_done first (told.front ++ told.version ∷ []) told.version here (latest_replay first _ told.version here) number late waiting.request told.code told.tells_it in
+      let own : Verdict = told_verdict (serial_in told.version) told.code in
+      let given : IsDoneBy first published waiting.request number own.code own.serials =
+      subst (λ (l : List Version). IsDoneBy first l waiting.request number told.code (serials_with (serial_in told.version) told.code))
+      (append_assoc told.front (told.version ∷ []) told.newer ∙ sym told.place)
+      (done_grows first (told.front ++ told.version ∷ []) told.newer history _ done) in
+      subst (λ (v : Verdict). IsDoneBy first published waiting.request number v.code v.serials) (sym told.told) given
 
-  made_in : (waiting : QueuedUpdate) (verdict : Verdict) → IsMadeIn passes_queued tells_queued makes_queued serial_in published (number + 1) waiting verdict
-      → IsGiven first published number waiting.asked verdict
+  made_in : (waiting : QueuedUpdate) (verdict : Verdict) → IsMadeIn published (number + 1) waiting verdict → IsDoneBy first published waiting.request number verdict.code verdict.serials
   made_in waiting verdict made =
       let front = made.front ++ made.version ∷ [] in
       let history = put_behind made.front (made.next ∷ made.newer) made.version made.place in
@@ -80,43 +83,54 @@ module _ (first : List Record) (published : List Version) (latest_version : Vers
       let longer : (front ++ made.next ∷ []) ++ made.newer ≡ front ++ made.next ∷ made.newer = append_assoc front (made.next ∷ []) made.newer in
       let behind = subst (IsHistory (IsFirst first) IsNext) (sym longer) history in
       let own : Verdict = made_verdict (serial_in made.version) (serial_in made.next) in
-      let done : IsDoneBy first (front ++ made.next ∷ []) waiting.asked number NoError (serials_of own.serials) =
-      made_done first front made.version here (latest_replay first front made.version here) number late waiting.asked made.next (front_history first front made.newer made.next behind) made.lets made.makes_it in
-      let given : IsGiven first published number waiting.asked own = (
-        NoError,
-        refl,
-        subst (λ (l : List Version). IsDoneBy first l waiting.asked number NoError (serials_of own.serials))
-            (longer ∙ append_assoc made.front (made.version ∷ []) (made.next ∷ made.newer) ∙ sym made.place)
-            (done_grows first (front ++ made.next ∷ []) made.newer behind _ done),
-      ) in
-      subst (λ (v : Verdict). IsGiven first published number waiting.asked v) (sym made.told) given
+      let done = made_done first front made.version here (latest_replay first front made.version here) number late waiting.request made.next (front_history first front made.newer made.next behind) made.lets made.makes_it in
+      let given : IsDoneBy first published waiting.request number own.code own.serials =
+      subst (λ (l : List Version). IsDoneBy first l waiting.request number NoError own.serials)
+      (longer ∙ append_assoc made.front (made.version ∷ []) (made.next ∷ made.newer) ∙ sym made.place)
+      (done_grows first (front ++ made.next ∷ []) made.newer behind _ done) in
+      subst (λ (v : Verdict). IsDoneBy first published waiting.request number v.code v.serials) (sym made.told) given
 
-  failed_done : (waiting : QueuedUpdate) → IsGiven first published number waiting.asked failed
-  failed_done waiting = (ServFail, refl, starved_done first published latest_version latest (latest_replay first published latest_version latest) number least waiting.asked)
+  failed_done : (waiting : QueuedUpdate) → IsDoneBy first published waiting.request number failed.code failed.serials
+  failed_done waiting = starved_done first published latest_version latest (latest_replay first published latest_version latest) number least waiting.request
 
-  -- what an update gets is told by a code of that number
-  done_in : (waiting : QueuedUpdate) (verdict : Verdict) → IsDoneIn passes_queued tells_queued makes_queued serial_in published (number + 1) waiting verdict
-      → IsGiven first published number waiting.asked verdict
-  done_in waiting verdict (inl told) = told_done waiting verdict told
-  done_in waiting verdict (inr (inl made)) = made_in waiting verdict made
-  done_in waiting verdict (inr (inr fails)) = subst (λ (v : Verdict). IsGiven first published number waiting.asked v) (sym fails) (failed_done waiting)
+  -- a verdict holds for the versions that are published
+  pub queued_done : (waiting : QueuedUpdate) (verdict : Verdict) → IsDoneIn published (number + 1) waiting verdict → IsDoneBy first published waiting.request number verdict.code verdict.serials
+  queued_done waiting verdict (inl told) = told_done waiting verdict told
+  queued_done waiting verdict (inr (inl made)) = made_in waiting verdict made
+  queued_done waiting verdict (inr (inr fails)) =
+      subst (λ (v : Verdict). IsDoneBy first published waiting.request number v.code v.serials) (sym fails) (failed_done waiting)
 
-  -- and so by the one code of that number
-  pub queued_done : (waiting : QueuedUpdate) (verdict : Verdict) (told : Rcode) → IsDoneIn passes_queued tells_queued makes_queued serial_in published (number + 1) waiting verdict
-      → ((is : Rcode) → rcode_number is ≡ verdict.code → told ≡ is) → (rcode_number told ≡ verdict.code) × IsDoneBy first published waiting.asked number told (serials_of verdict.serials)
-  queued_done waiting verdict told is names =
-      let done = done_in waiting verdict is in
-      let same : told ≡ done.0 = names done.0 done.1 in
-      (ap rcode_number same ∙ done.1, subst (λ (r : Rcode). IsDoneBy first published waiting.asked number r (serials_of verdict.serials)) (sym same) done.2)
+  -- so do those of a batch
+  pub queued_all : (verdicts : List Verdict) (batch : List QueuedUpdate) → AreDoneIn published (number + 1) verdicts batch
+      → AreResults first published (queued_results number verdicts batch)
+  queued_all verdicts [] are = tt
+  queued_all verdicts (one ∷ batch) are = (queued_done one (first_verdict verdicts) are.0, queued_all (drop 1 verdicts) batch are.1)
 
--- the message that tells an update its code is the reply to it
-pub reply_told : (first : List Record) (seen : List Version) (number : ℕ) (asked : UpdateRequest) (code : ℕ) (told : Rcode) (serials : Option Serials) (out : List ℕ) (len : ℕ) → IsDoneBy first seen asked number told serials → rcode_number told ≡ code
-    → reads asked.octets.items ≡ SaysUpdate asked.update → asked.may ≡ true → take len out ≡ fit (coded (heading_of_update asked.update) told) (limit_of Udp None) → IsTold first seen (number + 1) asked code (take len out)
-reply_told first seen number asked code told serials out len done numbered reading may written = record {
-  code = told;
-  numbered = numbered;
-  spelt = written;
-  reply = λ peer known udp may_update fresh.
-      done_replied first peer known (record { published = seen; buried = [] }) asked.octets.items out len (record { asked = asked; least = number; code = told; serials = serials })
-      done fresh reading (may ∙ sym may_update) (written ∙ ap (λ (t : Transport). fit (coded (heading_of_update asked.update) told) (limit_of t None)) (sym udp));
-}
+  -- the message with the code of its verdict is the reply to each
+  pub queued_replies : (verdicts : List Verdict) (batch : List QueuedUpdate) → AreDoneIn published (number + 1) verdicts batch
+      → AreReplies first published (number + 1) verdicts batch
+  queued_replies verdicts [] are = tt
+  queued_replies verdicts (one ∷ batch) are = (
+    reply_told first published number one.request (first_verdict verdicts) (queued_done one (first_verdict verdicts) are.0) one.request.read one.may,
+    queued_replies (drop 1 verdicts) batch are.1,
+  )
+
+-- there are as many results as updates
+pub results_long : (number : ℕ) (verdicts : List Verdict) (batch : List QueuedUpdate) → length (queued_results number verdicts batch) ≡ length batch
+results_long number verdicts [] = refl
+results_long number verdicts (one ∷ batch) = ap suc (results_long number (drop 1 verdicts) batch)
+
+-- what is left to be done for the replies of a batch
+pub brought_all : (number : ℕ) (verdicts : List Verdict) (batch : List QueuedUpdate) → map brought_for (queued_results number verdicts batch) ≡ all_brought verdicts batch
+brought_all number verdicts [] = refl
+brought_all number verdicts (one ∷ batch) =
+    ap (λ (bs : List Brought). brought_by one.reply_to one.request (first_verdict verdicts).code ∷ bs) (brought_all number (drop 1 verdicts) batch)
+
+-- a list after others were appended, one after another
+pub brought_more : (old : Option (List Brought)) (first more : List Brought) → brought_after (brought_after old first) more ≡ brought_after old (first ++ more)
+brought_more None first more = refl
+brought_more (Some before) first more = ap Some (append_assoc before first more)
+
+pub brought_none : (old : Option (List Brought)) → brought_after old [] ≡ old
+brought_none None = refl
+brought_none (Some before) = ap Some (append-nil before)

@@ -1,5 +1,5 @@
 -- What is known to be published once a reader has met more.
-use Rattle.std.proofs.Common.{◌≡◌, ℕ, ◌+◌, List, [], ◌∷◌, ◌++◌, length, Option, sym, ap, ◌∙◌, subst, append_assoc}
+use Rattle.std.proofs.Common.{◌≡◌, ℕ, ◌+◌, ◌≤◌, List, [], ◌∷◌, ◌++◌, length, Option, sym, ap, ◌∙◌, subst, append_assoc, length-append, arith}
 use Rattle.std.proofs.lemmas.List.{length_push}
 use Rattle.dns_rdata.specs.Record.{Record}
 use Rattle.zone_tree.specs.Version.{Version}
@@ -8,12 +8,12 @@ use Rattle.dns_engine.specs.Held.{IsLatest}
 use Rattle.dns_engine.specs.Replayed.{IsReplay}
 use Rattle.update_batches.specs.Engine.{IsLast, AreMade}
 use Rattle.update_batches.proofs.BatchLemmas.{last_once}
-use Rattle.update_batches.specs.UpdateRequest.{makes}
 use Rattle.zone_server.specs.UpdateResult.{IsJudgedIn}
 use Rattle.zone_server.specs.declared.server_state.BatchStart.{BatchStart}
 use Rattle.zone_server.specs.QueuedUpdate.{IsBegun, MeetsAt}
 use Rattle.update_batches.specs.Replies.{Reply}
-use Rattle.zone_server.specs.Waits.{makes_queued}
+use Rattle.update_batches.specs.Batch.{newest_of}
+use Rattle.zone_server.proofs.JudgedLemmas.{made_latest}
 use Rattle.zone_server.specs.Brought.{Brought}
 use Rattle.zone_server.specs.Met.{BeginsWith, HasBegun, HasMetLast, PublisherState}
 
@@ -37,17 +37,21 @@ has_begun first before after begun replied brought meets =
       room = sym meets.4;
     }
 
--- what updates that wait make, they make as they are asked for
-made_of : (version : Version) (versions : List Version) → AreMade makes_queued version versions → AreMade makes version versions
-made_of version [] made = tt
-made_of version (next ∷ versions) made = ((made.0.0.asked, made.0.1), made_of next versions made.1)
-
--- versions that are made of the last of those that are published are judged in it
+-- versions made one from another, the first of them from the last one published, are judged in it
 pub judged_queued : (first : List Record) (seen : List Version) (last begun : ℕ) (versions : List Version) (version : Version) → HasMetLast first seen last begun → IsLast seen version
-    → AreMade makes_queued version versions → IsJudgedIn first seen versions
+    → AreMade version versions → IsJudgedIn first seen versions
 judged_queued first seen last begun versions version had is made =
     let same : version ≡ had.version = last_once seen version had.version is (had.latest.before, had.latest.ends) in
-    (had.version, had.latest, subst (λ (v : Version). AreMade makes v versions) same (made_of version versions made))
+    (had.version, had.latest, subst (λ (v : Version). AreMade v versions) same made)
+
+-- the newest of versions after the last one published is the latest, and its number is no less
+pub judged_latest : (first : List Record) (seen : List Version) (last begun : ℕ) (versions : List Version) → HasMetLast first seen last begun → (judged : IsJudgedIn first seen versions)
+    → IsLatest first (seen ++ versions) (newest_of judged.0 versions) × (begun ≤ (newest_of judged.0 versions).number)
+judged_latest first seen last begun versions had judged =
+    let latest = made_latest first seen judged.0 versions judged.1 judged.2 in
+    let before = latest_long first seen had.version had.latest in
+    let after = latest_long first (seen ++ versions) (newest_of judged.0 versions) latest in
+    (latest, omega (arith, before, after, length-append seen versions, had.begun_before, had.number))
 
 -- a batch that is begun once more is known
 pub begun_from : (first : List Record) (known middle : List Version) (after : PublisherState) (last : Version) → BeginsWith middle known → HasBegun first middle after last → HasBegun first known after last

@@ -13,7 +13,7 @@ use Rattle.zone_server.specs.declared.right.ServerName as names
 use Rattle.dns_engine.specs.declared.versions.FirstZone.{Ghosts}
 use Rattle.update_batches.proofs.queue.Queue.TheSendSync as queue
 use Rattle.zone_server.specs.contracts.submit.UpdateSender as hand
-use Rattle.zone_server.specs.contracts.submit.QueuedUpdate as waiting
+use Rattle.update_batches.specs.contracts.queued_update.QueuedUpdate as waiting
 use Rattle.zone_server.specs.contracts.server.Server as server
 
 pub server_sync : (a : NamedLft) (T N : RattleType) (g : Ghosts T.Denot) (n : naming.Ghosts N.Denot) (s : names.Ghosts N.Denot) → IsSync (server.the_row a T N n g s)

@@ -19,7 +19,7 @@ use Rattle.zone_server.specs.contracts.pending_replies.PendingReplies as seats
 use Rattle.zone_server.specs.declared.right.ServerName as names
 
 -- what a ticket has, step by step: one search for all of it breaks off
-raw_send : IsSend raw.the_row
+pub raw_send : IsSend raw.the_row
 raw_send = search (array_vec.the_send, crossing.crosses, sendable) depth 60 fits 20000
 
 replies_send : IsSend (seats.the_field).row

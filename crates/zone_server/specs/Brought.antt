@@ -1,7 +1,6 @@
 -- What a reply sender was given for updates that waited (RFC 2136, 3.8).
-use Rattle.std.specs.Prelude.{◌≡◌, ◌≤◌, ℕ, true, List, [], ◌∷◌, ◌++◌, length, Option, None, option_map}
+use Rattle.std.specs.Prelude.{◌≡◌, ◌≤◌, ℕ, true, List, [], ◌∷◌, ◌++◌, length, drop, Option, None, option_map}
 use Rattle.std.specs.declared.net.socket_addr.SocketAddr.{SocketAddr}
-use Rattle.dns_rdata.specs.Numbers.{rcode_number}
 use Rattle.dns_rdata.specs.Record.{Record}
 use Rattle.dns_rdata.specs.declared.numbers.Rcode.{Rcode}
 use Rattle.dns_message.specs.Octets.{fit}
@@ -11,11 +10,16 @@ use Rattle.serve_core.specs.declared.transport.Transport.TheVariants.{Udp}
 use Rattle.serve_core.specs.Heading.{heading_of_update, coded}
 use Rattle.serve_core.specs.Transport.{limit_of}
 use Rattle.update_batches.specs.declared.update_request.UpdateRequest.{UpdateRequest}
+use Rattle.update_batches.specs.declared.verdict.Verdict.{Verdict}
+use Rattle.update_batches.specs.Done.{first_verdict}
+use Rattle.zone_server.specs.declared.outgoing.Outgoing.{Outgoing}
+use Rattle.zone_server.specs.declared.outgoing.Outgoing.TheVariants.{Wake, Send}
+use Rattle.zone_server.specs.declared.update_result.QueuedResult.{QueuedResult}
 use Rattle.requests.specs.Served.{Learned}
 use Rattle.zone_server.specs.Replied.{IsReplied}
-use Rattle.zone_server.specs.declared.submit.QueuedUpdate.{QueuedUpdate}
-use Rattle.zone_server.specs.declared.submit.ReplyTo.{ReplyTo}
-use Rattle.zone_server.specs.declared.submit.ReplyTo.TheVariants.{Connection, Datagram}
+use Rattle.update_batches.specs.declared.queued_update.QueuedUpdate.{QueuedUpdate}
+use Rattle.update_batches.specs.declared.queued_update.ReplyTo.{ReplyTo}
+use Rattle.update_batches.specs.declared.queued_update.ReplyTo.TheVariants.{Connection, Datagram}
 
 -- the list after these were appended, if it is kept
 abbrev pub brought_after : {T : Type 0} → Option (List T) → List T → Option (List T)
@@ -32,17 +36,31 @@ IsReplyTo first seen begun request octets =
     (peer : Peer) (known : Learned Version) → peer.transport ≡ Udp → peer.may_update ≡ true → length known.published ≤ begun
     → IsReplied first peer known (record { published = seen; buried = [] }) request (octets ∷ [])
 
--- octets are the message with the code of a number for an update (RFC 2136, 3.8), and the reply to it
-pub record IsTold (first : List Record) (seen : List Version) (begun : ℕ) (asked : UpdateRequest) (number : ℕ) (octets : List ℕ) : Type 0 where
-  pub code : Rcode
-  pub numbered : rcode_number code ≡ number
-  pub spelt : octets ≡ fit (coded (heading_of_update asked.update) code) (limit_of Udp None)
-  pub reply : IsReplyTo first seen begun asked.octets.items octets
+-- the message with a code for an update, by datagram (RFC 2136, 3.8)
+abbrev pub coded_reply : UpdateRequest → Rcode → List ℕ
+coded_reply request code = fit (coded (heading_of_update request.update) code) (limit_of Udp None)
 
--- what the reply sender gets for an update that waited: the connection's key for its worker, or the reply, to be sent from the socket that received the update
-abbrev pub IsBroughtBy : ReplyTo → List Record → List Version → ℕ → UpdateRequest → ℕ → Brought → Type 0
-IsBroughtBy (Connection worker key seat) first seen begun asked number brought = brought ≡ key_to worker key
-IsBroughtBy (Datagram worker to) first seen begun asked number brought = (octets : List ℕ) × (brought ≡ sent_by worker to octets) × IsTold first seen begun asked number octets
+-- what the reply sender gets for an update with a code: the connection's key for its worker, or the reply, to be sent from the socket that received the update
+abbrev pub brought_by : ReplyTo → UpdateRequest → Rcode → Brought
+brought_by (Connection worker key ticket) request code = key_to worker key
+brought_by (Datagram worker to) request code = sent_by worker to (coded_reply request code)
 
-abbrev pub IsBrought : List Record → List Version → ℕ → QueuedUpdate → ℕ → Brought → Type 0
-IsBrought first seen begun waiting number brought = IsBroughtBy waiting.way first seen begun waiting.asked number brought
+-- the same for a result
+abbrev pub brought_for : QueuedResult → Brought
+brought_for result = brought_by result.reply_to result.done.asked result.done.code
+
+-- and for what is left to be done for a reply
+abbrev pub brought_from : Outgoing → Brought
+brought_from (Wake worker key at) = key_to worker key
+brought_from (Send worker to done) = sent_by worker to (coded_reply done.asked done.code)
+
+-- the same for a batch, each update of it with its verdict, SERVFAIL where there are too few
+abbrev pub all_brought : List Verdict → List QueuedUpdate → List Brought
+all_brought verdicts [] = []
+all_brought verdicts (one ∷ batch) = brought_by one.reply_to one.request (first_verdict verdicts).code ∷ all_brought (drop 1 verdicts) batch
+
+-- the message with the code of its verdict is the reply by datagram to each update of a batch
+abbrev pub AreReplies : List Record → List Version → ℕ → List Verdict → List QueuedUpdate → Type 0
+AreReplies first seen begun verdicts [] = Unit {0}
+AreReplies first seen begun verdicts (one ∷ batch) =
+    IsReplyTo first seen begun one.request.octets.items (coded_reply one.request (first_verdict verdicts).code) × AreReplies first seen begun (drop 1 verdicts) batch

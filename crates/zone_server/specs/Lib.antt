@@ -10,4 +10,3 @@ pub mod Right
 pub mod Signed
 pub mod UpdateResult
 pub mod Updated
-pub mod Waits

@@ -1,6 +1,5 @@
 -- The results of queued updates, which are judged and made to survive a restart (RFC 2136, 3 and 3.5).
-use Rattle.std.specs.Prelude.{◌≡◌, ◌≢◌, ◌≤◌, ◌⊎◌, ℕ, Bool, List, [], ◌∷◌, Option, None, Some, unwrap_or}
-use Rattle.dns_rdata.specs.Numbers.{rcode_number}
+use Rattle.std.specs.Prelude.{◌≡◌, ◌≢◌, ◌≤◌, ◌⊎◌, ℕ, Bool, List, [], ◌∷◌, Option, None, Some, unwrap_or, drop}
 use Rattle.dns_rdata.specs.Record.{Record}
 use Rattle.dns_rdata.specs.declared.numbers.Rcode.{Rcode}
 use Rattle.dns_rdata.specs.declared.numbers.Rcode.TheVariants.{NoError, ServFail}
@@ -10,14 +9,16 @@ use Rattle.update_core.specs.Verdict.{verdict}
 use Rattle.update_core.specs.Act.{act}
 use Rattle.update_core.specs.Applied.{code_of}
 use Rattle.update_batches.specs.declared.verdict.Verdict.{Verdict}
+use Rattle.update_batches.specs.declared.queued_update.QueuedUpdate.{QueuedUpdate}
+use Rattle.update_batches.specs.Done.{first_verdict}
+use Rattle.zone_server.specs.declared.update_result.QueuedResult.{QueuedResult}
 use Rattle.update_batches.specs.Engine.{AreMade}
 use Rattle.dns_engine.specs.Chain.{IsPublished}
 use Rattle.dns_engine.specs.Held.{IsLatest}
 use Rattle.dns_engine.specs.Replayed.{IsReplay}
 use Rattle.update_batches.specs.declared.update_request.UpdateRequest.{UpdateRequest}
-use Rattle.update_batches.specs.UpdateRequest.{makes}
 use Rattle.zone_server.specs.declared.update_result.UpdateResult.{UpdateResult}
-use Rattle.zone_server.specs.declared.update_result.Serials.{Serials}
+use Rattle.update_batches.specs.declared.verdict.Serials.{Serials}
 use Rattle.zone_server.specs.declared.update_result.Poll.{Poll}
 use Rattle.zone_server.specs.declared.update_result.Poll.TheVariants.{Unknown as IsUnknown, Pending as IsPending, Ready as IsReady}
 use Rattle.zone_server.specs.declared.pending_replies.Ticket.{Ticket}
@@ -67,25 +68,24 @@ IsFetched first published (IsReady done) = IsDone first published done
 
 -- each version is made from the one before it, the first from the last one published (RFC 2136, 3)
 abbrev pub IsJudgedIn : List Record → List Version → List Version → Type 0
-IsJudgedIn first published versions = (last : Version) × IsLatest first published last × AreMade makes last versions
-
--- the serials of a verdict, before an update and after it
-abbrev pub serials_of : Option (ℕ × ℕ) → Option Serials
-serials_of None = None
-serials_of (Some told) = Some (record { before = record { 0 = told.0 }; after = record { 0 = told.1 } })
+IsJudgedIn first published versions = (last : Version) × IsLatest first published last × AreMade last versions
 
 -- an update gets this code and these serials in a version whose number is at least this one
 abbrev pub IsDoneBy : List Record → List Version → UpdateRequest → ℕ → Rcode → Option Serials → Type 0
 IsDoneBy first published asked number code serials =
     IsDone first published (record { asked = asked; least = number; code = code; serials = serials })
 
--- an update gets the code with the number of its verdict, and the verdict's serials
-abbrev pub IsGiven : List Record → List Version → ℕ → UpdateRequest → Verdict → Type 0
-IsGiven first published number one verdict = (is : Rcode) × (rcode_number is ≡ verdict.code) × IsDoneBy first published one number is (serials_of verdict.serials)
+-- the result of a queued update with a verdict, judged in a version whose number is at least this one, with the destination of its reply
+abbrev pub queued_result : ℕ → QueuedUpdate → Verdict → QueuedResult
+queued_result number one verdict =
+    record { done = record { asked = one.request; least = number; code = verdict.code; serials = verdict.serials }; reply_to = one.reply_to }
 
--- the same for each update and its verdict
-abbrev pub AreDone : List Record → List Version → ℕ → List UpdateRequest → List Verdict → Type 0
-AreDone first published number [] [] = Unit {0}
-AreDone first published number [] (verdict ∷ verdicts) = ⊥
-AreDone first published number (one ∷ asked) [] = ⊥
-AreDone first published number (one ∷ asked) (verdict ∷ verdicts) = IsGiven first published number one verdict × AreDone first published number asked verdicts
+-- the results of a batch, each update of it with its verdict, SERVFAIL where there are too few
+abbrev pub queued_results : ℕ → List Verdict → List QueuedUpdate → List QueuedResult
+queued_results number verdicts [] = []
+queued_results number verdicts (one ∷ batch) = queued_result number one (first_verdict verdicts) ∷ queued_results number (drop 1 verdicts) batch
+
+-- these results hold for the versions known to be published
+abbrev pub AreResults : List Record → List Version → List QueuedResult → Type 0
+AreResults first published [] = Unit {0}
+AreResults first published (result ∷ results) = IsDone first published result.done × AreResults first published results

@@ -25,7 +25,7 @@ use Rattle.serve_core.specs.Heading.{header_alone, heading_of_update, heading_of
 use Rattle.serve_core.specs.Transport.{limit_of}
 use Rattle.zone_server.specs.Known.{HasLoaded, HasMet, IsNoOlder}
 use Rattle.zone_server.specs.declared.answer.UpdateOutcome.{UpdateOutcome}
-use Rattle.zone_server.specs.declared.update_result.Serials.{Serials}
+use Rattle.update_batches.specs.declared.verdict.Serials.{Serials}
 
 -- the code that an engine gives an update, and the serials of its last version before and after the update. The version before is the first zone with updates replayed, and the
 -- last of the versions that the engine had published, of which a reader had seen a prefix. After the update the reader has seen everything that the engine has published (own)

@@ -13,7 +13,7 @@ ghost use Rattle.update_core.specs.Verdict.{verdict};
 
 use crate::right::ServerName;
 use crate::server::Server;
-use crate::update_result::{Serials, UpdateResult};
+use crate::update_result::UpdateResult;
 use dns_engine::{
     FirstZone, SharedVersion, VersionCell, VersionChain, VersionOwner, VersionReader,
 };
@@ -23,6 +23,7 @@ use serve_core::{Heading, Peer, is_permitted, respond_by, respond_to_peer, write
 use snapshot_cell::{Naming, Spent};
 use std::alloc::Global;
 use std::sync::Wait;
+use update_batches::Serials;
 use update_core::check;
 use wire_names::NameWriter;
 use zone_tree::Version;

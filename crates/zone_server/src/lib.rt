@@ -7,15 +7,15 @@
 //! [`ServerState`], which keeps its [`UpdateResult`] until it is fetched. The result is about versions that are published: a reader that fetches it and meets what is published
 //! has seen the version that the update was judged in, and the one that it makes.
 //!
-//! A [`ServerPublisher`] publishes for the update thread. It begins a batch in the version published last ([`ServerState::begin_batch`]), publishes what the batch makes
-//! ([`ServerState::publish_batch`]), puts each result at its ticket and has a [`ReplySender`] wake the worker, or replies by datagram. It holds the lock only briefly each
-//! time, and never while updates are judged or written to the disk.
+//! A [`ServerPublisher`] publishes for the update thread. It begins a batch in the version published last ([`ServerState::begin_batch`]), and finishes it under one lock: it publishes
+//! what the batch makes ([`ServerState::publish_batch`]) and puts each result at its ticket ([`ServerState::put_results`]). Then it has a [`ReplySender`] wake the workers, or
+//! replies by datagram. It holds the lock only briefly, twice a batch, and never while updates are judged or written to the disk.
 #![tactic(auto)]
 
 mod answer;
-mod codes;
 mod datagram_handler;
 mod notifying;
+mod outgoing;
 mod pending_replies;
 mod reply_sender;
 mod right;
@@ -31,15 +31,15 @@ mod update_result;
 pub use answer::{Now, Served, UpdateOutcome, answer_kept, answer_now, serve_one};
 pub use datagram_handler::DatagramHandler;
 pub use notifying::{NextTurn, Notifying};
+pub use outgoing::{AtTicket, Outgoing};
 pub use reply_sender::ReplySender;
 pub use right::{PublishRight, ServerLedgers, ServerName};
-pub use server::{AtTicket, Server};
+pub use server::Server;
 pub use server_publisher::ServerPublisher;
 pub use server_state::{BatchStart, ServerState};
 pub use service_log::{Event, JobEnd, Losses, NoLog, ServiceLog, Wanted};
-pub use submit::{
-    QueuedUpdate, ReplyTo, Submitted, UpdateSender, submit_datagram, submit_stream, write_done,
-};
+pub use submit::{Submitted, UpdateSender, submit_datagram, submit_stream, write_done};
 pub use telling::{tell_refused, tell_signed, tell_update};
 pub use transfer::write_transfer;
-pub use update_result::{Poll, Serials, UpdateResult, serials_of};
+pub use update_batches::{QueuedUpdate, ReplyTo, Serials};
+pub use update_result::{Poll, QueuedResult, UpdateResult};

@@ -1,11 +1,12 @@
 //! The server: a cell of versions, and its engine behind a lock.
-ghost use Rattle.std.specs.Prelude.{◌≡◌, ◌⊎◌, ◌↔◌, ◌+◌, ◌<◌, ◌≤◌, ◌++◌, ℕ, IfOk, IfErr, length};
+ghost use Rattle.std.specs.Prelude.{◌≡◌, ◌⊎◌, ◌↔◌, ◌+◌, ◌<◌, ◌≤◌, ◌++◌, ℕ, [], IfOk, IfErr, length, map, vec_len, vec_capacity};
 ghost use Rattle.cell_core.specs.Words.{notes};
 ghost use Rattle.zone_tree.specs.Version.{Version, zone_serial};
 ghost use Rattle.dns_engine.specs.Replayed.{IsReplay};
 ghost use Rattle.requests.specs.Served.{BeginsWith, Grows};
-ghost use Rattle.update_batches.specs.Batch.{versions_of};
-ghost use Rattle.zone_server.specs.UpdateResult.{IsDone, IsFetched, IsJudgedIn};
+ghost use Rattle.update_batches.specs.Batch.{versions_in};
+ghost use Rattle.zone_server.specs.Brought.{brought_for, brought_from};
+ghost use Rattle.zone_server.specs.UpdateResult.{AreResults, IsFetched, IsJudgedIn};
 ghost use Rattle.zone_server.specs.Right.{AreNamed};
 ghost use Rattle.zone_server.specs.Known.{learned_by, HasMet, MeetsAndAsks};
 ghost use Rattle.zone_server.specs.QueuedUpdate.{MeetsAt, IsBegun};
@@ -15,9 +16,10 @@ ghost use Rattle.dns_engine.specs.Held.{IsLatest};
 ghost use Rattle.dns_engine.specs.declared.fault.EngineFault.{EngineFault as Fault};
 ghost use Rattle.transfer_core.specs.declared.kept.TheConstants.{KEPT};
 
+use crate::outgoing::Outgoing;
 use crate::right::{PublishRight, ServerLedgers, ServerName};
 use crate::server_state::{BatchStart, ServerState};
-use crate::update_result::{Poll, Serials, UpdateResult};
+use crate::update_result::{Poll, QueuedResult};
 use dns_engine::{
     Engine, FirstZone, NoEngine, SharedVersion, ToldChain, VersionCell, VersionPublisher,
     VersionReader,
@@ -26,7 +28,7 @@ use dns_message::Update;
 use dns_rdata::{Rcode, Serial};
 use std::alloc::Global;
 use std::sync::{Mutex, Wait};
-use update_batches::Batch;
+use update_batches::{Serials, VersionUpdate};
 
 /// A cell of versions, with the engine that publishes in it behind a lock, and the results of updates that wait for their replies. Queries take no lock.
 #[derive(Drop)]
@@ -34,10 +36,6 @@ pub struct Server<'a, Z: FirstZone, N: ServerName> {
     cell: &'a VersionCell<Z, N>,
     desk: Mutex<ServerState<'a, Z, N>>,
 }
-
-/// A receipt that a result was put at a ticket. Only [`Server::tell`] gives one, so that a function that takes one may wake the worker that is to fetch the result.
-#[derive(Drop)]
-pub struct AtTicket(());
 
 /// The serial of an engine's last version, after the reader has met everything published.
 fn meet_last<Z: FirstZone, N: ServerName>(
@@ -209,27 +207,6 @@ impl<'a, Z: FirstZone, N: ServerName> Server<'a, Z, N> {
         desk.number()
     }
 
-    /// Puts a result at a ticket, if its reply is pending, under the lock, for the holder of the right to publish. The result is about versions that its reader has seen, which
-    /// has seen everything published. It gives a receipt of that.
-    pub fn tell<R: Wait>(
-        &self,
-        rt: &R,
-        reader: &mut VersionReader<N>,
-        right: &mut PublishRight<N>,
-        seat: usize,
-        done: UpdateResult,
-    ) -> AtTicket
-        requires counted { right.old.published.amount ≡ length reader.old.seen }
-        requires done { IsDone Z.zone reader.old.seen done }
-        ensures same { reader.new ≡ reader.old }
-        ensures right { (right.new.published.amount ≡ right.old.published.amount) × (right.new.reserved.amount ≡ right.old.reserved.amount) }
-    {
-        let mut desk = self.desk.lock(rt);
-        desk.audit(reader, right);
-        desk.tell(seat, done);
-        AtTicket(())
-    }
-
     /// Begins a batch of updates, under the lock, for the holder of the right to publish, whose reader has seen everything published. It gives the version in which they are to
     /// be judged, and how many more versions are reserved to be published after it. The lock is free while the updates are judged and written to a disk.
     pub fn begin_batch<R: Wait>(
@@ -247,25 +224,35 @@ impl<'a, Z: FirstZone, N: ServerName> Server<'a, Z, N> {
         self.desk.lock(rt).begin_batch(rt, reader, right)
     }
 
-    /// Publishes the versions of a batch, which must be reserved, under the lock, for the holder of the right to publish, whose reader then sees them. It gives the number of
-    /// the version published last.
-    pub fn publish<R: Wait>(
+    /// Finishes a batch, under the lock, for the holder of the right to publish, whose reader then sees its versions: publishes them, which must be reserved, and puts the results at
+    /// their tickets, if their replies are pending. Results of updates that came by datagram, and receipts for the others, are added to `outgoing`, which has room for them. It gives
+    /// the number of the version published last.
+    pub fn finish_batch<R: Wait>(
         &self,
         rt: &R,
         reader: &mut VersionReader<N>,
         right: &mut PublishRight<N>,
-        group: Batch<SharedVersion>,
+        updates: Vec<VersionUpdate>,
+        results: &mut Vec<QueuedResult>,
+        outgoing: &mut Vec<Outgoing>,
     ) -> u64
         requires counted { right.old.published.amount ≡ length reader.old.seen }
-        requires judged { IsJudgedIn Z.zone reader.old.seen (versions_of group) }
-        requires room { length (versions_of group) ≤ right.old.reserved.amount }
+        requires judged { IsJudgedIn Z.zone reader.old.seen (versions_in updates.items) }
+        requires room { length updates.items ≤ right.old.reserved.amount }
+        requires done { AreResults Z.zone (reader.old.seen ++ versions_in updates.items) results.old.items }
+        requires outgoing_room { vec_len outgoing.old + vec_len results.old ≤ vec_capacity outgoing.old }
         ensures met { MeetsAt Z.zone reader.old reader.new result }
-        ensures published { reader.new.seen ≡ reader.old.seen ++ versions_of group }
+        ensures published { reader.new.seen ≡ reader.old.seen ++ versions_in updates.items }
         ensures counted { right.new.published.amount ≡ length reader.new.seen }
-        ensures reserved { right.new.reserved.amount + length (versions_of group) ≡ right.old.reserved.amount }
+        ensures reserved { right.new.reserved.amount + length updates.items ≡ right.old.reserved.amount }
+        ensures outgoing { map brought_from outgoing.new.items ≡ map brought_from outgoing.old.items ++ map brought_for results.old.items }
+        ensures outgoing_room { vec_capacity outgoing.new ≡ vec_capacity outgoing.old }
+        ensures none { results.new.items ≡ [] }
+        ensures results_room { vec_capacity results.new ≡ vec_capacity results.old }
     {
         let mut desk = self.desk.lock(rt);
-        desk.publish_batch(reader, right, group);
+        desk.publish_batch(reader, right, updates);
+        desk.put_results(results, outgoing);
         desk.number()
     }
 

@@ -1,5 +1,5 @@
 //! The data behind a server's lock: the engine of its cell, and the results of queued updates until they are fetched (own).
-ghost use Rattle.std.specs.Prelude.{◌≡◌, ◌+◌, ◌<◌, ◌≤◌, ◌++◌, [], ◌∷◌, ℕ, List, length};
+ghost use Rattle.std.specs.Prelude.{◌≡◌, ◌+◌, ◌<◌, ◌≤◌, ◌++◌, [], ◌∷◌, length, map, vec_len, vec_capacity};
 ghost use Rattle.zone_tree.specs.Version.{Version, zone_serial};
 ghost use Rattle.counted_handles.specs.Ruled.{Begins};
 ghost use Rattle.weak_history.specs.Owned.{IsChain};
@@ -7,17 +7,18 @@ ghost use Rattle.dns_engine.specs.Held.{IsLatest, state_for};
 ghost use Rattle.dns_engine.specs.Replayed.{IsReplay};
 ghost use Rattle.dns_engine.specs.Told.{IsTold};
 ghost use Rattle.dns_engine.specs.Entries.{entries_of};
-ghost use Rattle.update_batches.specs.declared.verdict.Verdict.{Verdict};
-ghost use Rattle.update_batches.specs.Batch.{versions_of, Judged as AreJudged};
+ghost use Rattle.update_batches.specs.Batch.{versions_in};
+ghost use Rattle.zone_server.specs.Brought.{brought_for, brought_from};
 ghost use Rattle.update_batches.specs.Engine.{IsLast, AreMade};
 ghost use Rattle.update_batches.specs.declared.update_request.UpdateRequest.{UpdateRequest as Request};
-ghost use Rattle.update_batches.specs.UpdateRequest.{passes, tells, makes, octets_of, serial_in};
-ghost use Rattle.zone_server.specs.UpdateResult.{IsDone, IsFetched, IsJudgedIn, AreDone};
+ghost use Rattle.update_batches.specs.UpdateRequest.{makes};
+ghost use Rattle.zone_server.specs.UpdateResult.{IsDone, IsFetched, IsJudgedIn, AreResults};
 ghost use Rattle.zone_server.specs.Right.{AreNamed};
 
+use crate::outgoing::{AtTicket, Outgoing};
 use crate::pending_replies::PendingReplies;
 use crate::right::{PublishRight, Published, Reserved, ServerLedgers, ServerName};
-use crate::update_result::{Poll, UpdateResult};
+use crate::update_result::{Poll, QueuedResult};
 use dns_engine::{
     Engine, FirstZone, Judged, SharedVersion, ToldChain, VersionCell, VersionReader, judge,
 };
@@ -27,7 +28,7 @@ use std::alloc::Global;
 use std::marker::Model;
 use std::sync::Wait;
 use std::sync::ledger::Book;
-use update_batches::Batch;
+use update_batches::{ReplyTo, VersionUpdate};
 
 /// The engine of a cell, and the results of updates that wait for their replies. Contracts see the engine, and know that each result is about versions that it has published.
 /// Only the holder of the right to publish can publish, so it knows what is published even while it does not hold the lock.
@@ -263,12 +264,42 @@ impl<'a, Z: FirstZone, N: ServerName> ServerState<'a, Z, N> {
         self.replies.close(seat);
     }
 
-    /// Puts a result at a ticket, if its reply is pending.
-    pub fn tell(&mut self, seat: usize, done: UpdateResult)
-        requires { IsDone Z.zone self.old.held.published done }
-        ensures { self.new ≡ self.old }
+    /// Puts the results at their tickets, if their replies are pending. Results of updates that came by datagram, and receipts for the others, are added to `outgoing`, which has room
+    /// for them.
+    pub fn put_results(&mut self, results: &mut Vec<QueuedResult>, outgoing: &mut Vec<Outgoing>)
+        requires done { AreResults Z.zone self.old.held.published results.old.items }
+        requires room { vec_len outgoing.old + vec_len results.old ≤ vec_capacity outgoing.old }
+        ensures same { self.new ≡ self.old }
+        ensures outgoing { map brought_from outgoing.new.items ≡ map brought_from outgoing.old.items ++ map brought_for results.old.items }
+        ensures room { vec_capacity outgoing.new ≡ vec_capacity outgoing.old }
+        ensures none { results.new.items ≡ [] }
+        ensures results_room { vec_capacity results.new ≡ vec_capacity results.old }
     {
-        self.replies.tell(seat, done);
+        for one in results.drain(..) {
+            let left = self.put_result(one);
+            outgoing.push_reserved(left);
+        }
+    }
+
+    /// Puts a result at its ticket, if it came on a connection and its reply is pending.
+    fn put_result(&mut self, one: QueuedResult) -> Outgoing
+        requires { IsDone Z.zone self.old.held.published one.done }
+        ensures same { self.new ≡ self.old }
+        ensures brought { brought_from result ≡ brought_for one }
+    {
+        let QueuedResult { done, reply_to } = one;
+        match reply_to {
+            ReplyTo::Connection {
+                worker,
+                key,
+                ticket,
+            } => {
+                self.replies.tell(ticket, done);
+                let at = AtTicket(());
+                Outgoing::Wake { worker, key, at }
+            }
+            ReplyTo::Datagram { worker, to } => Outgoing::Send { worker, to, done },
+        }
     }
 
     /// Lets the reader of the holder of the right to publish see everything published, whose number of versions the right knows. It does not block.
@@ -336,33 +367,30 @@ impl<'a, Z: FirstZone, N: ServerName> ServerState<'a, Z, N> {
         &mut self,
         reader: &mut VersionReader<N>,
         right: &mut PublishRight<N>,
-        group: Batch<SharedVersion>,
+        updates: Vec<VersionUpdate>,
     )
         requires counted { right.old.published.amount ≡ length reader.old.seen }
-        requires judged { IsJudgedIn Z.zone reader.old.seen (versions_of group) }
-        requires room { length (versions_of group) ≤ right.old.reserved.amount }
-        ensures met { reader.new ≡ record { cell = reader.old.cell; seen = reader.old.seen ++ versions_of group; left = reader.old.left; gone = reader.old.gone } }
-        ensures published { self.new.held.published ≡ reader.old.seen ++ versions_of group }
-        ensures counted { right.new.published.amount ≡ length (reader.old.seen ++ versions_of group) }
-        ensures reserved { right.new.reserved.amount + length (versions_of group) ≡ right.old.reserved.amount }
-        // Each update of the batch gets its code and its own serials in what is published then.
-        ensures done { (asked : List Request) (verdicts : List Verdict) (updates : List (List ℕ)) (last : Version) → IsLatest Z.zone reader.old.seen last
-            → AreJudged passes tells makes octets_of serial_in last asked verdicts (versions_of group) updates → AreDone Z.zone reader.new.seen last.number asked verdicts }
+        requires judged { IsJudgedIn Z.zone reader.old.seen (versions_in updates.items) }
+        requires room { length updates.items ≤ right.old.reserved.amount }
+        ensures met { reader.new ≡ record { cell = reader.old.cell; seen = reader.old.seen ++ versions_in updates.items; left = reader.old.left; gone = reader.old.gone } }
+        ensures published { self.new.held.published ≡ reader.old.seen ++ versions_in updates.items }
+        ensures counted { right.new.published.amount ≡ length (reader.old.seen ++ versions_in updates.items) }
+        ensures reserved { right.new.reserved.amount + length updates.items ≡ right.old.reserved.amount }
     {
         self.audit(reader, right);
-        self.publish_all(right, group.into_versions());
+        self.publish_all(right, updates);
         self.audit(reader, right);
     }
 
     /// Publishes versions in their order. They must be reserved, and some update makes each of them from the one before it.
-    fn publish_all(&mut self, right: &mut PublishRight<N>, versions: Vec<SharedVersion>)
-        requires made { (first : Version) × IsLast self.old.held.published first × AreMade makes first versions.items }
-        requires room { length versions.items ≤ right.old.reserved.amount }
-        ensures published { self.new.held.published ≡ self.old.held.published ++ versions.items }
-        ensures reserved { right.new.reserved.amount + length versions.items ≡ right.old.reserved.amount }
+    fn publish_all(&mut self, right: &mut PublishRight<N>, updates: Vec<VersionUpdate>)
+        requires made { (first : Version) × IsLast self.old.held.published first × AreMade first (versions_in updates.items) }
+        requires room { length updates.items ≤ right.old.reserved.amount }
+        ensures published { self.new.held.published ≡ self.old.held.published ++ versions_in updates.items }
+        ensures reserved { right.new.reserved.amount + length updates.items ≡ right.old.reserved.amount }
     {
-        for version in versions {
-            self.publish(right, version);
+        for update in updates {
+            self.publish(right, update.into_version());
         }
     }
 

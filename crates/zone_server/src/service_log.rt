@@ -1,5 +1,4 @@
 //! The log of a running server: a line for each change of the zone, and one for each worker that ends.
-use crate::update_result::Serials;
 use dns_name::Name;
 use dns_rdata::Rcode;
 use notify::Large;
@@ -7,6 +6,7 @@ use serve_core::Transport;
 use std::fmt::{self, Display, Formatter};
 use std::net::SocketAddr;
 use std::sync::Wait;
+use update_batches::Serials;
 
 /// A log of events.
 pub trait ServiceLog {

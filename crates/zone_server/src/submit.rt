@@ -19,39 +19,8 @@ use serve_core::{Heading, Peer, write_code, write_code_by};
 use std::alloc::Global;
 use std::net::SocketAddr;
 use std::sync::Wait;
-use update_batches::{Queue, UpdateRequest};
+use update_batches::{Queue, QueuedUpdate, ReplyTo, UpdateRequest};
 use wire_names::NameWriter;
-
-/// The destination of the reply to a queued update.
-#[derive(Clone, Copy)]
-pub enum ReplyTo {
-    /// A connection: the result is put at a ticket, and the worker gets the connection's key.
-    Connection {
-        /// The number of the worker.
-        worker: usize,
-        /// The connection's key.
-        key: usize,
-        /// The ticket.
-        ticket: usize,
-    },
-    /// A datagram.
-    Datagram {
-        /// The number of the worker whose socket received the update.
-        worker: usize,
-        /// The address it came from.
-        to: SocketAddr,
-    },
-}
-
-/// A queued update, of a peer that may update.
-#[derive(Drop)]
-pub struct QueuedUpdate {
-    /// The update.
-    pub asked: UpdateRequest,
-    /// The destination of its reply.
-    pub way: ReplyTo,
-    ghost may: { asked.may ≡ true },
-}
 
 /// A worker's access to the update queue.
 #[derive(Clone, Copy)]
@@ -110,16 +79,16 @@ fn is_put<R: Wait>(
     hand: UpdateSender<'_>,
     update: Update,
     request: &[u8],
-    way: ReplyTo,
+    reply_to: ReplyTo,
 ) -> bool
     requires { reads request.now ≡ SaysUpdate update }
 {
-    let Some(asked) = asked_of(alloc, update, request) else {
+    let Some(request) = asked_of(alloc, update, request) else {
         return false;
     };
-    let octets = memory_of(&asked);
+    let octets = memory_of(&request);
     hand.queue
-        .put(rt, QueuedUpdate { asked, way }, octets)
+        .put(rt, QueuedUpdate { request, reply_to }, octets)
         .is_ok()
 }
 

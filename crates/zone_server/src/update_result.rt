@@ -1,31 +1,9 @@
 //! Results of updates that wait for their replies (RFC 2136, 3.8).
 ghost use Rattle.std.specs.Prelude.{◌≡◌};
-ghost use Rattle.zone_server.specs.UpdateResult.{serials_of};
+ghost use Rattle.zone_server.specs.UpdateResult.{queued_result};
 
-use dns_rdata::{Rcode, Serial};
-use update_batches::UpdateRequest;
-
-/// The serials of the zone before and after an update.
-#[derive(Clone, Copy)]
-pub struct Serials {
-    /// The serial of the zone before it.
-    pub before: Serial,
-    /// The serial of the zone after it.
-    pub after: Serial,
-}
-
-/// The serials of a verdict, before and after its update, if it has any.
-pub fn serials_of(told: Option<(u32, u32)>) -> Option<Serials>
-    ensures { result ≡ serials_of told }
-{
-    match told {
-        Some((before, after)) => Some(Serials {
-            before: Serial(before),
-            after: Serial(after),
-        }),
-        None => None,
-    }
-}
+use dns_rdata::Rcode;
+use update_batches::{QueuedUpdate, ReplyTo, Serials, UpdateRequest, Verdict};
 
 /// The result of an update that waited.
 #[derive(Drop)]
@@ -49,4 +27,29 @@ pub enum Poll {
     Pending,
     /// The result. The ticket is now free.
     Ready(UpdateResult),
+}
+
+/// The result of a queued update, with the destination of its reply.
+#[derive(Drop)]
+pub struct QueuedResult {
+    /// The result.
+    pub done: UpdateResult,
+    /// The destination of its reply.
+    pub reply_to: ReplyTo,
+}
+
+impl QueuedResult {
+    /// The result of a queued update with this verdict, judged in a version whose number is at least this one.
+    pub(crate) fn of(update: QueuedUpdate, verdict: Verdict, least: u64) -> QueuedResult
+        ensures { result ≡ queued_result least update verdict }
+    {
+        let QueuedUpdate { request, reply_to } = update;
+        let done = UpdateResult {
+            asked: request,
+            least,
+            code: verdict.code,
+            serials: verdict.serials,
+        };
+        QueuedResult { done, reply_to }
+    }
 }
