@@ -8,7 +8,7 @@ use zone_server::{AtTicket, ReplySender};
 
 /// A datagram that was sent.
 #[derive(Drop)]
-pub(crate) struct Sent {
+pub(crate) struct SentDatagram {
     /// The number of the worker thread whose socket sent it.
     pub worker: usize,
     /// The address that it went to.
@@ -19,27 +19,27 @@ pub(crate) struct Sent {
 
 /// What was sent, as far as there was memory for it.
 #[derive(Drop)]
-pub(crate) struct Bag {
+pub(crate) struct SentReplies {
     alloc: Global,
     /// The keys of the connections that were woken, each with the number of its worker thread.
     pub keys: Vec<(usize, usize)>,
     /// The datagrams.
-    pub sent: Vec<Sent>,
+    pub datagrams: Vec<SentDatagram>,
 }
 
-impl Bag {
-    /// An empty bag.
-    pub fn new(alloc: Global) -> Bag {
-        Bag {
+impl SentReplies {
+    /// Nothing is sent yet.
+    pub fn new(alloc: Global) -> SentReplies {
+        SentReplies {
             alloc,
             keys: Vec::new(alloc),
-            sent: Vec::new(alloc),
+            datagrams: Vec::new(alloc),
         }
     }
 }
 
-impl ReplySender for Bag {
-    ghost brought = { λ bag. None };
+impl ReplySender for SentReplies {
+    ghost brought = { λ sent. None };
 
     fn tell<R: Wait>(&mut self, _rt: &R, worker: usize, key: usize, _told: AtTicket) {
         let _ = self.keys.push((worker, key));
@@ -47,7 +47,7 @@ impl ReplySender for Bag {
 
     fn send(&mut self, worker: usize, to: SocketAddr, octets: &[u8]) {
         if let Ok(octets) = octets.to_vec(self.alloc) {
-            let _ = self.sent.push(Sent { worker, to, octets });
+            let _ = self.datagrams.push(SentDatagram { worker, to, octets });
         }
     }
 }

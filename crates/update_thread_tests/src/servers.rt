@@ -1,4 +1,4 @@
-//! Cells in whose servers batches are judged and reported.
+//! The zone of the tests, and cells in whose servers batches are judged.
 use dns_engine::{FirstZone, Naming, VersionPublisher, VersionReader};
 use dns_name::Name;
 use master_file::read_zone;
@@ -7,7 +7,7 @@ use std::alloc::Global;
 use std::sync::Wait;
 
 /// The zone text of the tests, with serial 7.
-const ZONE: &str = "example. 3600 IN SOA ns.example. host.example. 7 1 1 1 1
+pub(crate) const ZONE: &str = "example. 3600 IN SOA ns.example. host.example. 7 1 1 1 1
 example. 3600 IN NS ns.example.
 ";
 
@@ -24,7 +24,7 @@ pub(crate) fn not_played<Z: FirstZone, N: Naming>(
 }
 
 /// Runs a test. Returns whether it passes; None if memory allocation fails.
-pub(crate) fn goes<R: Wait, T: Play + Drop>(rt: &R, alloc: Global, run: T) -> Option<bool> {
+pub(crate) fn passes<R: Wait, T: Play + Drop>(rt: &R, alloc: Global, run: T) -> Option<bool> {
     let zone = read_zone(alloc, ZONE.as_bytes(), &Name::root()).ok()?;
     is_played(rt, alloc, zone, &run)
 }
