@@ -1,6 +1,6 @@
-//! Acts on a server state, by the clients that hold its tickets and by the thread that reports to them.
-use crate::desks::Table;
-use crate::updates::{is_told, servfail, update};
+//! Acts on a server state, by the workers that hold its tickets and by the update thread.
+use crate::states::TestState;
+use crate::updates::{is_ready, put_servfail};
 use dns_engine::{FirstZone, VersionCell, VersionPublisher, VersionReader};
 use dns_rdata::Rcode;
 use played_zones::{Play, Played};
@@ -13,40 +13,37 @@ use zone_server::{Poll, ServerLedgers, ServerName, ServerState};
 pub(crate) enum Act {
     /// Opens a ticket; it is this one.
     Open(usize),
-    /// Reports an update at a ticket; the octet tells the update from others.
-    Tell(usize, u8),
+    /// Puts the result of an update at a ticket; the octet tells the update from others.
+    Put(usize, u8),
     /// Polls a ticket: the result is pending.
-    Waits(usize),
+    Pending(usize),
     /// Polls a ticket: the result of this update is ready.
-    Fetch(usize, u8),
+    Ready(usize, u8),
     /// Polls a ticket: it is not in use.
-    Nothing(usize),
+    Unknown(usize),
     /// Abandons a ticket: its client no longer waits.
     Leave(usize),
-    /// Frees a ticket at which nothing will be reported.
+    /// Frees a ticket at which no result will be put.
     Close(usize),
 }
 
 /// Whether an act on a server state has the expected result. None if memory allocation fails.
-fn goes_as_told<Z: FirstZone, N: ServerName>(
+fn is_as_expected<Z: FirstZone, N: ServerName>(
     alloc: Global,
-    desk: &mut ServerState<'_, Z, N>,
+    state: &mut ServerState<'_, Z, N>,
     act: Act,
 ) -> Option<bool> {
     match act {
-        Act::Open(seat) => return Some(desk.open()? == seat),
-        Act::Tell(seat, octet) => {
-            let done = servfail(desk, update(alloc, octet, true)?);
-            desk.tell(seat, done);
+        Act::Open(ticket) => return Some(state.open()? == ticket),
+        Act::Put(ticket, octet) => return put_servfail(alloc, state, octet, ticket),
+        Act::Pending(ticket) => return Some(matches!(state.fetch(ticket), Poll::Pending)),
+        Act::Ready(ticket, octet) => {
+            let expected = (octet, Rcode::ServFail, 0, None);
+            return Some(is_ready(&state.fetch(ticket), &expected));
         }
-        Act::Waits(seat) => return Some(matches!(desk.fetch(seat), Poll::Pending)),
-        Act::Fetch(seat, octet) => {
-            let told = (octet, Rcode::ServFail, 0, None);
-            return Some(is_told(&desk.fetch(seat), &told));
-        }
-        Act::Nothing(seat) => return Some(matches!(desk.fetch(seat), Poll::Unknown)),
-        Act::Leave(seat) => desk.leave(seat),
-        Act::Close(seat) => desk.close(seat),
+        Act::Unknown(ticket) => return Some(matches!(state.fetch(ticket), Poll::Unknown)),
+        Act::Leave(ticket) => state.leave(ticket),
+        Act::Close(ticket) => state.close(ticket),
     }
     Some(true)
 }
@@ -65,10 +62,10 @@ impl Play for Acts {
         readers: Vec<VersionReader<N>>,
         ledgers: ServerLedgers,
     ) -> Played<Z, N> {
-        match Table::begin(alloc, cell, publisher, readers, ledgers) {
-            Ok((mut table, _right, reader)) => {
-                let told = self.run(alloc, &mut table.desk);
-                table.end(reader, told)
+        match TestState::begin(alloc, cell, publisher, readers, ledgers) {
+            Ok((mut test, _right, reader)) => {
+                let told = self.run(alloc, &mut test.state);
+                test.end(reader, told)
             }
             Err(played) => played,
         }
@@ -80,14 +77,14 @@ impl Acts {
     fn run<Z: FirstZone, N: ServerName>(
         &self,
         alloc: Global,
-        desk: &mut ServerState<'_, Z, N>,
+        state: &mut ServerState<'_, Z, N>,
     ) -> Option<bool> {
         for act in self.0 {
-            if !goes_as_told(alloc, desk, *act)? {
+            if !is_as_expected(alloc, state, *act)? {
                 return Some(false);
             }
         }
         // Nothing is published by the acts.
-        Some(desk.number() == 0 && desk.serial().0 == 7)
+        Some(state.number() == 0 && state.serial().0 == 7)
     }
 }

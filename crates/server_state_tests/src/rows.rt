@@ -1,6 +1,6 @@
 //! Table of acts on tickets (RFC 2136, 3.8; own).
 use crate::acts::{Act, Acts};
-use crate::desks::goes;
+use crate::states::passes;
 use std::alloc::Global;
 use std::sync::Wait;
 use std::test::Fail;
@@ -11,57 +11,57 @@ type Row = (&'static str, &'static [Act]);
 /// The first row whose acts do not have the expected results. None if all have.
 fn wrong_row<R: Wait>(rt: &R, alloc: Global, rows: &[Row]) -> Option<&'static str> {
     for (what, acts) in rows {
-        if goes(rt, alloc, Acts(acts)) != Some(true) {
+        if passes(rt, alloc, Acts(acts)) != Some(true) {
             return Some(what);
         }
     }
     None
 }
 
-/// Tickets at which a result is reported.
-const TOLD: &[Row] = &[
+/// Tickets at which a result is put.
+const PUT: &[Row] = &[
     (
-        "a seat whose update is told is free once that is fetched",
+        "a ticket is free once its result is fetched",
         &[
             Act::Open(0),
-            Act::Waits(0),
-            Act::Waits(0),
-            Act::Tell(0, 1),
-            Act::Fetch(0, 1),
-            Act::Nothing(0),
+            Act::Pending(0),
+            Act::Pending(0),
+            Act::Put(0, 1),
+            Act::Ready(0, 1),
+            Act::Unknown(0),
             Act::Open(0),
-            Act::Waits(0),
+            Act::Pending(0),
         ],
     ),
     (
-        "each is told at a seat of its own, in any order",
+        "each update has a ticket of its own, in any order",
         &[
             Act::Open(0),
             Act::Open(1),
             Act::Open(2),
-            Act::Tell(2, 3),
-            Act::Tell(0, 1),
-            Act::Waits(1),
-            Act::Fetch(2, 3),
-            Act::Fetch(0, 1),
-            Act::Tell(1, 2),
-            Act::Fetch(1, 2),
+            Act::Put(2, 3),
+            Act::Put(0, 1),
+            Act::Pending(1),
+            Act::Ready(2, 3),
+            Act::Ready(0, 1),
+            Act::Put(1, 2),
+            Act::Ready(1, 2),
         ],
     ),
     (
-        "what is told stays until it is fetched",
+        "a result stays until it is fetched",
         &[
             Act::Open(0),
-            Act::Tell(0, 1),
-            Act::Tell(0, 2),
+            Act::Put(0, 1),
+            Act::Put(0, 2),
             Act::Close(0),
             Act::Open(1),
-            Act::Fetch(0, 1),
-            Act::Nothing(0),
+            Act::Ready(0, 1),
+            Act::Unknown(0),
         ],
     ),
     (
-        "the seat that is free since last is opened first, else one more",
+        "the ticket that was freed last is opened first, else one more",
         &[
             Act::Open(0),
             Act::Open(1),
@@ -78,82 +78,82 @@ const TOLD: &[Row] = &[
 /// Tickets whose clients no longer wait, and tickets that are closed.
 const LEFT: &[Row] = &[
     (
-        "what is told at a seat that was left goes nowhere, and the seat is free then",
+        "a result at a ticket that was abandoned is dropped, and the ticket is free then",
         &[
             Act::Open(0),
             Act::Leave(0),
-            Act::Nothing(0),
+            Act::Unknown(0),
             Act::Open(1),
-            Act::Tell(0, 1),
-            Act::Nothing(0),
+            Act::Put(0, 1),
+            Act::Unknown(0),
             Act::Open(0),
-            Act::Waits(0),
-            Act::Waits(1),
+            Act::Pending(0),
+            Act::Pending(1),
         ],
     ),
     (
-        "a seat that was left stays so until it is told",
+        "a ticket that was abandoned stays so until its result comes",
         &[
             Act::Open(0),
             Act::Leave(0),
             Act::Leave(0),
             Act::Close(0),
             Act::Open(1),
-            Act::Tell(0, 1),
+            Act::Put(0, 1),
             Act::Open(0),
         ],
     ),
     (
-        "a seat that is left where something is told is free",
+        "a ticket that is abandoned when its result is there is free",
         &[
             Act::Open(0),
-            Act::Tell(0, 1),
+            Act::Put(0, 1),
             Act::Leave(0),
-            Act::Nothing(0),
+            Act::Unknown(0),
             Act::Open(0),
-            Act::Waits(0),
+            Act::Pending(0),
         ],
     ),
     (
-        "a seat that is closed is free, and nothing is told at it",
+        "a ticket that is closed is free, and gets no result",
         &[
             Act::Open(0),
             Act::Close(0),
-            Act::Tell(0, 1),
-            Act::Nothing(0),
+            Act::Put(0, 1),
+            Act::Unknown(0),
             Act::Open(0),
-            Act::Waits(0),
+            Act::Pending(0),
             Act::Open(1),
         ],
     ),
 ];
 
 /// Tickets that are not in use.
-const NOBODY: &[Row] = &[
+const UNUSED: &[Row] = &[
     (
-        "there is no seat",
+        "there is no ticket",
         &[
-            Act::Nothing(0),
-            Act::Tell(0, 1),
+            Act::Unknown(0),
+            Act::Put(0, 1),
             Act::Leave(0),
             Act::Close(0),
-            Act::Nothing(0),
-            Act::Tell(usize::MAX, 1),
+            Act::Unknown(0),
+            Act::Put(usize::MAX, 1),
             Act::Leave(usize::MAX),
             Act::Close(usize::MAX),
-            Act::Nothing(usize::MAX),
+            Act::Unknown(usize::MAX),
             Act::Open(0),
         ],
     ),
     (
-        "a seat that is free is freed once",
+        "a ticket that is free is freed once",
         &[
             Act::Open(0),
             Act::Open(1),
             Act::Close(0),
             Act::Close(0),
             Act::Leave(0),
-            Act::Tell(0, 1),
+            Act::Put(0, 1),
             Act::Open(0),
             Act::Open(2),
         ],
@@ -161,19 +161,19 @@ const NOBODY: &[Row] = &[
 ];
 
 #[test]
-fn what_is_told_is_fetched(rt: HostRuntime) -> Result<(), Fail> {
-    assert_eq!(rt; wrong_row(&rt, rt.alloc(), TOLD), None);
+fn a_result_is_fetched_once(rt: HostRuntime) -> Result<(), Fail> {
+    assert_eq!(rt; wrong_row(&rt, rt.alloc(), PUT), None);
     Ok(())
 }
 
 #[test]
-fn who_waits_no_more_is_told_nothing(rt: HostRuntime) -> Result<(), Fail> {
+fn an_abandoned_ticket_gets_no_result(rt: HostRuntime) -> Result<(), Fail> {
     assert_eq!(rt; wrong_row(&rt, rt.alloc(), LEFT), None);
     Ok(())
 }
 
 #[test]
-fn nobody_waits(rt: HostRuntime) -> Result<(), Fail> {
-    assert_eq!(rt; wrong_row(&rt, rt.alloc(), NOBODY), None);
+fn a_ticket_that_is_not_in_use_gets_no_result(rt: HostRuntime) -> Result<(), Fail> {
+    assert_eq!(rt; wrong_row(&rt, rt.alloc(), UNUSED), None);
     Ok(())
 }

@@ -16,16 +16,16 @@ example. 3600 IN NS ns.example.
 ";
 
 /// A server state of the tests' zone, whose engine keeps as many versions as it may, with the readers that it does not use.
-pub(crate) struct Table<'a, Z: FirstZone, N: ServerName> {
+pub(crate) struct TestState<'a, Z: FirstZone, N: ServerName> {
     /// The server state.
-    pub desk: ServerState<'a, Z, N>,
+    pub state: ServerState<'a, Z, N>,
     readers: Vec<VersionReader<N>>,
 }
 
 /// A server state, the right to publish in it, and one more reader.
-pub(crate) type NewTable<'a, Z, N> = (Table<'a, Z, N>, PublishRight<N>, VersionReader<N>);
+pub(crate) type NewState<'a, Z, N> = (TestState<'a, Z, N>, PublishRight<N>, VersionReader<N>);
 
-impl<'a, Z: FirstZone, N: ServerName> Table<'a, Z, N> {
+impl<'a, Z: FirstZone, N: ServerName> TestState<'a, Z, N> {
     /// Makes the server state of a cell, with the right to publish in it, and one more reader. Where there is no server state, the test's
     /// result is None, with the publisher and the readers.
     pub fn begin(
@@ -34,7 +34,7 @@ impl<'a, Z: FirstZone, N: ServerName> Table<'a, Z, N> {
         publisher: VersionPublisher<Z, N>,
         readers: Vec<VersionReader<N>>,
         ledgers: ServerLedgers,
-    ) -> Result<NewTable<'a, Z, N>, Played<Z, N>>
+    ) -> Result<NewState<'a, Z, N>, Played<Z, N>>
         requires first { publisher.number ≡ 0 }
         requires named { AreNamed N.published N.reserved ledgers }
     {
@@ -48,8 +48,8 @@ impl<'a, Z: FirstZone, N: ServerName> Table<'a, Z, N> {
         };
         match Engine::new(cell, publisher, own, KEPT) {
             Ok(engine) => {
-                let (desk, right) = ServerState::of(alloc, cell, engine, ledgers);
-                Ok((Table { desk, readers }, right, reader))
+                let (state, right) = ServerState::of(alloc, cell, engine, ledgers);
+                Ok((TestState { state, readers }, right, reader))
             }
             Err(refused) => {
                 let _ = readers.push(reader);
@@ -61,8 +61,8 @@ impl<'a, Z: FirstZone, N: ServerName> Table<'a, Z, N> {
 
     /// The result of a test, with the publisher and all readers.
     pub fn end(self, reader: VersionReader<N>, told: Option<bool>) -> Played<Z, N> {
-        let Table { desk, mut readers } = self;
-        let (publisher, own) = desk.into_engine().finish();
+        let TestState { state, mut readers } = self;
+        let (publisher, own) = state.into_engine().finish();
         let _ = readers.push(reader);
         let _ = readers.push(own);
         Played {
@@ -86,12 +86,12 @@ fn not_played<Z: FirstZone, N: ServerName>(
 }
 
 /// Runs a test. Returns whether it passes; None if memory allocation fails.
-pub(crate) fn goes<R: Wait, T: Play + Drop>(rt: &R, alloc: Global, run: T) -> Option<bool> {
-    goes_by(rt, alloc, u64::MAX, run)
+pub(crate) fn passes<R: Wait, T: Play + Drop>(rt: &R, alloc: Global, run: T) -> Option<bool> {
+    passes_by(rt, alloc, u64::MAX, run)
 }
 
 /// The same, with readers that have `grants` grants.
-pub(crate) fn goes_by<R: Wait, T: Play + Drop>(
+pub(crate) fn passes_by<R: Wait, T: Play + Drop>(
     rt: &R,
     alloc: Global,
     grants: u64,
