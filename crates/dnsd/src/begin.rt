@@ -8,7 +8,6 @@ use server_log::Log;
 use std::alloc::{AllocError, Global};
 use std::fs::{File, Files};
 use std::sync::Wait;
-use std::sync::atomic::AtomicBool;
 use store_compaction::{CompactedStore, StoreWriter, TextWriter};
 use store_files::{FileDisk, StoreLock};
 use store_server::{LoggedStore, ServerStore, Started, StoreNotes, resume_store};
@@ -64,7 +63,7 @@ pub struct ServedZone<'a, R: Files<File = File> + Alloc + Clone + Drop, T: TextW
 }
 
 /// Prepares the versions and the store of a server that keeps `keep` older versions. The store's zone texts are written by `texts`. The store logs
-/// its events to `log`, and records in `failing` whether writing its last batch failed. An error is lack of memory.
+/// its events to `log`. An error is lack of memory.
 pub fn prepare_zone<'a, R: Files<File = File> + Wait + AllocGlobal + Copy + Drop, T: TextWriter>(
     rt: &R,
     alloc: Global,
@@ -72,7 +71,6 @@ pub fn prepare_zone<'a, R: Files<File = File> + Wait + AllocGlobal + Copy + Drop
     begun: StartedZone,
     texts: T,
     log: &'a Log,
-    failing: &'a AtomicBool,
 ) -> Result<ServedZone<'a, R, T>, AllocError>
     requires { CanBegin begun }
     ensures begins { IfOk result (λ b. Begins begun b.first b.later.items b.store) }
@@ -101,7 +99,7 @@ pub fn prepare_zone<'a, R: Files<File = File> + Wait + AllocGlobal + Copy + Drop
             Ok(ServedZone {
                 first,
                 later,
-                store: kept_in(rt, dir, journal, writer, texts, log, failing),
+                store: kept_in(rt, dir, journal, writer, texts, log),
                 lock: Some(lock),
             })
         }
@@ -116,14 +114,10 @@ fn kept_in<'a, R: Files<File = File> + AllocGlobal + Copy + Drop, T: TextWriter>
     writer: StoreWriter<FileDisk>,
     texts: T,
     log: &'a Log,
-    failing: &'a AtomicBool,
 ) -> ZoneStore<'a, R, T>
     ensures { IsIn writer result }
 {
     let notes = StoreNotes::new(log);
-    ServerStore::Store(LoggedStore {
-        store: CompactedStore::new(*rt, dir, writer, texts, notes, journal),
-        log,
-        failing,
-    })
+    let store = CompactedStore::new(*rt, dir, writer, texts, notes, journal);
+    ServerStore::Store(LoggedStore::new(store, log))
 }

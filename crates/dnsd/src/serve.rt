@@ -28,11 +28,9 @@ use std::net::{Net, SocketAddr, TcpListener, TcpStream};
 use std::random::RandomSource;
 use std::rt::Env;
 use std::sync::Wait;
-use std::sync::atomic::AtomicBool;
 use std::thread::Threads;
 use std::time::Clock;
 use store_compaction::{TextWriter, ThreadTextWriter};
-use store_server::StoreFaults;
 use zone_tree::{Zone, ZoneRead};
 
 /// The maximum number of updates that may wait for the update thread, whatever their size (own).
@@ -449,8 +447,7 @@ fn serve_with_store<
     requires threads { vec_len duties ≤ 62 }
     requires kept { plan.keep ≤ KEPT }
 {
-    let failing = AtomicBool::new(false);
-    let Ok(beginning) = prepare_zone(rt, alloc, plan.keep, begun, texts, log, &failing) else {
+    let Ok(beginning) = prepare_zone(rt, alloc, plan.keep, begun, texts, log) else {
         return Err(ServeFault::NoMemory);
     };
     let ServedZone {
@@ -459,12 +456,8 @@ fn serve_with_store<
         store,
         lock,
     } = beginning;
-    let handing = UpdateConfig {
-        most,
-        store,
-        faults: StoreFaults::new(log, &failing),
-    };
-    let served = serve_zone::<R, Brand, Log, ZoneStore<'_, R, T>, StoreFaults<'_, Log>>(
+    let handing = UpdateConfig { most, store };
+    let served = serve_zone::<R, Brand, Log, ZoneStore<'_, R, T>>(
         rt, alloc, first, later, duties, plan, handing, log,
     );
     mem::drop(lock);

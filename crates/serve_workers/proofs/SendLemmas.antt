@@ -9,7 +9,7 @@ use Rattle.snapshot_cell.specs.declared.named.Naming as naming
 use Rattle.dns_engine.specs.declared.versions.FirstZone.{Ghosts}
 use Rattle.zone_server.specs.declared.right.ServerName as server_names
 use Rattle.update_batches.proofs.queue.Queue.TheSendSync as queue
-use Rattle.zone_server.specs.contracts.submit.QueuedUpdate as waiting
+use Rattle.update_batches.specs.contracts.queued_update.QueuedUpdate as waiting
 use Rattle.zone_replies.proofs.SendLemmas.{connection_handler_send}
 use Rattle.serve_workers.specs.contracts.updates.Updates as updates
 use Rattle.serve_workers.specs.contracts.threads.ConnectionsTask as connections_seat

@@ -28,7 +28,7 @@ use std::thread::Threads;
 use std::time::Clock;
 use tcp_loop::Plan as ConnectionPlan;
 use thiserror::Error;
-use update_batches::{Faults, Most, UpdateStore, UpdateThread};
+use update_batches::{Most, UpdateStore, UpdateThread};
 use worker_jobs::{MainTask, NotStarted, Secondaries, Shutdown, WorkLimit};
 use zone_server::{
     JobEnd, PublishRight, Server, ServerLedgers, ServerName, ServerPublisher, ServiceLog,
@@ -121,12 +121,12 @@ fn updates_for<R: Wait>(
 }
 
 /// What is needed to judge the updates that the threads of these specs submit. Fails where a socket can't be shared, or an allocation fails.
-fn judging_for<'a, S: UpdateStore<SharedVersion>, F: Drop>(
+fn judging_for<'a, S: UpdateStore>(
     alloc: Global,
-    handing: UpdateConfig<S, F>,
+    handing: UpdateConfig<S>,
     duties: &[ThreadSpec<'_>],
     updates: &'a Updates,
-) -> Result<Judging<'a, S, F>, ServeFault> {
+) -> Result<Judging<'a, S>, ServeFault> {
     match Judging::new(alloc, handing, duties, updates) {
         Ok(judging) => Ok(judging),
         Err(fault) => Err(fault_of(&fault)),
@@ -141,8 +141,7 @@ pub fn serve_zone<
     R: Net + Threads + Wait + Clock + Sync,
     Z: FirstZone + Send + Sync,
     L: ServiceLog + Sync,
-    S: UpdateStore<SharedVersion>,
-    F: Faults<S::Fault> + Drop,
+    S: UpdateStore,
 >(
     rt: &R,
     alloc: Global,
@@ -150,7 +149,7 @@ pub fn serve_zone<
     later: Vec<SharedVersion>,
     duties: Vec<ThreadSpec<'_>>,
     plan: Plan<'_>,
-    handing: UpdateConfig<S, F>,
+    handing: UpdateConfig<S>,
     log: &L,
 ) -> Result<(), ServeFault>
     requires first { IsFirst Z.zone first }
@@ -168,7 +167,7 @@ pub fn serve_zone<
         Err(NewFault::NoMemory) => return Err(ServeFault::NoMemory),
     };
     let ledgers = ServerLedgers::new();
-    serve_with_readers::<R, Z, Brand, L, S, F>(
+    serve_with_readers::<R, Z, Brand, L, S>(
         rt, alloc, parts, later, ledgers, jobs, plan, judging, log,
     )
 }
@@ -180,8 +179,7 @@ fn serve_with_readers<
     Z: FirstZone + Send + Sync,
     N: ServerName + Send + Sync,
     L: ServiceLog + Sync,
-    S: UpdateStore<SharedVersion>,
-    F: Faults<S::Fault> + Drop,
+    S: UpdateStore,
 >(
     rt: &R,
     alloc: Global,
@@ -190,7 +188,7 @@ fn serve_with_readers<
     ledgers: ServerLedgers,
     jobs: Vec<SocketJob<'_, R>>,
     plan: Plan<'_>,
-    judging: Judging<'_, S, F>,
+    judging: Judging<'_, S>,
     log: &L,
 ) -> Result<(), ServeFault>
     requires named { parts.cell ≡ N.cell }
@@ -225,7 +223,7 @@ fn serve_with_readers<
     let (cell, publisher) = (NamedCell::of(cell), NamedPublisher::of(publisher));
     let (own, reader) = (NamedReader::of(own), NamedReader::of(reader));
     let pairs = pairs_of(readers, jobs, pairs);
-    let (served, publisher, readers) = serve_with_engine::<R, Z, N, L, S, F>(
+    let (served, publisher, readers) = serve_with_engine::<R, Z, N, L, S>(
         rt, alloc, &cell, publisher, own, reader, later, ledgers, pairs, back, plan, judging, log,
     );
     end_named(rt, cell, publisher, readers);
@@ -240,8 +238,7 @@ fn serve_with_engine<
     Z: FirstZone + Send + Sync,
     N: ServerName + Send + Sync,
     L: ServiceLog + Sync,
-    S: UpdateStore<SharedVersion>,
-    F: Faults<S::Fault> + Drop,
+    S: UpdateStore,
 >(
     rt: &R,
     alloc: Global,
@@ -254,7 +251,7 @@ fn serve_with_engine<
     pairs: Vec<(VersionReader<N>, SocketJob<'_, R>)>,
     mut back: Vec<VersionReader<N>>,
     plan: Plan<'_>,
-    judging: Judging<'_, S, F>,
+    judging: Judging<'_, S>,
     log: &L,
 ) -> (
     Result<(), ServeFault>,
@@ -319,14 +316,13 @@ fn serve_with_updates<
     Z: FirstZone + Send + Sync,
     N: ServerName + Send + Sync,
     L: ServiceLog + Sync,
-    S: UpdateStore<SharedVersion>,
-    F: Faults<S::Fault> + Drop,
+    S: UpdateStore,
 >(
     rt: &R,
     alloc: Global,
     server: &Server<'_, Z, N>,
     muster: &Shutdown,
-    judging: Judging<'_, S, F>,
+    judging: Judging<'_, S>,
     reader: VersionReader<N>,
     right: PublishRight<N>,
     pairs: Vec<(VersionReader<N>, SocketJob<'_, R>)>,
@@ -342,27 +338,29 @@ fn serve_with_updates<
         updates,
         bringing,
         store,
-        faults,
     } = judging;
-    let teller = ServerPublisher::new(rt, server, reader, right, log, bringing);
-    let job = match UpdateThread::new(alloc, teller, store, updates.queue()) {
-        Ok(job) => job,
-        Err((teller, _)) => {
+    let publisher = match ServerPublisher::new(rt, alloc, server, reader, right, log, bringing) {
+        Ok(publisher) => publisher,
+        Err(reader) => {
             put_readers(pairs, back);
-            back.push_reserved(teller.into_parts().0);
+            back.push_reserved(reader);
+            return Err(ServeFault::NoMemory);
+        }
+    };
+    let job = match UpdateThread::new(alloc, publisher, store, updates.queue()) {
+        Ok(job) => job,
+        Err((publisher, _)) => {
+            put_readers(pairs, back);
+            back.push_reserved(publisher.into_parts().0);
             return Err(ServeFault::NoMemory);
         }
     };
     muster.judge();
-    let judge = Judge {
-        job,
-        faults,
-        muster,
-    };
+    let judge = Judge { job, muster };
     let (served, judge) = serve_on_threads(
         rt, alloc, server, muster, updates, judge, pairs, back, log,
     );
-    back.push_reserved(judge.into_publishing().into_parts().0);
+    back.push_reserved(judge.into_publisher().into_parts().0);
     served
 }
 

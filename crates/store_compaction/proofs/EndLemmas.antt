@@ -27,8 +27,9 @@ use Rattle.store_recovery.specs.Begun.{IsBegun}
 use Rattle.store_recovery.specs.Behind.{AreBehind}
 use Rattle.store_recovery.proofs.CompactedLemmas.{replay_parts, replay_rest, compacted_store}
 use Rattle.store_compaction.specs.declared.marked.Compaction.{Compaction}
-use Rattle.store_compaction.specs.declared.version_update.VersionUpdate.{VersionUpdate}
-use Rattle.store_compaction.specs.RecentUpdates.{TrailState, versions_in, updates_of, last_in, followed}
+use Rattle.update_batches.specs.declared.version_update.VersionUpdate.{VersionUpdate}
+use Rattle.store_compaction.specs.RecentUpdates.{TrailState, last_in, followed}
+use Rattle.update_batches.specs.Batch.{versions_in, updates_of}
 use Rattle.store_compaction.specs.Marked.{bodies_of, IsMarked}
 use Rattle.store_compaction.specs.End.{IsEndOf}
 use Rattle.store_compaction.proofs.RecentLemmas.{versions-append, updates_of-append, followed_is, followed_split, made_behind}
@@ -86,13 +87,13 @@ moved zone messages updates trail after k gone all read within oldest rest made 
     subst (λ (us : List (List ℕ)). AreMadeBy trail.oldest (versions_in gone ++ versions_in after.steps) us) split
     (subst (λ (vs : List Version). AreMadeBy trail.oldest vs (updates_of all)) versions made) in
     let many : length (versions_in gone) ≡ length (updates_of gone) =
-    length-map gone (λ (s : VersionUpdate). s.version) ∙ sym (length-map gone (λ (s : VersionUpdate). s.update.items)) in
+    length-map gone (λ (s : VersionUpdate). s.version) ∙ sym (length-map gone (λ (s : VersionUpdate). s.octets.items)) in
     let leads = made_leads trail.oldest (versions_in gone) (updates_of gone)
     (made_first trail.oldest (versions_in gone) (versions_in after.steps) (updates_of gone) (updates_of after.steps) many both) in
     let dropped : drop k messages ≡ updates_of gone ++ updates_of after.steps = sym rest ∙ split in
     let behind : AreRead (updates_of gone ++ updates_of after.steps) (drop k updates) =
     subst (λ (ms : List (List ℕ)). AreRead ms (drop k updates)) dropped (read_behind k messages updates read) in
-    let is_n : length (updates_of gone) ≡ n = length-map gone (λ (s : VersionUpdate). s.update.items) in
+    let is_n : length (updates_of gone) ≡ n = length-map gone (λ (s : VersionUpdate). s.octets.items) in
     let first : AreRead (updates_of gone) (take n (drop k updates)) =
     subst (λ (m : ℕ). AreRead (updates_of gone) (take m (drop k updates))) is_n (read_first (updates_of gone) (updates_of after.steps) (drop k updates) behind) in
     let same : leads.updates ≡ take n (drop k updates) = read_once (updates_of gone) leads.updates (take n (drop k updates)) leads.read first in

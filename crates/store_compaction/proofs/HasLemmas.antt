@@ -10,11 +10,10 @@ use Rattle.std.specs.Prelude.{unwrap_or}
 use Rattle.dns_engine.specs.Replayed.{EachChanges}
 use Rattle.journal.specs.Batch.{IsShort}
 use Rattle.journal.specs.Recovered.{updates_in}
-use Rattle.update_batches.specs.declared.batch.Batch.{Batch}
+use Rattle.update_batches.specs.declared.version_update.VersionUpdate.{VersionUpdate}
 use Rattle.update_batches.specs.Engine.{IsLast}
-use Rattle.update_batches.specs.Batch.{newest_of, versions_of, IsBatch}
+use Rattle.update_batches.specs.Batch.{newest_of, versions_in, updates_of}
 use Rattle.update_batches.proofs.BatchLemmas.{last_once}
-use Rattle.update_batches.specs.Stored.{AreWritten}
 use Rattle.update_batches.specs.Journal.{AreMadeBy}
 use Rattle.store_recovery.specs.Replay.{AreRead}
 use Rattle.store_compaction.specs.RecentUpdates.{TrailState, last_in}
@@ -22,20 +21,8 @@ use Rattle.store_compaction.specs.Writer.{trail_of}
 use Rattle.store_compaction.proofs.MadeLemmas.{changes_both, replay_both, read_both}
 use Rattle.store_compaction.proofs.JudgedLemmas.{last_more}
 use Rattle.store_compaction.specs.Kept.{CompactedState, IsAt, IsTended, IsKept, HasMore, IsStored}
-use Rattle.store_compaction.specs.Has.{IsWrittenBy, HasUpdates}
-
--- octets that make versions are short, and read as the updates that make them
-written_short : (first : Version) (versions : List Version) (octets : List (List ℕ)) → AreWritten IsWrittenBy first versions octets → All IsShort octets
-written_short first [] [] are = All-nil IsShort
-written_short first [] (one ∷ octets) are = absurd are
-written_short first (next ∷ versions) [] are = absurd are
-written_short first (next ∷ versions) (one ∷ octets) are = All-cons IsShort one octets are.0.0 (written_short next versions octets are.1)
-
-written_made : (first : Version) (versions : List Version) (octets : List (List ℕ)) → AreWritten IsWrittenBy first versions octets → AreMadeBy first versions octets
-written_made first [] [] are = tt
-written_made first [] (one ∷ octets) are = absurd are
-written_made first (next ∷ versions) [] are = absurd are
-written_made first (next ∷ versions) (one ∷ octets) are = (are.0.1, written_made next versions octets are.1)
+use Rattle.store_compaction.specs.Has.{HasUpdates}
+use Rattle.store_compaction.proofs.MarkedLemmas.{short_steps}
 
 -- the first of updates that each change a zone do
 changes_first : (zone : List Record) (updates more : List Update) → EachChanges zone (updates ++ more) → EachChanges zone updates
@@ -86,7 +73,7 @@ module _ {F : Type 0} where
       }
 
   -- of a store that stays
-  has_kept : (before after : CompactedState F) → IsKept before after → (zone : List Record) (published : List Version) (updates : List (List ℕ))
+  pub has_kept : (before after : CompactedState F) → IsKept before after → (zone : List Record) (published : List Version) (updates : List (List ℕ))
       → HasUpdates zone before published updates → HasUpdates zone after published updates
   has_kept before after kept zone published updates has = record {
     in_text = has.in_text;
@@ -103,12 +90,11 @@ module _ {F : Type 0} where
   -- with one batch more
   has_stored : (before after : CompactedState F) (versions : List Version) (octets : List (List ℕ)) → IsStored before after versions octets
       → (zone : List Record) (published : List Version) (updates : List (List ℕ)) (first : Version) → HasUpdates zone before published updates → IsLast published first
-      → AreWritten IsWrittenBy first versions octets → HasUpdates zone after (published ++ versions) (updates ++ octets)
-  has_stored before after versions octets stored zone published updates first has last written =
+      → All IsShort octets → AreMadeBy first versions octets → HasUpdates zone after (published ++ versions) (updates ++ octets)
+  has_stored before after versions octets stored zone published updates first has last short written =
       let old : TrailState = trail_of before.writer in
       let same : first ≡ last_in old = last_once published first (last_in old) last has.last in
-      let short : All IsShort octets = written_short first versions octets written in
-      let made : AreMadeBy (last_in old) versions octets = subst (λ (v : Version). AreMadeBy v versions octets) same (written_made first versions octets written) in
+      let made : AreMadeBy (last_in old) versions octets = subst (λ (v : Version). AreMadeBy v versions octets) same written in
       let with : HasMore has.text has.batches (replay zone has.in_text) has.in_journal octets after =
       stored.stands short made has.text has.batches (replay zone has.in_text) has.in_journal has.k has.stands in
       let store = with.stands.end.store in
@@ -130,21 +116,12 @@ module _ {F : Type 0} where
         last = subst (λ (v : Version). IsLast (published ++ versions) v) (sym ends) (last_more published (last_in old) versions has.last);
       }
 
-  -- a group that is stored, or isn't
-  pub has_appended : {X : Type 0} (result : Option X) (group : Batch Version) (before after : CompactedState F)
-      → MatchOption result ((updates : List (List ℕ)) → IsBatch group updates → IsStored before after (versions_of group) updates) (λ _. IsKept before after)
-      → MatchOption result
-      ((updates : List (List ℕ)) → IsBatch group updates → (zone : List Record) (published : List Version) (stood : List (List ℕ)) (last : Version) → HasUpdates zone before published stood
-      → IsLast published last → AreWritten IsWrittenBy last (versions_of group) updates → HasUpdates zone after (published ++ versions_of group) (stood ++ updates))
-      (λ _. (zone : List Record) (published : List Version) (stood : List (List ℕ)) → HasUpdates zone before published stood → HasUpdates zone after published stood)
-  has_appended None group before after stored = λ updates batch. has_stored before after (versions_of group) updates (stored updates batch)
-  has_appended (Some fault) group before after kept = has_kept before after kept
-
-  -- nothing is there to store
-  pub has_none : (group : Batch Version) (store : CompactedState F) → ((updates : List (List ℕ)) → IsBatch group updates → IsStored store store (versions_of group) updates)
-      → (updates : List (List ℕ)) → IsBatch group updates → (zone : List Record) (published : List Version) (stood : List (List ℕ)) (last : Version) → HasUpdates zone store published stood
-      → IsLast published last → AreWritten IsWrittenBy last (versions_of group) updates → HasUpdates zone store (published ++ versions_of group) (stood ++ updates)
-  has_none group store stored updates batch = has_stored store store (versions_of group) updates (stored updates batch)
+  -- the updates of a batch are stored
+  pub has_appended : (updates : List VersionUpdate) (before after : CompactedState F) → IsStored before after (versions_in updates) (updates_of updates)
+      → (zone : List Record) (published : List Version) (stood : List (List ℕ)) (last : Version) → HasUpdates zone before published stood
+      → IsLast published last → AreMadeBy last (versions_in updates) (updates_of updates) → HasUpdates zone after (published ++ versions_in updates) (stood ++ updates_of updates)
+  has_appended updates before after stored zone published stood last has ends made =
+      has_stored before after (versions_in updates) (updates_of updates) stored zone published stood last has ends (short_steps updates) made
 
   -- after a crash: what a start has of it is these updates replayed, and some that were written and not told as lasting
   pub has_recovered : (zone : List Record) (store : CompactedState F) (published : List Version) (updates : List (List ℕ)) (started : List Record)

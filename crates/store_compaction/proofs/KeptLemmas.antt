@@ -1,14 +1,13 @@
 -- What each call makes of a store that is compacted.
 use Rattle.std.proofs.Common.{◌≡◌, ◌==◌, ◌⊎◌, ℕ, ◌^◌, ◌<◌, ◌≤◌, Bool, true, false, List, [], ◌∷◌, ◌++◌, length, take, drop, map, Option, None, Some, inl, inr, refl, sym, ap, ◌∙◌, subst, append-nil, arith}
-use Rattle.std.specs.Prelude.{All, Result, Ok, Err, IfOk, IfErr, IfSome, MatchOption, option_map, ⊤}
+use Rattle.std.specs.Prelude.{All, Result, Ok, Err, OnOk, OnErr, IfOk, IfErr, IfSome, MatchOption, option_map, ⊤}
 use Rattle.std.proofs.lemmas.Bool.Decides.{nat_tests}
 use Rattle.std.proofs.lemmas.List.{map-append, take-append-le, length-map}
 use Rattle.dns_rdata.specs.Record.{Record}
 use Rattle.dns_message.specs.declared.update.Update.{Update}
 use Rattle.zone_tree.specs.Version.{Version}
 use Rattle.update_core.specs.Act.{replay}
-use Rattle.update_batches.specs.declared.batch.Batch.{Batch}
-use Rattle.update_batches.specs.Batch.{newest_of, logged, versions_of, IsBatch}
+use Rattle.update_batches.specs.Batch.{newest_of, logged}
 use Rattle.update_batches.specs.Journal.{AreMadeBy}
 use Rattle.journal.specs.declared.heads.Head.{Head}
 use Rattle.journal.specs.Batch.{batch_of, IsShort}
@@ -21,10 +20,11 @@ use Rattle.store_files.specs.File.{written, synced}
 use Rattle.store_recovery.proofs.ReadLemmas.{read_long}
 use Rattle.store_compaction.specs.declared.marked.Compaction.{Compaction}
 use Rattle.store_compaction.specs.declared.next.NextText.{NextText}
-use Rattle.store_compaction.specs.declared.version_update.VersionUpdate.{VersionUpdate}
+use Rattle.update_batches.specs.declared.version_update.VersionUpdate.{VersionUpdate}
 use Rattle.store_compaction.specs.declared.writer.StoreWriter.{StoreWriter}
 use Rattle.store_compaction.specs.End.{IsEndOf}
-use Rattle.store_compaction.specs.RecentUpdates.{TrailState, versions_in, updates_of, IsTrail, last_in, followed}
+use Rattle.store_compaction.specs.RecentUpdates.{TrailState, IsTrail, last_in, followed}
+use Rattle.update_batches.specs.Batch.{versions_in, updates_of}
 use Rattle.store_compaction.specs.Marked.{number_of, IsMarked}
 use Rattle.store_compaction.specs.Writer.{log_of, trail_of, head_of, under_way_of, AreSteps, Adds, Begins}
 use Rattle.store_compaction.proofs.RecentLemmas.{followed_is}
@@ -261,59 +261,61 @@ module _ {F : Type 0} where
       → (head : Head) (bodies : List (List ℕ)) → IsOnDisk written synced head old bodies → IsOnDisk written synced head new bodies
   still_there old new on kept head bodies disk = kept head bodies (goes_on head old bodies disk on)
 
-  -- one that is appended
-  stored_some : (group : Batch Version) (old new : StoreWriter FileDisk F) (wanted : Option Wanted) → is_stuck (log_of old) ≡ false
-      → 0 < length (versions_of group) → (updates : List (List ℕ)) → IsBatch group updates
-      → ((head : Head) (bodies : List (List ℕ)) → Holds written synced head (log_of old) bodies → Holds written synced head (log_of new) (logged bodies updates))
-      → (All IsShort updates → (steps : List VersionUpdate) × AreSteps steps (versions_of group) updates × (trail_of new ≡ followed (trail_of old) steps))
-      → Adds (under_way_of old) (under_way_of new) updates
-      → (All IsShort updates → 0 < length updates → (k : ℕ) (batches : List (List (List ℕ))) (was now : Compaction)
-      → under_way_of old ≡ Some was → under_way_of new ≡ Some now → IsMarked k batches was → k ≤ length (updates_in batches) → IsMarked k (batches ++ updates ∷ []) now)
+  -- a batch that is appended
+  stored_some : (updates : List VersionUpdate) (old new : StoreWriter FileDisk F) (wanted : Option Wanted) → is_stuck (log_of old) ≡ false → 0 < length updates
+      → ((head : Head) (bodies : List (List ℕ)) → Holds written synced head (log_of old) bodies → Holds written synced head (log_of new) (logged bodies (updates_of updates)))
+      → (steps : List VersionUpdate) × AreSteps steps (versions_in updates) (updates_of updates) × (trail_of new ≡ followed (trail_of old) steps)
+      → Adds (under_way_of old) (under_way_of new) (updates_of updates)
+      → (0 < length updates → (k : ℕ) (batches : List (List (List ℕ))) (was now : Compaction)
+      → under_way_of old ≡ Some was → under_way_of new ≡ Some now → IsMarked k batches was → k ≤ length (updates_in batches) → IsMarked k (batches ++ updates_of updates ∷ []) now)
       → head_of new ≡ head_of old
-      → IsStored (record { writer = old; wanted = wanted }) (record { writer = new; wanted = wanted }) (versions_of group) updates
-  stored_some group old new wanted on some [] batch stored trail way marks head = absurd (omega (arith, some, batch.many))
-  stored_some group old new wanted on some (one ∷ others) batch stored trail way marks head = record {
+      → IsStored (record { writer = old; wanted = wanted }) (record { writer = new; wanted = wanted }) (versions_in updates) (updates_of updates)
+  stored_some [] old new wanted on some stored found way marks head = absurd (omega (arith, some))
+  stored_some (one ∷ others) old new wanted on some stored found way marks head = record {
     origin = ap (λ (h : Head). h.origin) head;
-    last = λ is short made.
-        let found = trail short in
-        last_follows (trail_of old) (trail_of new) (versions_of group) (one ∷ others) found.0 is found.1 found.2 made;
+    last = λ is short made. last_follows (trail_of old) (trail_of new) (versions_in (one ∷ others)) (updates_of (one ∷ others)) found.0 is found.1 found.2 made;
     stands = λ short made text batches zone updates k at.
-        let found = trail short in
-        more_some text batches zone updates k one others (record { writer = old; wanted = wanted }) (record { writer = new; wanted = wanted })
-        (versions_of group) found.0 at (goes_on (head_of old) (log_of old) (map batch_of batches) at.log on) found.1 made found.2 head refl way
-        (λ m all was now. marks short (omega arith) m all was now) stored;
+        more_some text batches zone updates k one.octets.items (updates_of others) (record { writer = old; wanted = wanted }) (record { writer = new; wanted = wanted })
+        (versions_in (one ∷ others)) found.0 at (goes_on (head_of old) (log_of old) (map batch_of batches) at.log on) found.1 made found.2 head refl way
+        (λ m all was now. marks (omega arith) m all was now) stored;
   }
 
-  -- a batch that is appended, and one that isn't
-  pub appended : {X : Type 0} (result : Option X) (group : Batch Version) (before : CompactedState F) (old new : StoreWriter FileDisk F) (wanted : Option Wanted)
-      → record { writer = old; wanted = wanted } ≡ before → is_stuck (log_of old) ≡ false → 0 < length (versions_of group)
-      → MatchOption result
-      ((updates : List (List ℕ)) → IsBatch group updates → (head : Head) (bodies : List (List ℕ)) → Holds written synced head (log_of old) bodies
-      → Holds written synced head (log_of new) (logged bodies updates))
-      (λ _. (head : Head) (bodies : List (List ℕ)) → Holds written synced head (log_of old) bodies → Holds written synced head (log_of new) bodies ⊎ IsStuck synced head (log_of new) bodies)
-      → MatchOption result
-      ((updates : List (List ℕ)) → IsBatch group updates → All IsShort updates
-      → (steps : List VersionUpdate) × AreSteps steps (versions_of group) updates × (trail_of new ≡ followed (trail_of old) steps))
-      (λ _. trail_of new ≡ trail_of old)
-      → MatchOption result ((updates : List (List ℕ)) → IsBatch group updates → Adds (under_way_of old) (under_way_of new) updates) (λ _. under_way_of new ≡ under_way_of old)
-      → MatchOption result
-      ((updates : List (List ℕ)) → IsBatch group updates → All IsShort updates → 0 < length updates → (k : ℕ) (batches : List (List (List ℕ))) (was now : Compaction)
-      → under_way_of old ≡ Some was → under_way_of new ≡ Some now → IsMarked k batches was → k ≤ length (updates_in batches) → IsMarked k (batches ++ updates ∷ []) now)
-      (λ _. ⊤)
+  -- of a store whose writer has appended a batch
+  pub appended : (updates : List VersionUpdate) (before : CompactedState F) (old new : StoreWriter FileDisk F) (wanted : Option Wanted)
+      → record { writer = old; wanted = wanted } ≡ before → is_stuck (log_of old) ≡ false → 0 < length updates
+      → ((head : Head) (bodies : List (List ℕ)) → Holds written synced head (log_of old) bodies → Holds written synced head (log_of new) (logged bodies (updates_of updates)))
+      → (steps : List VersionUpdate) × AreSteps steps (versions_in updates) (updates_of updates) × (trail_of new ≡ followed (trail_of old) steps)
+      → Adds (under_way_of old) (under_way_of new) (updates_of updates)
+      → (0 < length updates → (k : ℕ) (batches : List (List (List ℕ))) (was now : Compaction)
+      → under_way_of old ≡ Some was → under_way_of new ≡ Some now → IsMarked k batches was → k ≤ length (updates_in batches) → IsMarked k (batches ++ updates_of updates ∷ []) now)
       → head_of new ≡ head_of old
-      → MatchOption result
-      ((updates : List (List ℕ)) → IsBatch group updates → IsStored before (record { writer = new; wanted = wanted }) (versions_of group) updates)
-      (λ _. IsKept before (record { writer = new; wanted = wanted }))
-  appended (Some fault) group before old new wanted is on some kept trail way marks head =
+      → IsStored before (record { writer = new; wanted = wanted }) (versions_in updates) (updates_of updates)
+  appended updates before old new wanted is on some stored found way marks head =
+      subst (λ (s : CompactedState F). IsStored s (record { writer = new; wanted = wanted }) (versions_in updates) (updates_of updates)) is
+      (stored_some updates old new wanted on some stored found way marks head)
+
+  -- and of one whose writer has not
+  pub not_appended : (before : CompactedState F) (old new : StoreWriter FileDisk F) (wanted : Option Wanted)
+      → record { writer = old; wanted = wanted } ≡ before → is_stuck (log_of old) ≡ false
+      → ((head : Head) (bodies : List (List ℕ)) → Holds written synced head (log_of old) bodies → Holds written synced head (log_of new) bodies ⊎ IsStuck synced head (log_of new) bodies)
+      → trail_of new ≡ trail_of old → under_way_of new ≡ under_way_of old → head_of new ≡ head_of old
+      → IsKept before (record { writer = new; wanted = wanted })
+  not_appended before old new wanted is on kept trail way head =
       subst (λ (s : CompactedState F). IsKept s (record { writer = new; wanted = wanted })) is (record {
         trail = trail;
         origin = ap (λ (h : Head). h.origin) head;
         stands = λ text batches zone updates k at.
             stands_still written synced text batches zone updates k old new wanted at trail head way (still_there (log_of old) (log_of new) on kept);
       })
-  appended None group before old new wanted is on some stored trail way marks head = λ updates batch.
-      subst (λ (s : CompactedState F). IsStored s (record { writer = new; wanted = wanted }) (versions_of group) updates) is
-      (stored_some group old new wanted on some updates batch (stored updates batch) (trail updates batch) (way updates batch) (marks updates batch) head)
+
+-- what follows from what a result says, where it is Ok, and where it is not
+pub on_ok : {X E A B C D Z : Type 0} (result : Result X E) → OnOk result A → OnOk result B → OnOk result C → OnOk result D → (A → B → C → D → Z) → OnOk result Z
+on_ok (Ok value) a b c d follows = follows a b c d
+on_ok (Err fault) a b c d follows = tt
+
+pub on_err : {X E A B C Z : Type 0} (result : Result X E) → OnErr result A → OnErr result B → OnErr result C → (A → B → C → Z) → OnErr result Z
+on_err (Ok value) a b c follows = tt
+on_err (Err fault) a b c follows = follows a b c
 
 -- what is told of a text, and what was wanted
 pub taken_told : {X E : Type 0} (f : X → Wanted) (old new : Option X) (writing : X) (result : Result Head E) → old ≡ Some writing → new ≡ None → IfOk result (IsWritten (f writing))

@@ -16,19 +16,19 @@ use Rattle.store_recovery.specs.Behind.{AreBehind}
 use Rattle.store_compaction.specs.declared.marked.Compaction.{Compaction}
 use Rattle.store_compaction.specs.declared.body.Body.{Body}
 use Rattle.store_compaction.specs.declared.next.NextJournal.{NextJournal}
-use Rattle.store_compaction.specs.declared.version_update.VersionUpdate.{VersionUpdate}
-use Rattle.store_compaction.specs.RecentUpdates.{updates_of}
+use Rattle.update_batches.specs.declared.version_update.VersionUpdate.{VersionUpdate}
+use Rattle.update_batches.specs.Batch.{updates_of}
 use Rattle.store_compaction.specs.Marked.{bodies_of, IsMarked, IsNextJournal}
 
 -- the updates of steps are short, and so is their batch
 pub short_steps : (steps : List VersionUpdate) → All IsShort (updates_of steps)
 short_steps [] = All-nil IsShort
-short_steps (step ∷ steps) = All-cons IsShort step.update.items (updates_of steps) step.short (short_steps steps)
+short_steps (step ∷ steps) = All-cons IsShort step.octets.items (updates_of steps) step.short (short_steps steps)
 
 pub batch_long : (steps : List VersionUpdate) → length (batch_of (updates_of steps)) ≤ 65537 * length steps
 batch_long [] = omega arith
 batch_long (step ∷ steps) =
-    omega (arith, length-append (counted step.update.items) (batch_of (updates_of steps)), counted_long step.update.items, step.short, batch_long steps)
+    omega (arith, length-append (counted step.octets.items) (batch_of (updates_of steps)), counted_long step.octets.items, step.short, batch_long steps)
 
 -- bodies that are short fit a journal
 pub fit_bodies : (number : ℕ) (bodies : List Body) → number + length bodies < 2 ^ 64 → Fit number (map (λ body. body.octets.items) bodies)

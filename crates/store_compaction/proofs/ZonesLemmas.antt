@@ -23,8 +23,9 @@ use Rattle.store_recovery.specs.Store.{IsStore}
 use Rattle.store_recovery.proofs.HeldLemmas.{begun_newest, held_newest, held_keep}
 use Rattle.store_recovery.proofs.ReadLemmas.{read_one, read_once, read_long}
 use Rattle.store_recovery.proofs.ReplayLemmas.{replayed_number}
-use Rattle.store_compaction.specs.declared.version_update.VersionUpdate.{VersionUpdate}
-use Rattle.store_compaction.specs.RecentUpdates.{TrailState, versions_in, updates_of}
+use Rattle.update_batches.specs.declared.version_update.VersionUpdate.{VersionUpdate}
+use Rattle.store_compaction.specs.RecentUpdates.{TrailState}
+use Rattle.update_batches.specs.Batch.{versions_in, updates_of}
 use Rattle.store_compaction.specs.End.{IsEndOf}
 use Rattle.store_compaction.proofs.MadeLemmas.{read_behind}
 
@@ -120,7 +121,7 @@ trail_started text head batches zone updates trail k start end few is =
     ∙ (ap (λ (us : List Update). drop (length us - min KEPT (length us)) (zones_from is.zone us)) others ∙ ap (λ (z : List Record). drop b (zones_from z updates)) zones) in
     let long : length updates ≡ length messages = read_long messages updates store.read in
     let steps : length trail.steps ≡ length messages - k =
-    sym (length-map trail.steps (λ (s : VersionUpdate). s.update.items)) ∙ (ap length end.rest ∙ length-drop k messages) in
+    sym (length-map trail.steps (λ (s : VersionUpdate). s.octets.items)) ∙ (ap length end.rest ∙ length-drop k messages) in
     let read : AreRead (updates_of trail.steps) (drop k updates) =
     subst (λ (ms : List (List ℕ)). AreRead ms (drop k updates)) (sym end.rest) (read_behind k messages updates store.read) in
     let has : zones_of (trail.oldest ∷ versions_in trail.steps) ≡ drop k all =

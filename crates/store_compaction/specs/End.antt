@@ -6,7 +6,8 @@ use Rattle.update_core.specs.Act.{replay}
 use Rattle.journal.specs.declared.heads.Head.{Head}
 use Rattle.journal.specs.Recovered.{updates_in}
 use Rattle.store_recovery.specs.Store.{IsStore}
-use Rattle.store_compaction.specs.RecentUpdates.{TrailState, IsTrail, updates_of}
+use Rattle.store_compaction.specs.RecentUpdates.{TrailState, IsTrail}
+use Rattle.update_batches.specs.Batch.{updates_of}
 
 -- recent updates are the end of a store: their oldest version has the zone after the first k of the store's updates, and their steps are made by the updates after those
 pub record IsEndOf (text : List ℕ) (head : Head) (batches : List (List (List ℕ))) (zone : List Record) (updates : List Update) (trail : TrailState) (k : ℕ) : Type 0 where

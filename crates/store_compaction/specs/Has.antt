@@ -1,23 +1,15 @@
 -- The updates that a store has, in its zone text and in its journal (RFC 2136, 3.5; own).
 use Rattle.std.specs.Prelude.{◌≡◌, ℕ, List, ◌++◌}
 use Rattle.dns_rdata.specs.Record.{Record}
-use Rattle.dns_message.specs.Request.{reads}
-use Rattle.dns_message.specs.declared.query.Parsed.TheVariants.{Update as Says}
 use Rattle.dns_message.specs.declared.update.Update.{Update}
 use Rattle.zone_tree.specs.Version.{Version}
 use Rattle.update_core.specs.Act.{replay}
 use Rattle.dns_engine.specs.Replayed.{EachChanges}
-use Rattle.dns_engine.specs.Versions.{Makes}
-use Rattle.journal.specs.Batch.{IsShort}
 use Rattle.update_batches.specs.Engine.{IsLast}
 use Rattle.store_recovery.specs.Replay.{AreRead}
 use Rattle.store_compaction.specs.RecentUpdates.{last_in}
 use Rattle.store_compaction.specs.Writer.{trail_of}
 use Rattle.store_compaction.specs.Kept.{CompactedState, IsAt}
-
--- bytes are read as an update, which makes one version from another (RFC 2136, 3)
-abbrev pub IsWrittenBy : Version → List ℕ → Version → Type 0
-IsWrittenBy version octets next = IsShort octets × ((update : Update) × (reads octets ≡ Says update) × Makes update version next)
 
 -- a store has these updates after a zone, the first of them in its zone text and the others in its journal on disk. Each changes the zone that the previous ones leave, and the
 -- store ends at the version published last

@@ -1,22 +1,15 @@
 -- The newest versions, each with the update that made it from the previous one (RFC 2136, 3; own).
-use Rattle.std.specs.Prelude.{ℕ, nat_lt, List, [], ◌∷◌, ◌++◌, length, map, if◌then◌else◌}
+use Rattle.std.specs.Prelude.{ℕ, nat_lt, List, [], ◌∷◌, ◌++◌, length, if◌then◌else◌}
 use Rattle.zone_tree.specs.Version.{Version}
-use Rattle.update_batches.specs.Batch.{newest_of}
+use Rattle.update_batches.specs.Batch.{newest_of, versions_in, updates_of}
 use Rattle.update_batches.specs.Journal.{AreMadeBy}
-use Rattle.store_compaction.specs.declared.version_update.VersionUpdate.{VersionUpdate}
+use Rattle.update_batches.specs.declared.version_update.VersionUpdate.{VersionUpdate}
 
 -- recent updates: an oldest version, the steps after it, oldest first, and how many older versions are kept besides the last
 pub record TrailState : Type 0 where
   pub oldest : Version
   pub steps : List VersionUpdate
   pub keep : ℕ
-
--- the versions of steps, and their updates
-abbrev pub versions_in : List VersionUpdate → List Version
-versions_in steps = map (λ step. step.version) steps
-
-abbrev pub updates_of : List VersionUpdate → List (List ℕ)
-updates_of steps = map (λ step. step.update.items) steps
 
 -- each step's update makes its version from the previous one, the first from the oldest version (RFC 2136, 3)
 abbrev pub IsTrail : TrailState → Type 0

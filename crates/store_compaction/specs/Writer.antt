@@ -8,9 +8,10 @@ use Rattle.update_batches.specs.Batch.{logged}
 use Rattle.store_compaction.specs.declared.marked.Compaction.{Compaction}
 use Rattle.store_compaction.specs.declared.next.NextJournal.{NextJournal}
 use Rattle.store_compaction.specs.declared.next.NextText.{NextText}
-use Rattle.store_compaction.specs.declared.version_update.VersionUpdate.{VersionUpdate}
+use Rattle.update_batches.specs.declared.version_update.VersionUpdate.{VersionUpdate}
 use Rattle.store_compaction.specs.declared.writer.StoreWriter.{StoreWriter}
-use Rattle.store_compaction.specs.RecentUpdates.{TrailState, versions_in, updates_of}
+use Rattle.store_compaction.specs.RecentUpdates.{TrailState}
+use Rattle.update_batches.specs.Batch.{versions_in, updates_of}
 use Rattle.store_compaction.specs.Marked.{bodies_of, number_of, IsNextJournal}
 
 module _ {D F : Type 0} where

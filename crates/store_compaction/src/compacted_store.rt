@@ -4,7 +4,6 @@ use crate::next_due::{begin_next, is_due};
 use crate::placed::{Placed, put_in_place};
 use crate::text_writer::TextWriter;
 use crate::writer::StoreWriter;
-use dns_engine::SharedVersion;
 use journal::LogFault;
 use std::alloc::Global;
 use std::fs::{File, Files};
@@ -12,7 +11,7 @@ use std::io::{self, ErrorKind};
 use std::marker::Model;
 use std::sync::Wait;
 use store_files::{FileDisk, is_in_place};
-use update_batches::{Batch, UpdateStore};
+use update_batches::{UpdateStore, VersionUpdate};
 
 /// The reason for refusing to append to a journal that a start would not find (own).
 const MISPLACED: &str =
@@ -141,14 +140,11 @@ impl<R: Files<File = File> + Alloc + Clone + Drop, T: TextWriter, N: Notes + Dro
     }
 }
 
-impl<R: Files<File = File> + Alloc + Clone + Drop, T: TextWriter, N: Notes + Drop> UpdateStore<
-    SharedVersion,
-> for CompactedStore<R, T, N> {
-    ghost use Rattle.store_compaction.specs.Has.{IsWrittenBy, HasUpdates};
+impl<R: Files<File = File> + Alloc + Clone + Drop, T: TextWriter, N: Notes + Drop> UpdateStore
+    for CompactedStore<R, T, N> {
+    ghost use Rattle.store_compaction.specs.Has.{HasUpdates};
 
-    type Fault = io::Error;
-
-    ghost writes = { IsWrittenBy };
+    type Fault = LogFault<io::Error>;
 
     ghost has = { HasUpdates };
 
@@ -164,19 +160,17 @@ impl<R: Files<File = File> + Alloc + Clone + Drop, T: TextWriter, N: Notes + Dro
         &mut self,
         rt: &W,
         alloc: Global,
-        group: &mut Batch<SharedVersion>,
-    ) -> Option<LogFault<io::Error>> {
-        if group.versions().is_empty() {
-            return None;
+        updates: &[VersionUpdate],
+    ) -> Result<(), LogFault<io::Error>> {
+        if updates.is_empty() {
+            return Ok(());
         }
         if self.writer.log().is_stuck() {
-            group.give_up();
-            return Some(LogFault::Stuck);
+            return Err(LogFault::Stuck);
         }
         if let Some(fault) = self.misplaced(alloc) {
-            group.give_up();
-            return Some(LogFault::Disk(fault));
+            return Err(LogFault::Disk(fault));
         }
-        self.writer.append(rt, alloc, group)
+        self.writer.append(rt, alloc, updates)
     }
 }

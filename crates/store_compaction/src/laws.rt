@@ -25,8 +25,9 @@ ghost use Rattle.store_recovery.specs.Behind.{AreBehind};
 ghost use Rattle.store_recovery.specs.Choice.{IsChoice};
 ghost use Rattle.store_recovery.specs.Folder.{Folder, Means, HasPair, with_journal};
 ghost use Rattle.store_compaction.specs.declared.marked.Compaction.{Compaction};
-ghost use Rattle.store_compaction.specs.declared.version_update.VersionUpdate.{VersionUpdate};
-ghost use Rattle.store_compaction.specs.RecentUpdates.{TrailState, versions_in, updates_of, IsTrail, last_in, followed};
+ghost use Rattle.update_batches.specs.declared.version_update.VersionUpdate.{VersionUpdate};
+ghost use Rattle.store_compaction.specs.RecentUpdates.{TrailState, IsTrail, last_in, followed};
+ghost use Rattle.update_batches.specs.Batch.{versions_in, updates_of};
 ghost use Rattle.store_compaction.specs.Marked.{bodies_of, IsMarked};
 ghost use Rattle.store_compaction.specs.End.{IsEndOf};
 

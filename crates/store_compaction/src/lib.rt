@@ -32,7 +32,6 @@ mod steps;
 mod text_writer;
 mod texts;
 mod thread;
-mod version_update;
 mod writer;
 
 pub use compacted_store::CompactedStore;
@@ -46,8 +45,7 @@ pub use laws::{
 pub use marked::{Compaction, next_text};
 pub use next::{NextJournal, NextText};
 pub use recent_updates::RecentUpdates;
-pub use steps::{group_steps, steps_of};
+pub use steps::steps_of;
 pub use text_writer::TextWriter;
 pub use thread::ThreadTextWriter;
-pub use version_update::VersionUpdate;
 pub use writer::StoreWriter;

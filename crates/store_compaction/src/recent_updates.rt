@@ -6,17 +6,18 @@ ghost use Rattle.dns_engine.specs.Held.{KEPT};
 ghost use Rattle.journal.specs.declared.heads.Head.{Head};
 ghost use Rattle.journal.specs.Batch.{batch_of};
 ghost use Rattle.journal.specs.Frame.{body_limit};
-ghost use Rattle.store_compaction.specs.RecentUpdates.{pushed, followed, updates_of};
+ghost use Rattle.store_compaction.specs.RecentUpdates.{pushed, followed};
+ghost use Rattle.update_batches.specs.Batch.{updates_of};
 ghost use Rattle.store_compaction.specs.Marked.{bodies_of, number_of, IsMarked};
 ghost use Rattle.store_compaction.specs.End.{IsEndOf};
 
 use crate::marked::Compaction;
-use crate::version_update::VersionUpdate;
+use crate::steps::batch_body;
 use dns_engine::{KEPT, SharedVersion};
-use journal::put_update;
 use std::alloc::{AllocError, Global};
 use std::marker::Model;
 use std::sync::Wait;
+use update_batches::VersionUpdate;
 
 /// The newest published versions: the last one and at most `keep` older ones, each but the oldest with the bytes of the update that made it. They are shared with the engine.
 /// Where the engine keeps as many, none is held longer than it keeps them. Contracts see the oldest version, the steps after it, and how many are kept.
@@ -74,8 +75,7 @@ impl RecentUpdates {
             unreachable!()
         }
         if self.steps.len() > self.keep {
-            let VersionUpdate { update: _, version } = self.steps.remove(0);
-            self.oldest = version;
+            self.oldest = self.steps.remove(0).into_version();
         }
     }
 
@@ -116,10 +116,6 @@ impl RecentUpdates {
         ensures batch { IfOk result (λ batch. batch.items ≡ batch_of (updates_of self.now.steps)) }
         ensures short { IfOk result (λ batch. length batch.items < body_limit) }
     {
-        let mut batch = Vec::new(alloc);
-        for step in &self.steps {
-            put_update(&mut batch, &step.update)?;
-        }
-        Ok(batch)
+        batch_body(alloc, &self.steps)
     }
 }

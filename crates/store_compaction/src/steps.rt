@@ -1,15 +1,14 @@
-//! The steps of published versions (RFC 2136, 3; own).
-ghost use Rattle.std.specs.Prelude.{◌≡◌, ℕ, List, length, map, All, IfOk};
-ghost use Rattle.journal.specs.Batch.{IsShort};
-ghost use Rattle.update_batches.specs.Batch.{versions_of, IsBatch};
-ghost use Rattle.store_compaction.specs.RecentUpdates.{versions_in, updates_of};
+//! The updates of published versions (RFC 2136, 3; own).
+ghost use Rattle.std.specs.Prelude.{◌≡◌, ◌≤◌, ◌<◌, length, map, All, IfOk};
+ghost use Rattle.journal.specs.Frame.{body_limit};
+ghost use Rattle.journal.specs.Batch.{batch_of, IsShort};
+ghost use Rattle.update_batches.specs.Batch.{versions_in, updates_of};
 
-use crate::version_update::VersionUpdate;
 use dns_engine::SharedVersion;
-use journal::read_batch;
+use journal::put_update;
 use std::alloc::{AllocError, Global};
 use std::sync::Wait;
-use update_batches::Batch;
+use update_batches::VersionUpdate;
 
 /// Pairs each version with its update. Allocates memory.
 pub fn steps_of<R: Wait>(
@@ -25,27 +24,38 @@ pub fn steps_of<R: Wait>(
 {
     let mut steps = Vec::with_capacity(alloc, versions.len())?;
     for (place, version) in versions.iter().enumerate() {
-        let update = updates[place].to_vec(alloc)?;
-        let version = version.share(rt);
-        steps.push(VersionUpdate { update, version })?;
+        let step = VersionUpdate::of(alloc, version.share(rt), updates[place])?;
+        steps.push(step)?;
     }
     Ok(steps)
 }
 
-/// The steps of judged updates that make versions. Allocates memory, all of it before the updates are written to disk.
-pub fn group_steps<R: Wait>(
+/// Copies of updates with their versions. Allocates memory.
+pub(crate) fn copies_of<R: Wait>(
     rt: &R,
     alloc: Global,
-    group: &Batch<SharedVersion>,
+    updates: &[VersionUpdate],
 ) -> Result<Vec<VersionUpdate>, AllocError>
-    ensures { IfOk result (λ steps. (updates : List (List ℕ)) → IsBatch group.now updates → All IsShort updates
-        → (versions_in steps.items ≡ versions_of group.now) × (updates_of steps.items ≡ updates)) }
+    ensures versions { IfOk result (λ copies. versions_in copies.items ≡ versions_in updates.now) }
+    ensures updates { IfOk result (λ copies. updates_of copies.items ≡ updates_of updates.now) }
 {
-    let Some(updates) = read_batch(alloc, group.body())? else {
-        return Ok(Vec::new(alloc));
-    };
-    if updates.len() != group.versions().len() {
-        return Ok(Vec::new(alloc));
+    let mut copies = Vec::with_capacity(alloc, updates.len())?;
+    for update in updates {
+        let copy = VersionUpdate::of(alloc, update.version().share(rt), update.octets())?;
+        copies.push(copy)?;
     }
-    Ok(steps_of(rt, alloc, group.versions(), &updates)?)
+    Ok(copies)
+}
+
+/// The body of the batch of at most 64 updates. Allocates memory.
+pub(crate) fn batch_body(alloc: Global, updates: &[VersionUpdate]) -> Result<Vec<u8>, AllocError>
+    requires few { length updates.now ≤ 64 }
+    ensures batch { IfOk result (λ body. body.items ≡ batch_of (updates_of updates.now)) }
+    ensures short { IfOk result (λ body. length body.items < body_limit) }
+{
+    let mut body = Vec::new(alloc);
+    for update in updates {
+        put_update(&mut body, update.octets())?;
+    }
+    Ok(body)
 }

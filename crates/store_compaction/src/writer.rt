@@ -2,13 +2,12 @@
 use crate::marked::Compaction;
 use crate::next::{NextJournal, NextText};
 use crate::recent_updates::RecentUpdates;
-use crate::steps::group_steps;
+use crate::steps::{batch_body, copies_of};
 use crate::texts::TextNumbers;
-use dns_engine::SharedVersion;
 use journal::{Disk, Head, Log, LogFault};
 use std::alloc::{AllocError, Global};
 use std::sync::Wait;
-use update_batches::Batch;
+use update_batches::VersionUpdate;
 
 /// The writer of a store: its log, its recent updates, the current compaction, if any, and the greatest number given to a zone text so far.
 #[derive(Drop)]
@@ -28,9 +27,9 @@ impl<D: Disk> StoreWriter<D> {
     ghost use Rattle.journal.specs.Frame.{body_limit};
     ghost use Rattle.journal.specs.Recovered.{updates_in};
     ghost use Rattle.journal.specs.Log.{Holds, IsStuck, is_stuck};
-    ghost use Rattle.update_batches.specs.Batch.{versions_of, IsBatch, IsGivenUp, logged};
+    ghost use Rattle.update_batches.specs.Batch.{versions_in, updates_of, logged};
     ghost use Rattle.store_compaction.specs.declared.marked.Compaction.{Compaction as Kept};
-    ghost use Rattle.store_compaction.specs.declared.version_update.VersionUpdate.{VersionUpdate as TrailStep};
+    ghost use Rattle.update_batches.specs.declared.version_update.VersionUpdate.{VersionUpdate as TrailStep};
     ghost use Rattle.store_compaction.specs.RecentUpdates.{followed};
     ghost use Rattle.store_compaction.specs.End.{IsEndOf};
     ghost use Rattle.store_compaction.specs.Marked.{bodies_of, number_of, IsMarked, IsNextJournal};
@@ -53,51 +52,45 @@ impl<D: Disk> StoreWriter<D> {
         }
     }
 
-    /// Writes a batch to disk if any of its updates makes a version, and then adds it to the recent updates and to the current compaction. After a fault each update gets
-    /// SERVFAIL, there is no version to publish, and neither is changed: the journal has what it had, or accepts no more batches. All memory is allocated before anything is
-    /// written, except the compaction's. If there is none for that, the compaction is given up.
+    /// Writes the updates of a batch to disk, if there are any, and then adds them to the recent updates and to the current compaction. After a fault neither is changed: the journal
+    /// has what it had, or accepts no more batches. All memory is allocated before anything is written, except the compaction's. If there is none for that, the compaction is given
+    /// up.
     pub fn append<R: Wait>(
         &mut self,
         rt: &R,
         alloc: Global,
-        group: &mut Batch<SharedVersion>,
-    ) -> Option<LogFault<D::Fault>>
-        ensures told { MatchOption result (group.new ≡ group.old) (λ _. IsGivenUp group.old group.new) }
-        ensures on_disk { MatchOption result
-            ((updates : List (List ℕ)) → IsBatch group.old updates → (head : HeadState) (bodies : List (List ℕ)) → Holds D.written D.synced head (log_of self.old) bodies
-            → Holds D.written D.synced head (log_of self.new) (logged bodies updates))
-            (λ _. (head : HeadState) (bodies : List (List ℕ)) → Holds D.written D.synced head (log_of self.old) bodies
+        updates: &[VersionUpdate],
+    ) -> Result<(), LogFault<D::Fault>>
+        requires few { length updates.now ≤ 64 }
+        ensures on_disk { OnOk result ((head : HeadState) (bodies : List (List ℕ)) → Holds D.written D.synced head (log_of self.old) bodies
+            → Holds D.written D.synced head (log_of self.new) (logged bodies (updates_of updates.now))) }
+        ensures on_disk_still { OnErr result ((head : HeadState) (bodies : List (List ℕ)) → Holds D.written D.synced head (log_of self.old) bodies
             → Holds D.written D.synced head (log_of self.new) bodies ⊎ IsStuck D.synced head (log_of self.new) bodies) }
-        ensures trail { MatchOption result
-            ((updates : List (List ℕ)) → IsBatch group.old updates → All IsShort updates
-            → (steps : List TrailStep) × AreSteps steps (versions_of group.old) updates × (trail_of self.new ≡ followed (trail_of self.old) steps))
-            (λ _. trail_of self.new ≡ trail_of self.old) }
-        ensures compaction { MatchOption result
-            ((updates : List (List ℕ)) → IsBatch group.old updates → Adds (under_way_of self.old) (under_way_of self.new) updates)
-            (λ _. under_way_of self.new ≡ under_way_of self.old) }
-        ensures marked { MatchOption result
-            ((updates : List (List ℕ)) → IsBatch group.old updates → All IsShort updates → 0 < length updates → (k : ℕ) (batches : List (List (List ℕ))) (before now : Kept)
+        ensures trail { OnOk result ((steps : List TrailStep) × AreSteps steps (versions_in updates.now) (updates_of updates.now)
+            × (trail_of self.new ≡ followed (trail_of self.old) steps)) }
+        ensures trail_still { OnErr result (trail_of self.new ≡ trail_of self.old) }
+        ensures compaction { OnOk result (Adds (under_way_of self.old) (under_way_of self.new) (updates_of updates.now)) }
+        ensures compaction_still { OnErr result (under_way_of self.new ≡ under_way_of self.old) }
+        ensures marked { OnOk result (0 < length updates.now → (k : ℕ) (batches : List (List (List ℕ))) (before now : Kept)
             → under_way_of self.old ≡ Some before → under_way_of self.new ≡ Some now → IsMarked k batches before → k ≤ length (updates_in batches)
-            → IsMarked k (batches ++ updates ∷ []) now)
-            (λ _. ⊤) }
+            → IsMarked k (batches ++ updates_of updates.now ∷ []) now) }
         ensures head { head_of self.new ≡ head_of self.old }
         ensures last { last_of self.new ≡ last_of self.old }
+        ensures some { OnErr result (0 < length updates.now) }
     {
-        if group.versions().is_empty() {
-            return None;
+        if updates.is_empty() {
+            return Ok(());
         }
-        let Ok(steps) = group_steps(rt, alloc, group) else {
-            group.give_up();
-            return Some(LogFault::NoMemory);
+        let Ok(steps) = copies_of(rt, alloc, updates) else {
+            return Err(LogFault::NoMemory);
         };
-        match group.append(alloc, &mut self.log) {
-            Some(fault) => Some(fault),
-            None => {
-                self.trail.follow(steps);
-                self.add(alloc, group.body());
-                None
-            }
-        }
+        let Ok(body) = batch_body(alloc, updates) else {
+            return Err(LogFault::NoMemory);
+        };
+        self.log.append(alloc, &body)?;
+        self.trail.follow(steps);
+        self.add(alloc, &body);
+        Ok(())
     }
 
     /// Adds an appended batch to the current compaction. If there is no memory for it, the compaction is given up.

@@ -29,9 +29,10 @@ use Rattle.store_recovery.specs.Store.{IsStore}
 use Rattle.store_recovery.proofs.HeldLemmas.{begun_newest, held_newest}
 use Rattle.store_recovery.proofs.ReadLemmas.{read_once, read_long, read_first}
 use Rattle.store_recovery.proofs.CompactedLemmas.{replay_parts}
-use Rattle.store_compaction.specs.declared.version_update.VersionUpdate.{VersionUpdate}
+use Rattle.update_batches.specs.declared.version_update.VersionUpdate.{VersionUpdate}
 use Rattle.store_compaction.specs.declared.writer.StoreWriter.{StoreWriter}
-use Rattle.store_compaction.specs.RecentUpdates.{TrailState, versions_in, updates_of, shortened, trimmed, longer, pushed, followed}
+use Rattle.store_compaction.specs.RecentUpdates.{TrailState, shortened, trimmed, longer, pushed, followed}
+use Rattle.update_batches.specs.Batch.{versions_in, updates_of}
 use Rattle.store_compaction.specs.Writer.{log_of, trail_of, head_of}
 use Rattle.store_compaction.specs.End.{IsEndOf}
 use Rattle.store_compaction.proofs.RecentLemmas.{versions-append, updates_of-append, followed_is, followed_split}
@@ -200,13 +201,13 @@ moved zone messages updates first after k gone all read within oldest rest made 
     subst (λ (us : List (List ℕ)). AreMadeBy first (versions_in gone ++ versions_in after.steps) us) split
     (subst (λ (vs : List Version). AreMadeBy first vs (updates_of all)) versions made) in
     let many : length (versions_in gone) ≡ length (updates_of gone) =
-    length-map gone (λ (s : VersionUpdate). s.version) ∙ sym (length-map gone (λ (s : VersionUpdate). s.update.items)) in
+    length-map gone (λ (s : VersionUpdate). s.version) ∙ sym (length-map gone (λ (s : VersionUpdate). s.octets.items)) in
     let leads = made_leads first (versions_in gone) (updates_of gone)
     (made_first first (versions_in gone) (versions_in after.steps) (updates_of gone) (updates_of after.steps) many both) in
     let dropped : drop k messages ≡ updates_of gone ++ updates_of after.steps = sym rest ∙ split in
     let behind_them : AreRead (updates_of gone ++ updates_of after.steps) (drop k updates) =
     subst (λ (ms : List (List ℕ)). AreRead ms (drop k updates)) dropped (read_behind k messages updates read) in
-    let is_n : length (updates_of gone) ≡ n = length-map gone (λ (s : VersionUpdate). s.update.items) in
+    let is_n : length (updates_of gone) ≡ n = length-map gone (λ (s : VersionUpdate). s.octets.items) in
     let front : AreRead (updates_of gone) (take n (drop k updates)) =
     subst (λ (m : ℕ). AreRead (updates_of gone) (take m (drop k updates))) is_n (read_first (updates_of gone) (updates_of after.steps) (drop k updates) behind_them) in
     let same : leads.updates ≡ take n (drop k updates) = read_once (updates_of gone) leads.updates (take n (drop k updates)) leads.read front in

@@ -1,11 +1,12 @@
 -- Where a server writes updates, by what its store has (RFC 2136, 3.5; own).
 use Rattle.std.specs.Prelude.{ℕ, List}
 use Rattle.dns_rdata.specs.Record.{Record}
+use Rattle.zone_tree.specs.Version.{Version}
 use Rattle.store_server.specs.declared.served.ServerStore.{ServerStore}
 use Rattle.store_server.specs.declared.served.ServerStore.TheVariants.{Nowhere, Store}
 
 module _ {S L : Type 0} where
   -- what the store has; nothing is claimed if there is no store
-  abbrev pub HasIn : {V : Type 0} → (List Record → S → List V → List (List ℕ) → Type 0) → List Record → ServerStore S L → List V → List (List ℕ) → Type 0
+  abbrev pub HasIn : (List Record → S → List Version → List (List ℕ) → Type 0) → List Record → ServerStore S L → List Version → List (List ℕ) → Type 0
   HasIn has zone Nowhere published updates = Unit {0}
-  HasIn has zone (Store kept) published updates = has zone kept.store published updates
+  HasIn has zone (Store logged) published updates = has zone logged.store published updates

@@ -6,8 +6,8 @@
 //! before it is cut off. Nothing is changed if nothing is served.
 //!
 //! [`resume_store`] gives the versions that a server begins with, and the store's writer, which has the same versions with the updates that made them. A [`ServerStore`] writes
-//! the updates of batches to a store, or nowhere, if none is configured. [`StoreFaults`] and [`StoreNotes`] log to a [`StoreLog`] when updates cannot be written and why, when
-//! they can be again, and the results of compactions: one line at each change, and none for each batch.
+//! the updates of batches to a store, or nowhere, if none is configured. It logs to a [`StoreLog`] when updates cannot be written and why, and when they can be again, and
+//! [`StoreNotes`] the results of compactions: one line at each change, and none for each batch.
 #![tactic(auto)]
 
 mod begin;
@@ -22,9 +22,9 @@ mod updates;
 
 pub use begin::begin_with;
 pub use event::{StoreEvent, StoreLog};
-pub use notes::{StoreFaults, StoreNotes};
+pub use notes::StoreNotes;
 pub use refusal::Refusal;
 pub use resume::{OpenStore, resume_pair};
 pub use resumed::resume_store;
-pub use served::{LoggedStore, ServerStore};
+pub use served::{LoggedStore, NotStored, ServerStore};
 pub use start::{Given, Served, Started, start_store};

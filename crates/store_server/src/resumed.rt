@@ -3,8 +3,9 @@ ghost use Rattle.std.specs.Prelude.{◌≡◌, List, [], length, min, map, All, 
 ghost use Rattle.dns_engine.specs.Held.{KEPT};
 ghost use Rattle.dns_engine.specs.Versions.{IsFirst, AreNext};
 ghost use Rattle.journal.specs.Batch.{IsShort};
-ghost use Rattle.store_compaction.specs.declared.version_update.VersionUpdate.{VersionUpdate};
-ghost use Rattle.store_compaction.specs.RecentUpdates.{versions_in, updates_of, followed};
+ghost use Rattle.update_batches.specs.declared.version_update.VersionUpdate.{VersionUpdate};
+ghost use Rattle.store_compaction.specs.RecentUpdates.{followed};
+ghost use Rattle.update_batches.specs.Batch.{versions_in, updates_of};
 ghost use Rattle.store_compaction.specs.Writer.{trail_of as trail_in};
 ghost use Rattle.store_server.specs.Resumed.{IsGiven, WritesOn};
 

@@ -1,20 +1,33 @@
 //! Where a server writes updates (RFC 2136, 3.5; own).
+ghost use Rattle.std.specs.Prelude.{◌≡◌, true, false};
+
 use crate::event::{StoreEvent, StoreLog};
 use journal::LogFault;
 use std::alloc::Global;
+use std::io;
 use std::sync::Wait;
-use std::sync::atomic::{AtomicBool, Ordering};
-use update_batches::{Batch, UpdateStore};
+use update_batches::{UpdateStore, VersionUpdate};
 
-/// A store for updates, and the log that says when a write succeeds again.
+/// A store for updates, and the log that says when a write fails, and when one succeeds again.
 #[derive(Drop)]
 pub struct LoggedStore<'a, S, L> {
-    /// The store.
-    pub store: S,
-    /// The log.
-    pub log: &'a L,
+    store: S,
+    log: &'a L,
     /// Whether the last batch that was to be written could not be.
-    pub failing: &'a AtomicBool,
+    failing: bool,
+}
+
+impl<'a, S, L> LoggedStore<'a, S, L> {
+    /// A store that writes to a log.
+    pub fn new(store: S, log: &'a L) -> LoggedStore<'a, S, L>
+        ensures { result.store ≡ store }
+    {
+        LoggedStore {
+            store,
+            log,
+            failing: false,
+        }
+    }
 }
 
 /// Where a server writes updates.
@@ -26,19 +39,22 @@ pub enum ServerStore<'a, S, L> {
     Store(LoggedStore<'a, S, L>),
 }
 
-impl<V: Drop, S: UpdateStore<V>, L: StoreLog> UpdateStore<V> for ServerStore<'_, S, L> {
+/// That a batch could not be written. The log has the reason.
+#[derive(Clone, Copy)]
+pub struct NotStored;
+
+impl<S: UpdateStore<Fault = LogFault<io::Error>>, L: StoreLog> UpdateStore
+    for ServerStore<'_, S, L> {
     ghost use Rattle.store_server.specs.Served.{HasIn};
 
-    type Fault = S::Fault;
-
-    ghost writes = { S.writes };
+    type Fault = NotStored;
 
     ghost has = { HasIn S.has };
 
     fn tend<R: Wait>(&mut self, rt: &R, alloc: Global) {
         match self {
             ServerStore::Nowhere => {}
-            ServerStore::Store(kept) => kept.store.tend(rt, alloc),
+            ServerStore::Store(logged) => logged.store.tend(rt, alloc),
         }
     }
 
@@ -46,26 +62,48 @@ impl<V: Drop, S: UpdateStore<V>, L: StoreLog> UpdateStore<V> for ServerStore<'_,
         &mut self,
         rt: &R,
         alloc: Global,
-        group: &mut Batch<V>,
-    ) -> Option<LogFault<S::Fault>> {
-        match self {
-            ServerStore::Nowhere => None,
-            ServerStore::Store(kept) => {
-                let changes = !group.versions().is_empty();
-                let fault = kept.store.append(rt, alloc, group);
-                if changes && fault.is_none() {
-                    tell_kept(rt, kept.log, kept.failing);
+        updates: &[VersionUpdate],
+    ) -> Result<(), NotStored> {
+        let logged = match self {
+            ServerStore::Nowhere => return Ok(()),
+            ServerStore::Store(logged) => logged,
+        };
+        match logged.store.append(rt, alloc, updates) {
+            Ok(()) => {
+                if !updates.is_empty() {
+                    tell_kept(rt, logged.log, &mut logged.failing);
                 }
-                fault
+                Ok(())
+            }
+            Err(fault) => {
+                tell_failing(rt, logged.log, &mut logged.failing, fault);
+                Err(NotStored)
             }
         }
     }
 }
 
 /// Logs that a batch was written, if the one before it was not.
-fn tell_kept<R: Wait, L: StoreLog>(rt: &R, log: &L, failing: &AtomicBool) {
-    if failing.load(Ordering::SeqCst) {
-        failing.store(false, Ordering::SeqCst);
+fn tell_kept<R: Wait, L: StoreLog>(rt: &R, log: &L, failing: &mut bool)
+    ensures { failing.new ≡ false }
+{
+    if *failing {
+        *failing = false;
         log.tell_store(rt, StoreEvent::Kept);
+    }
+}
+
+/// Logs why a batch was not written, if the one before it was: only the first one, until a write succeeds again (own).
+fn tell_failing<R: Wait, L: StoreLog>(
+    rt: &R,
+    log: &L,
+    failing: &mut bool,
+    fault: LogFault<io::Error>,
+)
+    ensures { failing.new ≡ true }
+{
+    if !*failing {
+        *failing = true;
+        log.tell_store(rt, StoreEvent::Failing(fault));
     }
 }

@@ -27,6 +27,9 @@ module _ {T : Type 0} (IsReply : Peer → Learned T → Learned T → List ℕ �
   own_same now seen later None grows = tt
   own_same now seen later (Some a) grows = record {
     peer = refl;
+    from = refl;
+    group = refl;
+    window = refl;
     goes = goes_seen (IsReply a.peer) seen later (told_of a) grows;
     written = writes_itself a.octets;
     begun = inr (refl, refl);
@@ -35,6 +38,9 @@ module _ {T : Type 0} (IsReply : Peer → Learned T → Learned T → List ℕ �
   gone_more : (now : ℕ) (seen mid later : Learned T) (a b c : Seen) → HasGone IsReply now seen a mid b → HasGone IsReply now mid b later c → HasGone IsReply now seen a later c
   gone_more now seen mid later a b c first then = record {
     peer = then.peer ∙ first.peer;
+    from = then.from ∙ first.from;
+    group = then.group ∙ first.group;
+    window = then.window ∙ first.window;
     goes = goes_more (IsReply a.peer) seen mid later (told_of a) (told_of b) (told_of c) first.goes (subst (λ (peer : Peer). Goes (IsReply peer) mid (told_of b) later (told_of c)) first.peer then.goes);
     written = writes_more a.octets b.octets c.octets first.written then.written;
     begun = begun_more now a.kept.passed a.begun b.kept.passed b.begun c.kept.passed c.begun first.begun then.begun;

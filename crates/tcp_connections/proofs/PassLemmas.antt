@@ -2,7 +2,6 @@
 use Rattle.std.proofs.Common.{◌≡◌, ◌≢◌, ◌↔◌, refl, ℕ, Bool, true, false, IsTrue, List, [], ◌∷◌, Option, None, Some, ap, if◌then◌else◌}
 use Rattle.dns_message.specs.Frame.{frame_in}
 use Rattle.tcp_connections.specs.Kept.{one_passed, passed_behind, awaited_in, awaited_by}
-use Rattle.tcp_connections.specs.declared.waiting.Waiting.{Waiting}
 use Rattle.tcp_connections.specs.declared.waiting.Waiting.TheVariants.{Request, Rest, Answer, Taking}
 
 pub passed_as : (left : List ℕ) (is_all : Bool) (passed : ℕ) → IsTrue is_all ↔ (left ≡ []) → (if is_all then one_passed passed else passed) ≡ passed_behind left passed

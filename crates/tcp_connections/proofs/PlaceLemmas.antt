@@ -1,11 +1,11 @@
 -- How many connections groups have, and which gives its place.
-use Rattle.std.proofs.Common.{◌≡◌, ◌≢◌, ◌↔◌, refl, IsTrue, ℕ, ◌+◌, ◌*◌, ◌/◌, ◌<◌, ◌≤◌, max, Bool, true, false, ◌||◌, ◌&&◌, if◌then◌else◌, cond, List, length, take, get_or, Option, None, Some, is_some, sym, ◌∙◌, ap, subst, arith, inl, inr, ◌⊎◌}
+use Rattle.std.proofs.Common.{◌≡◌, ◌↔◌, refl, IsTrue, ℕ, ◌+◌, ◌*◌, ◌/◌, ◌<◌, ◌≤◌, max, Bool, true, false, ◌||◌, ◌&&◌, if◌then◌else◌, cond, List, length, take, get_or, Option, None, Some, sym, ◌∙◌, ap, arith, inl, inr}
 use Rattle.std.specs.List.{count_by}
-use Rattle.std.proofs.lemmas.Bool.{cases_lt, cases_Bool}
+use Rattle.std.proofs.lemmas.Bool.{cases_lt}
 use Rattle.std.proofs.lemmas.List.{get_or_past, take_all, length-take}
 use Rattle.std.proofs.lemmas.List.Sums.{count_by_more_yes, count_by_more_no, count_by-le-length}
-use Rattle.peer_groups.specs.Group.{is_same, is_group, has_group}
-use Rattle.peer_groups.specs.Survey.{IsSurvey, with_one}
+use Rattle.peer_groups.specs.Group.{is_same, is_group}
+use Rattle.peer_groups.specs.Survey.{IsSurvey}
 use Rattle.peer_groups.specs.declared.group.PeerGroup.{PeerGroup}
 use Rattle.peer_groups.specs.declared.survey.Survey.{Survey}
 use Rattle.peer_groups.proofs.SurveyLemmas.{same_equal}

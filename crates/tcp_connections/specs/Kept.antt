@@ -1,5 +1,5 @@
 -- What a connection keeps, besides what its device has (own).
-use Rattle.std.specs.Prelude.{◌≡◌, ℕ, ◌+◌, ◌-◌, ◌%◌, ◌^◌, min, Bool, true, false, List, [], ◌∷◌, ◌++◌, take, Option, None, Some, option_map}
+use Rattle.std.specs.Prelude.{◌≡◌, ℕ, ◌+◌, ◌-◌, ◌%◌, ◌^◌, ◌≤◌, ◌⊎◌, min, length, Bool, true, false, List, [], ◌∷◌, ◌++◌, take, Option, None, Some, option_map}
 use Rattle.dns_message.specs.Frame.{frame_in}
 use Rattle.requests.specs.Octets.{frames_of}
 use Rattle.tcp_connections.specs.declared.waiting.Waiting.{Waiting}
@@ -53,6 +53,10 @@ awaited kept = awaited_by kept.making kept.ready kept.held
 -- all octets that are to be written
 abbrev pub due : Kept → List ℕ
 due kept = kept.ready ++ frames_of kept.later
+
+-- so much is to be written that no further request is answered before that: messages are being made, or 16,384 octets or more are ready (own)
+abbrev pub IsFull : Kept → Type 0
+IsFull kept = (kept.making ≡ true) ⊎ (16384 ≤ length kept.ready)
 
 -- a connection waits for octets: no whole frame is held, and nothing is to be written
 pub record IsWaiting (kept : Kept) : Type 0 where

@@ -1,6 +1,8 @@
 -- What becomes of each connection of a worker thread (own).
 use Rattle.std.specs.Prelude.{◌≡◌, ◌⊎◌, ℕ, List, Option, None, Some, IfSome, ⊤, if◌then◌else◌}
+use Rattle.std.specs.declared.net.socket_addr.SocketAddr.{SocketAddr}
 use Rattle.serve_core.specs.declared.peer.Peer.{Peer}
+use Rattle.peer_groups.specs.declared.group.PeerGroup.{PeerGroup}
 use Rattle.requests.specs.Served.{Learned, Grows}
 use Rattle.requests.specs.declared.stream_end.StreamEnd.{StreamEnd}
 use Rattle.tcp_connections.specs.Kept.{Kept, told_by, awaited}
@@ -11,14 +13,19 @@ use Rattle.tcp_connections.specs.Ends.{one_late, one_slow}
 use Rattle.tcp_connections.specs.Rate.{is_slow}
 use Rattle.tcp_connections.specs.declared.ends.Ends.{Ends}
 use Rattle.tcp_connections.specs.declared.limits.Limits.{Limits}
+use Rattle.tcp_connections.specs.declared.window.Window.{Window}
 use Rattle.tcp_connections.specs.declared.connection.Connection.{Connection}
 
--- what contracts see of a connection: its peer, its stream's octets, what it keeps, and since when its peer is waited for
+-- what contracts see of a connection: its peer, the address and the group of that, its stream's octets, what it keeps, since when its peer
+-- is waited for, and the window in which the octets that the peer takes are counted
 pub record Seen : Type 0 where
   pub peer : Peer
+  pub from : SocketAddr
+  pub group : PeerGroup
   pub octets : Option (List ℕ × List ℕ)
   pub kept : Kept
   pub begun : ℕ
+  pub window : Window
 
 -- its stream as the connection has it
 abbrev pub told_of : Seen → Option (List ℕ × List ℕ)
@@ -36,10 +43,13 @@ module _ {T : Type 0} (IsReply : Peer → Learned T → Learned T → List ℕ �
     pub stops : Stops (IsReply old.peer) end seen (told_of old) known octets
     pub written : Writes old.octets octets
 
-  -- a connection has gone on at a time: it is its peer's as before, on its own stream that peer's requests are answered by that peer's
-  -- rights, and the peer is waited for from now, or from when it was if it has finished nothing
+  -- a connection has gone on at a time: its peer, the address and the group of that, and its window are as before, on its own stream that
+  -- peer's requests are answered by that peer's rights, and the peer is waited for from now, or from when it was if it has finished nothing
   pub record HasGone (now : ℕ) (seen : Learned T) (old : Seen) (later : Learned T) (new : Seen) : Type 0 where
     pub peer : new.peer ≡ old.peer
+    pub from : new.from ≡ old.from
+    pub group : new.group ≡ old.group
+    pub window : new.window ≡ old.window
     pub goes : Goes (IsReply old.peer) seen (told_of old) later (told_of new)
     pub written : Writes old.octets new.octets
     pub begun : IsBegun now old.kept.passed old.begun new.kept.passed new.begun
@@ -57,7 +67,7 @@ HasStopped would_block is_later link = IfSome link (λ l. would_block l.stream �
 
 -- what contracts see of a connection, by how its stream reports its octets
 abbrev pub seen_of : {S M : Type 0} → (S → Option (List ℕ × List ℕ)) → Connection S M → Seen
-seen_of octets link = record { peer = link.peer; octets = octets link.stream; kept = link.conversation; begun = link.begun }
+seen_of octets link = record { peer = link.peer; from = link.from; group = link.group; octets = octets link.stream; kept = link.conversation; begun = link.begun; window = link.window }
 
 -- the count of ends if the connection under a key, if there is one, ends when it is over at a time, by what it waits for or because its
 -- peer takes too slowly

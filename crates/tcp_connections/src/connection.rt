@@ -147,6 +147,9 @@ pub(crate) fn serve_connection<R: Wait, S: Blocking + Drop, M: Messages, A: Hand
     requires room { 0 < length room.old }
     requires out { message_limit ≤ length out.old }
     ensures peer { link.new.peer ≡ link.old.peer }
+    ensures from { link.new.from ≡ link.old.from }
+    ensures group { link.new.group ≡ link.old.group }
+    ensures window { link.new.window ≡ link.old.window }
     ensures grows { EachGrows (A.seen answering.new) (A.seen answering.old) }
     ensures goes { OnOk result (Goes (A.is_reply link.old.peer) (A.seen answering.old key) (told_by link.old.conversation (S.octets link.old.stream)) (A.seen answering.new key) (told_by link.new.conversation (S.octets link.new.stream))) }
     ensures stops { IfErr result (λ end. Stops (A.is_reply link.old.peer) end (A.seen answering.old key) (told_by link.old.conversation (S.octets link.old.stream)) (A.seen answering.new key) (S.octets link.new.stream)) }

@@ -1,11 +1,11 @@
 //! A connection's requests and replies, with no device.
-ghost use Rattle.std.specs.Prelude.{◌≡◌, ◌≢◌, ℕ, ◌+◌, ◌<◌, ◌≤◌, [], ◌∷◌, ◌++◌, length, take, drop, true, false, IsTrue, None, IfSome, IfOk, IfErr, OnOk, OnErr, if◌then◌else◌};
-ghost use Rattle.dns_message.specs.Frame.{frame_of};
+ghost use Rattle.std.specs.Prelude.{◌≡◌, ◌≢◌, ℕ, ◌+◌, ◌<◌, ◌≤◌, ◌⊎◌, [], ◌∷◌, ◌++◌, length, take, drop, true, false, IsTrue, None, IfSome, IfOk, IfErr, OnOk, OnErr, if◌then◌else◌};
+ghost use Rattle.dns_message.specs.Frame.{frame_of, frame_in};
 ghost use Rattle.dns_message.specs.Message.{message_limit};
 ghost use Rattle.requests.specs.Octets.{frames_of};
 ghost use Rattle.requests.specs.Turns.{Turn};
 ghost use Rattle.tcp_connections.specs.Asked.{EachGrows, Waits};
-ghost use Rattle.tcp_connections.specs.Kept.{nothing_kept, due, IsWaiting, awaited, messages_of, one_passed, passed_behind, taken_behind};
+ghost use Rattle.tcp_connections.specs.Kept.{nothing_kept, due, IsFull, IsWaiting, awaited, messages_of, one_passed, passed_behind, taken_behind};
 
 use crate::handler::{Handler, Messages, Reply, Unmade};
 use crate::queue::{LENGTH, Queue};
@@ -111,7 +111,8 @@ impl<M: Messages> ConnectionState<M> {
 
     /// Whether it waits for octets. Only then is more read: not while a whole request is held, or anything is to be written.
     pub fn wants(&self) -> bool
-        ensures { IsTrue result → IsWaiting self.now }
+        ensures waits { IsTrue result → IsWaiting self.now }
+        ensures all { self.now.making ≡ false → self.now.ready ≡ [] → frame_in self.now.held ≡ None → IsTrue result }
     {
         self.rest.is_none() && self.ready.is_empty() && take_frame(self.held.as_slice()).is_none()
     }
@@ -148,6 +149,7 @@ impl<M: Messages> ConnectionState<M> {
     fn is_full(&self) -> bool
         ensures later { result ≡ false → self.now.later ≡ [] }
         ensures few { result ≡ false → length self.now.ready < 16384 }
+        ensures many { result ≡ true → IsFull self.now }
     {
         self.rest.is_some() || self.ready.as_slice().len() >= MOST_DUE
     }
@@ -194,6 +196,7 @@ impl<M: Messages> ConnectionState<M> {
         ensures passed { IfOk result (λ is_made. is_made ≡ true → self.new.passed ≡ one_passed self.old.passed) }
         ensures taken { IfOk result (λ is_made. self.new.taken ≡ self.old.taken) }
         ensures none { IfOk result (λ is_made. is_made ≡ false → self.new ≡ self.old) }
+        ensures idle { IfOk result (λ is_made. is_made ≡ false → IsFull self.old ⊎ (frame_in self.old.held ≡ None)) }
         ensures broken { OnErr result (self.new ≡ self.old) }
         ensures later { IfErr result (λ broken. broken ≡ Broken.Later → Waits (A.is_later (A.peer answering.old)) self.old.held) }
         ensures spent { IfErr result (λ broken. broken ≡ Broken.Spent → A.spent answering.new) }
@@ -289,6 +292,7 @@ fn passed_by(is_all: bool, passed: u64) -> u64
 fn first_request(octets: &[u8]) -> Option<&[u8]>
     ensures frame { IfSome result (λ request. octets.now ≡ frame_of request.now ++ drop (2 + length request.now) octets.now) }
     ensures bound { IfSome result (λ request. 2 + length request.now ≤ length octets.now) }
+    ensures none { result ≡ None → frame_in octets.now ≡ None }
 {
     match take_frame(octets) {
         Some((request, _rest)) => Some(request),

@@ -1,5 +1,5 @@
 //! Octets that are added at one end and removed at the other.
-ghost use Rattle.std.specs.Prelude.{◌≡◌, ◌≤◌, [], ◌++◌, length, drop, IsTrue, ◌↔◌, OnOk, OnErr};
+ghost use Rattle.std.specs.Prelude.{◌≡◌, ◌+◌, ◌≤◌, [], ◌++◌, length, drop, IsTrue, ◌↔◌, OnOk, OnErr};
 ghost use Rattle.dns_message.specs.Frame.{frame_of};
 ghost use Rattle.dns_message.specs.Message.{message_limit};
 
@@ -9,7 +9,7 @@ use std::marker::Model;
 /// The octets of a frame's length (RFC 1035, 4.2.2).
 pub(crate) const LENGTH: usize = 2;
 
-/// Octets in a row, the first to come first.
+/// Octets in a row, the first to come first. The room of removed octets is kept only while they are at most as many as those that are left.
 #[derive(Drop)]
 pub(crate) struct Queue {
     octets: Vec<u8>,
@@ -17,13 +17,13 @@ pub(crate) struct Queue {
 }
 
 impl Model for Queue {
-    ghost use Rattle.std.specs.Prelude.{ℕ, ◌≤◌, List, length, drop};
+    ghost use Rattle.std.specs.Prelude.{ℕ, ◌+◌, ◌≤◌, List, length, drop};
 
     ghost Value = { List ℕ };
 
     ghost view = { λ a. drop a.at a.octets.items };
 
-    ghost invariant = { λ a. a.at ≤ length a.octets.items };
+    ghost invariant = { λ a. a.at + a.at ≤ length a.octets.items };
 }
 
 impl Queue {
@@ -57,20 +57,7 @@ impl Queue {
         requires { count ≤ length self.old }
         ensures { self.new ≡ drop count self.old }
     {
-        self.at += count;
-    }
-
-    /// Frees the room of removed octets for others, if they are at least as many as those that are left.
-    #[tactic(auto, using(crate::proofs::QueueLemmas::compacted))]
-    fn compact(&mut self)
-        ensures { self.new ≡ self.old }
-    {
-        let left = self.octets.len() - self.at;
-        if self.at >= left {
-            self.octets.copy_within(self.at.., 0);
-            self.octets.truncate(left);
-            self.at = 0;
-        }
+        self.at = compact(&mut self.octets, self.at + count);
     }
 
     /// Adds octets after the others. If there is no memory, the octets stay as they were.
@@ -79,7 +66,6 @@ impl Queue {
         ensures pushed { OnOk result (self.new ≡ self.old ++ octets.now) }
         ensures same { OnErr result (self.new ≡ self.old) }
     {
-        self.compact();
         self.octets.extend_from_slice(octets)
     }
 
@@ -90,7 +76,6 @@ impl Queue {
         ensures pushed { OnOk result (self.new ≡ self.old ++ frame_of message.now) }
         ensures same { OnErr result (self.new ≡ self.old) }
     {
-        self.compact();
         match self.octets.reserve(LENGTH + message.len()) {
             Ok(()) => {}
             Err(fault) => return Err(fault),
@@ -104,4 +89,21 @@ impl Queue {
         };
         Ok(())
     }
+}
+
+/// Frees the room of removed octets, which lie before a place, if they are at least as many as those that are left. Returns where those that
+/// are left begin.
+#[tactic(auto, using(crate::proofs::QueueLemmas::compacted))]
+fn compact(octets: &mut Vec<u8>, at: usize) -> usize
+    requires { at ≤ length octets.old.items }
+    ensures left { drop result octets.new.items ≡ drop at octets.old.items }
+    ensures room { result + result ≤ length octets.new.items }
+{
+    let left = octets.len() - at;
+    if at < left {
+        return at;
+    }
+    octets.copy_within(at.., 0);
+    octets.truncate(left);
+    0
 }

@@ -136,6 +136,8 @@ pub fn make_room<S: Drop, M: Messages>(
 ) -> Room
     ensures free { result ≡ RoomFor.Free → (slab_len links.old < places) × (links.new ≡ links.old) }
     ensures made { (key : ℕ) → result ≡ RoomFor.Made key → IsGiver newcomer links.old (Some key) × (get links.new key ≡ None) }
+    ensures taken { (key : ℕ) → result ≡ RoomFor.Made key → places ≤ slab_len links.old }
+    ensures len { (key : ℕ) → result ≡ RoomFor.Made key → slab_len links.new + 1 ≡ slab_len links.old }
     ensures others { (key : ℕ) → result ≡ RoomFor.Made key → (other : ℕ) → other ≢ key → get links.new other ≡ get links.old other }
     ensures full { result ≡ RoomFor.Full → (places ≤ slab_len links.old) × IsGiver newcomer links.old None × (links.new ≡ links.old) }
 {

@@ -1,11 +1,11 @@
 //! A worker thread's connections, and its turns.
-ghost use Rattle.std.specs.Prelude.{◌≡◌, ◌<◌, ◌≤◌, ◌⊎◌, ◌-◌, ◌/◌, ℕ, List, length, replicate, true, None, IfOk, OnOk};
+ghost use Rattle.std.specs.Prelude.{◌≡◌, ◌<◌, ◌≤◌, ◌⊎◌, ◌-◌, ◌/◌, ℕ, List, length, replicate, true, false, None, IfOk, OnOk};
 ghost use Rattle.std.specs.declared.net.ip_addr.IpAddr.{IpAddr};
 ghost use Rattle.dns_message.specs.Message.{message_limit};
 ghost use Rattle.tcp_connections.specs.Asked.{EachGrows};
 ghost use Rattle.std.specs.Net.Socket.{socket_ip};
 ghost use Rattle.peer_groups.specs.Group.{IsGroupOf};
-ghost use Rattle.slab.specs.Slab.{get};
+ghost use Rattle.slab.specs.Slab.{get, slab_len};
 ghost use Rattle.tcp_loop.specs.Steps.{scarce, nothing_counted, Moves, Sweeps, Serves, GoOn, HasTurned, Turned};
 
 use crate::arrivals::{Arrivals, Refusal, Remote};
@@ -73,6 +73,7 @@ impl<S: Blocking + Remote + Drop, M: Messages> EventLoop<S, M> {
     /// waiting. Nothing is counted yet, and nothing keeps it from accepting any.
     pub fn new(alloc: Global, places: usize, arrivals: usize) -> Result<EventLoop<S, M>, AllocError>
         ensures empty { IfOk result (λ turns. (key : ℕ) → get turns.links key ≡ None) }
+        ensures none { IfOk result (λ turns. slab_len turns.links ≡ 0) }
         ensures places { IfOk result (λ turns. turns.places ≡ places) }
         ensures may_come { IfOk result (λ turns. turns.may_come.items ≡ replicate arrivals true) }
         ensures open { IfOk result (λ turns. turns.shut_until ≡ 0) }
@@ -120,7 +121,8 @@ impl<S: Blocking + Remote + Drop, M: Messages> EventLoop<S, M> {
 
     /// Marks what was reported ready: connections, and listeners at which others may be waiting.
     fn mark(&mut self)
-        ensures { self.new.links ≡ self.old.links }
+        ensures links { self.new.links ≡ self.old.links }
+        ensures places { self.new.places ≡ self.old.places }
     {
         mark_told(&self.told, &mut self.may_come, &mut self.waiting);
         self.told.clear();
@@ -129,7 +131,11 @@ impl<S: Blocking + Remote + Drop, M: Messages> EventLoop<S, M> {
     /// Whether there is a place for one more connection, of a peer of a group, if need be that of the connection that has gone longest
     /// without a whole request, which is then ended.
     fn make_place(&mut self, newcomer: PeerGroup) -> bool
-        ensures { (allowed : List IpAddr) (now : ℕ) (stream : S) → IsGroupOf (socket_ip (S.origin stream)) newcomer → Moves S.origin S.octets allowed now self.old.links self.new.links }
+        ensures moves { (allowed : List IpAddr) (now : ℕ) (stream : S) → IsGroupOf (socket_ip (S.origin stream)) newcomer → Moves S.origin S.octets allowed now self.old.links self.new.links }
+        ensures places { self.new.places ≡ self.old.places }
+        ensures room { result ≡ true → slab_len self.old.links ≤ self.old.places → slab_len self.new.links < self.new.places }
+        ensures none { result ≡ false → self.new.links ≡ self.old.links }
+        ensures free { slab_len self.old.links < self.old.places → self.new.links ≡ self.old.links }
     {
         match make_room(&mut self.links, self.places, newcomer) {
             Room::Free => true,
@@ -153,7 +159,9 @@ impl<S: Blocking + Remote + Drop, M: Messages> EventLoop<S, M> {
 
     /// Gives a new connection a place, as that of the peer at the address that it comes from.
     fn put(&mut self, plan: Plan<'_>, stream: S, now: u64)
-        ensures { Moves S.origin S.octets plan.entry.allowed.addresses.now now self.old.links self.new.links }
+        ensures moves { Moves S.origin S.octets plan.entry.allowed.addresses.now now self.old.links self.new.links }
+        ensures places { self.new.places ≡ self.old.places }
+        ensures few { slab_len self.old.links < self.old.places → slab_len self.new.links ≤ self.new.places }
     {
         let from = stream.address();
         let peer = plan.allowed.peer(from, Transport::Tcp);
@@ -164,7 +172,8 @@ impl<S: Blocking + Remote + Drop, M: Messages> EventLoop<S, M> {
 
     /// Counts a connection that has a key now, which waits for its turn; or one that got none since there was no memory.
     fn note(&mut self, put: Option<usize>)
-        ensures { self.new.links ≡ self.old.links }
+        ensures links { self.new.links ≡ self.old.links }
+        ensures places { self.new.places ≡ self.old.places }
     {
         let Some(key) = put else {
             self.tally.no_room = self.tally.no_room.saturating_add(1);
@@ -178,6 +187,8 @@ impl<S: Blocking + Remote + Drop, M: Messages> EventLoop<S, M> {
     fn begin<P: Readiness<S>>(&mut self, poll: &mut P, plan: Plan<'_>, stream: S, now: u64)
         ensures moves { Moves S.origin S.octets plan.entry.allowed.addresses.now now self.old.links self.new.links }
         ensures time { P.time poll.new ≡ P.time poll.old }
+        ensures places { self.new.places ≡ self.old.places }
+        ensures few { slab_len self.old.links ≤ self.old.places → slab_len self.new.links ≤ self.new.places }
     {
         if !self.make_place(PeerGroup::of(stream.address().ip())) {
             return;
@@ -200,6 +211,8 @@ impl<S: Blocking + Remote + Drop, M: Messages> EventLoop<S, M> {
     ) -> Result<Option<bool>, TurnEnd>
         ensures moves { Moves S.origin S.octets plan.entry.allowed.addresses.now now self.old.links self.new.links }
         ensures time { P.time poll.new ≡ P.time poll.old }
+        ensures places { self.new.places ≡ self.old.places }
+        ensures few { slab_len self.old.links ≤ self.old.places → slab_len self.new.links ≤ self.new.places }
     {
         match arrivals.take() {
             Ok(stream) => {
@@ -228,6 +241,8 @@ impl<S: Blocking + Remote + Drop, M: Messages> EventLoop<S, M> {
     ) -> Result<bool, TurnEnd>
         ensures moves { Moves S.origin S.octets plan.entry.allowed.addresses.now now self.old.links self.new.links }
         ensures time { P.time poll.new ≡ P.time poll.old }
+        ensures places { self.new.places ≡ self.old.places }
+        ensures few { slab_len self.old.links ≤ self.old.places → slab_len self.new.links ≤ self.new.places }
     {
         for _taken in 0..ARRIVALS.min(self.places) {
             match self.take_one(poll, plan, arrivals, now)? {
@@ -245,7 +260,8 @@ impl<S: Blocking + Remote + Drop, M: Messages> EventLoop<S, M> {
 
     /// Marks whether connections may be waiting at a listener.
     fn mark_place(&mut self, place: usize, may: bool)
-        ensures { self.new.links ≡ self.old.links }
+        ensures links { self.new.links ≡ self.old.links }
+        ensures places { self.new.places ≡ self.old.places }
     {
         if let Some(may_come) = self.may_come.get_mut(place) {
             *may_come = may;
@@ -263,6 +279,8 @@ impl<S: Blocking + Remote + Drop, M: Messages> EventLoop<S, M> {
     ) -> Result<(), TurnEnd>
         ensures moves { Moves S.origin S.octets plan.entry.allowed.addresses.now now self.old.links self.new.links }
         ensures time { P.time poll.new ≡ P.time poll.old }
+        ensures places { self.new.places ≡ self.old.places }
+        ensures few { slab_len self.old.links ≤ self.old.places → slab_len self.new.links ≤ self.new.places }
     {
         if self.shut_until != 0 || !self.may_wait(place) {
             return Ok(());
@@ -282,6 +300,8 @@ impl<S: Blocking + Remote + Drop, M: Messages> EventLoop<S, M> {
     ) -> Result<(), TurnEnd>
         ensures moves { Moves S.origin S.octets plan.entry.allowed.addresses.now now self.old.links self.new.links }
         ensures time { P.time poll.new ≡ P.time poll.old }
+        ensures places { self.new.places ≡ self.old.places }
+        ensures few { slab_len self.old.links ≤ self.old.places → slab_len self.new.links ≤ self.new.places }
     {
         if now < self.shut_until {
             return Ok(());
@@ -305,6 +325,8 @@ impl<S: Blocking + Remote + Drop, M: Messages> EventLoop<S, M> {
         requires room { 0 < length room.old }
         requires out { message_limit ≤ length out.old }
         ensures grows { EachGrows (A.seen answering.new) (A.seen answering.old) }
+        ensures places { self.new.places ≡ self.old.places }
+        ensures few { slab_len self.new.links ≤ slab_len self.old.links }
         ensures own { Serves S.origin S.octets A.is_reply now (A.seen answering.old) self.old.links (A.seen answering.new) self.new.links }
         ensures going { OnOk result (GoOn S.would_block A.is_later self.new.links self.new.served.items self.new.next.items) }
     {
@@ -328,6 +350,8 @@ impl<S: Blocking + Remote + Drop, M: Messages> EventLoop<S, M> {
 
     /// Ends the connections that are over, once a second.
     fn sweep(&mut self, plan: Plan<'_>, now: u64)
+        ensures places { self.new.places ≡ self.old.places }
+        ensures few { slab_len self.new.links ≤ slab_len self.old.links }
         ensures swept { Sweeps S.origin S.octets plan.entry.limits now self.old.links self.new.links }
         ensures served { self.new.served.items ≡ self.old.served.items }
         ensures next { self.new.next.items ≡ self.old.next.items }
@@ -359,6 +383,8 @@ impl<S: Blocking + Remote + Drop, M: Messages> EventLoop<S, M> {
         requires room { 0 < length room.old }
         requires out { message_limit ≤ length out.old }
         ensures grows { EachGrows (A.seen answering.new) (A.seen answering.old) }
+        ensures places { self.new.places ≡ self.old.places }
+        ensures few { slab_len self.old.links ≤ self.old.places → slab_len self.new.links ≤ self.new.places }
         ensures turned { HasTurned S.origin S.octets A.is_reply plan.entry.allowed.addresses.now plan.entry.limits (P.time poll.new) (A.seen answering.old) self.old.links (A.seen answering.new) self.new.links }
         ensures going { OnOk result (GoOn S.would_block A.is_later self.new.links self.new.served.items self.new.next.items) }
     {
@@ -392,6 +418,8 @@ impl<S: Blocking + Remote + Drop, M: Messages> EventLoop<S, M> {
         requires room { 0 < length room.old }
         requires out { message_limit ≤ length out.old }
         ensures grows { EachGrows (A.seen answering.new) (A.seen answering.old) }
+        ensures places { self.new.places ≡ self.old.places }
+        ensures few { slab_len self.old.links ≤ self.old.places → slab_len self.new.links ≤ self.new.places }
         ensures turned { Turned S.origin S.octets A.is_reply plan.entry.allowed.addresses.now plan.entry.limits (A.seen answering.old) self.old.links (A.seen answering.new) self.new.links }
     {
         for _ in rt.forever() {

@@ -12,8 +12,7 @@ use Rattle.store_files.specs.declared.file.FileDisk.{FileDisk}
 use Rattle.store_files.specs.File.{synced}
 use Rattle.update_batches.specs.Engine.{IsLast}
 use Rattle.update_batches.specs.Batch.{newest_of}
-use Rattle.update_batches.specs.UpdateRequest.{serial_in}
-use Rattle.update_batches.specs.Turned.{ThreadState, AreRead as RequestsAreRead, HasServed}
+use Rattle.update_batches.specs.Turned.{ThreadState, HasServed}
 use Rattle.store_recovery.specs.declared.start.Recovery.{Recovery}
 use Rattle.store_recovery.specs.Replay.{AreRead}
 use Rattle.store_recovery.specs.Start.{IsStarted}
@@ -22,7 +21,7 @@ use Rattle.store_compaction.specs.RecentUpdates.{last_in}
 use Rattle.store_compaction.specs.Writer.{log_of, trail_of}
 use Rattle.store_compaction.proofs.JudgedLemmas.{last_more}
 use Rattle.store_compaction.specs.Kept.{CompactedState}
-use Rattle.store_compaction.specs.Has.{IsWrittenBy, HasUpdates}
+use Rattle.store_compaction.specs.Has.{HasUpdates}
 use Rattle.store_compaction.proofs.HasLemmas.{has_begun}
 use Rattle.store_compaction.proofs.LawLemmas.{kept_recovered}
 use Rattle.store_server.specs.declared.served.LoggedStore.{LoggedStore}
@@ -30,8 +29,6 @@ use Rattle.store_server.specs.declared.served.ServerStore.{ServerStore}
 use Rattle.store_server.specs.declared.served.ServerStore.TheVariants.{Store}
 use Rattle.store_server.specs.Resumed.{WritesOn}
 use Rattle.store_server.specs.Served.{HasIn}
-use Rattle.zone_server.specs.Waits.{passes_queued, tells_queued, makes_queued, octets_of_queued}
-use Rattle.zone_server.specs.declared.submit.QueuedUpdate.{QueuedUpdate}
 
 pub resumed_has : (first : Version) (later : List Version) (writer : StoreWriter FileDisk IoError) → (writes : WritesOn first later writer)
     → HasUpdates writes.zone (record { writer = writer; wanted = None }) (first ∷ later) (updates_in writes.batches)
@@ -39,19 +36,15 @@ resumed_has first later writer writes =
     has_begun writes.text writes.batches writes.zone writes.updates writes.k (record { writer = writer; wanted = None }) (first ∷ later) writes.stands
     (subst (λ (v : Version). IsLast (first ∷ later) v) (sym writes.last) (last_more (first ∷ []) first later ([], refl)))
 
--- a request that waits has the octets that it was read of
-waiting_read : (L : Type 0) → RequestsAreRead {S = ServerStore (CompactedState IoError) L} passes_queued tells_queued makes_queued octets_of_queued serial_in IsWrittenBy (HasIn HasUpdates)
-waiting_read L version waiting next lets is = (waiting.asked.short, (waiting.asked.update, waiting.asked.read, is))
-
 module _ {L : Type 0} where
-  pub served_recovered : (zone : List Record) (old new : ThreadState Version QueuedUpdate (ServerStore (CompactedState IoError) L)) (stood : List (List ℕ))
+  pub served_recovered : (zone : List Record) (old new : ThreadState (ServerStore (CompactedState IoError) L)) (stood : List (List ℕ))
       (kept : LoggedStore (CompactedState IoError) L)
-      → (served : HasServed passes_queued tells_queued makes_queued octets_of_queued serial_in IsWrittenBy (HasIn HasUpdates) old new)
+      → (served : HasServed (HasIn HasUpdates) old new)
       → HasIn HasUpdates zone old.store old.published stood → new.store ≡ Store kept
       → (has : HasUpdates zone kept.store new.published (stood ++ served.updates)) × ((left : List ℕ) (start : Recovery)
       → IsStarted has.text (synced (disk_of (log_of kept.store.writer)) ++ left) start
       → (all : List Update) × (more : List Update) × AreRead (stood ++ served.updates) all × EachChanges zone (all ++ more) × (start.newest.last.zone ≡ replay zone (all ++ more)))
   served_recovered zone old new stood kept served had is =
       let has : HasUpdates zone kept.store new.published (stood ++ served.updates) =
-      subst (λ (s : ServerStore (CompactedState IoError) L). HasIn HasUpdates zone s new.published (stood ++ served.updates)) is (served.stored (waiting_read L) zone stood had) in
+      subst (λ (s : ServerStore (CompactedState IoError) L). HasIn HasUpdates zone s new.published (stood ++ served.updates)) is (served.stored zone stood had) in
       (has, λ left start started. kept_recovered zone kept.store new.published (stood ++ served.updates) left start has started)

@@ -10,7 +10,6 @@ ghost use Rattle.journal.specs.Recovered.{updates_in};
 ghost use Rattle.journal.specs.Log.{disk_of};
 ghost use Rattle.store_files.specs.declared.file.FileDisk.{FileDisk};
 ghost use Rattle.store_files.specs.File.{synced};
-ghost use Rattle.update_batches.specs.UpdateRequest.{serial_in};
 ghost use Rattle.update_batches.specs.Turned.{ThreadState, HasServed};
 ghost use Rattle.store_recovery.specs.declared.start.Recovery.{Recovery};
 ghost use Rattle.store_recovery.specs.Replay.{AreRead};
@@ -18,14 +17,12 @@ ghost use Rattle.store_recovery.specs.Start.{IsStarted};
 ghost use Rattle.store_compaction.specs.declared.writer.StoreWriter.{StoreWriter};
 ghost use Rattle.store_compaction.specs.Writer.{log_of};
 ghost use Rattle.store_compaction.specs.Kept.{CompactedState};
-ghost use Rattle.store_compaction.specs.Has.{IsWrittenBy, HasUpdates};
+ghost use Rattle.store_compaction.specs.Has.{HasUpdates};
 ghost use Rattle.store_server.specs.declared.served.LoggedStore.{LoggedStore};
 ghost use Rattle.store_server.specs.declared.served.ServerStore.{ServerStore};
 ghost use Rattle.store_server.specs.declared.served.ServerStore.TheVariants.{Store};
 ghost use Rattle.store_server.specs.Resumed.{WritesOn};
 ghost use Rattle.store_server.specs.Served.{HasIn};
-ghost use Rattle.zone_server.specs.Waits.{passes_queued, tells_queued, makes_queued, octets_of_queued};
-ghost use Rattle.zone_server.specs.declared.submit.QueuedUpdate.{QueuedUpdate};
 
 /// A store that a start returns has the updates of its journal after the zone of its text, and ends with the version that the server publishes
 /// last when it starts.
@@ -39,8 +36,8 @@ pub fn resumed_store_has_its_updates()
 /// start recovers is that zone with these updates replayed, and after them at most some that were written and are not known to be on the disk,
 /// to which the reply was SERVFAIL, or there is no reply yet.
 pub fn served_updates_are_recovered<L>()
-    ensures { (zone : List Record) (old new : ThreadState Version QueuedUpdate (ServerStore (CompactedState IoError) L)) (stood : List (List ℕ)) (kept : LoggedStore (CompactedState IoError) L)
-        → (served : HasServed passes_queued tells_queued makes_queued octets_of_queued serial_in IsWrittenBy (HasIn HasUpdates) old new)
+    ensures { (zone : List Record) (old new : ThreadState (ServerStore (CompactedState IoError) L)) (stood : List (List ℕ)) (kept : LoggedStore (CompactedState IoError) L)
+        → (served : HasServed (HasIn HasUpdates) old new)
         → HasIn HasUpdates zone old.store old.published stood → new.store ≡ Store kept
         → (has : HasUpdates zone kept.store new.published (stood ++ served.updates)) × ((left : List ℕ) (start : Recovery) → IsStarted has.text (synced (disk_of (log_of kept.store.writer)) ++ left) start
         → (all : List Update) × (more : List Update) × AreRead (stood ++ served.updates) all × EachChanges zone (all ++ more) × (start.newest.last.zone ≡ replay zone (all ++ more))) }

@@ -1,11 +1,11 @@
-use Rattle.std.proofs.Common.{◌≡◌, ◌<◌, ◌^◌, ℕ, List, [], length, get_or, map, Bor, ap, arith}
+use Rattle.std.proofs.Common.{◌≡◌, ◌<◌, ◌^◌, ℕ, List, [], length, get_or, map, Bor, subst, arith}
 use Rattle.std.proofs.lemmas.List.{get_or-map, length-map}
 use Rattle.std.proofs.lemmas.List.Elements.{All-get_or}
 use Rattle.journal.specs.Batch.{IsShort}
 use Rattle.store_compaction.proofs.steps.steps_of.Goals as goal
 
-pub invariant_of-push : goal.invariant_of-push
-invariant_of-push g c =
+pub of-requires : goal.of-requires
+of-requires g c =
     let updates = c.args.updates.now in
     let place = c.loop-place.place in
     let now : Bor (List ℕ) → List ℕ = λ (u : Bor (List ℕ)). u.now in
@@ -13,5 +13,4 @@ invariant_of-push g c =
     let inside : place < length updates = omega (arith, c.loop-place-test.true, c.requires.many) in
     let short : IsShort (get_or (map now updates) place []) = All-get_or IsShort (map now updates) place [] (omega (arith, inside, length-map updates now)) c.requires.short in
     let is : get_or (map now updates) place [] ≡ now (get_or updates place none) = get_or-map now updates place none [] inside in
-    let long : length c.in_ok-update.update.items < 2 ^ 16 = omega (arith, short, ap length is, c.in_ok-update.ensures.len, c.in_ok-update.update.ok.0) in
-    record { short = long }
+    subst (λ (o : List ℕ). length o < 2 ^ 16) is short

@@ -1,5 +1,5 @@
 use Rattle.std.proofs.Common.{◌≡◌, map, take}
-use Rattle.store_compaction.specs.RecentUpdates.{versions_in, updates_of}
+use Rattle.update_batches.specs.Batch.{versions_in, updates_of}
 use Rattle.store_compaction.proofs.steps.steps_of.Given as goal
 
 abbrev pub invariant-loop-place : goal.invariant-loop-place

@@ -14,5 +14,5 @@ returns-clause-begun g c =
       origin = c.of.result;
       begun = c.in_ok-text.ensures;
       from = c.of.ensures;
-      empty = c.in_ok-log.ensures head [] ([], lies ∙ sym (append-nil (octets_of head []))) c.in_ok-octets.ensures.1 refl end tt;
+      empty = c.in_ok-log.ensures.holds head [] ([], lies ∙ sym (append-nil (octets_of head []))) c.in_ok-octets.ensures.1 refl end tt;
     }

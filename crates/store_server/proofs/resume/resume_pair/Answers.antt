@@ -17,7 +17,7 @@ returns-clause-resumed c =
     record {
       is = is;
       head = refl;
-      log = c.in_ok-log.ensures start.head found.bodies
+      log = c.in_ok-log.ensures.holds start.head found.bodies
           (found.rest, c.requires.noted ∙ begins_with text octets start.head is.messages start.number start.end is.torn found)
           is.salt
           (counts text octets start.head is.messages start.number start.end is.torn found)

@@ -1,5 +1,5 @@
 -- One connection more is told, or there is none under the key.
-use Rattle.std.proofs.Common.{ℕ, Option, refl, sym, ap, ◌≤◌, ◌<◌, ◌+◌, ◌*◌, length, arith, take, is_some, true, false}
+use Rattle.std.proofs.Common.{refl, sym, ap, ◌≤◌, ◌<◌, ◌+◌, ◌*◌, length, arith, take, is_some, true, false}
 use Rattle.std.specs.List.{count_by}
 use Rattle.std.proofs.lemmas.Bool.{ltb-true}
 use Rattle.peer_groups.specs.Group.{is_same}

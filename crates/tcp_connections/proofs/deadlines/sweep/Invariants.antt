@@ -1,5 +1,5 @@
 -- The connections under the keys so far are swept, and the others are as they were.
-use Rattle.std.proofs.Common.{◌≡◌, ℕ, ◌+◌, ◌<◌, ◌≤◌}
+use Rattle.std.proofs.Common.{◌≡◌, ℕ, ◌<◌, ◌≤◌}
 use Rattle.slab.specs.Slab.{get, slab_len}
 use Rattle.tcp_connections.specs.Deadlines.{kept_at}
 use Rattle.tcp_connections.specs.Ends.{AreCounted}

@@ -17,6 +17,9 @@ returns-in-Ok-clause-own g c =
     let here = Updates-with_value links c.args.key new (search rules) in
     own_gone g.A.Handler.is_reply (seen_of g.S.Blocking.octets) c.args.now (g.A.Handler.seen c.args.answering.now c.args.key) (g.A.Handler.seen c.serve_connection.new.answering c.args.key) (get links c.args.key) (get (with_value links c.args.key new) c.args.key) c.in-Some.link.now new c.in-Some.ensures.value here.changed (record {
       peer = c.in-Ok.ensures.peer;
+      from = c.in-Ok.ensures.from;
+      group = c.in-Ok.ensures.group;
+      window = c.in-Ok.ensures.window;
       goes = c.in-Ok.ensures.goes;
       written = c.in-Ok.ensures.written;
       begun = begun_once _ _ _ _ _ c.in-Ok.ensures.begun;

@@ -1,5 +1,5 @@
 -- The connections under the keys so far are served, and there is room for the keys that are left.
-use Rattle.std.proofs.Common.{◌≡◌, ℕ, ◌+◌, ◌≤◌, ◌⊎◌, length, take, option_map}
+use Rattle.std.proofs.Common.{ℕ, ◌+◌, ◌≤◌, ◌⊎◌, length, take, option_map}
 use Rattle.std.specs.List.{All, Contains}
 use Rattle.std.specs.Vec.{vec_len, vec_capacity}
 use Rattle.requests.specs.Served.{BeginsWith}

@@ -1,6 +1,6 @@
 use Rattle.std.proofs.Common.{◌++◌, ◌∷◌, [], List, append_assoc, sym, ap, ◌∙◌}
 use Rattle.std.specs.Vec.Iter.{into_iter_items}
-use Rattle.store_compaction.specs.declared.version_update.VersionUpdate.{VersionUpdate}
+use Rattle.update_batches.specs.declared.version_update.VersionUpdate.{VersionUpdate}
 use Rattle.store_compaction.specs.RecentUpdates.{TrailState, pushed}
 use Rattle.store_compaction.proofs.RecentLemmas.{followed_push}
 use Rattle.store_compaction.proofs.recent_updates.RecentUpdates.follow.Goals as goal

@@ -1,6 +1,6 @@
 use Rattle.std.proofs.Common.{◌≡◌, ◌≤◌, ◌∷◌, [], length, rules}
 use Rattle.journal.specs.Batch.{batch_of}
-use Rattle.store_compaction.specs.RecentUpdates.{updates_of}
+use Rattle.update_batches.specs.Batch.{updates_of}
 use Rattle.store_compaction.specs.Marked.{bodies_of}
 use Rattle.store_compaction.proofs.EndLemmas.{marked_end}
 use Rattle.store_compaction.proofs.recent_updates.RecentUpdates.mark.Goals as goal

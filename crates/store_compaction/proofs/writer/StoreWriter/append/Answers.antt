@@ -1,8 +1,10 @@
-use Rattle.std.proofs.Common.{sym, subst}
-use Rattle.journal.specs.Log.{Holds}
-use Rattle.update_batches.specs.Batch.{logged}
+-- The batch is added to the compaction that is under way.
+use Rattle.std.proofs.Common.{◌∙◌}
+use Rattle.update_batches.specs.Batch.{updates_of}
+use Rattle.store_compaction.proofs.MarkedLemmas.{short_steps}
 use Rattle.store_compaction.proofs.writer.StoreWriter.append.Goals as goal
 
-pub returns-in-None-clause-on_disk : goal.returns-in-None-clause-on_disk
-returns-in-None-clause-on_disk g c updates batch head bodies holds =
-    subst (λ log. Holds g.D.Disk.written g.D.Disk.synced head log (logged bodies updates)) (sym c.add.ensures.log) (c.in-None.ensures.on_disk updates batch head bodies holds)
+pub returns-clause-marked : goal.returns-clause-marked
+returns-clause-marked g c some k batches before now was is marked within =
+    c.add.ensures.marked k batches (updates_of c.args.updates.now) before now was is marked within (short_steps c.args.updates.now)
+    (c.deref-2.ensures.value ∙ c.in-Ok-batch_body.ensures.batch)

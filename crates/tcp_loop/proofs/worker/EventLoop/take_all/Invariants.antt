@@ -1,5 +1,6 @@
 -- Places have been taken and given back so far.
-use Rattle.std.proofs.Common.{◌≡◌}
+use Rattle.std.proofs.Common.{◌≡◌, ◌≤◌}
+use Rattle.slab.specs.Slab.{slab_len}
 use Rattle.tcp_loop.specs.Steps.{Moves}
 use Rattle.tcp_loop.proofs.worker.EventLoop.take_all.Given as goal
 
@@ -7,4 +8,6 @@ abbrev pub invariant-loop-place : goal.invariant-loop-place
 invariant-loop-place g l = record {
   moves : Moves g.S.Remote.origin g.S.Blocking.octets l.plan.allowed.addresses.now l.now l.initial.self.links l.self.links;
   time : g.P.Readiness.time l.poll ≡ g.P.Readiness.time l.initial.poll;
+  places : l.self.places ≡ l.initial.self.places;
+  few : slab_len l.initial.self.links ≤ l.initial.self.places → slab_len l.self.links ≤ l.self.places;
 }

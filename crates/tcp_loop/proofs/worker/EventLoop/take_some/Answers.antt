@@ -5,12 +5,14 @@ use Rattle.tcp_loop.proofs.StepLemmas.{moves_more}
 use Rattle.tcp_loop.proofs.worker.EventLoop.take_some.Goals as goal
 
 pub loop-taken-init : goal.loop-taken-init
-loop-taken-init g c = record { moves = stay; time = refl }
+loop-taken-init g c = record { moves = stay; time = refl; places = refl; few = λ few. few }
 
 pub loop-taken-preserved : goal.loop-taken-preserved
 loop-taken-preserved g c = record {
   moves = moves_more g.S.Remote.origin g.S.Blocking.octets c.args.plan.allowed.addresses.now c.args.now c.args.self.now.links c.loop-taken.self.links c.take_one.new.self.links c.loop-taken.invariant.moves c.take_one.ensures.moves;
   time = c.take_one.ensures.time ∙ c.loop-taken.invariant.time;
+  places = c.take_one.ensures.places ∙ c.loop-taken.invariant.places;
+  few = λ few. c.take_one.ensures.few (c.loop-taken.invariant.few few);
 }
 
 pub returns-in-Some-clause-moves : goal.returns-in-Some-clause-moves

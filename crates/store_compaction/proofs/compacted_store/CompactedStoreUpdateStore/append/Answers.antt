@@ -1,0 +1,30 @@
+-- A batch that is appended, and one that is not.
+use Rattle.std.proofs.Common.{◌≡◌, ◌<◌, length, refl, ap, sym, ◌∙◌}
+use Rattle.std.specs.declared.io.Error.{Error as IoError}
+use Rattle.journal.specs.Log.{is_stuck}
+use Rattle.store_compaction.specs.Kept.{CompactedState}
+use Rattle.store_compaction.proofs.KeptLemmas.{appended, not_appended, some_there, on_ok, on_err}
+use Rattle.store_compaction.proofs.HasLemmas.{has_appended, has_kept}
+use Rattle.store_compaction.proofs.compacted_store.CompactedStoreUpdateStore.append.Goals as goal
+
+pub returns-clause-stored : goal.returns-clause-stored
+returns-clause-stored g c =
+    let updates = c.args.updates.now in
+    let wanted = g.T.TextWriter.wanted c.self.inside.texts in
+    let after : CompactedState IoError = record { writer = c.append.new.self; wanted = wanted } in
+    let some : 0 < length updates = some_there updates updates refl c.if-is_empty.ensures in
+    let on = ap is_stuck (sym c.log.ensures) ∙ (sym c.is_stuck.ensures ∙ c.if-is_stuck.false) in
+    on_ok c.append.result c.append.ensures.on_disk c.append.ensures.trail c.append.ensures.compaction c.append.ensures.marked
+    (λ stored found way marks.
+    has_appended updates c.args.self.now after
+    (appended updates c.args.self.now c.self.inside.writer c.append.new.self wanted c.self.view_is on some stored found way marks c.append.ensures.head))
+
+pub returns-clause-kept : goal.returns-clause-kept
+returns-clause-kept g c =
+    let wanted = g.T.TextWriter.wanted c.self.inside.texts in
+    let after : CompactedState IoError = record { writer = c.append.new.self; wanted = wanted } in
+    let on = ap is_stuck (sym c.log.ensures) ∙ (sym c.is_stuck.ensures ∙ c.if-is_stuck.false) in
+    on_err c.append.result c.append.ensures.on_disk_still c.append.ensures.trail_still c.append.ensures.compaction_still
+    (λ still trail way.
+    has_kept c.args.self.now after
+    (not_appended c.args.self.now c.self.inside.writer c.append.new.self wanted c.self.view_is on still trail way c.append.ensures.head))
