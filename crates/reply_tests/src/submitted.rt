@@ -56,7 +56,7 @@ fn one_key<R: Wait>(rt: &R, alloc: Global, queue: &Queue<QueuedUpdate>) -> Optio
         return None;
     }
     let waiting = taken.pop()?;
-    match waiting.way {
+    match waiting.reply_to {
         ReplyTo::Connection { worker: 1, key, .. } => Some(key),
         _ => None,
     }
@@ -65,7 +65,7 @@ fn one_key<R: Wait>(rt: &R, alloc: Global, queue: &Queue<QueuedUpdate>) -> Optio
 /// Whether an update is submitted once while it is queued, and again for another client, on another connection, and after a query; and whether,
 /// while the queue has no room, it is not submitted until the queued update is taken. If one update were submitted twice, the second would find
 /// no room, and would be answered at once.
-fn is_handed_once<R: Wait, Z: FirstZone, N: ServerName>(
+fn is_submitted_once<R: Wait, Z: FirstZone, N: ServerName>(
     rt: &R,
     alloc: Global,
     queue: &Queue<QueuedUpdate>,
@@ -86,7 +86,7 @@ fn is_handed_once<R: Wait, Z: FirstZone, N: ServerName>(
 }
 
 /// The same, with one of the readers, which is put back.
-fn is_handed<R: Wait, Z: FirstZone, N: ServerName>(
+fn is_submitted<R: Wait, Z: FirstZone, N: ServerName>(
     rt: &R,
     alloc: Global,
     server: &Server<'_, Z, N>,
@@ -106,9 +106,9 @@ fn is_handed<R: Wait, Z: FirstZone, N: ServerName>(
         queue: &queue,
         worker: 1,
     });
-    let is_handed = is_handed_once(rt, alloc, &queue, &mut replies);
+    let is_submitted = is_submitted_once(rt, alloc, &queue, &mut replies);
     readers.push(replies.into_reader()).ok()?;
-    is_handed
+    is_submitted
 }
 
 /// The test of updates that are submitted.
@@ -133,7 +133,7 @@ impl Play for Submitting {
         };
         let (told, publisher, reader) = match server_of(alloc, cell, publisher, reader, ledgers) {
             Ok(server) => {
-                let told = is_handed(rt, alloc, &server, &mut readers);
+                let told = is_submitted(rt, alloc, &server, &mut readers);
                 let (publisher, reader) = server.finish();
                 (told, publisher, reader)
             }
@@ -149,10 +149,10 @@ impl Play for Submitting {
 }
 
 #[test]
-fn an_update_that_waits_is_handed_once(rt: HostRuntime) {
-    let told = match zone(rt.alloc()) {
+fn a_queued_update_is_submitted_once(rt: HostRuntime) {
+    let passed = match zone(rt.alloc()) {
         Some(zone) => is_played(&rt, rt.alloc(), zone, &Submitting),
         None => None,
     };
-    assert_eq!(rt; told, Some(true));
+    assert_eq!(rt; passed, Some(true));
 }
