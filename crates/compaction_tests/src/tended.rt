@@ -3,7 +3,7 @@ ghost use Rattle.std.specs.Prelude.{option_map, IfOk};
 ghost use Rattle.store_compaction.specs.TextWriter.{wanted_of, IsWritten};
 
 use crate::found::{expect, is_there};
-use crate::updates::{begin, check, group_of};
+use crate::updates::{begin, check, updates_of};
 use journal::Head;
 use std::alloc::Global;
 use std::sync::Wait;
@@ -116,9 +116,9 @@ fn send<R: Wait>(
     line: &'static str,
     writes: bool,
 ) -> Result<(), Fail> {
-    let mut group = group_of(files.alloc(), store.writer().trail(), from, to)?;
-    let fault = store.append(rt, files.alloc(), &mut group);
-    check(fault.is_none(), line)?;
+    let updates = updates_of(files.alloc(), store.writer().trail(), from, to)?;
+    let kept = store.append(rt, files.alloc(), &updates).is_ok();
+    check(kept, line)?;
     tend(rt, files, store, line, writes)
 }
 
@@ -180,10 +180,9 @@ fn fail_to_lay<R: Wait>(rt: &R, files: &HostRuntime, store: &mut Store) -> Resul
 /// before.
 fn move_away<R: Wait>(rt: &R, files: &HostRuntime, store: &mut Store) -> Result<(), Fail> {
     fs::rename(files, DIR, MOVED)?;
-    let mut group = group_of(files.alloc(), store.writer().trail(), 13, 14)?;
-    let fault = store.append(rt, files.alloc(), &mut group);
-    let is_given_up = fault.is_some() && group.versions().is_empty();
-    check(is_given_up, "a batch is kept in a folder that was moved")?;
+    let updates = updates_of(files.alloc(), store.writer().trail(), 13, 14)?;
+    let kept = store.append(rt, files.alloc(), &updates).is_ok();
+    check(!kept, "a batch is kept in a folder that was moved")?;
     store.tend(rt, files.alloc());
     check(!fs::exists(files, DIR)?, "a folder is made in its place")?;
     fs::rename(files, MOVED, DIR)?;

@@ -1,5 +1,5 @@
 //! New stores in directories, and updates that are appended to them.
-ghost use Rattle.update_batches.specs.UpdateRequest.{passes, tells, makes, octets_of, serial_in};
+ghost use Rattle.std.specs.Prelude.{◌≤◌, length, IfOk};
 
 use dns_engine::{KEPT, SharedVersion};
 use dns_name::Name;
@@ -7,14 +7,13 @@ use journal::{Log, TextSum, write_head};
 use master_file::read_zone;
 use std::alloc::Global;
 use std::fs;
+use std::net::SocketAddr;
 use std::sync::Wait;
 use std::test::Fail;
 use store_compaction::{RecentUpdates, StoreWriter};
 use store_files::{FileDisk, write_pair};
 use store_recovery::begin_store;
-use update_batches::{
-    Batch, Judgement, Judging, UpdateRequest, judge_group, judge_request, serial_in,
-};
+use update_batches::{MOST, QueuedUpdate, ReplyTo, UpdateRequest, VersionUpdate, judge_batch};
 use zone_tree::{Version, Zone};
 
 /// The zone text of a new store, with serial 7.
@@ -32,42 +31,6 @@ pub(crate) fn check(holds: bool, words: &str) -> Result<(), Fail> {
         Ok(())
     } else {
         Err(Fail::from(words))
-    }
-}
-
-/// The rules by which an update is judged, without an engine.
-struct Rules;
-
-impl Judging for Rules {
-    type Version = SharedVersion;
-
-    type Asked = UpdateRequest;
-
-    ghost octets = { octets_of };
-
-    ghost passes = { passes };
-
-    ghost tells = { tells };
-
-    ghost makes = { makes };
-
-    ghost serial = { serial_in };
-
-    fn judge(
-        &self,
-        alloc: Global,
-        version: &SharedVersion,
-        asked: &UpdateRequest,
-    ) -> Judgement<SharedVersion> {
-        judge_request(alloc, version, asked)
-    }
-
-    fn octets_of<'a>(&self, asked: &'a UpdateRequest) -> &'a [u8] {
-        asked.octets()
-    }
-
-    fn serial_of(&self, version: &SharedVersion) -> u32 {
-        serial_in(version)
     }
 }
 
@@ -94,23 +57,27 @@ pub(crate) fn begin(rt: &HostRuntime, dir: &str) -> Result<StoreWriter<FileDisk>
 }
 
 /// The update that adds the address of a number at a.example: 192.0 followed by the two octets of the number.
-fn update_of(alloc: Global, number: u16) -> Result<UpdateRequest, Fail> {
+fn update_of(alloc: Global, number: u16) -> Result<QueuedUpdate, Fail> {
     let mut octets = hex::decode(alloc, ADD.as_bytes())?;
     octets.truncate(octets.len().saturating_sub(2));
     octets.extend_from_slice(&number.to_be_bytes())?;
-    match UpdateRequest::read(alloc, octets, true) {
-        Some(asked) => Ok(asked),
-        None => Err(Fail::from("an update isn't read")),
-    }
+    let Some(request) = UpdateRequest::read(alloc, octets, true) else {
+        return Err(Fail::from("an update isn't read"));
+    };
+    let reply_to = ReplyTo::Datagram {
+        worker: 0,
+        to: SocketAddr::from(([192, 0, 2, 7], 4711)),
+    };
+    Ok(QueuedUpdate { request, reply_to })
 }
 
 /// The updates that add the addresses of the numbers from `from` up to, but not including, `to`.
-fn updates_of(alloc: Global, from: u16, to: u16) -> Result<Vec<UpdateRequest>, Fail> {
-    let mut asked = Vec::new(alloc);
+fn queued_of(alloc: Global, from: u16, to: u16) -> Result<Vec<QueuedUpdate>, Fail> {
+    let mut requests = Vec::new(alloc);
     for number in from..to {
-        asked.push(update_of(alloc, number)?)?;
+        requests.push(update_of(alloc, number)?)?;
     }
-    Ok(asked)
+    Ok(requests)
 }
 
 /// The last version of recent updates.
@@ -123,20 +90,22 @@ fn last_of(trail: &RecentUpdates) -> &SharedVersion {
 
 /// The updates that add the addresses of the numbers from `from` up to, but not including, `to`, judged after recent updates. Each makes a
 /// version.
-pub(crate) fn group_of(
+pub(crate) fn updates_of(
     alloc: Global,
     trail: &RecentUpdates,
     from: u16,
     to: u16,
-) -> Result<Batch<SharedVersion>, Fail> {
-    let asked = updates_of(alloc, from, to)?;
-    let mut verdicts = Vec::with_capacity(alloc, asked.len())?;
-    let group = judge_group(&Rules, alloc, last_of(trail), &asked, 64, &mut verdicts);
+) -> Result<Vec<VersionUpdate>, Fail>
+    ensures { IfOk result (λ updates. length updates.items ≤ 64) }
+{
+    let requests = queued_of(alloc, from, to)?;
+    let mut verdicts = Vec::with_capacity(alloc, requests.len())?;
+    let updates = judge_batch(alloc, last_of(trail), &requests, MOST, &mut verdicts);
     check(
-        group.versions().len() == asked.len(),
+        updates.len() == requests.len(),
         "an update makes no version",
     )?;
-    Ok(group)
+    Ok(updates)
 }
 
 /// Appends them to a store as one batch. Returns whether the batch is stored.
@@ -147,6 +116,6 @@ pub(crate) fn send<R: Wait>(
     from: u16,
     to: u16,
 ) -> Result<bool, Fail> {
-    let mut group = group_of(alloc, writer.trail(), from, to)?;
-    Ok(writer.append(rt, alloc, &mut group).is_none())
+    let updates = updates_of(alloc, writer.trail(), from, to)?;
+    Ok(writer.append(rt, alloc, &updates).is_ok())
 }

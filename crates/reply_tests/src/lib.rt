@@ -6,4 +6,4 @@
 #[cfg(test)]
 mod big;
 #[cfg(test)]
-mod handed;
+mod submitted;

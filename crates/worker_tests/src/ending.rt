@@ -1,7 +1,7 @@
 //! A zone served by worker threads on sockets of the system, and how that ends: each thread has reached its limit, or all end since one of them
 //! has failed.
 
-use crate::nowhere::{NoFaults, Nowhere};
+use crate::nowhere::Nowhere;
 use dns_engine::SharedVersion;
 use played_zones::zone;
 use requests::Allowed;
@@ -163,12 +163,11 @@ pub(crate) fn served<R: Net + Threads + Wait + Clock + Sync>(
             octets: 1 << 20,
         },
         store: Nowhere,
-        faults: NoFaults,
     };
     let log = Summed {
         sum: AtomicU64::new(0),
     };
-    let end = serve_zone::<R, Brand, Summed, Nowhere, NoFaults>(
+    let end = serve_zone::<R, Brand, Summed, Nowhere>(
         rt, alloc, first, later, duties, plan, handing, &log,
     );
     Some(reason_of(end).saturating_add(log.sum.load(Ordering::SeqCst)))

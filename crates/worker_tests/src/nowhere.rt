@@ -1,18 +1,14 @@
-//! A store that keeps nothing, and a fault log that notes nothing.
-use dns_engine::SharedVersion;
-use journal::LogFault;
+//! A store that keeps nothing.
 use std::alloc::Global;
 use std::sync::Wait;
-use update_batches::{Batch, Faults, UpdateStore};
+use update_batches::{UpdateStore, VersionUpdate};
 
 /// A store for updates that do not survive the end of the program.
 #[derive(Clone, Copy)]
 pub(crate) struct Nowhere;
 
-impl UpdateStore<SharedVersion> for Nowhere {
+impl UpdateStore for Nowhere {
     type Fault = ();
-
-    ghost writes = { λ _ _ _. Unit {0} };
 
     ghost has = { λ _ _ _ _. Unit {0} };
 
@@ -22,16 +18,8 @@ impl UpdateStore<SharedVersion> for Nowhere {
         &mut self,
         _rt: &R,
         _alloc: Global,
-        _group: &mut Batch<SharedVersion>,
-    ) -> Option<LogFault<()>> {
-        None
+        _updates: &[VersionUpdate],
+    ) -> Result<(), ()> {
+        Ok(())
     }
-}
-
-/// Notes no faults of batches.
-#[derive(Clone, Copy)]
-pub(crate) struct NoFaults;
-
-impl Faults<()> for NoFaults {
-    fn note<R: Wait>(&mut self, _rt: &R, _fault: Option<LogFault<()>>) {}
 }
