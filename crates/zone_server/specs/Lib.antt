@@ -1,3 +1,4 @@
+pub mod Answer
 pub mod Brought
 pub mod Known
 pub mod Met
