@@ -76,7 +76,7 @@ fn replace<W: Wait, R: Files<File = File> + Alloc + Clone + Drop, N: Notes>(
     let number = head.number;
     match replace_with_next(files, alloc, dir, writer, head) {
         Ok(false) => {
-            drop_text(rt, files, alloc, dir, notes, number);
+            drop_text(rt, files, alloc, dir, writer.head(), notes, number);
             Placed::Nothing
         }
         Ok(true) => {
@@ -88,7 +88,7 @@ fn replace<W: Wait, R: Files<File = File> + Alloc + Clone + Drop, N: Notes>(
         }
         Err(PairFault::Before(fault)) => {
             notes.note(rt, CompactionEvent::NotReplaced(fault));
-            drop_text(rt, files, alloc, dir, notes, number);
+            drop_text(rt, files, alloc, dir, writer.head(), notes, number);
             Placed::Failed
         }
         Err(PairFault::Unknown(fault)) => {
@@ -98,16 +98,21 @@ fn replace<W: Wait, R: Files<File = File> + Alloc + Clone + Drop, N: Notes>(
     }
 }
 
-/// Removes the text of a number that no journal names, nor ever will, since another text is started instead.
+/// Removes the text of a number that no journal names, nor ever will, since another text is started instead. The text of the store's journal, which has this head, is never
+/// removed.
 fn drop_text<W: Wait, R: Files, N: Notes>(
     rt: &W,
     files: &R,
     alloc: Global,
     dir: &str,
+    head: &Head,
     notes: &mut N,
     number: u64,
 ) {
-    if let Err(fault) = remove_text(files, alloc, dir, number) {
+    if number == head.number {
+        return;
+    }
+    if let Err(fault) = remove_text(files, alloc, dir, number, head) {
         notes.note(rt, CompactionEvent::NotRemoved(fault));
     }
 }

@@ -1,5 +1,5 @@
 //! Writers of zone texts (own).
-ghost use Rattle.std.specs.Prelude.{◌≡◌, ◌≢◌, ◌↔◌, Option, None, Some, IsTrue, IfOk, OnOk, OnErr, MatchOption};
+ghost use Rattle.std.specs.Prelude.{◌≡◌, ◌≢◌, ◌↔◌, ◌<◌, Option, None, Some, IsTrue, IfOk, OnOk, OnErr, MatchOption};
 ghost use Rattle.store_compaction.specs.TextWriter.{Wanted, wanted_of, IsWritten};
 
 use crate::next::NextText;
@@ -13,8 +13,8 @@ pub trait TextWriter: Drop {
     /// The requested text, with the sum of the text from which the store was created.
     ghost wanted: { Self → Option Wanted };
 
-    /// Starts to write a zone text for a store with this head, at once or a few seconds later. A text that was being written is no longer reported. Allocates memory. After an
-    /// error no text is being written.
+    /// Starts to write a zone text for a store with this head, which names an earlier text, at once or a few seconds later. A text that was being written is no longer reported.
+    /// Allocates memory. After an error no text is being written.
     fn write<R: Wait>(
         &mut self,
         rt: &R,
@@ -23,6 +23,7 @@ pub trait TextWriter: Drop {
         before: &Head,
         later: bool,
     ) -> io::Result<()>
+        requires later { before.now.number < next.number }
         ensures begun { OnOk result (wanted self.new ≡ Some (wanted_of next before.now)) }
         ensures none { OnErr result (wanted self.new ≡ None) };
 

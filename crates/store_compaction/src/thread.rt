@@ -1,5 +1,5 @@
 //! Zone texts written on threads of their own (own).
-ghost use Rattle.std.specs.Prelude.{◌≡◌, Some, None, IfOk, OnOk, OnErr};
+ghost use Rattle.std.specs.Prelude.{◌≡◌, ◌<◌, Some, None, IfOk, OnOk, OnErr};
 ghost use Rattle.store_compaction.specs.TextWriter.{wanted_of, IsWritten};
 
 use crate::files::{create_next_text, write_next_text};
@@ -66,7 +66,9 @@ impl TextJob {
 struct TextOrder {
     alloc: Global,
     next: NextText,
+    /// The head of the store's journal, which names an earlier text.
     before: Head,
+    ghost later: { before.number < next.number },
 }
 
 /// A thread that writes the text with a number, and whether it has finished.
@@ -74,15 +76,19 @@ struct TextOrder {
 struct Writing {
     alloc: Global,
     number: u64,
+    /// The head of the store's journal, which names an earlier text.
+    before: Head,
     handle: PromisedHandle<io::Result<Head>, Given>,
     over: Arc<AtomicBool, Global>,
+    ghost later: { before.number < number },
 }
 
 /// Starts the thread that writes a text.
 fn spawn_job<R: Threads>(rt: &R, job: TextJob) -> io::Result<Writing>
+    requires later { job.before.number < job.next.number }
     ensures { IfOk result (λ writing. (writing.handle.promise.next.value ≡ job.next) × (writing.handle.promise.before.value ≡ job.before)) }
 {
-    let (alloc, number) = (job.alloc, job.next.number);
+    let (alloc, number, before) = (job.alloc, job.next.number, job.before);
     let over = Arc::try_clone(&job.over)?;
     let given = Given {
         next: Snapshot::of(&job.next),
@@ -92,6 +98,7 @@ fn spawn_job<R: Threads>(rt: &R, job: TextJob) -> io::Result<Writing>
     Ok(Writing {
         alloc,
         number,
+        before,
         handle,
         over,
     })
@@ -185,10 +192,10 @@ impl<R: Files<File = File> + RandomSource + Clock + Threads + Drop> ThreadTextWr
     fn told_by(&self, writing: Writing) -> io::Result<Head>
         ensures { IfOk result (IsWritten (text_of (Begun writing))) }
     {
-        let (alloc, number) = (writing.alloc, writing.number);
+        let (alloc, number, before) = (writing.alloc, writing.number, writing.before);
         let told = writing.handle.join(&self.rt);
         if told.is_err() {
-            let _ = remove_text(&self.rt, alloc, &self.dir, number);
+            let _ = remove_text(&self.rt, alloc, &self.dir, number, &before);
         }
         told
     }

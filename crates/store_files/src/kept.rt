@@ -94,8 +94,21 @@ fn write_renamed<R: Files<File = File>>(
     fs::rename(rt, laid, path)
 }
 
-/// Keeps a zone text of a number and the journal that names it, before another pair becomes the store's, in a directory of their own, which is itself a store; gives its path. It
-/// allocates memory.
+/// A zone text and a journal that are kept in a directory of their own. Only [`keep_pair`] makes a value of this type.
+#[derive(Drop)]
+pub struct KeptPair {
+    path: String,
+}
+
+impl KeptPair {
+    /// The path of the directory.
+    pub fn into_path(self) -> String {
+        self.path
+    }
+}
+
+/// Keeps a zone text of a number and the journal that names it, before another pair becomes the store's, in a directory of their own, which is itself a store: at Ok all of
+/// it is on the disk. It allocates memory.
 pub fn keep_pair<R: Files<File = File>>(
     rt: &R,
     alloc: Global,
@@ -103,7 +116,7 @@ pub fn keep_pair<R: Files<File = File>>(
     number: u64,
     text: &[u8],
     journal: &[u8],
-) -> io::Result<String> {
+) -> io::Result<KeptPair> {
     for place in 1..=MOST {
         let path = format!(in alloc; "{dir}/old-{place}")?;
         match fs::create_dir(rt, path.as_str()) {
@@ -112,7 +125,7 @@ pub fn keep_pair<R: Files<File = File>>(
                 write_kept(rt, &path_of(alloc, &path, JOURNAL)?, journal)?;
                 sync_folder(rt, &path)?;
                 sync_folder(rt, dir)?;
-                return Ok(path);
+                return Ok(KeptPair { path });
             }
             Err(error) if error.kind() == ErrorKind::AlreadyExists => {}
             Err(error) => return Err(error),

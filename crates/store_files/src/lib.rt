@@ -19,7 +19,7 @@ mod read;
 mod unbegun;
 
 pub use file::{BEGUN, FileDisk, NOT_CUT, NOT_SYNCED};
-pub use kept::{drop_others, keep_pair, keep_torn};
+pub use kept::{KeptPair, drop_others, keep_pair, keep_torn};
 pub use list::CallList;
 pub use names::FIRST_TEXT;
 pub use open::{OpenedFolder, Pair, StoreLock, open_store};

@@ -1,11 +1,11 @@
 //! Writing a zone text and a journal that replace those before them (own).
-ghost use Rattle.std.specs.Prelude.{◌≡◌, IfOk};
+ghost use Rattle.std.specs.Prelude.{◌≡◌, ◌≢◌, IfOk};
 ghost use Rattle.store_files.specs.File.{written, synced};
 
 use crate::file::FileDisk;
 use crate::files::sync_folder;
 use crate::names::{FIRST_TEXT, JOURNAL, NEW_JOURNAL, path_of, text_path};
-use journal::Disk;
+use journal::{Disk, Head};
 use std::alloc::Global;
 use std::fs::{self, File, Files, OpenOptions};
 use std::io::{self, ErrorKind, Write};
@@ -83,7 +83,7 @@ fn lay_first<R: Files<File = File>>(
 
 /// Removes the first zone text, if a crash has left it, before the journal that names it is overwritten: so the directory has no text then, even after a crash. It allocates memory.
 fn remove_first<R: Files>(rt: &R, alloc: Global, dir: &str) -> io::Result<()> {
-    match remove_text(rt, alloc, dir, FIRST_TEXT) {
+    match unlink_text(rt, alloc, dir, FIRST_TEXT) {
         Err(error) if error.kind() != ErrorKind::NotFound => Err(error),
         // Also where there was none: one may have been removed before, while its name is still on the disk.
         _ => sync_folder(rt, dir),
@@ -101,8 +101,21 @@ fn write_text<R: Files<File = File>>(
     NewText::create(rt, alloc, dir, number)?.write(text)
 }
 
-/// Removes a zone text of a number that no journal names. It allocates memory.
-pub fn remove_text<R: Files>(rt: &R, alloc: Global, dir: &str, number: u64) -> io::Result<()> {
+/// Removes a zone text of a number that the store's journal, which has this head, doesn't name. It allocates memory.
+pub fn remove_text<R: Files>(
+    rt: &R,
+    alloc: Global,
+    dir: &str,
+    number: u64,
+    _head: &Head,
+) -> io::Result<()>
+    requires apart { number ≢ _head.now.number }
+{
+    unlink_text(rt, alloc, dir, number)
+}
+
+/// Removes the file of a zone text. It allocates memory.
+fn unlink_text<R: Files>(rt: &R, alloc: Global, dir: &str, number: u64) -> io::Result<()> {
     fs::remove_file(rt, text_path(alloc, dir, number)?.as_str())
 }
 

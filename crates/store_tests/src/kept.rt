@@ -19,7 +19,7 @@ fn what_is_kept(rt: HostRuntime) -> Result<(), Fail> {
     }
     assert!(rt; !fs::exists(&rt, "store_tests_kept/torn-3")?);
     for text in [b"text, ".as_slice(), b"other, "] {
-        let path = keep_pair(&rt, rt.alloc(), dir, 3, text, b"no head; ")?;
+        let path = keep_pair(&rt, rt.alloc(), dir, 3, text, b"no head; ")?.into_path();
         told.extend_from_slice(path.as_bytes())?;
         told.extend_from_slice(&fs::read(&rt, format!(in rt.alloc(); "{path}/zone-3")?.as_str())?)?;
         told.extend_from_slice(&read(&rt, &path)?)?;
