@@ -1,5 +1,4 @@
 pub mod AboutLemmas
-pub mod AnswerLemmas
 pub mod ChainLemmas
 pub mod CodeLemmas
 pub mod CountedLemmas
@@ -15,7 +14,6 @@ pub mod PublisherSendLemmas
 pub mod ReplyDoneLemmas
 pub mod ReplyLemmas
 pub mod ServerSendLemmas
-pub mod StartedLemmas
 pub mod StateLemmas
 pub mod TransferLemmas
 pub mod WantedLemmas

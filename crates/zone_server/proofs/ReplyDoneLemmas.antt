@@ -35,7 +35,7 @@ use Rattle.zone_server.specs.declared.answer.UpdateOutcome.{UpdateOutcome}
 use Rattle.zone_server.specs.Replied.{IsReplied}
 use Rattle.dns_engine.specs.Chain.{IsPublished}
 use Rattle.zone_server.proofs.AboutLemmas.{latest_known, no_older}
-use Rattle.zone_server.proofs.ReplyLemmas.{update_replied, update_limit, told_replied}
+use Rattle.zone_server.proofs.ReplyLemmas.{update_replied, update_limit, told_replied, still_replied}
 
 answered_reply : (transport : Transport) (heading : Heading) (zone : List Record) (next : Option (List Record)) (code : Option Rcode)
     → (answered transport heading zone next code).reply ≡ Some (fit (coded heading (unwrap_or code NoError)) (limit_of transport None))
@@ -111,8 +111,12 @@ unread_at_once first peer reader request out heading told len asks unread writte
   grows = grows_itself (learned_by reader);
 }
 
--- a transfer by datagram that is replied to is answered
-pub datagram_replies : (first : List Record) (peer : Peer) (known later : Learned Version) (request out : List ℕ) {E : Type 0} (result : Result (Option ℕ) E) → IfOk result (λ len. IsReplied first peer known later request (messages_in len out))
-    → IfOk result (λ len. IsAnswered first peer known later request (messages_in len out))
-datagram_replies first peer known later request out (Ok len) replied = inl replied
-datagram_replies first peer known later request out (Err e) replied = tt
+-- what is answered is so where less was known before
+still_answered : (first : List Record) (peer : Peer) (shorter longer later : Learned Version) (request : List ℕ) (messages : List (List ℕ)) → Grows longer shorter → IsAnswered first peer longer later request messages → IsAnswered first peer shorter later request messages
+still_answered first peer shorter longer later request messages grown (inl replied) = inl (still_replied first peer shorter longer later request messages grown replied)
+still_answered first peer shorter longer later request messages grown (inr handed) = inr handed
+
+pub datagram_answered : (first : List Record) (peer : Peer) (shorter longer later : Learned Version) (request out : List ℕ) {E : Type 0} (result : Result (Option ℕ) E) → Grows longer shorter
+    → IfOk result (λ len. IsAnswered first peer longer later request (messages_in len out)) → IfOk result (λ len. IsAnswered first peer shorter later request (messages_in len out))
+datagram_answered first peer shorter longer later request out (Ok len) grown answered = still_answered first peer shorter longer later request (messages_in len out) grown answered
+datagram_answered first peer shorter longer later request out (Err e) grown answered = tt

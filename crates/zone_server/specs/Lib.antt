@@ -1,4 +1,3 @@
-pub mod Answer
 pub mod Brought
 pub mod Known
 pub mod Met

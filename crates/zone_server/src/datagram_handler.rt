@@ -1,25 +1,24 @@
 //! A server that answers datagrams.
-ghost use Rattle.std.specs.Prelude.{◌≡◌, ◌≤◌, true, length, Some, IfOk, IfSome, OnErr};
+ghost use Rattle.std.specs.Prelude.{◌≡◌, ◌≤◌, ◌⊎◌, true, length, Some, IfOk, IfSome, OnErr};
 ghost use Rattle.dns_message.specs.Message.{message_limit};
 ghost use Rattle.zone_tree.specs.Version.{Version};
 ghost use Rattle.zone_server.specs.Known.{learned_by};
 ghost use Rattle.requests.specs.Octets.{messages_in};
 ghost use Rattle.requests.specs.Datagrams.{by_datagram};
-ghost use Rattle.zone_server.specs.Replied.{IsUpdate, HasNoAnswer};
+ghost use Rattle.zone_server.specs.Replied.{IsUpdate, IsTransfer, HasNoAnswer};
 ghost use Rattle.zone_server.specs.QueuedUpdate.{IsAnswered};
 ghost use Rattle.requests.specs.Served.{Grows};
 
-use crate::answer::serve_update;
+use crate::answer::{Now, Served, answer_kept, serve_one};
 use crate::notifying::{NextTurn, Notifying};
-use crate::request_answer::{Answer, answer_request};
 use crate::right::ServerName;
 use crate::server::Server;
 use crate::service_log::ServiceLog;
 use crate::submit::{UpdateSender, submit_datagram};
 use crate::telling::{tell_refused, tell_signed, tell_update};
-use crate::transfer::answer_transfer;
+use crate::transfer::write_transfer;
 use dns_engine::{FirstZone, VersionReader};
-use dns_message::Query;
+use dns_message::{Query, is_update};
 use notify::Notifier;
 use requests::Handler;
 use serve_core::{Peer, Transport};
@@ -122,29 +121,30 @@ impl<'a, 's, Z: FirstZone, N: ServerName, L: ServiceLog> DatagramHandler<'a, 's,
         Some(len)
     }
 
-    /// Answers an update. None if it is queued.
+    /// Answers an update or a permitted transfer.
     #[tactic(auto, using(crate::proofs::ReplyLemmas::limit_most, crate::proofs::ReplyLemmas::room_most))]
-    fn answer_update<R: Wait>(
+    fn answer_datagram_later<R: Wait>(
         &mut self,
         rt: &R,
         peer: Peer,
         request: &[u8],
         out: &mut [u8],
-    ) -> Option<usize>
-        requires update { IsUpdate request.now }
+    ) -> Result<Option<usize>, Spent>
+        requires later { IsUpdate request.now ⊎ IsTransfer Z.zone peer request.now }
         requires datagram { peer.transport ≡ Transport.Udp }
         requires reply_room { message_limit ≤ length out.old }
         ensures peer { self.new.peer ≡ self.old.peer }
         ensures grows { Grows {T = Version} (learned_by self.new.reader) (learned_by self.old.reader) }
-        ensures bound { IfSome result (λ n. (n ≤ message_limit) × (n ≤ length out.new)) }
-        ensures replied { IsAnswered Z.zone peer (learned_by self.old.reader) (learned_by self.new.reader) request.now (messages_in result out.new) }
+        ensures bound { IfOk result (λ len. IfSome len (λ n. (n ≤ message_limit) × (n ≤ length out.new))) }
+        ensures replied { IfOk result (λ len. IsAnswered Z.zone peer (learned_by self.old.reader) (learned_by self.new.reader) request.now (messages_in len out.new)) }
+        ensures spent { OnErr result (IsTransfer Z.zone peer request.now × (self.new.reader.left ≡ 0)) }
     {
         if let Some(hand) = self.hand {
-            if peer.may_update {
-                return self.submit_datagram(rt, hand, peer, request, out);
+            if peer.may_update && is_update(request) {
+                return Ok(self.submit_datagram(rt, hand, peer, request, out));
             }
         }
-        let (len, told) = serve_update(
+        match serve_one(
             rt,
             self.alloc,
             self.server,
@@ -152,9 +152,17 @@ impl<'a, 's, Z: FirstZone, N: ServerName, L: ServiceLog> DatagramHandler<'a, 's,
             peer,
             request,
             out,
-        );
-        tell_update(rt, self.log, peer, self.from, told);
-        Some(len)
+        ) {
+            Served::Reply(len) => Ok(Some(len)),
+            Served::Updated(len, told) => {
+                tell_update(rt, self.log, peer, self.from, told);
+                Ok(Some(len))
+            }
+            Served::Transfer(version, chain, query) => {
+                Ok(write_transfer(version.get(), &chain, &query, peer, out))
+            }
+            Served::Spent => Err(Spent),
+        }
     }
 }
 
@@ -193,7 +201,7 @@ impl<'a, 's, Z: FirstZone, N: ServerName, L: ServiceLog> Handler
             ..self.peer
         };
         let cell = self.server.cell();
-        match answer_request(
+        match answer_kept(
             cell,
             &mut self.reader,
             &mut self.query,
@@ -202,28 +210,16 @@ impl<'a, 's, Z: FirstZone, N: ServerName, L: ServiceLog> Handler
             request,
             out,
         ) {
-            Answer::Bytes(len) => {
+            Now::Bytes(len) => {
                 tell_refused(rt, self.log, peer, self.from, &self.query, &out[..len]);
                 Ok(Some(len))
             }
-            Answer::Silent => Ok(None),
-            Answer::Update => {
+            Now::Silent => Ok(None),
+            Now::Later => {
                 tell_signed(rt, self.log, self.from, request);
-                Ok(self.answer_update(rt, peer, request, out))
+                self.answer_datagram_later(rt, peer, request, out)
             }
-            Answer::Transfer(strong) => {
-                tell_signed(rt, self.log, self.from, request);
-                answer_transfer(
-                    rt,
-                    self.server,
-                    &mut self.reader,
-                    strong,
-                    &self.query,
-                    peer,
-                    out,
-                )
-            }
-            Answer::Spent => Err(Spent),
+            Now::Spent => Err(Spent),
         }
     }
 }
