@@ -31,7 +31,7 @@ class Served:
                 break
             # the port that the system picks for one transport may be taken for the other, and one that was given may be in use for a moment
             tries -= 1
-            if "another program listens there" not in self.said or tries <= 0:
+            if "address in use" not in self.said or tries <= 0:
                 raise NotServed(self.process.returncode, self.said)
             time.sleep(0.1 if port else 0)
         self.port = int(line.split(": ")[0].rsplit(":", 1)[1])

@@ -144,7 +144,7 @@ class Server:
 
     def without_room(self, since):
         """The times of the lines since then that tell of connections that got no descriptor."""
-        return [at for at, line in list(self.lines) if at >= since and re.fullmatch(r"worker 1 \(TCP\): .*\d+ without room", line)]
+        return [at for at, line in list(self.lines) if at >= since and re.fullmatch(r"worker 1 \(TCP\): .*\d+ rejected \(no descriptor or memory\)", line)]
 
     def state(self):
         """How many descriptors it has, and how many KiB of memory (Linux, proc(5))."""
@@ -173,7 +173,7 @@ def close_all(clients):
 def within_the_limit(server):
     """The faults where more connections come than there are descriptors by the usual limit."""
     faults, began = [], time.time()
-    told = [line for _, line in server.lines if line.startswith(f"the limit of descriptors is {USUAL}, ")]
+    told = [line for _, line in server.lines if line.startswith(f"file descriptor limit is {USUAL}, ")]
     if len(told) != 1 or not re.search(r"each worker has at most \d+ open$", told[0]):
         faults.append(f"lines at the start on the limit: {told}")
     clients, answered, ended, waiting = [], 0, 0, 0
@@ -198,7 +198,7 @@ def within_the_limit(server):
     if not is_answered_by_datagram():
         faults.append("UDP isn't answered")
     time.sleep(1.5)
-    without = [line for _, line in server.lines if line.endswith(" without room")]
+    without = [line for _, line in server.lines if line.endswith(" rejected (no descriptor or memory)")]
     if without:
         faults.append(f"{len(without)} lines on the want of room")
     close_all(clients)

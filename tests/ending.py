@@ -119,7 +119,7 @@ def refused(address, what, *kinds):
             others.append(other)
         words = [program, "serve", "--listen", "%s:%d" % address, "--workers", "1", zone]
         ran = subprocess.run(words, stderr=subprocess.PIPE, text=True, timeout=10)
-        told(ran.returncode == 3 and "can't be listened on" in ran.stderr and "listening on" not in ran.stderr, f"{what}: status {ran.returncode}, {ran.stderr.strip()}")
+        told(ran.returncode == 3 and "cannot listen on" in ran.stderr and "listening on" not in ran.stderr, f"{what}: status {ran.returncode}, {ran.stderr.strip()}")
     finally:
         for other in others:
             other.close()

@@ -72,9 +72,9 @@ with tempfile.TemporaryFile("w+") as log:
             status = None
         check(f"the status is 3, and is {status}", status == 3)
         lines = told()
-        check("one thread has failed, which is told", len(re.findall(r"^worker [12] \(TCP\) has ended: its socket failed$", lines, re.M)) == 1)
-        check("the others have done what they might", len(re.findall(r"^worker [12] \((?:TCP|UDP)\) has ended: 0 datagrams and connections done$", lines, re.M)) == 3)
-        check("why the zone isn't served any more is told", "error: a socket has failed" in lines)
+        check("one thread has failed, which is told", len(re.findall(r"^worker [12] \(TCP\) exited: its socket failed$", lines, re.M)) == 1)
+        check("the others have done what they might", len(re.findall(r"^worker [12] \((?:TCP|UDP)\) exited: 0 datagrams and connections served$", lines, re.M)) == 3)
+        check("why the zone isn't served any more is told", "error: a socket failed" in lines)
     finally:
         server.kill()
 sys.exit(failed > 0)

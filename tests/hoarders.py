@@ -125,7 +125,7 @@ class Server:
         self.log.seek(0)
         lost = {}
         for line in self.log:
-            for count, kind in re.findall(r"(\d+) ([a-z ]+)", line.partition("(TCP): ")[2]):
+            for count, kind in re.findall(r"(\d+) ([^,\n]+)", line.partition("(TCP): ")[2]):
                 lost[kind] = lost.get(kind, 0) + int(count)
         print("  " + ", ".join(f"{count} {kind}" for kind, count in lost.items()), flush=True)
 

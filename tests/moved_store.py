@@ -1,7 +1,7 @@
 #!/usr/bin/env python3
 """Tries a running `dnsd serve --store DIR` whose directory is moved, removed, or replaced by another one, or whose journal is: updates are told NOERROR only where a
-start of DIR would find them. While DIR isn't there each update that would change the zone is told SERVFAIL, and one line of the log says why; queries go on. Once it is
-moved back updates are kept again, and are there at the next start. In a directory that was put in its place nothing is written.
+start of DIR would find them. While DIR isn't there each update that would change the zone gets SERVFAIL, and one line of the log says why; queries go on. Once it is
+moved back updates are written again, and are there at the next start. In a directory that was put in its place nothing is written.
 Usage: [DNSD=PROGRAM] tests/moved_store.py, by default crates/dnsd/out/dnsd. It takes some seconds; status 1 where one failed. It listens on 127.0.0.1 alone."""
 import os
 import shutil
@@ -116,7 +116,7 @@ def tried(says, lose, mend):
             codes = client.codes(1001, UPDATES)
             said = server.drain()
             told(codes == {2: UPDATES}, f"{says}: {UPDATES} updates then have the codes {codes}")
-            told(said.count("updates aren't kept: ") == 1 and said.count("moved or removed") == 1, f"{says}: the log says so in one line")
+            told(said.count("store: cannot write updates: ") == 1 and said.count("moved or removed") == 1, f"{says}: the log says so in one line")
             told(client.has(1) and not client.has(1001), f"{says}: queries are answered from the zone as it was")
             if other is not None:
                 told(contents(f"{room}/store") == other, f"{says}: nothing is written to what stands there")
@@ -125,7 +125,7 @@ def tried(says, lose, mend):
                 mend(room)
                 codes = client.codes(2001, UPDATES)
                 said = server.drain()
-                told(codes == {0: UPDATES} and "updates are kept again" in said, f"{says}: once it is back the codes are {codes}, and the log says so")
+                told(codes == {0: UPDATES} and "store: updates are written again" in said, f"{says}: once it is back the codes are {codes}, and the log says so")
         finally:
             client.close()
             server.kill()

@@ -156,7 +156,7 @@ def try_groups():
         server.ask(update(1), f"127.0.1.{last}")
     text = server.end()
     found = counted(REFUSED, text)
-    others = sum(map(int, re.findall(r"^(\d+) more requests refused, or signed, of other peers$", text, re.M)))
+    others = sum(map(int, re.findall(r"^(\d+) more requests refused or signed, from other clients$", text, re.M)))
     told(sum(requests for _, requests in found.values()) + others == 101, f"101 peers: {len(found)} with a line, {others} counted")
 
 
@@ -201,7 +201,7 @@ def try_batch():
     told(codes == [code for code, _ in right], "60 updates at once: each gets its code")
     lines, serial = [], 1
     for code, step in right:
-        lines.append("NXDOMAIN" if code else f"NOERROR, serial {serial} to {serial + 1}" if step else f"NOERROR, serial {serial} stays")
+        lines.append("NXDOMAIN" if code else f"NOERROR, serial {serial} to {serial + 1}" if step else f"NOERROR, serial {serial} unchanged")
         serial += step or 0
     found = re.findall(r"^update from 127\.0\.0\.1:\d+: (.*)$", server.end(), re.M)
     told(found == lines, "each has a line with its own code and its own serials" + ("" if found == lines else f": {found}"))

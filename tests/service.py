@@ -104,7 +104,7 @@ def try_levels():
         told(server.wait() == 0 and len(lines) >= 3 and all(re.match(right, it) for it in lines), f"each line begins like {right}: {lines[:1]}")
     server = served({"JOURNAL_STREAM": "8:1"}, "--listen", "192.0.2.1:5353")
     line = server.stderr.readline()
-    told(server.wait() == 3 and line.startswith("<3>error: 192.0.2.1:5353 can't be listened on"), f"an error of the start: {line.strip()}")
+    told(server.wait() == 3 and line.startswith("<3>error: cannot listen on 192.0.2.1:5353 (TCP)"), f"an error of the start: {line.strip()}")
 
 
 def try_without(room):
@@ -123,7 +123,7 @@ def try_buffers():
         server = served({}, "--count", "0", *words)
         text = server.stderr.read()
         server.wait()
-        line = f"UDP: the system keeps {min(size, most)} bytes of datagrams for a socket, and --udp-buffer asks for {size}: raise net.core.rmem_max"
+        line = f"UDP: receive buffer of a socket is {min(size, most)} bytes, --udp-buffer requested {size}: raise net.core.rmem_max"
         told((line in text) == (size > most) and text.count("UDP: ") == (size > most), f"--udp-buffer {words[1:]}: {'told' if size > most else 'kept'}")
 
 

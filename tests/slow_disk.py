@@ -6,7 +6,7 @@
   aborted: a plain `mount -o remount,ro` is refused while a file is open for writing): updates are told SERVFAIL, queries and transfers go on, and the zone
   is the one of what was answered NOERROR. A start over the folder while it is so serves or ends with status 3; one behind that has all that was answered, and takes updates.
 - Each of the first 40 writes, cuts, syncs and renames, or as many as --faults says, fails in turn: the same. A start over the same folder, and over one that a power cut could
-  have left there, has all that was answered NOERROR; of what was told SERVFAIL it may have some, and nothing that wasn't sent. The log has a line when updates aren't kept any more, and none for each of them, and one when they are again.
+  have left there, has all that was answered NOERROR; of what was told SERVFAIL it may have some, and nothing that wasn't sent. The log has a line when updates can't be written any more, and none for each of them, and one when they are written again.
 - With the option --journal behind `--`: on a small disk 8,000 updates, whose journal would be three times as long as it, are all told NOERROR.
 With --goes-on the server has also to take updates again by itself, within 20 seconds from the end of the fault.
 Usage: tests/slow_disk.py PROGRAM [--only times|bursts|full|cramped|immutable|aborted|faults] [--seconds N] [--turns N] [--within MS] [--records N] [--faults N] [--first N] [--count N]
@@ -107,10 +107,10 @@ class Store:
         return False
 
     def has_told(self, name, faults, ends):
-        """So many lines of the log tell that updates aren't kept, and so many that they are again."""
+        """So many lines of the log say that updates can't be written, and so many that they are written again."""
         self.log += self.server.drain()
-        told = self.log.count("updates aren't kept: "), self.log.count("updates are kept again")
-        self.expect(told == (faults, ends), f"{name}: the log tells {told[0]} times that updates aren't kept, and {told[1]} that they are again")
+        told = self.log.count("store: cannot write updates: "), self.log.count("store: updates are written again")
+        self.expect(told == (faults, ends), f"{name}: the log says {told[0]} times that updates can't be written, and {told[1]} that they are written again")
 
     def asks(self, name):
         """Queries are answered, and a transfer is the zone with what was answered, and nothing else."""

@@ -176,7 +176,7 @@ def faults_of(store, octets, want, zone, serve):
             yield f"{name}: damage at {end + want} isn't told: {status} {said[:300]!r}"
         if not damage and (status or numbers != all_of):
             yield f"{name}: {numbers}, status {status}: {said[:300]!r}"
-    if not damage and (want == "torn") != ("no whole batch" in serve[2]):
+    if not damage and (want == "torn") != ("incomplete batch" in serve[2]):
         yield f"serve: the end is {want}: {serve[2][:300]!r}"
 
 

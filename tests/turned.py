@@ -96,7 +96,7 @@ def tried(store, findings, name, octets, where, wanted):
     folder = store.with_file(name, octets)
     printed, status, told = zone_of([store.program, "zone", folder])
     numbers, ended, said = started(store, folder)
-    while "another program listens there" in said:
+    while "address in use" in said:
         numbers, ended, said = started(store, store.with_file(name, octets))
     if wanted is None:
         if numbers is not None or ended != 1 or status != 1 or not said.startswith("error: ") or not told.startswith("error: "):
@@ -123,7 +123,7 @@ def turned_journal(store, findings):
             tried(store, findings, "journal", bytes(octets), where, None)
         elif batch == last:
             said = tried(store, findings, "journal", bytes(octets), where, last)
-            if "no whole batch" not in said:
+            if "incomplete batch" not in said:
                 findings.is_wrong(where, "the end isn't told as torn")
         else:
             said = tried(store, findings, "journal", bytes(octets), where, None)
@@ -138,13 +138,13 @@ def turned_room(store, findings):
     """The journal with its room is read whole; an octet in it that is none of zeros is told as torn."""
     journal, space = store.files["journal"], store.space
     wanted = len(store.begins) - 1
-    if "no whole batch" in tried(store, findings, "journal", journal + space, "a journal with its room", wanted):
+    if "incomplete batch" in tried(store, findings, "journal", journal + space, "a journal with its room", wanted):
         findings.is_wrong("a journal with its room", "it is told as torn")
     for at in (0, len(space) // 2, len(space) - 1):
         octets = bytearray(space)
         octets[at] ^= 1 << at % 8
         where = f"octet {at} of the room turned"
-        if "no whole batch" not in tried(store, findings, "journal", journal + bytes(octets), where, wanted):
+        if "incomplete batch" not in tried(store, findings, "journal", journal + bytes(octets), where, wanted):
             findings.is_wrong(where, "the end isn't told as torn")
 
 
@@ -155,7 +155,7 @@ def cut_journal(store, findings):
         said = tried(store, findings, "journal", journal[:length], f"a journal of {length} octets", whole)
         # zeros alone behind the last batch are no torn one
         is_torn = whole is not None and any(journal[begins[whole] : length])
-        if is_torn != ("no whole batch" in said):
+        if is_torn != ("incomplete batch" in said):
             findings.is_wrong(f"a journal of {length} octets", "a torn end isn't told as such, or another is")
 
 

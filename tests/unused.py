@@ -55,8 +55,6 @@ LEFT = {
     "store_compaction::CompactedStore::writer": "used by tests alone",
     "store_compaction::RecentUpdates::oldest": "used by tests alone",
     "store_compaction::RecentUpdates::steps": "used by tests alone",
-    "store_compaction::VersionUpdate::version": "used by tests alone",
-    "store_compaction::VersionUpdate::update": "used by tests alone",
     "store_compaction::StoreWriter::trail": "used by tests alone",
     "tcp_connections::Connection::stream": "used by tests alone",
     "tcp_loop::Finished": "used by tests alone",

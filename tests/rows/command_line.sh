@@ -44,15 +44,15 @@ row 0 '' steps -
 row 0 '' steps --origin example.test -
 for number in 0 8; do row 0 '' steps --keep $number -; done
 for number in 0 3 16; do row 0 '' steps --window $number -; done
-for word in 9 x ''; do row 2 "--keep takes a number from 0 to 8, and '$word' is none" steps --keep "$word" -; done
-row 2 "--window takes a number from 0 to 16, and '17' is none" steps --window 17 -
+for word in 9 x ''; do row 2 "--keep: '$word' is not a number from 0 to 8" steps --keep "$word" -; done
+row 2 "--window: '17' is not a number from 0 to 16" steps --window 17 -
 
 # the origin is the root unless one is given; one without a final dot is relative to the root
 input=$relative
 row 0 'x. 300 IN NS ns.' check -
 row 0 'x.x.test. 300 IN NS ns.x.test.' check --origin X.test -
 row 0 'x.x.test. 300 IN NS ns.x.test.' check --origin x.test. -
-row 2 "'a..b' is no name for --origin" answer --origin a..b -
+row 2 "--origin: 'a..b' is not a name: " answer --origin a..b -
 
 # a zone at the root for which no origin is given: check and answer print a warning on standard error, after what they print else, and end as
 # ever; where the root is given, where the apex is another, where the zone is refused, and of the other commands there is none
@@ -103,20 +103,20 @@ done
 
 # what serve takes
 input=
-row 2 "--listen takes an address and a port, as 127.0.0.1:5353 or [::1]:5353, and 'localhost' is none" serve --listen localhost "$zone"
-row 2 "--workers takes a number from 1 to 31, and '0' is none" serve --listen 127.0.0.1:0 --workers 0 "$zone"
-row 2 "--workers takes a number from 1 to 31, and '32' is none" serve --listen 127.0.0.1:0 --workers 32 "$zone"
-row 2 "--keep takes a number from 0 to 8, and '9' is none" serve --listen 127.0.0.1:0 --keep 9 "$zone"
-row 2 "--count takes a number from 0 to 18446744073709551615, and '-' is none" serve --listen 127.0.0.1:0 --count - "$zone"
-row 2 "--allow takes addresses with commas between them, as 127.0.0.1,192.0.2.7, and 'x' is none" serve --listen 127.0.0.1:0 --allow 127.0.0.1,x "$zone"
+row 2 "--listen: 'localhost' is not an address and port, such as 127.0.0.1:5353 or [::1]:5353" serve --listen localhost "$zone"
+row 2 "--workers: '0' is not a number from 1 to 31" serve --listen 127.0.0.1:0 --workers 0 "$zone"
+row 2 "--workers: '32' is not a number from 1 to 31" serve --listen 127.0.0.1:0 --workers 32 "$zone"
+row 2 "--keep: '9' is not a number from 0 to 8" serve --listen 127.0.0.1:0 --keep 9 "$zone"
+row 2 "--count: '-' is not a number from 0 to 18446744073709551615" serve --listen 127.0.0.1:0 --count - "$zone"
+row 2 "--allow: 'x' is not an address; separate addresses by commas, such as 127.0.0.1,192.0.2.7" serve --listen 127.0.0.1:0 --allow 127.0.0.1,x "$zone"
 for list in '127.0.0.1 ::1' ' ' '::1, 127.0.0.1 x'; do
     word=${list##*, }
-    row 2 "and '${word# }' is none" serve --listen 127.0.0.1:0 --allow "$list" "$zone"
+    row 2 "--allow: '${word# }' is not an address" serve --listen 127.0.0.1:0 --allow "$list" "$zone"
 done
-row 2 "and '' is none" serve --listen 127.0.0.1:0 --allow '127.0.0.1, ' "$zone"
+row 2 "--allow: '' is not an address" serve --listen 127.0.0.1:0 --allow '127.0.0.1, ' "$zone"
 for option in idle message reply; do
     for word in 0 0s 3601 3601s 61m 2h 18446744073709551615h 18446744073709551616 1d 5M 1.5m -1 s ''; do
-        row 2 "--$option takes 1 to 3600 seconds, as 30, 30s or 5m, and '$word' is none" serve --listen 127.0.0.1:0 "--$option=$word" "$zone"
+        row 2 "--$option: '$word' is not a time from 1 to 3600 seconds, such as 30, 30s or 5m" serve --listen 127.0.0.1:0 "--$option=$word" "$zone"
     done
 done
 # what is taken is shown by a store that isn't there
@@ -129,33 +129,33 @@ done
 
 # a file that isn't there is a device's fault; a refused zone is told by its line
 row 3 "the zone's file 'no/such/zone' can't be read" check no/such/zone
-row 2 "--take takes store or zone, and 'both' is neither" serve --listen 127.0.0.1:0 --store no/such/store --take both "$zone"
+row 2 "--take: 'both' is neither store nor zone" serve --listen 127.0.0.1:0 --store no/such/store --take both "$zone"
 for word in 4095 3K 1025G 18446744073709551616 1T K M1 64MB -1 1.5M ''; do
-    row 2 "--journal takes a size from 4K to 1024G, as 100000, 500K or 64M, and '$word' is none" serve --listen 127.0.0.1:0 --store no/such/store "--journal=$word" "$zone"
+    row 2 "--journal: '$word' is not a size from 4K to 1024G, such as 100000, 500K or 64M" serve --listen 127.0.0.1:0 --store no/such/store "--journal=$word" "$zone"
 done
 for word in 4096 100000 4K 4k 64M 64m 1024G 1099511627776; do
     row 3 "the store 'no/such/store' can't be read or written" serve --listen 127.0.0.1:0 --store no/such/store --journal "$word" "$zone"
 done
-row 2 "--journal is for a store, and no --store is given" serve --listen 127.0.0.1:0 --journal 64M "$zone"
+row 2 "--journal needs --store" serve --listen 127.0.0.1:0 --journal 64M "$zone"
 for word in 4095 2G 1025M 1T ''; do
-    row 2 "--udp-buffer takes a size from 4K to 1G, as 500K or 4M, and '$word' is none" serve --listen 127.0.0.1:0 "--udp-buffer=$word" "$zone"
+    row 2 "--udp-buffer: '$word' is not a size from 4K to 1G, such as 500K or 4M" serve --listen 127.0.0.1:0 "--udp-buffer=$word" "$zone"
 done
 for word in 4096 4K 4m 1G; do
     row 3 "the store 'no/such/store' can't be read or written" serve --listen 127.0.0.1:0 --store no/such/store --udp-buffer "$word" "$zone"
 done
 for word in 65535 63K 2G 1025M 1T K -1 ''; do
-    row 2 "--update-queue takes a size from 64K to 1G, as 500K or 16M, and '$word' is none" serve --listen 127.0.0.1:0 "--update-queue=$word" "$zone"
+    row 2 "--update-queue: '$word' is not a size from 64K to 1G, such as 500K or 16M" serve --listen 127.0.0.1:0 "--update-queue=$word" "$zone"
 done
 for word in 65536 64K 16m 1G; do
     row 3 "the store 'no/such/store' can't be read or written" serve --listen 127.0.0.1:0 --store no/such/store --update-queue "$word" "$zone"
 done
 for word in 2G 1025M 1T K '' -1 1.5M; do
-    row 2 "--transfer-rate takes a size from 0 to 1G, as 16K or 1M, and '$word' is none" serve --listen 127.0.0.1:0 "--transfer-rate=$word" "$zone"
+    row 2 "--transfer-rate: '$word' is not a size from 0 to 1G, such as 16K or 1M" serve --listen 127.0.0.1:0 "--transfer-rate=$word" "$zone"
 done
 for word in 0 1 16K 1m 1G; do
     row 3 "the store 'no/such/store' can't be read or written" serve --listen 127.0.0.1:0 --store no/such/store --transfer-rate "$word" "$zone"
 done
-row 2 "--take is for a store, and no --store is given" serve --listen 127.0.0.1:0 --take zone "$zone"
+row 2 "--take needs --store" serve --listen 127.0.0.1:0 --take zone "$zone"
 row 3 "the store 'no/such/store' can't be read or written" serve --listen 127.0.0.1:0 --store no/such/store "$zone"
 row 3 "the zone's file 'no/such/zone' can't be read" serve --listen 127.0.0.1:0 no/such/zone
 input=$'x 300 SOA ns admin 1 7200 900 1209600 300\n'

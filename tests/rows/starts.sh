@@ -52,7 +52,7 @@ starts() {
     shift 2
     tries "${once[@]}" "$@" -
     [[ $told == *'listening on 127.0.0.1:'* ]] || fails "dnsd serve $*: it doesn't listen: $told"
-    told=$(grep -v -e '^listening on 127\.0\.0\.1:' -e '^worker 1 (.*) has ended: 0 datagrams' -e '^UDP: the system keeps' <<<"$told" || true)
+    told=$(grep -v -e '^listening on 127\.0\.0\.1:' -e '^worker 1 (.*) exited: 0 datagrams' -e '^UDP: receive buffer' <<<"$told" || true)
     [[ $got == 0 && -z $said && $told == "$right" ]] || differs "status 0, and on errors '$right'" "${once[@]}" "$@"
 }
 
@@ -141,7 +141,7 @@ for left in '' head text; do
             printf 'half of a text' >"$store/zone-0"
             ;;
     esac
-    starts "$given" "the store '$store' is begun from the zone's text"
+    starts "$given" "created the store '$store' from ZONE"
     has_files journal lock zone-0
     holds zone-0 "$written"
     begun=$(journal_now)
@@ -207,7 +207,7 @@ other 0 0
 end
 # moved away, they leave a folder that is begun
 rm "$store"/zone-*
-starts "$nine" "the store '$store' is begun from the zone's text"
+starts "$nine" "created the store '$store' from ZONE"
 has_files journal lock zone-0
 
 # an origin is misspelt where a store is begun: put right, or where another zone is given, both apexes are told, whatever is taken and whichever serial the text has; case
@@ -215,7 +215,7 @@ has_files journal lock zone-0
 relative=$'@ 60 SOA ns host 11 1 1 1 1\n@ 60 NS ns\n'
 rm -rf "$store"
 mkdir "$store"
-starts "$relative" "the store '$store' is begun from the zone's text" --origin exmaple.test.
+starts "$relative" "created the store '$store' from ZONE" --origin exmaple.test.
 for taken in '' '--take store' '--take zone'; do
     while read -r origin apex serial; do
         # shellcheck disable=SC2086
@@ -234,7 +234,7 @@ end
         starts "$relative" '' $taken --origin "$origin"
     done
 done
-starts "${relative/ 11 / 12 }" "the zone's text is served, with which the store '$store' is begun anew; the one before is kept as '$store/old-1'" --take zone --origin Exmaple.Test.
+starts "${relative/ 11 / 12 }" "serving ZONE; created the store '$store' again from it; the old store is kept as '$store/old-1'" --take zone --origin Exmaple.Test.
 stays 1 "$relative" "error: the zone's text has the apex example.test., and the store '$store' the apex exmaple.test.: give --origin exmaple.test., if that zone is meant, or else --store a new directory" --origin example.test.
 
 # a store of serial 7 with the update, in which the text of serial 6 isn't the one that it was begun from
@@ -251,11 +251,11 @@ for zeros in 1 9 65536; do
     has_journal "$whole"
 done
 # what stands torn behind it is kept beside what was kept before, and cut off
-ended="the journal of '$store' ended with octets that are no whole batch: they are cut off, and kept as '$store"
+ended="the journal of '$store' ended in an incomplete batch: it was cut off, and is kept as '$store"
 octets "${whole}746f726e" >"$store/journal"
 starts "$seven" "$ended/torn-1'"
 octets "${whole}000000000061" >"$store/journal"
-starts "$six" "the store '$store' is served, and not the zone's text: that is another one than the store was begun from, and its serial, 6, isn't greater"$'\n'"$ended/torn-2'"
+starts "$six" "serving the store '$store'; ignoring ZONE: it has changed, but its serial 6 is not newer"$'\n'"$ended/torn-2'"
 holds torn-1 torn
 [ "$(od -An -tx1 "$store/torn-2")" = ' 00 00 00 00 00 61' ] || fails 'torn-2 has other octets'
 has_journal "$whole"
@@ -347,7 +347,7 @@ while read -r last serial newer; do
     if [ "$newer" = newer ]; then
         stops 1 "${six/ 6 / $serial }" "error: the zone's text is another one than the store '$store' was begun from, and has the serial $serial, greater than the store's $last: --take store serves the store, --take zone the text, and keeps the store before beside it"
     else
-        starts "${six/ 6 / $serial }" "the store '$store' is served, and not the zone's text: that is another one than the store was begun from, and its serial, $serial, isn't greater"
+        starts "${six/ 6 / $serial }" "serving the store '$store'; ignoring ZONE: it has changed, but its serial $serial is not newer"
     fi
     prints_zone "${six/ 6 / $last }"
 done <<'end'
@@ -363,7 +363,7 @@ end
 head=$(head_of 3 7369787465656e206f63746574732e2e "$seven" 7 "$seven")
 whole=$head$(frame_of "$head" 0 "$add_a")
 lays_store 3 "$seven" "$whole"
-starts "${six/ 6 / 8 }" "the store '$store' is served, and not the zone's text: that is another one than the store was begun from, and its serial, 8, isn't greater"
+starts "${six/ 6 / 8 }" "serving the store '$store'; ignoring ZONE: it has changed, but its serial 8 is not newer"
 stops 1 "$nine" "error: the zone's text is another one than the store '$store' was begun from, and has the serial 9, greater than the store's 8: --take store serves the store, --take zone the text, and keeps the store before beside it"
 has_journal "$whole"
 
@@ -371,10 +371,10 @@ has_journal "$whole"
 # that is no zone is told by its fault
 while read -r serial newer; do
     begins_with 10
-    starts "${six/ 6 / $serial }" "the store '$store' is served, and not the zone's text" --take store
+    starts "${six/ 6 / $serial }" "serving the store '$store'; ignoring ZONE" --take store
     prints_zone "${six/ 6 / 10 }"
     if [ "$newer" = newer ]; then
-        starts "${six/ 6 / $serial }" "the zone's text is served, with which the store '$store' is begun anew; the one before is kept as '$store/old-1'" --take zone
+        starts "${six/ 6 / $serial }" "serving ZONE; created the store '$store' again from it; the old store is kept as '$store/old-1'" --take zone
         prints_zone "${six/ 6 / $serial }"
     else
         stops 1 "${six/ 6 / $serial }" "error: --take zone needs a serial greater than the store's: the zone's text has $serial, the store '$store' has 10: raise the text's serial, or serve the store by --take store" --take zone
@@ -393,10 +393,10 @@ begins_with 10
 line=$'example. 3600 IN A 192.0.2.256\n'
 stops 1 "$line" 'line 1: M6 BadData'
 stops 1 "$line" 'line 1: M6 BadData' --take zone
-starts "$line" "the store '$store' is served, and not the zone's text" --take store
+starts "$line" "serving the store '$store'; ignoring ZONE" --take store
 has_files journal lock zone-3
 # names of the text are relative to the origin that is given
-starts $'@ 60 SOA ns host 11 1 1 1 1\n@ 60 NS ns\n' "the zone's text is served, with which the store '$store' is begun anew; the one before is kept as '$store/old-1'" --take zone --origin example.
+starts $'@ 60 SOA ns host 11 1 1 1 1\n@ 60 NS ns\n' "serving ZONE; created the store '$store' again from it; the old store is kept as '$store/old-1'" --take zone --origin example.
 prints_zone $'example. 60 IN SOA ns.example. host.example. 11 1 1 1 1\nexample. 60 IN NS ns.example.\n'
 
 # the store before one that is taken is kept in a folder of its own, where it is a store; what a crash has left of a pair is written over; the next start takes nothing, and
@@ -404,7 +404,7 @@ prints_zone $'example. 60 IN SOA ns.example. host.example. 11 1 1 1 1\nexample. 
 lays_store 3 "$seven" "$whole"
 printf 'half of a text' >"$store/zone-4"
 repeat 500 x >"$store/journal.new"
-starts "$nine" "the zone's text is served, with which the store '$store' is begun anew; the one before is kept as '$store/old-1'" --take zone
+starts "$nine" "serving ZONE; created the store '$store' again from it; the old store is kept as '$store/old-1'" --take zone
 has_files journal lock old-1 zone-3 zone-4
 begun=$(journal_now)
 has_journal "$(head_of 4 "${begun:48:32}" "$nine" 9 "$nine")"
@@ -415,7 +415,7 @@ for taken in '' '--take store' '--take zone'; do
     starts "$nine" '' $taken
 done
 has_journal "$begun"
-starts "$ten" "the zone's text is served, with which the store '$store' is begun anew; the one before is kept as '$store/old-2'" --take zone
+starts "$ten" "serving ZONE; created the store '$store' again from it; the old store is kept as '$store/old-2'" --take zone
 has_files journal lock old-1 old-2 zone-3 zone-4 zone-5
 holds old-1/zone-3 "$seven"
 has_journal "$whole" "$store/old-1"
@@ -453,8 +453,8 @@ for begun in '' yes; do
     fi
     before=$(sum_of_files)
     input=$seven
-    refuses 3 "error: 192.0.2.1:5353 can't be listened on by TCP: the address isn't one of this machine's" serve --listen 192.0.2.1:5353 --store "$store" -
-    refuses 3 "error: 192.0.2.1:5353 can't be listened on by TCP: the address isn't one of this machine's" serve --listen 127.0.0.1:0 --listen 192.0.2.1:5353 --store "$store" -
-    refuses 3 "error: the secondary 127.0.0.1:5399 can't be told of versions: Cannot assign requested address (os error 99)" serve --listen 127.0.0.1:0 --notify 127.0.0.1:5399@192.0.2.1 --store "$store" -
+    refuses 3 "error: cannot listen on 192.0.2.1:5353 (TCP): not an address of this machine" serve --listen 192.0.2.1:5353 --store "$store" -
+    refuses 3 "error: cannot listen on 192.0.2.1:5353 (TCP): not an address of this machine" serve --listen 127.0.0.1:0 --listen 192.0.2.1:5353 --store "$store" -
+    refuses 3 "error: cannot notify secondary 127.0.0.1:5399: Cannot assign requested address (os error 99)" serve --listen 127.0.0.1:0 --notify 127.0.0.1:5399@192.0.2.1 --store "$store" -
     [ "$(sum_of_files)" = "$before" ] || fails "a start that can't listen changed the store's directory"
 done

@@ -76,7 +76,7 @@ pub fn tell_fault<R: Print + Eprint>(rt: &R, fault: &CommandFault<'_>) -> io::Re
             return Ok(status_of(fault));
         }
         CommandFault::Origin(word, fault) => {
-            eprintln!(rt; "error: '{word}' is no name for --origin: {fault}")?;
+            eprintln!(rt; "error: --origin: '{word}' is not a name: {fault}")?;
         }
         CommandFault::Number {
             option,
@@ -84,55 +84,53 @@ pub fn tell_fault<R: Print + Eprint>(rt: &R, fault: &CommandFault<'_>) -> io::Re
             least,
             most,
         } => {
-            eprintln!(rt;
-                "error: --{option} takes a number from {least} to {most}, and '{word}' is none"
-            )?;
+            eprintln!(rt; "error: --{option}: '{word}' is not a number from {least} to {most}")?;
         }
         CommandFault::Time(option, word) => {
             eprintln!(rt;
-                "error: --{option} takes 1 to 3600 seconds, as 30, 30s or 5m, and '{word}' is none"
+                "error: --{option}: '{word}' is not a time from 1 to 3600 seconds, such as 30, 30s or 5m"
             )?;
         }
         CommandFault::Listen(word) => {
             eprintln!(rt;
-                "error: --listen takes an address and a port, as 127.0.0.1:5353 or [::1]:5353, and '{word}' is none"
+                "error: --listen: '{word}' is not an address and port, such as 127.0.0.1:5353 or [::1]:5353"
             )?;
         }
         CommandFault::Allow(word) => {
             eprintln!(rt;
-                "error: --allow takes addresses with commas between them, as 127.0.0.1,192.0.2.7, and '{word}' is none"
+                "error: --allow: '{word}' is not an address; separate addresses by commas, such as 127.0.0.1,192.0.2.7"
             )?;
         }
         CommandFault::Threads(workers, addresses) => {
             eprintln!(rt;
-                "error: --workers {workers} for {addresses} addresses ask for more than 62 threads: each worker has one for TCP, and one for UDP of each address; --notify has one more"
+                "error: --workers {workers} with {addresses} addresses needs more than 62 threads: each worker has one for TCP, and one for UDP on each address; --notify needs one more"
             )?;
         }
         CommandFault::Notify(word) => {
             eprintln!(rt;
-                "error: --notify takes an address, as 192.0.2.7, 192.0.2.7:5353 or [2001:db8::7]:53@2001:db8::1, and '{word}' is none"
+                "error: --notify: '{word}' is not an address, such as 192.0.2.7, 192.0.2.7:5353 or [2001:db8::7]:53@2001:db8::1"
             )?;
         }
         CommandFault::Secondaries(word) => {
             eprintln!(rt;
-                "error: --notify takes 32 secondaries at most, and '{word}' is one more"
+                "error: --notify: '{word}' is one more than the limit of 32 secondaries"
             )?;
         }
         CommandFault::SecondaryTwice(word) => {
-            eprintln!(rt; "error: --notify takes a secondary once, and '{word}' is there already")?;
+            eprintln!(rt; "error: --notify: '{word}' repeats a secondary")?;
         }
         CommandFault::Size {
             option,
             takes,
             word,
         } => {
-            eprintln!(rt; "error: --{option} takes a size {takes}, and '{word}' is none")?;
+            eprintln!(rt; "error: --{option}: '{word}' is not a size {takes}")?;
         }
         CommandFault::Take(word) => {
-            eprintln!(rt; "error: --take takes store or zone, and '{word}' is neither")?;
+            eprintln!(rt; "error: --take: '{word}' is neither store nor zone")?;
         }
         CommandFault::NoStore(option) => {
-            eprintln!(rt; "error: --{option} is for a store, and no --store is given")?;
+            eprintln!(rt; "error: --{option} needs --store")?;
         }
     }
     Ok(BAD_COMMAND)

@@ -57,51 +57,51 @@ struct CommandRow {
 const ORIGIN_ROW: WordRow = WordRow {
     name: ORIGIN,
     form: Form::Value("NAME"),
-    help: "the origin at the start of the zone's text; the root where it isn't given",
+    help: "origin at the start of the zone's text (default: the root)",
 };
 
 /// The argument for the source of a zone's text.
 const ZONE_ROW: WordRow = WordRow {
     name: ZONE,
     form: Form::Word("ZONE"),
-    help: "the zone's text: a file, or - for standard input up to a line %",
+    help: "text of the zone: a file, or - for standard input up to a line %",
 };
 
 /// The commands, in the order in which help lists them.
 const COMMANDS: &[CommandRow] = &[
     CommandRow {
         name: "answer",
-        about: "replies to requests in hexadecimal, a line each",
-        example: "Example, which asks for www.example.test., type A:\n  echo 12340100000100000000000003777777076578616d706c6504746573740000010001 | dnsd answer zones/example.test.zone",
+        about: "answers requests in hexadecimal, one per line",
+        example: "Example, a query for www.example.test., type A:\n  echo 12340100000100000000000003777777076578616d706c6504746573740000010001 | dnsd answer zones/example.test.zone",
         words: ANSWER_WORDS,
     },
     CommandRow {
         name: "check",
-        about: "prints the zone's text in its written form, one record a line",
+        about: "prints the zone in canonical form, one record per line",
         example: "Example:\n  dnsd check zones/example.test.zone",
         words: &[ORIGIN_ROW, ZONE_ROW],
     },
     CommandRow {
         name: "apply",
-        about: "takes a transfer, a message in hexadecimal a line, and prints the zone's text after it",
+        about: "applies a transfer, one message in hexadecimal per line, and prints the resulting zone",
         example: "Example, with the messages of a transfer in a file:\n  dnsd apply zones/example.test.zone < messages",
         words: &[ORIGIN_ROW, ZONE_ROW],
     },
     CommandRow {
         name: "steps",
-        about: "plays a script of steps, a line each; its requests come over UDP, for transfers over TCP",
-        example: "Example, which takes the version that is served into use and gives it up:\n  printf 'load a\\ndrop a\\n' | dnsd steps zones/example.test.zone",
+        about: "plays a script of steps, one per line; requests arrive over UDP, requests for transfers over TCP",
+        example: "Example, which loads the current version and drops it:\n  printf 'load a\\ndrop a\\n' | dnsd steps zones/example.test.zone",
         words: STEPS_WORDS,
     },
     CommandRow {
         name: "zone",
-        about: "prints the zone that a start of a store would serve, one record a line",
-        example: "Example, which keeps a copy of a store's zone while it is served:\n  dnsd zone /var/lib/dnsd > saved && mv saved backup.zone",
+        about: "prints the zone of a store as a server would load it, one record per line",
+        example: "Example, a backup of a store's zone while it is served:\n  dnsd zone /var/lib/dnsd > saved && mv saved backup.zone",
         words: STORED_WORDS,
     },
     CommandRow {
         name: "serve",
-        about: "serves a zone on sockets, by UDP and TCP",
+        about: "serves a zone over UDP and TCP",
         example: "Example:\n  dnsd serve --listen 127.0.0.1:5353 zones/example.test.zone\n  dig @127.0.0.1 -p 5353 www.example.test.",
         words: SERVE_WORDS,
     },
@@ -114,7 +114,7 @@ const ANSWER_WORDS: &[WordRow] = &[
     WordRow {
         name: TCP,
         form: Form::Flag,
-        help: "replies as over TCP, of at most 65535 octets; else as over UDP, of at most 512, or with an OPT that takes as many 1232",
+        help: "reply as over TCP, with at most 65535 bytes; by default as over UDP, with at most 512, or up to 1232 with EDNS",
     },
 ];
 
@@ -125,12 +125,12 @@ const STEPS_WORDS: &[WordRow] = &[
     WordRow {
         name: KEEP,
         form: Form::Default("N", "0"),
-        help: "how many older versions are kept beside the newest, at most 8",
+        help: "number of older versions to keep besides the newest, at most 8",
     },
     WordRow {
         name: WINDOW,
         form: Form::Default("N", "16"),
-        help: "how many entries the window has at most from which changes are sent, at most 16",
+        help: "size of the IXFR history, at most 16",
     },
 ];
 
@@ -139,12 +139,12 @@ const STORED_WORDS: &[WordRow] = &[
     WordRow {
         name: BEFORE_FAULT,
         form: Form::Flag,
-        help: "prints the zone in front of updates that are damaged",
+        help: "print the zone as it was before the damaged updates",
     },
     WordRow {
         name: DIR,
         form: Form::Word("DIR"),
-        help: "the store's folder",
+        help: "directory of the store",
     },
 ];
 
@@ -155,82 +155,82 @@ const SERVE_WORDS: &[WordRow] = &[
     WordRow {
         name: LISTEN,
         form: Form::OneAtLeast("ADDR:PORT"),
-        help: "an address and a port to listen on, by UDP and TCP; it may be given again for further ones",
+        help: "address and port to listen on, over UDP and TCP; may be repeated",
     },
     WordRow {
         name: WORKERS,
         form: Form::Default("N", "4"),
-        help: "how many workers there are, each with a thread for TCP and one for UDP of each address; at most 62 threads",
+        help: "number of workers, each with one thread for TCP and one for UDP on each address; at most 62 threads in total",
     },
     WordRow {
         name: KEEP,
         form: Form::Default("N", "8"),
-        help: "how many older versions are kept beside the newest, at most 8",
+        help: "number of older versions to keep besides the newest, at most 8",
     },
     WordRow {
         name: ALLOW,
         form: Form::Default("LIST", "127.0.0.1,::1"),
-        help: "the addresses that may update and transfer, with commas between them; '' for nobody",
+        help: "addresses that may update and transfer the zone, separated by commas; '' for none",
     },
     WordRow {
         name: COUNT,
         form: Form::Value("N"),
-        help: "after how many datagrams and connections, together, a worker ends; else never",
+        help: "number of datagrams and connections, counted together, after which a worker exits (default: never)",
     },
     WordRow {
         name: NOTIFY,
         form: Form::Several("ADDR[:PORT][@FROM]"),
-        help: "a secondary that is told of each version by NOTIFY, from the address FROM or else the first of its family that is listened on; it may be given again for further ones, at most 32",
+        help: "secondary to notify of each version, from the address FROM, or else the first --listen address of its family; may be repeated, at most 32",
     },
     WordRow {
         name: STORE,
         form: Form::Value("DIR"),
-        help: "a folder in which updates last: its zone and its journal are served where it has them; else ZONE is, and put there",
+        help: "directory in which updates survive a restart; its store is served, or created from ZONE if there is none",
     },
     WordRow {
         name: JOURNAL,
         form: Form::Value("SIZE"),
-        help: "how many octets DIR's journal has before a new zone text is written and the journal begun anew, as 100000, 500K or 64M, from 4K to 1024G; 64000000 where it isn't given",
+        help: "journal size at which the store is compacted, such as 100000, 500K or 64M, from 4K to 1024G (default: 64000000)",
     },
     WordRow {
         name: TAKE,
         form: Form::Value("WHICH"),
-        help: "what is served where ZONE is another one than the store was begun from: store or zone",
+        help: "which to serve if ZONE has changed since the store was created: store or zone",
     },
     WordRow {
         name: CONNECTIONS,
         form: Form::Default("N", "1000"),
-        help: "how many connections a worker has open at most, from 1 to 100000",
+        help: "maximum number of open connections per worker, from 1 to 100000",
     },
     WordRow {
         name: IDLE,
         form: Form::Default("TIME", "10"),
-        help: "how long a connection may be idle, from 1 to 3600 seconds, as 30, 30s or 5m",
+        help: "idle timeout of a connection, from 1 to 3600 seconds, such as 30, 30s or 5m",
     },
     WordRow {
         name: MESSAGE,
         form: Form::Default("TIME", "10"),
-        help: "how long a request may take to come whole, the same",
+        help: "timeout to receive a whole request, likewise",
     },
     WordRow {
         name: REPLY,
         form: Form::Default("TIME", "10"),
-        help: "how long the taking of a reply, or of a part of it, may take, the same",
+        help: "timeout for a client to accept a reply, or each part of it, likewise",
     },
     WordRow {
         name: TRANSFER_RATE,
         form: Form::Value("SIZE"),
-        help: "how many octets of what is written to it a connection's peer takes in ten seconds at least, as 16K or 1M, up to 1G, or 0 for no bound; 16K where it isn't given",
+        help: "minimum number of bytes that a client must accept in ten seconds while a reply waits for it, such as 16K or 1M, up to 1G; 0 for no minimum (default: 16K)",
     },
     WordRow {
         name: UDP_BUFFER,
         form: Form::Value("SIZE"),
-        help: "how many octets of datagrams may wait for a worker, at each address, as 500K or 4M, from 4K to 1G; 4M where it isn't given",
+        help: "size of the receive buffer of each UDP socket, such as 500K or 4M, from 4K to 1G (default: 4M)",
     },
     WordRow {
         name: UPDATE_QUEUE,
         form: Form::Value("SIZE"),
-        help: "how many octets of memory the updates may be counted for that wait to be judged, their own and 320 a record, as 500K or 16M, from 64K to 1G; further ones are SERVFAIL at once; 16M where it isn't given",
+        help: "limit on the memory accounted to waiting updates, their size and 320 bytes per record, such as 500K or 16M, from 64K to 1G; further updates get SERVFAIL at once (default: 16M)",
     },
 ];
 

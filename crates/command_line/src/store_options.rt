@@ -29,7 +29,7 @@ const JOURNAL_SIZES: Sizes = Sizes {
     own: 64_000_000,
     least: 4_096,
     most: 1_099_511_627_776,
-    takes: "from 4K to 1024G, as 100000, 500K or 64M",
+    takes: "from 4K to 1024G, such as 100000, 500K or 64M",
 };
 
 /// The option for the number of octets of datagrams that may wait for a worker, at each address.
@@ -41,7 +41,7 @@ const UDP_SIZES: Sizes = Sizes {
     own: 4_194_304,
     least: 4_096,
     most: 1_073_741_824,
-    takes: "from 4K to 1G, as 500K or 4M",
+    takes: "from 4K to 1G, such as 500K or 4M",
 };
 
 /// The option for the minimum number of octets that a connection's peer must accept in ten seconds.
@@ -53,7 +53,7 @@ const RATES: Sizes = Sizes {
     own: 16_384,
     least: 0,
     most: 1_073_741_824,
-    takes: "from 0 to 1G, as 16K or 1M",
+    takes: "from 0 to 1G, such as 16K or 1M",
 };
 
 /// The option for the limit, in octets, on the memory accounted to waiting updates.
@@ -65,7 +65,7 @@ const UPDATE_SIZES: Sizes = Sizes {
     own: 16_777_216,
     least: 65_536,
     most: 1_073_741_824,
-    takes: "from 64K to 1G, as 500K or 16M",
+    takes: "from 64K to 1G, such as 500K or 16M",
 };
 
 /// The sizes that an option accepts.

@@ -50,24 +50,22 @@ fn tell_started<R: Env + AllocGlobal + Eprint>(
 ) -> io::Result<()> {
     let (notice, warning) = (Level::Notice.mark_for(rt), Level::Warning.mark_for(rt));
     match &started.served {
-        Served::Begun => eprintln!(rt; "{notice}the store '{dir}' is begun from the zone's text")?,
+        Served::Begun => eprintln!(rt; "{notice}created the store '{dir}' from ZONE")?,
         Served::Same => {}
-        Served::Store => eprintln!(rt;
-            "{notice}the store '{dir}' is served, and not the zone's text"
-        )?,
+        Served::Store => eprintln!(rt; "{notice}serving the store '{dir}'; ignoring ZONE")?,
         Served::StoreThoughOther(serial) => {
             let serial = serial.0;
             eprintln!(rt;
-                "{warning}the store '{dir}' is served, and not the zone's text: that is another one than the store was begun from, and its serial, {serial}, isn't greater"
+                "{warning}serving the store '{dir}'; ignoring ZONE: it has changed, but its serial {serial} is not newer"
             )?;
         }
         Served::Zone(kept) => eprintln!(rt;
-            "{warning}the zone's text is served, with which the store '{dir}' is begun anew; the one before is kept as '{kept}'"
+            "{warning}serving ZONE; created the store '{dir}' again from it; the old store is kept as '{kept}'"
         )?,
     }
     match &started.torn {
         Some(torn) => eprintln!(rt;
-            "{warning}the journal of '{dir}' ended with octets that are no whole batch: they are cut off, and kept as '{torn}'"
+            "{warning}the journal of '{dir}' ended in an incomplete batch: it was cut off, and is kept as '{torn}'"
         ),
         None => Ok(()),
     }

@@ -76,9 +76,7 @@ pub fn secondaries_for<R: Env + AllocGlobal + Net + Eprint + RandomSource>(
         Ok(sockets) => sockets,
         Err(Unreached { address, fault }) => {
             let mark = Level::Error.mark_for(rt);
-            eprintln!(rt;
-                "{mark}error: the secondary {address} can't be told of versions: {fault}"
-            )?;
+            eprintln!(rt; "{mark}error: cannot notify secondary {address}: {fault}")?;
             return Ok(None);
         }
     };

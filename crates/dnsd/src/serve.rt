@@ -217,21 +217,19 @@ fn tell_unbound<R: Env + AllocGlobal + Eprint>(rt: &R, unbound: &Unbound) -> io:
     let mark = Level::Error.mark_for(rt);
     match reason_of(fault) {
         Some(reason) => {
-            eprintln!(rt; "{mark}error: {listen} can't be listened on by {transport}: {reason}")
+            eprintln!(rt; "{mark}error: cannot listen on {listen} ({transport}): {reason}")
         }
-        None => {
-            eprintln!(rt; "{mark}error: {listen} can't be listened on by {transport}: {fault}")
-        }
+        None => { eprintln!(rt; "{mark}error: cannot listen on {listen} ({transport}): {fault}") }
     }
 }
 
 /// Why an address cannot be listened on, in an operator's words. None if the text of the I/O error is used.
 fn reason_of(fault: &io::Error) -> Option<&'static str> {
     match fault.kind() {
-        ErrorKind::AddrInUse => Some("another program listens there"),
-        ErrorKind::AddrNotAvailable => Some("the address isn't one of this machine's"),
+        ErrorKind::AddrInUse => Some("address in use"),
+        ErrorKind::AddrNotAvailable => Some("not an address of this machine"),
         ErrorKind::PermissionDenied => {
-            Some("a port below 1024 wants root, or the capability CAP_NET_BIND_SERVICE")
+            Some("a port below 1024 needs root or the capability CAP_NET_BIND_SERVICE")
         }
         _ => None,
     }

@@ -187,7 +187,7 @@ update from 192.0.2.7:4711: NOERROR, serial 1 to 2;\
 update from 192.0.2.7:4711: NOERROR, serial 2 to 3;\
 update from 192.0.2.7:4711: SERVFAIL;\
 update from 192.0.2.7:4711: SERVFAIL;\
-update from 192.0.2.7:4711: NOERROR, serial 3 stays;",
+update from 192.0.2.7:4711: NOERROR, serial 3 unchanged;",
     ..TRANSFER
 };
 

@@ -43,27 +43,27 @@ fn ends(rt: HostRuntime) -> Result<(), Fail> {
     let lines = [
         (
             end_of(Transport::Udp, JobEnd::Done(1000)),
-            "worker 3 (UDP) has ended: 1000 datagrams and connections done",
+            "worker 3 (UDP) exited: 1000 datagrams and connections served",
         ),
         (
             end_of(Transport::Udp, JobEnd::Spent),
-            "worker 3 (UDP) has ended: no version could be loaded",
+            "worker 3 (UDP) exited: no version could be loaded",
         ),
         (
             end_of(Transport::Tcp, JobEnd::Done(2)),
-            "worker 3 (TCP) has ended: 2 datagrams and connections done",
+            "worker 3 (TCP) exited: 2 datagrams and connections served",
         ),
         (
             end_of(Transport::Tcp, JobEnd::Device),
-            "worker 3 (TCP) has ended: its socket failed",
+            "worker 3 (TCP) exited: its socket failed",
         ),
         (
             end_of(Transport::Tcp, JobEnd::NoMemory),
-            "worker 3 (TCP) has ended: no memory",
+            "worker 3 (TCP) exited: out of memory",
         ),
         (
             Event::Silent { secondary },
-            "secondary 192.0.2.7:53 doesn't answer NOTIFY",
+            "secondary 192.0.2.7:53 does not answer NOTIFY",
         ),
         (
             Event::Again { secondary },
@@ -73,11 +73,11 @@ fn ends(rt: HostRuntime) -> Result<(), Fail> {
             Event::Untold {
                 end: JobEnd::Done(3),
             },
-            "secondaries are told no more: 3 NOTIFYs sent",
+            "notify thread exited: 3 NOTIFYs sent",
         ),
         (
             Event::Untold { end: JobEnd::Spent },
-            "secondaries are told no more: no version could be loaded",
+            "notify thread exited: no version could be loaded",
         ),
     ];
     assert_eq!(rt; first_wrong(rt.alloc(), &lines)?, None);
@@ -104,7 +104,7 @@ fn updates_and_losses(rt: HostRuntime) -> Result<(), Fail> {
                 code: Rcode::NXRRSet,
                 serials: serials(7, 7),
             },
-            "update from [2001:db8::7]:4711: NXRRSET, serial 7 stays",
+            "update from [2001:db8::7]:4711: NXRRSET, serial 7 unchanged",
         ),
         (
             Event::Update {
@@ -122,7 +122,7 @@ fn updates_and_losses(rt: HostRuntime) -> Result<(), Fail> {
                     ..Losses::default()
                 },
             },
-            "worker 4 (TCP): 12 too long over a reply",
+            "worker 4 (TCP): 12 reply timeout",
         ),
         (
             Event::Lost {
@@ -139,7 +139,7 @@ fn updates_and_losses(rt: HostRuntime) -> Result<(), Fail> {
                     no_room: 9,
                 },
             },
-            "worker 4 (TCP): 1 failed, 2 starved, 3 idle too long, 4 too long over a request, 5 too long over a reply, 6 too slow over a reply, 7 ended for others, 8 turned away, 9 without room",
+            "worker 4 (TCP): 1 failed, 2 out of resources, 3 idle timeout, 4 request timeout, 5 reply timeout, 6 reply read too slowly, 7 closed to make room, 8 rejected (all connections in use), 9 rejected (no descriptor or memory)",
         ),
     ];
     assert_eq!(rt; first_wrong(rt.alloc(), &lines)?, None);

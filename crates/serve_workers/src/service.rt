@@ -73,16 +73,16 @@ pub struct ThreadSpec<'a> {
 #[derive(Clone, Copy, Debug, Error)]
 pub enum ServeFault {
     /// A thread could not be started.
-    #[error("a thread can't be started")]
+    #[error("cannot start a thread")]
     NotStarted,
     /// A socket has failed.
-    #[error("a socket has failed")]
+    #[error("a socket failed")]
     Device,
     /// No version could be loaded, or the zone's later versions could not be published at the start.
     #[error("no version could be loaded")]
     Spent,
     /// An allocation failed.
-    #[error("no memory")]
+    #[error("out of memory")]
     NoMemory,
 }
 

@@ -97,7 +97,7 @@ impl Display for LogLine {
             }
             LogLine::Wildcard(address) => write!(
                 f,
-                "{address}: a datagram is answered from the address that routing picks; on a host of several addresses, name each by a --listen of its own"
+                "{address}: UDP replies are sent from the address that routing picks; on a host with several addresses, use one --listen for each"
             ),
             LogLine::FewDescriptors {
                 limit,
@@ -105,19 +105,21 @@ impl Display for LogLine {
                 places,
             } => write!(
                 f,
-                "the limit of descriptors is {limit}, and all connections may want {wanted}: each worker has at most {places} open"
+                "file descriptor limit is {limit}, and all connections may need {wanted}: each worker has at most {places} open"
             ),
             LogLine::SmallBuffer { kept, wanted } => write!(
                 f,
-                "UDP: the system keeps {kept} bytes of datagrams for a socket, and --udp-buffer asks for {wanted}: raise net.core.rmem_max"
+                "UDP: receive buffer of a socket is {kept} bytes, --udp-buffer requested {wanted}: raise net.core.rmem_max"
             ),
             LogLine::Routed => f.write_str(
-                "some secondaries are told from the address that routing picks, since no other of their family is listened on; name it as --notify ADDR@FROM",
+                "NOTIFY to some secondaries is sent from the address that routing picks: no --listen names one of their family; use --notify ADDR@FROM",
             ),
             LogLine::RootApex => f.write_str(ROOT_APEX),
             LogLine::Large(large) => write!(f, "warning: {large}"),
             LogLine::NoStore => {
-                f.write_str("updates are lost at the server's end: --store DIR keeps them")
+                f.write_str(
+                    "updates will be lost when the server stops; use --store DIR to keep them",
+                )
             }
             LogLine::Event(event) => write!(f, "{event}"),
             LogLine::Store(event) => write!(f, "{event}"),

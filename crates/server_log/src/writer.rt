@@ -68,7 +68,7 @@ impl<E: Eprint + AllocGlobal + Wait + Clock> Sink<Entry> for ErrorLines<E> {
         let Told { lost, line } = told;
         if lost > 0 {
             let mark = Level::Warning.mark(self.in_journal);
-            let _ = eprintln!(self.rt; "{mark}{lost} lines of the log are lost here");
+            let _ = eprintln!(self.rt; "{mark}{lost} log lines lost here");
         }
         match line {
             Some(Entry::Line(line)) => self.put_line(line),
@@ -143,7 +143,7 @@ impl<E: Eprint + AllocGlobal + Wait + Clock> ErrorLines<E> {
         }
         if others > 0 {
             let _ = eprintln!(self.rt;
-                "{mark}{others} more requests refused, or signed, of other peers"
+                "{mark}{others} more requests refused or signed, from other clients"
             );
         }
     }

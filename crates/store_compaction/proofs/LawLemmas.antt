@@ -28,7 +28,7 @@ use Rattle.store_compaction.proofs.HasLemmas.{has_recovered}
 
 module _ {F : Type 0} where
   -- what is on the disk
-  disk_is : (head : Head) (log : Log FileDisk F) (bodies : List (List ℕ)) → IsOnDisk written synced head log bodies → synced (disk_of log) ≡ journal_octets head bodies
+  pub disk_is : (head : Head) (log : Log FileDisk F) (bodies : List (List ℕ)) → IsOnDisk written synced head log bodies → synced (disk_of log) ≡ journal_octets head bodies
   disk_is head log bodies (inl holds) = holds.is_synced
   disk_is head log bodies (inr stuck) = stuck.is_synced
 

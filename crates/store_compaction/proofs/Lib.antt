@@ -4,6 +4,7 @@ pub mod HasLemmas
 pub mod JudgedLemmas
 pub mod KeptLemmas
 pub mod LawLemmas
+pub mod LeavesLemmas
 pub mod MadeLemmas
 pub mod MarkedLemmas
 pub mod RecentLemmas

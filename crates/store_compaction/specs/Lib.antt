@@ -1,3 +1,4 @@
+pub mod Crash
 pub mod End
 pub mod Files
 pub mod Has

@@ -53,7 +53,9 @@ impl<R: Files<File = File> + Alloc + Clone + Drop, T: TextWriter, N: Notes + Dro
     N,
 > {
     ghost use Rattle.std.specs.Prelude.{◌≡◌};
+    ghost use Rattle.store_compaction.specs.Writer.{log_of};
     ghost use Rattle.store_compaction.specs.Kept.{IsTended, IsKept};
+    ghost use Rattle.store_compaction.specs.Crash.{IsPlaced};
 
     /// The store in a directory, with its writer, the writer of its zone texts, and the receiver of its events. A journal of more than `most` bytes is compacted.
     pub fn new(
@@ -100,7 +102,8 @@ impl<R: Files<File = File> + Alloc + Clone + Drop, T: TextWriter, N: Notes + Dro
 
     /// Puts the journal of the zone text in place once that text is on disk.
     fn finish<W: Wait>(&mut self, rt: &W, alloc: Global)
-        ensures { IsTended self.old self.new }
+        ensures tended { IsTended self.old self.new }
+        ensures placed { IsPlaced self.old.writer self.new.writer }
     {
         let placed = put_in_place(
             rt,
@@ -123,7 +126,8 @@ impl<R: Files<File = File> + Alloc + Clone + Drop, T: TextWriter, N: Notes + Dro
 
     /// Starts the next zone text if one is due and none is being written.
     fn start<W: Wait>(&mut self, rt: &W, alloc: Global)
-        ensures { IsKept self.old self.new }
+        ensures kept { IsKept self.old self.new }
+        ensures log { log_of self.new.writer ≡ log_of self.old.writer }
     {
         if self.texts.is_writing() || !is_due(&self.writer, self.most, self.had) {
             return;
@@ -143,10 +147,13 @@ impl<R: Files<File = File> + Alloc + Clone + Drop, T: TextWriter, N: Notes + Dro
 impl<R: Files<File = File> + Alloc + Clone + Drop, T: TextWriter, N: Notes + Drop> UpdateStore
     for CompactedStore<R, T, N> {
     ghost use Rattle.store_compaction.specs.Has.{HasUpdates};
+    ghost use Rattle.store_compaction.specs.Crash.{Leaves};
 
     type Fault = LogFault<io::Error>;
 
     ghost has = { HasUpdates };
+
+    ghost leaves = { Leaves };
 
     fn tend<W: Wait>(&mut self, rt: &W, alloc: Global) {
         if self.misplaced(alloc).is_some() {

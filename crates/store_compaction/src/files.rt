@@ -1,6 +1,7 @@
 //! The files of a compaction (own).
 ghost use Rattle.std.specs.Prelude.{◌≡◌, IfOk, IfErr};
 ghost use Rattle.store_compaction.specs.Writer.{trail_of};
+ghost use Rattle.store_compaction.specs.Crash.{IsPlaced};
 ghost use Rattle.store_compaction.specs.Files.{BeginsText, GoesOn, Stops, IsSettled};
 
 use crate::marked::next_text;
@@ -50,6 +51,7 @@ pub fn replace_with_next<R: Files<File = File>>(
 ) -> Result<bool, PairFault>
     ensures goes_on { IfOk result (λ done. GoesOn head writer.old writer.new done) }
     ensures stops { IfErr result (λ fault. Stops fault writer.old writer.new) }
+    ensures placed { IsPlaced writer.old writer.new }
     ensures trail { trail_of writer.new ≡ trail_of writer.old }
 {
     let next = match writer.next_journal(alloc, &head) {

@@ -22,7 +22,7 @@ pub struct NextJournal {
 impl NextJournal {
     ghost use Rattle.std.specs.Prelude.{◌≡◌, ℕ, List};
     ghost use Rattle.journal.specs.declared.heads.Head.{Head};
-    ghost use Rattle.journal.specs.Log.{Holds};
+    ghost use Rattle.journal.specs.Log.{Holds, disk_of};
     ghost use Rattle.store_compaction.specs.Marked.{IsNextJournal};
 
     /// The bytes of the journal.
@@ -34,8 +34,9 @@ impl NextJournal {
 
     /// Continues a log with this journal once it is the store's, on the disk that has its bytes. A stuck log continues too. Never fails.
     pub fn switch<D: Disk>(&self, log: &mut Log<D>, disk: D)
-        ensures { (head : Head) (bodies : List (List ℕ)) → IsNextJournal head bodies self.now → D.written disk ≡ self.now.octets.items
+        ensures holds { (head : Head) (bodies : List (List ℕ)) → IsNextJournal head bodies self.now → D.written disk ≡ self.now.octets.items
             → D.synced disk ≡ self.now.octets.items → Holds D.written D.synced head log.new bodies }
+        ensures disk { disk_of log.new ≡ disk }
     {
         log.switch(disk, &self.salt, self.number, self.octets.len() as u64);
     }

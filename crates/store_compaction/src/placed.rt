@@ -4,6 +4,7 @@ ghost use Rattle.dns_rdata.specs.Record.{Record};
 ghost use Rattle.dns_message.specs.declared.update.Update.{Update};
 ghost use Rattle.store_files.specs.File.{written, synced};
 ghost use Rattle.store_compaction.specs.Writer.{trail_of, head_of};
+ghost use Rattle.store_compaction.specs.Crash.{IsPlaced};
 ghost use Rattle.store_compaction.specs.Stands.{Stands, StandsFrom};
 ghost use Rattle.store_compaction.specs.TextWriter.{Wanted as Text, IsWritten};
 
@@ -43,6 +44,7 @@ pub(crate) fn put_in_place<
     texts: &mut T,
     notes: &mut N,
 ) -> Placed
+    ensures placed { IsPlaced writer.old writer.new }
     ensures trail { trail_of writer.new ≡ trail_of writer.old }
     ensures stands { (text : List ℕ) (batches : List (List (List ℕ))) (zone : List Record) (updates : List Update) (k : ℕ)
         → Stands written synced text batches zone updates k writer.old (T.wanted texts.old)
@@ -68,6 +70,7 @@ fn replace<W: Wait, R: Files<File = File> + Alloc + Clone + Drop, N: Notes>(
     notes: &mut N,
     head: Head,
 ) -> Placed
+    ensures placed { IsPlaced writer.old writer.new }
     ensures trail { trail_of writer.new ≡ trail_of writer.old }
     ensures stands { (wanted : Text) → IsWritten wanted head → (text : List ℕ) (batches : List (List (List ℕ))) (zone : List Record) (updates : List Update) (k : ℕ)
         → Stands written synced text batches zone updates k writer.old (Some wanted)

@@ -26,7 +26,8 @@ impl<D: Disk> StoreWriter<D> {
     ghost use Rattle.journal.specs.Batch.{batch_of, IsShort};
     ghost use Rattle.journal.specs.Frame.{body_limit};
     ghost use Rattle.journal.specs.Recovered.{updates_in};
-    ghost use Rattle.journal.specs.Log.{Holds, IsStuck, is_stuck};
+    ghost use Rattle.journal.specs.Disk.{LeavesOnly};
+    ghost use Rattle.journal.specs.Log.{octets_of, Holds, IsStuck, disk_of, is_stuck};
     ghost use Rattle.update_batches.specs.Batch.{versions_in, updates_of, logged};
     ghost use Rattle.store_compaction.specs.declared.marked.Compaction.{Compaction as Kept};
     ghost use Rattle.update_batches.specs.declared.version_update.VersionUpdate.{VersionUpdate as TrailStep};
@@ -66,6 +67,8 @@ impl<D: Disk> StoreWriter<D> {
             → Holds D.written D.synced head (log_of self.new) (logged bodies (updates_of updates.now))) }
         ensures on_disk_still { OnErr result ((head : HeadState) (bodies : List (List ℕ)) → Holds D.written D.synced head (log_of self.old) bodies
             → Holds D.written D.synced head (log_of self.new) bodies ⊎ IsStuck D.synced head (log_of self.new) bodies) }
+        ensures crash { (head : HeadState) (bodies : List (List ℕ)) → Holds D.written D.synced head (log_of self.old) bodies
+            → LeavesOnly (D.history (disk_of (log_of self.old))) (D.history (disk_of (log_of self.new))) (octets_of head bodies) }
         ensures trail { OnOk result ((steps : List TrailStep) × AreSteps steps (versions_in updates.now) (updates_of updates.now)
             × (trail_of self.new ≡ followed (trail_of self.old) steps)) }
         ensures trail_still { OnErr result (trail_of self.new ≡ trail_of self.old) }
@@ -166,6 +169,7 @@ impl<D: Disk> StoreWriter<D> {
         requires next { IsNextOf (under_way_of self.old) head next }
         ensures holds { (bodies : List (List ℕ)) → IsNextJournal head bodies next → D.written disk ≡ next.octets.items → D.synced disk ≡ next.octets.items
             → Holds D.written D.synced head (log_of self.new) bodies }
+        ensures disk { disk_of (log_of self.new) ≡ disk }
         ensures trail { trail_of self.new ≡ trail_of self.old }
         ensures head { head_of self.new ≡ head }
         ensures none { under_way_of self.new ≡ None }
@@ -182,6 +186,7 @@ impl<D: Disk> StoreWriter<D> {
         ensures stopped { (head : HeadState) (bodies : List (List ℕ)) → Holds D.written D.synced head (log_of self.old) bodies → IsStuck D.synced head (log_of self.new) bodies }
         ensures still { (head : HeadState) (bodies : List (List ℕ)) → IsStuck D.synced head (log_of self.old) bodies → IsStuck D.synced head (log_of self.new) bodies }
         ensures stuck { is_stuck (log_of self.new) ≡ true }
+        ensures disk { disk_of (log_of self.new) ≡ disk_of (log_of self.old) }
         ensures trail { trail_of self.new ≡ trail_of self.old }
         ensures head { head_of self.new ≡ head_of self.old }
         ensures none { under_way_of self.new ≡ None }

@@ -17,6 +17,8 @@ pub data FileCall : Type 0 where
   not_synced : FileCall
   -- an append of these octets was tried, and failed
   not_appended : List ℕ → FileCall
+  -- a rename of the file was tried, after which it may have its new name
+  renamed : FileCall
 
 -- the call of two numbers and octets
 abbrev pub call_of : List ℕ → List ℕ → FileCall
@@ -27,7 +29,8 @@ call_of numbers octets =
     else if slice_index numbers 0 == 3 then cut (slice_index numbers 1)
     else if slice_index numbers 0 == 4 then not_cut (slice_index numbers 1)
     else if slice_index numbers 0 == 5 then not_synced
-    else not_appended octets
+    else if slice_index numbers 0 == 6 then not_appended octets
+    else renamed
 
 -- the octets as they are after calls, the last call first
 abbrev pub written_by : List FileCall → List ℕ
@@ -39,6 +42,7 @@ written_by (cut len ∷ calls) = take len (written_by calls)
 written_by (not_cut len ∷ calls) = written_by calls
 written_by (not_synced ∷ calls) = written_by calls
 written_by (not_appended octets ∷ calls) = written_by calls
+written_by (renamed ∷ calls) = written_by calls
 
 -- the octets that are on the disk after calls
 abbrev pub synced_by : List FileCall → List ℕ
@@ -50,6 +54,7 @@ synced_by (cut len ∷ calls) = take len (synced_by calls)
 synced_by (not_cut len ∷ calls) = take len (synced_by calls)
 synced_by (not_synced ∷ calls) = synced_by calls
 synced_by (not_appended octets ∷ calls) = synced_by calls
+synced_by (renamed ∷ calls) = synced_by calls
 
 -- how many of the calls failed so that it is unknown what is written
 abbrev pub lost_by : List FileCall → ℕ
@@ -61,8 +66,10 @@ lost_by (cut len ∷ calls) = lost_by calls
 lost_by (not_cut len ∷ calls) = lost_by calls + 1
 lost_by (not_synced ∷ calls) = lost_by calls + 1
 lost_by (not_appended octets ∷ calls) = lost_by calls
+lost_by (renamed ∷ calls) = lost_by calls
 
--- what was on the disk after each call, the last call first
+-- what was on the disk after each call, the last call first, since the file may have its name
 abbrev pub history_by : List FileCall → List (List ℕ)
 history_by [] = []
+history_by (renamed ∷ calls) = synced_by calls ∷ []
 history_by (call ∷ calls) = synced_by (call ∷ calls) ∷ history_by calls

@@ -15,6 +15,6 @@ synced disk = synced_by disk.calls.calls
 abbrev pub lost : FileDisk → ℕ
 lost disk = lost_by disk.calls.calls
 
--- what was on the disk after each call so far, the last call first
+-- what was on the disk after each call so far, the last call first, since the file may have its name
 abbrev pub history : FileDisk → List (List ℕ)
 history disk = history_by disk.calls.calls

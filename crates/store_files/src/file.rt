@@ -1,6 +1,6 @@
 //! A file as a disk (own).
-ghost use Rattle.std.specs.Prelude.{◌≡◌, [], IfOk};
-ghost use Rattle.store_files.specs.File.{written, synced};
+ghost use Rattle.std.specs.Prelude.{◌≡◌, [], ◌∷◌, IfOk};
+ghost use Rattle.store_files.specs.File.{written, synced, history};
 
 use crate::list::CallList;
 use journal::Disk;
@@ -30,6 +30,9 @@ pub const NOT_SYNCED: u64 = 5;
 
 /// The call tried to append these octets, and failed.
 const NOT_APPENDED: u64 = 6;
+
+/// The call tried to rename the file.
+const RENAMED: u64 = 7;
 
 /// How many octets of room are allocated at once after what is appended: zeros, so that a sync needn't bring the file's new length to the disk each time (own).
 const ROOM: u64 = 65_536;
@@ -86,6 +89,15 @@ impl FileDisk {
             calls,
         };
         Ok((disk, octets))
+    }
+
+    /// Renames the file. Its history begins here: the new name may lead to it from any moment of the call on, also after an error.
+    pub fn rename<R: Files>(&mut self, files: &R, from: &str, to: &str) -> io::Result<()>
+        ensures same { (written self.new ≡ written self.old) × (synced self.new ≡ synced self.old) }
+        ensures history { history self.new ≡ synced self.new ∷ [] }
+    {
+        self.calls.note(&[RENAMED, 0], &[]);
+        fs::rename(files, from, to)
     }
 
     /// Whether a path leads to this very file, by the device and inode numbers of both (stat(2)): false where it leads to another one, or nowhere.

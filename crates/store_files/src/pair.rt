@@ -1,6 +1,6 @@
 //! Writing a zone text and a journal that replace those before them (own).
-ghost use Rattle.std.specs.Prelude.{◌≡◌, ◌≢◌, IfOk};
-ghost use Rattle.store_files.specs.File.{written, synced};
+ghost use Rattle.std.specs.Prelude.{◌≡◌, ◌≢◌, [], ◌∷◌, IfOk};
+ghost use Rattle.store_files.specs.File.{written, synced, history};
 
 use crate::file::FileDisk;
 use crate::files::sync_folder;
@@ -53,11 +53,11 @@ pub fn begin_pair<R: Files<File = File>>(
         Ok(paths) => paths,
         Err(fault) => return Err(PairFault::Before(fault)),
     };
-    let disk = match lay_first(rt, alloc, dir, &paths, text, journal) {
+    let mut disk = match lay_first(rt, alloc, dir, &paths, text, journal) {
         Ok(disk) => disk,
         Err(fault) => return Err(PairFault::Before(fault)),
     };
-    match put_in_place(rt, dir, &paths) {
+    match put_in_place(rt, dir, &paths, &mut disk) {
         Ok(()) => Ok(disk),
         Err(fault) => Err(PairFault::Unknown(fault)),
     }
@@ -165,17 +165,17 @@ pub fn replace_journal<R: Files<File = File>>(
     dir: &str,
     journal: &[u8],
 ) -> Result<FileDisk, PairFault>
-    ensures { IfOk result (λ disk. (written disk ≡ journal.now) × (synced disk ≡ journal.now)) }
+    ensures { IfOk result (λ disk. (written disk ≡ journal.now) × (synced disk ≡ journal.now) × (history disk ≡ journal.now ∷ [])) }
 {
     let paths = match Paths::of(alloc, dir) {
         Ok(paths) => paths,
         Err(fault) => return Err(PairFault::Before(fault)),
     };
-    let disk = match lay_journal(rt, &paths, journal) {
+    let mut disk = match lay_journal(rt, &paths, journal) {
         Ok(disk) => disk,
         Err(fault) => return Err(PairFault::Before(fault)),
     };
-    match put_in_place(rt, dir, &paths) {
+    match put_in_place(rt, dir, &paths, &mut disk) {
         Ok(()) => Ok(disk),
         Err(fault) => Err(PairFault::Unknown(fault)),
     }
@@ -225,7 +225,10 @@ fn lay_journal<R: Files<File = File>>(rt: &R, paths: &Paths, journal: &[u8]) -> 
 }
 
 /// Makes a journal the store's: renames it, and syncs its name to the disk.
-fn put_in_place<R: Files>(rt: &R, dir: &str, paths: &Paths) -> io::Result<()> {
-    fs::rename(rt, paths.laid.as_str(), paths.in_place.as_str())?;
+fn put_in_place<R: Files>(rt: &R, dir: &str, paths: &Paths, disk: &mut FileDisk) -> io::Result<()>
+    ensures same { (written disk.new ≡ written disk.old) × (synced disk.new ≡ synced disk.old) }
+    ensures history { history disk.new ≡ synced disk.new ∷ [] }
+{
+    disk.rename(rt, paths.laid.as_str(), paths.in_place.as_str())?;
     sync_folder(rt, dir)
 }

@@ -26,13 +26,11 @@ impl Display for StoreEvent {
     fn fmt<W: fmt::Write>(&self, f: &mut Formatter<W>) -> fmt::Result {
         match self {
             StoreEvent::Failing(fault) => {
-                f.write_str("updates aren't kept: ")?;
+                f.write_str("store: cannot write updates: ")?;
                 write_fault(f, fault)?;
-                f.write_str(
-                    "; each that would change the zone is told SERVFAIL until one is kept again, which is tried while they come",
-                )
+                f.write_str("; updates get SERVFAIL until a write succeeds")
             }
-            StoreEvent::Kept => f.write_str("updates are kept again"),
+            StoreEvent::Kept => f.write_str("store: updates are written again"),
             StoreEvent::Compaction(event) => write_compaction(f, event),
         }
     }
@@ -41,8 +39,8 @@ impl Display for StoreEvent {
 /// Writes the reason why a batch was not written.
 fn write_fault<W: fmt::Write>(f: &mut Formatter<W>, fault: &LogFault<io::Error>) -> fmt::Result {
     match fault {
-        LogFault::Stuck => f.write_str("the store's journal takes nothing more"),
-        LogFault::Full => f.write_str("the store's journal is full"),
+        LogFault::Stuck => f.write_str("the journal accepts no writes after an earlier error"),
+        LogFault::Full => f.write_str("the journal is full"),
         LogFault::NoMemory => f.write_str("out of memory"),
         LogFault::Disk(fault) => write!(f, "{fault}"),
     }
@@ -51,33 +49,28 @@ fn write_fault<W: fmt::Write>(f: &mut Formatter<W>, fault: &LogFault<io::Error>)
 /// Writes the result of a step of a compaction.
 fn write_compaction<W: fmt::Write>(f: &mut Formatter<W>, event: &CompactionEvent) -> fmt::Result {
     match event {
-        CompactionEvent::Begun(number) => {
-            write!(f, "the store's next zone text is begun: zone-{number}")
-        }
+        CompactionEvent::Begun(number) => { write!(f, "store: writing zone-{number}") }
         CompactionEvent::Replaced(number) => write!(
             f,
-            "the store's journal is begun anew, behind the zone text zone-{number}"
+            "store: journal compacted into zone-{number}"
         ),
         CompactionEvent::NoText(fault) => write!(
             f,
-            "the store's next zone text isn't written: {fault}; while updates come, that is tried again every few seconds"
+            "store: cannot write the next zone text: {fault}; retrying every few seconds while updates arrive"
         ),
         CompactionEvent::NotReplaced(fault) => write!(
             f,
-            "the store's next journal isn't put in place: {fault}; the one before stays, and while updates come, that is tried again every few seconds"
+            "store: cannot replace the journal: {fault}; the old one stays in use; retrying every few seconds while updates arrive"
         ),
         CompactionEvent::Unknown(fault) => write!(
             f,
-            "nobody knows which of two journals of the store a crash would leave: {fault}; until another one is in place, which is tried while updates come, each that would change the zone is told SERVFAIL"
+            "store: the old or the new journal may be in place after a crash: {fault}; updates get SERVFAIL until the journal is replaced again"
         ),
         CompactionEvent::NotRemoved(fault) => {
-            write!(
-                f,
-                "a zone text that the store doesn't need isn't removed: {fault}"
-            )
+            write!(f, "store: cannot remove an unused zone text: {fault}")
         }
         CompactionEvent::NotBegun => f.write_str(
-            "the store's next zone text isn't begun: out of memory; while updates come, that is tried again",
+            "store: cannot start the next zone text: out of memory; retrying while updates arrive",
         ),
     }
 }

@@ -20,7 +20,6 @@ mod served;
 mod start;
 mod updates;
 
-pub use begin::begin_with;
 pub use event::{StoreEvent, StoreLog};
 pub use notes::StoreNotes;
 pub use refusal::Refusal;

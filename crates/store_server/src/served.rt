@@ -45,11 +45,13 @@ pub struct NotStored;
 
 impl<S: UpdateStore<Fault = LogFault<io::Error>>, L: StoreLog> UpdateStore
     for ServerStore<'_, S, L> {
-    ghost use Rattle.store_server.specs.Served.{HasIn};
+    ghost use Rattle.store_server.specs.Served.{HasIn, LeavesIn};
 
     type Fault = NotStored;
 
     ghost has = { HasIn S.has };
+
+    ghost leaves = { LeavesIn S.leaves };
 
     fn tend<R: Wait>(&mut self, rt: &R, alloc: Global) {
         match self {

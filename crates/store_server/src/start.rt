@@ -6,7 +6,7 @@ ghost use Rattle.store_recovery.specs.Choice.{IsChoice};
 ghost use Rattle.store_server.specs.Started.{AreLastUpdates, GoesOn, IsBegunAnew, IsBegunStore, IsOfFolder, IsOwnFault, IsNoText, IsKept, IsServed, IsRefused};
 ghost use Rattle.store_files.specs.Store.{IsAsNoted};
 
-use crate::begin::begin_with;
+use crate::begin::{begin_first, begin_over};
 use crate::refusal::Refusal;
 use crate::resume::{OpenStore, resume_pair};
 use crate::updates::start_with_updates;
@@ -16,11 +16,9 @@ use journal::Head;
 use master_file::read_zone;
 use std::alloc::Global;
 use std::fs::{File, Files};
-use store_files::{
-    FIRST_TEXT, OpenedFolder, Pair, StoreLock, drop_others, keep_pair, keep_torn, open_store,
-};
+use store_files::{OpenedFolder, Pair, StoreLock, drop_others, keep_pair, keep_torn, open_store};
 use store_recovery::{Choice, Ending, Recovery, Take, choose};
-use zone_tree::{Version, Zone, ZoneRead};
+use zone_tree::{Zone, ZoneRead};
 
 /// The operator's zone file and options for a store.
 #[derive(Clone, Copy)]
@@ -96,7 +94,7 @@ fn start_opened<R: Files<File = File> + Alloc + Clone + Drop>(
         OpenedFolder::NoText(number) => Err(Refusal::NoText(number)),
         OpenedFolder::Empty(lock) => {
             let zone = read_zone(alloc, given.text, given.origin)?;
-            let store = begin_anew(rt, alloc, dir, zone, FIRST_TEXT, random, given.text)?;
+            let store = begin_first(rt, alloc, dir, zone, random, given.text)?;
             Ok(Started {
                 lock,
                 store,
@@ -219,11 +217,11 @@ fn take_text<R: Files<File = File>>(
 {
     let next = head.number.saturating_add(1);
     let kept = keep_pair(rt, alloc, dir, head.number, &pair.text, &pair.journal)?;
-    let store = begin_anew(rt, alloc, dir, zone, next, random, given.text)?;
+    let store = begin_over(rt, alloc, dir, &kept, zone, next, random, given.text)?;
     Ok(Started {
         lock,
         store,
-        served: Served::Zone(kept),
+        served: Served::Zone(kept.into_path()),
         torn: None,
     })
 }
@@ -256,27 +254,4 @@ fn torn_end(journal: &[u8], end: usize) -> Option<&[u8]>
         return None;
     }
     Some(octets)
-}
-
-/// Creates a store with a zone.
-fn begin_anew<R: Files<File = File>>(
-    rt: &R,
-    alloc: Global,
-    dir: &str,
-    zone: Zone,
-    number: u64,
-    random: [u8; 16],
-    given: &[u8],
-) -> Result<OpenStore, Refusal>
-    ensures begun { IfOk result (λ store. IsBegunStore zone number random given.now store) }
-    ensures refused { IfErr result IsOwnFault }
-{
-    let (head, log) = begin_with(rt, alloc, dir, &zone, number, random, given)?;
-    Ok(OpenStore {
-        head,
-        log,
-        first: Version::first(zone),
-        later: Vec::new(alloc),
-        updates: Vec::new(alloc),
-    })
 }

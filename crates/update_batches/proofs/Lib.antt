@@ -1,4 +1,5 @@
 pub mod BatchLemmas
+pub mod CrashLemmas
 mod DoneLemmas
 pub mod LastingLemmas
 mod ServedLemmas

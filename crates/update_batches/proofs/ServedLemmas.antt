@@ -12,7 +12,8 @@ use Rattle.update_batches.specs.declared.queued_update.QueuedUpdate.{QueuedUpdat
 use Rattle.update_batches.specs.UpdateRequest.{octets_of}
 use Rattle.zone_tree.specs.Version.{Version}
 use Rattle.update_batches.specs.Replies.{Reply}
-use Rattle.update_batches.specs.Turned.{ThreadState, Lasts, Fails, IsTold, HasTurned, AreAnswered, unasked, lasting, failing, HasServed}
+use Rattle.update_batches.specs.Turned.{ThreadState, Lasts, Fails, IsTold, HasTurned, AreAnswered, unasked, lasting, failing, HasServed, IsCrashSafe, uncalled}
+use Rattle.update_batches.proofs.CrashLemmas.{safe_both}
 
 -- so many of the same
 replicate_long : {X : Type 0} (n : ℕ) (x : X) → length (replicate n x) ≡ n
@@ -41,9 +42,9 @@ replies_more (verdict ∷ verdicts) more [] batch long = absurd (omega (arith, l
 replies_more (verdict ∷ verdicts) more (one ∷ requests) batch long =
     ap (λ (rs : List Reply). reply_to (octets_of one.request) verdict ∷ rs) (replies_more verdicts more requests batch (omega (arith, long)))
 
-module _ {S : Type 0} (has : List Record → S → List Version → List (List ℕ) → Type 0) where
+module _ {S : Type 0} (has : List Record → S → List Version → List (List ℕ) → Type 0) (leaves : List Record → S → S → List (List ℕ) → Type 0) where
   -- no turn
-  pub served_none : (state : ThreadState S) → HasServed has state state
+  pub served_none : (state : ThreadState S) → HasServed has leaves state state
   served_none state = record {
     arrived = [];
     requests = [];
@@ -56,6 +57,7 @@ module _ {S : Type 0} (has : List Record → S → List Version → List (List �
     published = sym (append-nil state.published);
     replied = sym (append-nil state.replied);
     stored = λ zone stood had. subst (λ (us : List (List ℕ)). has zone state.store state.published us) (sym (append-nil stood)) had;
+    crash = λ zone stood had. subst (λ (us : List (List ℕ)). IsCrashSafe has leaves zone state.store stood state.store state.published us) (sym (append-nil stood)) (uncalled had);
   }
 
   -- the lists of two turns
@@ -90,10 +92,10 @@ module _ {S : Type 0} (has : List Record → S → List Version → List (List �
 
   module _ {F : Type 0} where
     -- one turn more
-    served_by : (fault : Option F) (old mid new : ThreadState S) → (served : HasServed has old mid)
-        → (turn : HasTurned has fault mid new)
-        → IsTold has mid.published new.published turn.batch turn.verdicts fault mid.store new.store
-        → HasServed has old new
+    served_by : (fault : Option F) (old mid new : ThreadState S) → (served : HasServed has leaves old mid)
+        → (turn : HasTurned has leaves fault mid new)
+        → IsTold has leaves mid.published new.published turn.batch turn.verdicts fault mid.store new.store
+        → HasServed has leaves old new
     served_by None old mid new served turn lasts =
         let published : new.published ≡ old.published ++ (served.versions ++ lasts.versions) =
         lasts.later_are ∙ (ap (λ (vs : List Version). vs ++ lasts.versions) served.published ∙ append_assoc old.published served.versions lasts.versions) in
@@ -111,6 +113,9 @@ module _ {S : Type 0} (has : List Record → S → List Version → List (List �
           replied = replied_more old.replied mid.replied new.replied served.verdicts turn.verdicts served.requests turn.batch served.each served.replied turn.replied;
           stored = λ zone stood had. subst (λ (us : List (List ℕ)). has zone new.store new.published us) (append_assoc stood served.updates lasts.updates)
               (lasts.stored zone (stood ++ served.updates) (served.stored zone stood had));
+          crash = λ zone stood had. subst (λ (us : List (List ℕ)). IsCrashSafe has leaves zone old.store stood new.store new.published us)
+              (append_assoc stood served.updates lasts.updates)
+              (safe_both has leaves zone (served.crash zone stood had) (lasts.crash zone (stood ++ served.updates) (served.stored zone stood had)));
         }
     served_by (Some why) old mid new served turn fails =
         let long : length turn.verdicts ≡ length turn.batch = ap length fails.told ∙ replicate_long (length turn.batch) failed in
@@ -130,8 +135,9 @@ module _ {S : Type 0} (has : List Record → S → List Version → List (List �
           published = fails.later_are ∙ served.published;
           replied = replied_more old.replied mid.replied new.replied served.verdicts turn.verdicts served.requests turn.batch served.each served.replied turn.replied;
           stored = λ zone stood had. fails.stored zone (stood ++ served.updates) (served.stored zone stood had);
+          crash = λ zone stood had. safe_both has leaves zone (served.crash zone stood had) (fails.crash zone (stood ++ served.updates) (served.stored zone stood had));
         }
 
-    pub served_on : {fault : Option F} {old mid new : ThreadState S} → HasServed has old mid
-        → HasTurned has fault mid new → HasServed has old new
+    pub served_on : {fault : Option F} {old mid new : ThreadState S} → HasServed has leaves old mid
+        → HasTurned has leaves fault mid new → HasServed has leaves old new
     served_on {fault} {old} {mid} {new} served turn = served_by fault old mid new served turn turn.told

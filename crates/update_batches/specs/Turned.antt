@@ -35,8 +35,16 @@ pub data AreAnswered (first : Version) : List QueuedUpdate → List Verdict → 
       → Judged (newest_of first versions) batch batch_verdicts made batch_updates → 0 < length made
       → AreAnswered first (requests ++ batch) (verdicts ++ replicate (length batch) failed) versions updates
 
--- `has` says of a store that, after a zone, it has these updates on the disk, in this order, and that they end at the last of the versions that are published
-module _ {S : Type 0} (has : List Record → S → List Version → List (List ℕ) → Type 0) where
+-- `has` says of a store that, after a zone, it has these updates on the disk, in this order, and that they end at the last of the versions that are published; `leaves`, that a crash
+-- at any moment from one state of a store to another one leaves what a start reads as a zone with these updates first
+module _ {S : Type 0} (has : List Record → S → List Version → List (List ℕ) → Type 0) (leaves : List Record → S → S → List (List ℕ) → Type 0) where
+  -- from one state of a store to another one, call after call: after each call the store has the updates that it had, and perhaps more after them; and a crash at any moment during
+  -- the call leaves those first that it had when the call began
+  pub data IsCrashSafe (zone : List Record) (old : S) (before : List (List ℕ)) : S → List Version → List (List ℕ) → Type 0 where
+    uncalled : {published : List Version} → has zone old published before → IsCrashSafe zone old before old published before
+    called : {mid new : S} {versions later : List Version} {updates : List (List ℕ)} (more : List (List ℕ)) → IsCrashSafe zone old before mid versions updates
+        → leaves zone mid new updates → has zone new later (updates ++ more) → IsCrashSafe zone old before new later (updates ++ more)
+
   -- each request gets what it gets in the version published last, or in the one that those before it make of that; the updates of those that change the zone are on the disk, and
   -- what they make is published, in their order
   pub record Lasts (published later : List Version) (batch : List QueuedUpdate) (verdicts : List Verdict) (before after : S) : Type 0 where
@@ -47,6 +55,7 @@ module _ {S : Type 0} (has : List Record → S → List Version → List (List �
     pub judged : Judged first batch verdicts versions updates
     pub later_are : later ≡ published ++ versions
     pub stored : (zone : List Record) (stood : List (List ℕ)) → has zone before published stood → has zone after later (stood ++ updates)
+    pub crash : (zone : List Record) (stood : List (List ℕ)) → has zone before published stood → IsCrashSafe zone before stood after later (stood ++ updates)
 
   -- some would change the zone, and cannot be written: each of the batch gets SERVFAIL, nothing is published, and what was on the disk is there
   pub record Fails (published later : List Version) (batch : List QueuedUpdate) (verdicts : List Verdict) (before after : S) : Type 0 where
@@ -60,6 +69,7 @@ module _ {S : Type 0} (has : List Record → S → List Version → List (List �
     pub told : verdicts ≡ replicate (length batch) failed
     pub later_are : later ≡ published
     pub stored : (zone : List Record) (stood : List (List ℕ)) → has zone before published stood → has zone after later stood
+    pub crash : (zone : List Record) (stood : List (List ℕ)) → has zone before published stood → IsCrashSafe zone before stood after later stood
 
   -- a batch lasts, or fails, for this reason
   abbrev pub IsTold : {F : Type 0} → List Version → List Version → List QueuedUpdate → List Verdict → Option F → S → S → Type 0
@@ -83,7 +93,7 @@ module _ {S : Type 0} (has : List Record → S → List Version → List (List �
     pub replied : new.replied ≡ old.replied ++ replies_to verdicts batch
 
   -- turns, one after the other: the requests that waited and arrived since, but for those that wait still, are answered in order, each in the version that those before it make of
-  -- the one published last; what they make is published, in that order; each gets its reply; and where updates were on the disk after a zone, these are after them
+  -- the one published last; what they make is published, in that order; each gets its reply; and where updates were on the disk after a zone, these are after them, whenever a crash comes
   pub record HasServed (old new : ThreadState S) : Type 0 where
     pub arrived : List QueuedUpdate
     pub requests : List QueuedUpdate
@@ -96,3 +106,4 @@ module _ {S : Type 0} (has : List Record → S → List Version → List (List �
     pub published : new.published ≡ old.published ++ versions
     pub replied : new.replied ≡ old.replied ++ replies_to verdicts requests
     pub stored : (zone : List Record) (stood : List (List ℕ)) → has zone old.store old.published stood → has zone new.store new.published (stood ++ updates)
+    pub crash : (zone : List Record) (stood : List (List ℕ)) → has zone old.store old.published stood → IsCrashSafe zone old.store stood new.store new.published (stood ++ updates)

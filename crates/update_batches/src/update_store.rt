@@ -19,11 +19,15 @@ pub trait UpdateStore: Drop {
     /// defined.
     ghost has: { List Record → Self → List Version → List (List ℕ) → Type 0 };
 
-    /// Does what is to be done between two batches: what it has stays. Allocates memory; what there is none for stays undone.
-    fn tend<R: Wait>(&mut self, rt: &R, alloc: Global)
-        ensures { (zone : List Record) (versions : List Version) (updates : List (List ℕ)) → has zone self.old versions updates → has zone self.new versions updates };
+    /// From one state of a store to another one, a crash at any moment leaves what a start reads as this zone with these updates first.
+    ghost leaves: { List Record → Self → Self → List (List ℕ) → Type 0 };
 
-    /// Writes the updates of a batch that make a version, at most 64, as one batch. After a fault their versions may not be published. Allocates memory, before anything is
+    /// Does what is to be done between two batches: what it has stays, whenever it crashes. Allocates memory; what there is none for stays undone.
+    fn tend<R: Wait>(&mut self, rt: &R, alloc: Global)
+        ensures kept { (zone : List Record) (versions : List Version) (updates : List (List ℕ)) → has zone self.old versions updates → has zone self.new versions updates }
+        ensures crash { (zone : List Record) (versions : List Version) (updates : List (List ℕ)) → has zone self.old versions updates → leaves zone self.old self.new updates };
+
+    /// Writes the updates of a batch that make a version, at most 64, as one batch: what it has stays, whenever it crashes. After a fault their versions may not be published. Allocates memory, before anything is
     /// written.
     fn append<R: Wait>(
         &mut self,
@@ -36,5 +40,6 @@ pub trait UpdateStore: Drop {
             → IsLast versions last → AreMadeBy last (versions_in updates.now) (updates_of updates.now)
             → has zone self.new (versions ++ versions_in updates.now) (stood ++ updates_of updates.now)) }
         ensures kept { OnErr result ((zone : List Record) (versions : List Version) (stood : List (List ℕ)) → has zone self.old versions stood → has zone self.new versions stood) }
+        ensures crash { (zone : List Record) (versions : List Version) (stood : List (List ℕ)) → has zone self.old versions stood → leaves zone self.old self.new stood }
         ensures some { OnErr result (0 < length updates.now) };
 }

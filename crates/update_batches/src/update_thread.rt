@@ -107,7 +107,7 @@ impl<'a, P: UpdatePublisher, S: UpdateStore> UpdateThread<'a, P, S> {
     /// tended before the batch and after it: so what updates need is done before they are judged, and nobody waits for what is begun after them. [`Ended`] if the queue is ended,
     /// and nothing waits.
     pub fn turn<R: Wait>(&mut self, rt: &R) -> Result<Option<S::Fault>, Ended>
-        ensures turned { IfOk result (λ fault. HasTurned S.has fault
+        ensures turned { IfOk result (λ fault. HasTurned S.has S.leaves fault
             (state_of (P.published self.old.publisher) (P.room self.old.publisher) (P.replied self.old.publisher) self.old.store self.old.waiting.items)
             (state_of (P.published self.new.publisher) (P.room self.new.publisher) (P.replied self.new.publisher) self.new.store self.new.waiting.items)) }
         ensures ended { OnErr result (state_of (P.published self.new.publisher) (P.room self.new.publisher) (P.replied self.new.publisher) self.new.store self.new.waiting.items
@@ -134,7 +134,7 @@ impl<'a, P: UpdatePublisher, S: UpdateStore> UpdateThread<'a, P, S> {
 
     /// Judges batches until the queue is ended, and nothing waits.
     pub fn serve<R: Wait>(&mut self, rt: &R)
-        ensures served { HasServed S.has
+        ensures served { HasServed S.has S.leaves
             (state_of (P.published self.old.publisher) (P.room self.old.publisher) (P.replied self.old.publisher) self.old.store self.old.waiting.items)
             (state_of (P.published self.new.publisher) (P.room self.new.publisher) (P.replied self.new.publisher) self.new.store self.new.waiting.items) }
         ensures none { self.new.waiting.items ≡ [] }
@@ -173,6 +173,7 @@ fn keep<R: Wait, S: UpdateStore>(
         ((zone : List Record) (versions : List Version) (stood : List (List ℕ)) (last : Version) → S.has zone store.old versions stood → IsLast versions last
         → AreMadeBy last (versions_in updates.items) (updates_of updates.items) → S.has zone store.new (versions ++ versions_in updates.items) (stood ++ updates_of updates.items))
         (λ _. (zone : List Record) (versions : List Version) (stood : List (List ℕ)) → S.has zone store.old versions stood → S.has zone store.new versions stood) }
+    ensures crash { (zone : List Record) (versions : List Version) (stood : List (List ℕ)) → S.has zone store.old versions stood → S.leaves zone store.old store.new stood }
     ensures verdicts_room { vec_capacity verdicts.new ≡ vec_capacity verdicts.old }
 {
     match store.append(rt, alloc, &updates) {

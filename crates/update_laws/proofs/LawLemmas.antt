@@ -21,6 +21,7 @@ use Rattle.store_compaction.specs.RecentUpdates.{last_in}
 use Rattle.store_compaction.specs.Writer.{log_of, trail_of}
 use Rattle.store_compaction.proofs.JudgedLemmas.{last_more}
 use Rattle.store_compaction.specs.Kept.{CompactedState}
+use Rattle.store_compaction.specs.Crash.{Leaves}
 use Rattle.store_compaction.specs.Has.{HasUpdates}
 use Rattle.store_compaction.proofs.HasLemmas.{has_begun}
 use Rattle.store_compaction.proofs.LawLemmas.{kept_recovered}
@@ -28,7 +29,7 @@ use Rattle.store_server.specs.declared.served.LoggedStore.{LoggedStore}
 use Rattle.store_server.specs.declared.served.ServerStore.{ServerStore}
 use Rattle.store_server.specs.declared.served.ServerStore.TheVariants.{Store}
 use Rattle.store_server.specs.Resumed.{WritesOn}
-use Rattle.store_server.specs.Served.{HasIn}
+use Rattle.store_server.specs.Served.{HasIn, LeavesIn}
 
 pub resumed_has : (first : Version) (later : List Version) (writer : StoreWriter FileDisk IoError) → (writes : WritesOn first later writer)
     → HasUpdates writes.zone (record { writer = writer; wanted = None }) (first ∷ later) (updates_in writes.batches)
@@ -39,7 +40,7 @@ resumed_has first later writer writes =
 module _ {L : Type 0} where
   pub served_recovered : (zone : List Record) (old new : ThreadState (ServerStore (CompactedState IoError) L)) (stood : List (List ℕ))
       (kept : LoggedStore (CompactedState IoError) L)
-      → (served : HasServed (HasIn HasUpdates) old new)
+      → (served : HasServed (HasIn HasUpdates) (LeavesIn Leaves) old new)
       → HasIn HasUpdates zone old.store old.published stood → new.store ≡ Store kept
       → (has : HasUpdates zone kept.store new.published (stood ++ served.updates)) × ((left : List ℕ) (start : Recovery)
       → IsStarted has.text (synced (disk_of (log_of kept.store.writer)) ++ left) start

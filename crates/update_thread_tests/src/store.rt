@@ -23,6 +23,8 @@ impl UpdateStore for Store {
 
     ghost has = { λ _ _ _ _. Unit {0} };
 
+    ghost leaves = { λ _ _ _ _. Unit {0} };
+
     fn tend<R: Wait>(&mut self, _rt: &R, _alloc: Global) {}
 
     fn append<R: Wait>(

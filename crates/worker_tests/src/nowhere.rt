@@ -12,6 +12,8 @@ impl UpdateStore for Nowhere {
 
     ghost has = { λ _ _ _ _. Unit {0} };
 
+    ghost leaves = { λ _ _ _ _. Unit {0} };
+
     fn tend<R: Wait>(&mut self, _rt: &R, _alloc: Global) {}
 
     fn append<R: Wait>(

@@ -170,22 +170,22 @@ impl Display for Event {
                 end,
             } => {
                 let carrier = carrier_of(*transport);
-                write!(f, "worker {worker} ({carrier}) has ended: ")?;
+                write!(f, "worker {worker} ({carrier}) exited: ")?;
                 write_end(f, *end)
             }
-            Event::Serving => f.write_str("all workers have begun"),
+            Event::Serving => f.write_str("all workers are running"),
             Event::Lost { worker, losses } => {
                 write!(f, "worker {worker} (TCP)")?;
                 write_losses(f, *losses)
             }
             Event::Silent { secondary } => {
-                write!(f, "secondary {secondary} doesn't answer NOTIFY")
+                write!(f, "secondary {secondary} does not answer NOTIFY")
             }
             Event::Again { secondary } => {
                 write!(f, "secondary {secondary} answers NOTIFY again")
             }
             Event::Untold { end } => {
-                f.write_str("secondaries are told no more: ")?;
+                f.write_str("notify thread exited: ")?;
                 write_untold(f, *end)
             }
         }
@@ -199,7 +199,7 @@ fn write_serials<W: fmt::Write>(f: &mut Formatter<W>, serials: Option<Serials>) 
     };
     let (before, after) = (before.0, after.0);
     if before == after {
-        return write!(f, ", serial {before} stays");
+        return write!(f, ", serial {before} unchanged");
     }
     write!(f, ", serial {before} to {after}")
 }
@@ -207,14 +207,24 @@ fn write_serials<W: fmt::Write>(f: &mut Formatter<W>, serials: Option<Serials>) 
 /// Writes how many connections were lost, by cause.
 fn write_losses<W: fmt::Write>(f: &mut Formatter<W>, losses: Losses) -> fmt::Result {
     let mark = write_kind(f, ": ", losses.failed, "failed")?;
-    let mark = write_kind(f, mark, losses.starved, "starved")?;
-    let mark = write_kind(f, mark, losses.idle, "idle too long")?;
-    let mark = write_kind(f, mark, losses.unfinished, "too long over a request")?;
-    let mark = write_kind(f, mark, losses.untaken, "too long over a reply")?;
-    let mark = write_kind(f, mark, losses.slow, "too slow over a reply")?;
-    let mark = write_kind(f, mark, losses.evicted, "ended for others")?;
-    let mark = write_kind(f, mark, losses.turned_away, "turned away")?;
-    write_kind(f, mark, losses.no_room, "without room")?;
+    let mark = write_kind(f, mark, losses.starved, "out of resources")?;
+    let mark = write_kind(f, mark, losses.idle, "idle timeout")?;
+    let mark = write_kind(f, mark, losses.unfinished, "request timeout")?;
+    let mark = write_kind(f, mark, losses.untaken, "reply timeout")?;
+    let mark = write_kind(f, mark, losses.slow, "reply read too slowly")?;
+    let mark = write_kind(f, mark, losses.evicted, "closed to make room")?;
+    let mark = write_kind(
+        f,
+        mark,
+        losses.turned_away,
+        "rejected (all connections in use)",
+    )?;
+    write_kind(
+        f,
+        mark,
+        losses.no_room,
+        "rejected (no descriptor or memory)",
+    )?;
     Ok(())
 }
 
@@ -235,10 +245,10 @@ fn write_kind<W: fmt::Write>(
 /// Writes the reason why a job ended.
 fn write_end<W: fmt::Write>(f: &mut Formatter<W>, end: JobEnd) -> fmt::Result {
     match end {
-        JobEnd::Done(count) => write!(f, "{count} datagrams and connections done"),
+        JobEnd::Done(count) => write!(f, "{count} datagrams and connections served"),
         JobEnd::Device => f.write_str("its socket failed"),
         JobEnd::Spent => f.write_str("no version could be loaded"),
-        JobEnd::NoMemory => f.write_str("no memory"),
+        JobEnd::NoMemory => f.write_str("out of memory"),
     }
 }
 

@@ -2,4 +2,4 @@ use Rattle.update_laws.proofs.LawLemmas.{served_recovered}
 use Rattle.update_laws.proofs.laws.served_updates_are_recovered.Goals as goal
 
 pub returns : goal.returns
-returns g c = served_recovered
+returns g c = record { recovered = served_recovered; crash = λ zone old new stood served had. served.crash zone stood had }

@@ -5,6 +5,7 @@ use Rattle.journal.specs.Log.{is_stuck}
 use Rattle.store_compaction.specs.Kept.{CompactedState}
 use Rattle.store_compaction.proofs.KeptLemmas.{appended, not_appended, some_there, on_ok, on_err}
 use Rattle.store_compaction.proofs.HasLemmas.{has_appended, has_kept}
+use Rattle.store_compaction.proofs.LeavesLemmas.{leaves_same, leaves_appended}
 use Rattle.store_compaction.proofs.compacted_store.CompactedStoreUpdateStore.append.Goals as goal
 
 pub returns-clause-stored : goal.returns-clause-stored
@@ -28,3 +29,17 @@ returns-clause-kept g c =
     (λ still trail way.
     has_kept c.args.self.now after
     (not_appended c.args.self.now c.self.inside.writer c.append.new.self wanted c.self.view_is on still trail way c.append.ensures.head))
+
+pub returns-then-is_empty-clause-crash : goal.returns-then-is_empty-clause-crash
+returns-then-is_empty-clause-crash g c = leaves_same c.args.self.now c.args.self.now refl
+
+pub returns-then-is_stuck-clause-crash : goal.returns-then-is_stuck-clause-crash
+returns-then-is_stuck-clause-crash g c = leaves_same c.args.self.now c.args.self.now refl
+
+pub returns-in-Some-clause-crash : goal.returns-in-Some-clause-crash
+returns-in-Some-clause-crash g c = leaves_same c.args.self.now c.args.self.now refl
+
+pub returns-clause-crash : goal.returns-clause-crash
+returns-clause-crash g c =
+    leaves_appended c.args.self.now c.self.inside.writer c.append.new.self (g.T.TextWriter.wanted c.self.inside.texts) c.self.view_is
+    (ap is_stuck (sym c.log.ensures) ∙ (sym c.is_stuck.ensures ∙ c.if-is_stuck.false)) c.append.ensures.crash

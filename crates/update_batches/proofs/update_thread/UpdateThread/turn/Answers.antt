@@ -41,6 +41,7 @@ finish-requires-clause-done g c =
 pub returns-clause-turned : goal.returns-clause-turned
 returns-clause-turned g c =
     let has = g.S.UpdateStore.has in
+    let leaves = g.S.UpdateStore.leaves in
     let same = c.fill.ensures.same in
     let last = c.begin_batch-last.result.0 in
     let old = g.P.UpdatePublisher.published c.args.self.now.publisher in
@@ -74,13 +75,15 @@ returns-clause-turned g c =
       many = taken_many count (min (max room 1) 64) waiting c.finish.new.requests.items counted c.finish.ensures.rest;
       left = omega (arith, left, ap length from);
       verdicts = verdicts;
-      told = told_tended has fault old new batch verdicts c.args.self.now.store c.tend.new.self c.keep-updates.new.store c.tend-2.new.self
+      told = told_tended has leaves fault old new batch verdicts c.args.self.now.store c.tend.new.self c.keep-updates.new.store c.tend-2.new.self
           (subst (λ s. (zone : List Record) (versions : List Version) (updates : List (List ℕ)) → has zone s versions updates → has zone c.tend.new.self versions updates)
-          same.1 c.tend.ensures)
-          c.tend-2.ensures
-          (told_between has fault old begun new new batch verdicts c.tend.new.self c.keep-updates.new.store from refl
-          (told_published has fault last begun new batch judged verdicts c.tend.new.self c.keep-updates.new.store updates kept c.min.result
-          c.begin_batch-last.ensures.last is c.keep-updates.ensures.kept c.keep-updates.ensures.stored c.finish.ensures.published));
+          same.1 c.tend.ensures.kept)
+          (subst (λ s. (zone : List Record) (versions : List Version) (updates : List (List ℕ)) → has zone s versions updates → leaves zone s c.tend.new.self updates)
+          same.1 c.tend.ensures.crash)
+          c.tend-2.ensures.kept c.tend-2.ensures.crash
+          (told_between has leaves fault old begun new new batch verdicts c.tend.new.self c.keep-updates.new.store from refl
+          (told_published has leaves fault last begun new batch judged verdicts c.tend.new.self c.keep-updates.new.store updates kept c.min.result
+          c.begin_batch-last.ensures.last is c.keep-updates.ensures.kept c.keep-updates.ensures.stored c.keep-updates.ensures.crash c.finish.ensures.published));
       replied = c.finish.ensures.replied
           ∙ (ap (λ rs. rs ++ replies_to c.deref-2.result.now batch) (c.begin_batch-last.ensures.replied ∙ ap (λ p. g.P.UpdatePublisher.replied p) same.0)
           ∙ ap (λ vs. g.P.UpdatePublisher.replied c.args.self.now.publisher ++ replies_to vs batch) c.deref-2.ensures.value);
