@@ -6,9 +6,13 @@ mod found;
 #[cfg(test)]
 mod random;
 #[cfg(test)]
+mod slow;
+#[cfg(test)]
 mod steps;
 #[cfg(test)]
 mod tended;
+#[cfg(test)]
+mod texts;
 #[cfg(test)]
 mod updates;
 #[cfg(test)]

@@ -1,18 +1,10 @@
 //! A store that is compacted between two batches, when it is tended.
-ghost use Rattle.std.specs.Prelude.{option_map, IfOk};
-ghost use Rattle.store_compaction.specs.TextWriter.{wanted_of, IsWritten};
-
 use crate::found::{expect, is_there};
-use crate::updates::{begin, check, updates_of};
-use journal::Head;
-use std::alloc::Global;
+use crate::texts::{Store, begin_store};
+use crate::updates::{check, updates_of};
+use std::fs;
 use std::sync::Wait;
 use std::test::Fail;
-use std::{fs, io};
-use store_compaction::{
-    CompactedStore, CompactionEvent, NextText, Notes, TextWriter, create_next_text, write_next_text,
-};
-use store_files::NewText;
 use update_batches::UpdateStore;
 
 /// The directory of the test.
@@ -23,88 +15,6 @@ const MOVED: &str = "compaction_tests_moved";
 
 /// The store's new journal, before it is renamed.
 const NEW_JOURNAL: &str = "compaction_tests_tended/journal.new";
-
-/// A text to be written.
-#[derive(Drop)]
-struct Order {
-    alloc: Global,
-    file: NewText,
-    next: NextText,
-    before: Head,
-}
-
-impl Order {
-    /// Writes the text.
-    fn write(self) -> io::Result<Head>
-        ensures { IfOk result (IsWritten (wanted_of self.next self.before)) }
-    {
-        let Order {
-            alloc,
-            file,
-            next,
-            before,
-        } = self;
-        write_next_text(alloc, file, &next, &before, [9; 16])
-    }
-}
-
-/// A text writer that writes a text when it is asked for the result, the first or the second time.
-#[derive(Drop)]
-struct TextsWhenAsked {
-    files: HostRuntime,
-    order: Option<Order>,
-    waits: bool,
-}
-
-impl TextWriter for TextsWhenAsked {
-    ghost wanted = { λ texts. option_map (λ order. wanted_of order.next order.before) texts.order };
-
-    fn write<R: Wait>(
-        &mut self,
-        _rt: &R,
-        alloc: Global,
-        next: NextText,
-        before: &Head,
-        later: bool,
-    ) -> io::Result<()> {
-        self.order = None;
-        self.waits = later;
-        let file = create_next_text(&self.files, alloc, DIR, &next)?;
-        self.order = Some(Order {
-            alloc,
-            file,
-            next,
-            before: *before,
-        });
-        Ok(())
-    }
-
-    fn is_writing(&self) -> bool {
-        self.order.is_some()
-    }
-
-    fn take<R: Wait>(&mut self, _rt: &R) -> Option<io::Result<Head>> {
-        if self.waits {
-            self.waits = false;
-            return None;
-        }
-        match self.order.take() {
-            None => None,
-            Some(order) => Some(order.write()),
-        }
-    }
-}
-
-/// Ignores compaction events.
-#[derive(Drop)]
-struct NoNotes;
-
-impl Notes for NoNotes {
-    fn note<R: Wait>(&mut self, _rt: &R, _event: CompactionEvent) {}
-}
-
-/// A store that is compacted when its journal has more than 400 octets.
-type Store = CompactedStore<HostRuntime, TextsWhenAsked, NoNotes>;
 
 /// Appends the updates with the numbers from `from` up to, but not including, `to` to a store, and tends it. Checks what a start recovers, and
 /// whether a text is being written.
@@ -133,18 +43,6 @@ fn tend<R: Wait>(
     store.tend(rt, files.alloc());
     expect(files, DIR, store.writer().trail(), line)?;
     check(store.writer().is_compacting() == writes, line)
-}
-
-/// A new store.
-fn begin_store(files: &HostRuntime) -> Result<Store, Fail> {
-    let writer = begin(files, DIR)?;
-    let texts = TextsWhenAsked {
-        files: *files,
-        order: None,
-        waits: false,
-    };
-    let dir = format!(in files.alloc(); "{DIR}")?;
-    Ok(CompactedStore::new(*files, dir, writer, texts, NoNotes, 400))
 }
 
 /// Two texts are started, each when the journal has more than 400 octets, and twice as many as after the last compaction. The journal starts
@@ -192,7 +90,7 @@ fn move_away<R: Wait>(rt: &R, files: &HostRuntime, store: &mut Store) -> Result<
 
 #[test]
 fn a_store_is_tended(rt: HostRuntime) -> Result<(), Fail> {
-    let mut store = begin_store(&rt)?;
+    let mut store = begin_store(&rt, DIR, 0)?;
     begin_texts(&rt, &rt, &mut store)?;
     fail_to_lay(&rt, &rt, &mut store)?;
     move_away(&rt, &rt, &mut store)?;

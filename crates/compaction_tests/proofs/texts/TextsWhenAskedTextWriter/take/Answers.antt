@@ -2,8 +2,8 @@
 use Rattle.std.proofs.Common.{◌∙◌, sym}
 use Rattle.store_compaction.specs.TextWriter.{wanted_of}
 use Rattle.store_compaction.proofs.KeptLemmas.{taken_told}
-use Rattle.compaction_tests.specs.declared.tended.Order.{Order}
-use Rattle.compaction_tests.proofs.tended.TextsWhenAskedTextWriter.take.Goals as goal
+use Rattle.compaction_tests.specs.declared.texts.Order.{Order}
+use Rattle.compaction_tests.proofs.texts.TextsWhenAskedTextWriter.take.Goals as goal
 
 pub returns-in-Some : goal.returns-in-Some
 returns-in-Some g c = record {
