@@ -14,7 +14,7 @@ use Rattle.update_batches.specs.Engine.{AreMade}
 use Rattle.update_batches.specs.Batch.{newest_of, versions_in, IsBatch}
 use Rattle.update_batches.specs.Done.{AreDone}
 use Rattle.update_batches.proofs.BatchLemmas.{judged_made}
-use Rattle.update_batches.proofs.DoneLemmas.{published_done}
+use Rattle.server_state_tests.proofs.VerdictLemmas.{judged_done}
 use Rattle.zone_server.specs.declared.update_result.UpdateResult.{UpdateResult}
 use Rattle.zone_server.specs.UpdateResult.{AreOwn, IsDone, IsJudgedIn, AreResults, queued_results}
 use Rattle.zone_server.proofs.JudgedLemmas.{made_latest}
@@ -54,5 +54,5 @@ module _ (first : List Record) (seen : List Version) (last : Version) (latest : 
       let after = latest_long first (seen ++ versions) (newest_of last versions) newest in
       let done : AreDone (seen ++ versions) (number + 1) verdicts batch =
       subst (λ (n : ℕ). AreDone (seen ++ versions) n verdicts batch) (before ∙ ap (λ n. n + 1) same)
-      (published_done seen last (latest.before, latest.ends) (None {Verdict}) batch verdicts verdicts updates updates room is (refl, refl)) in
+      (judged_done seen last (latest.before, latest.ends) is.judged) in
       queued_all first (seen ++ versions) (newest_of last versions) newest number (omega (arith, before, after, length-append seen versions, same)) verdicts batch done
