@@ -72,8 +72,12 @@ pub(crate) fn put_servfail<Z: FirstZone, N: ServerName>(
     number: u8,
     ticket: usize,
 ) -> Option<bool> {
-    let mut results = Vec::with_capacity(alloc, 1).ok()?;
-    let mut outgoing = Vec::with_capacity(alloc, 1).ok()?;
+    let Ok(mut results) = Vec::with_capacity(alloc, 1) else {
+        return None;
+    };
+    let Ok(mut outgoing) = Vec::with_capacity(alloc, 1) else {
+        return None;
+    };
     let done = servfail(state, update(alloc, number)?);
     let reply_to = to_ticket(ticket);
     results.push_reserved(QueuedResult { done, reply_to });
