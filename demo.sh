@@ -11,6 +11,8 @@ with socket.create_server(("127.0.0.1", 0)) as listener:
 echo "compiling dnsd; nothing is proved here (make dnsd proves it)"
 said=$(mktemp)
 trap 'rm -f "$said"; kill "$tried" 2>/dev/null || true' EXIT
+# compiled with checks, functions have large frames: `serve` needs more than 8 MiB of stack
+ulimit -s 32768 2>/dev/null || true
 # its one worker ends after a datagram and a connection
 rt try -- serve --listen "127.0.0.1:$port" --workers 1 --count 2 - <../../zones/example.test.zone >"$said" 2>&1 &
 tried=$!
