@@ -239,7 +239,7 @@ const CASES: [Case; 5] = [
         hears: false,
         tells: false,
         end: 3,
-        lines: "worker 3 (TCP): 1 failed;worker 3 (TCP): 1 idle too long;",
+        lines: "worker 3 (TCP): 1 failed;worker 3 (TCP): 1 idle timeout;",
         asked: 0,
     },
     Case {
