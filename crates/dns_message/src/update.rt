@@ -47,9 +47,15 @@ impl ZoneEntry {
 }
 
 /// Records as they were sent, in their order.
-#[derive(Drop)]
 pub struct RawRecords {
     records: Vec<RawRecord>,
+}
+
+// By hand: a derived drop is proved once more in each crate that lets such a value go.
+impl Drop for RawRecords {
+    fn drop(self) {
+        let RawRecords { records: _ } = self;
+    }
 }
 
 impl Model for RawRecords {
@@ -80,12 +86,12 @@ impl RawRecords {
     pub fn into_vec(self) -> Vec<RawRecord>
         ensures { result.items ≡ self }
     {
-        self.records
+        let RawRecords { records } = self;
+        records
     }
 }
 
 /// A dynamic update (RFC 2136, 2).
-#[derive(Drop)]
 pub struct Update {
     /// What the reply copies from its header.
     pub head: Head,
@@ -97,6 +103,19 @@ pub struct Update {
     pub prerequisites: RawRecords,
     /// What is to be done to the zone (RFC 2136, 2.5).
     pub updates: RawRecords,
+}
+
+// By hand: a derived drop is proved once more in each crate that lets such a value go.
+impl Drop for Update {
+    fn drop(self) {
+        let Update {
+            head: _,
+            edns: _,
+            zone: _,
+            prerequisites: _,
+            updates: _,
+        } = self;
+    }
 }
 
 /// The update behind a header, which the update has as its head, or that its OPT isn't obeyed; None where none can be read: where

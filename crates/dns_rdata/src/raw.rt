@@ -11,7 +11,6 @@ use std::marker::Model;
 
 /// A record as it is sent, of any class and type: in an update its class and its TTL say what is to be there or to be
 /// done, and it may have no data (RFC 1035, 4.1.3; RFC 2136, 2.4 and 2.5).
-#[derive(Drop)]
 pub struct RawRecord {
     /// The name that it stands at.
     pub owner: Name,
@@ -23,6 +22,19 @@ pub struct RawRecord {
     pub ttl: u32,
     /// The octets of its data, names in full.
     pub octets: Vec<u8>,
+}
+
+// By hand: a derived drop is proved once more in each crate that lets such a value go.
+impl Drop for RawRecord {
+    fn drop(self) {
+        let RawRecord {
+            owner: _,
+            rtype: _,
+            class: _,
+            ttl: _,
+            octets: _,
+        } = self;
+    }
 }
 
 impl Model for RawRecord {

@@ -14,12 +14,23 @@ use std::marker::Model;
 
 /// A version of a zone: its number among the zone's versions, counted from 0, the zone with its serial, and what it changed
 /// of the version before it (RFC 1995, 4).
-#[derive(Drop)]
 pub struct Version {
     number: u64,
     zone: Zone,
     serial: Serial,
     delta: Option<Delta>,
+}
+
+// By hand: a derived drop is proved once more in each crate that lets such a value go.
+impl Drop for Version {
+    fn drop(self) {
+        let Version {
+            number: _,
+            zone: _,
+            serial: _,
+            delta: _,
+        } = self;
+    }
 }
 
 impl Model for Version {
@@ -71,7 +82,12 @@ impl Version {
     pub fn into_zone(self) -> Zone
         ensures { result ≡ self.zone }
     {
-        let Version { zone, .. } = self;
+        let Version {
+            number: _,
+            zone,
+            serial: _,
+            delta: _,
+        } = self;
         zone
     }
 

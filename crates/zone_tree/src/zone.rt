@@ -32,11 +32,21 @@ pub const MAX_RECORDS: usize = 1_000_000;
 
 /// A zone: its sets under their owners, in canonical order. A zone is never changed; zones share what they have in
 /// common.
-#[derive(Drop)]
 pub struct Zone {
     apex: Name,
     count: usize,
     owners: Owners,
+}
+
+// By hand: a derived drop is proved once more in each crate that lets such a value go.
+impl Drop for Zone {
+    fn drop(self) {
+        let Zone {
+            apex: _,
+            count: _,
+            owners: _,
+        } = self;
+    }
 }
 
 impl Model for Zone {
