@@ -45,13 +45,9 @@ PUBLIC = {
 LEFT = {
     "counted_handles::Lapsed::freed": "used by tests alone",
     "counted_handles::newest": "used by tests alone",
-    "dns_rdata::LentName::sought": "used by nobody",
-    "dns_rdata::LentName::sought_below": "used by nobody",
     "shared_tree::Tree::new": "used by tests alone",
     "snapshot_cell::Cell::newest": "used by tests alone",
-    "snapshot_cell::NamedPublisher::ready": "used by nobody",
     "snapshot_cell::NamedCell::newest": "used by tests alone",
-    "snapshot_cell::Publisher::ready": "used by nobody",
     "store_compaction::CompactedStore::writer": "used by tests alone",
     "store_compaction::RecentUpdates::oldest": "used by tests alone",
     "store_compaction::RecentUpdates::steps": "used by tests alone",
@@ -63,7 +59,6 @@ LEFT = {
     "tcp_loop::EventLoop::links": "used by tests alone",
     "tcp_loop::EventLoop::run": "used by tests alone",
     "update_batches::UpdateRequest::read": "used by tests alone",
-    "wire_names::read_name_into": "used by nobody",
     "zone_server::NoLog": "used by tests alone",
 }
 

@@ -1,12 +1,12 @@
 //! Names lent from where they stand.
-ghost use Rattle.std.specs.Prelude.{true, ◌≡◌, ◌==◌, if◌then◌else◌, [], None, IfSome, unwrap_or};
+ghost use Rattle.std.specs.Prelude.{◌≡◌, ◌==◌, if◌then◌else◌, [], None, IfSome, unwrap_or};
 ghost use Rattle.dns_name.specs.Labels.{IsWire};
-ghost use Rattle.dns_name.specs.Name.{fold_name, is_same, is_under};
+ghost use Rattle.dns_name.specs.Name.{is_same};
 ghost use Rattle.dns_rdata.specs.Data.{target_of};
 ghost use Rattle.dns_rdata.specs.Numbers.{type_CNAME};
 
 use crate::data::RData;
-use dns_name::{Name, Sought, SoughtRoom, StoredName};
+use dns_name::{Name, StoredName};
 use std::marker::Model;
 
 /// The octets of the root (RFC 1035, 3.1).
@@ -89,38 +89,6 @@ impl<'a> LentName<'a> {
             Source::Name(name) => Some(name.wire()),
             Source::Stored(_) => None,
             Source::Target(rdata) => rdata.target_octets(),
-        }
-    }
-
-    /// The name in lower case as it is sought, put in the room in place of what is there.
-    pub fn sought<'r>(&self, room: &'r mut SoughtRoom) -> Sought<'r>
-        ensures { result ≡ fold_name self.now }
-    {
-        match &self.source {
-            Source::Root => Sought::of_wire(ROOT, room),
-            Source::Name(name) => Sought::new(name, room),
-            Source::Stored(name) => Sought::new(&name.to_name(), room),
-            Source::Target(rdata) => Sought::of_wire(octets_of(rdata), room),
-        }
-    }
-
-    /// The same, where it is under an apex that is sought in that form and spelt here: only the labels in front of the apex are put behind
-    /// its octets.
-    pub fn sought_below<'r>(
-        &self,
-        top: &Sought<'_>,
-        apex: &Name,
-        room: &'r mut SoughtRoom,
-    ) -> Sought<'r>
-        requires top { top.now ≡ fold_name apex.now }
-        requires under { is_under self.now apex.now ≡ true }
-        ensures { result ≡ fold_name self.now }
-    {
-        match &self.source {
-            Source::Root => Sought::of_wire(ROOT, room),
-            Source::Name(name) => Sought::below(top, apex, name, room),
-            Source::Stored(name) => Sought::below(top, apex, &name.to_name(), room),
-            Source::Target(rdata) => Sought::below_of_wire(top, apex, octets_of(rdata), room),
         }
     }
 

@@ -130,13 +130,6 @@ impl<T, C: Names<T>, N: Naming> NamedPublisher<T, C, N> {
     {
         self.publisher.left()
     }
-
-    /// How many free slots it has counted and not used since: as often it can publish, whatever else happens.
-    pub fn ready(&self) -> usize
-        ensures { result ≡ self.now.ready }
-    {
-        self.publisher.ready()
-    }
 }
 
 impl<T: Drop, C: Names<T>, N: Naming> NamedCell<T, C, N> {

@@ -6,15 +6,6 @@ use crate::cell::Cell;
 use crate::tokens::Publisher;
 use counted_handles::{Names, find_free};
 
-impl<T, C: Names<T>> Publisher<T, C> {
-    /// How many free slots it has counted and not used since: as often it can publish, whatever else happens.
-    pub fn ready(&self) -> usize
-        ensures { result ≡ self.now.ready }
-    {
-        self.ready
-    }
-}
-
 impl<T: Drop, C: Names<T>> Cell<T, C> {
     /// Counts the free slots, by one load of each. Nobody but the publisher takes one. It waits for nobody.
     pub fn count(&self, publisher: &mut Publisher<T, C>) -> usize

@@ -21,5 +21,4 @@ pub use laws::{examples, name_at_is, one_fault, one_reading, table_stays, writte
 pub use message::{MAX_TARGETS, Message};
 pub use part::NameReadFault;
 pub use read::read_name;
-pub use read_into::read_name_into;
 pub use write::NameWriter;

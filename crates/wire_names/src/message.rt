@@ -86,7 +86,7 @@ impl<'m> Message<'m> {
         name_in(self.octets, self.ends, at)
     }
 
-    /// Reads the name at a position into a name, and gives the position behind it, as [`read_name_into`](crate::read_name_into) does.
+    /// Reads the name at a position into a name, and gives the position after it, as [`read_name`](Self::read_name) does; where there is none, the name stays as it is.
     pub fn read_name_into(&self, at: usize, name: &mut Name) -> Result<usize, NameReadFault>
         ensures read { MatchResult result (λ next. name_at self.now at ≡ Ok (name.new, next)) (λ fault. name_at self.now at ≡ Err fault) }
         ensures stays { OnErr result (name.new ≡ name.old) }

@@ -7,16 +7,8 @@ use crate::part::NameReadFault;
 use crate::read::name_in;
 use dns_name::Name;
 
-/// Reads the name at a position of the message into a name, and gives the position behind it, as [`read_name`](crate::read_name) does; where there is
-/// none, the name stays as it is (RFC 1035, 4.1.4).
-pub fn read_name_into(msg: &[u8], at: usize, name: &mut Name) -> Result<usize, NameReadFault>
-    ensures read { MatchResult result (λ next. name_at msg.now at ≡ Ok (name.new, next)) (λ fault. name_at msg.now at ≡ Err fault) }
-    ensures stays { OnErr result (name.new ≡ name.old) }
-{
-    name_into(msg, &[], at, name)
-}
-
-/// Reads the name at a position into a name, as [`read_name_into`] does, by the ends of the message's pointers.
+/// Reads the name at a position of the message into a name, by the ends of the message's pointers, and gives the position after it, as [`read_name`](crate::read_name)
+/// does; where there is none, the name stays as it is (RFC 1035, 4.1.4).
 pub(crate) fn name_into(
     msg: &[u8],
     ends: &[u16],
