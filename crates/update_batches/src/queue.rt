@@ -2,7 +2,7 @@
 ghost use Rattle.std.specs.Prelude.{◌≡◌, ◌<◌, IfErr, IsTrue, false, vec_capacity, vec_len};
 ghost use Rattle.update_batches.specs.Waiting.{BeginsWith};
 
-use crate::waiting::{Most, Waiting};
+use crate::waiting::{Most, Put, Waiting};
 use std::alloc::{AllocError, Global};
 use std::mem;
 use std::sync::{Condvar, Mutex, Wait};
@@ -50,7 +50,7 @@ impl<T: Drop> Queue<T> {
     }
 
     /// Puts one, of so many octets; it comes back at once where there is no room for it ([`Waiting::put`]), or the queue is ended.
-    pub fn put<R: Wait>(&self, rt: &R, item: T, octets: usize) -> Result<(), T>
+    pub fn put<R: Wait>(&self, rt: &R, item: T, octets: usize) -> Result<Put, T>
         ensures { IfErr result (λ back. back ≡ item) }
     {
         let mut state = self.state.lock(rt);

@@ -15,8 +15,7 @@ pub trait UpdateStore: Drop {
     /// Why a batch could not be written.
     type Fault: Drop;
 
-    /// After this zone it has these updates on the disk, in this order, and they end at the last of the versions that are published. What that means is said where a store is
-    /// defined.
+    /// After this zone it has these updates on the disk, in this order, and they end at the last of the versions that are published. Each store defines what that means.
     ghost has: { List Record → Self → List Version → List (List ℕ) → Type 0 };
 
     /// From one state of a store to another one, a crash at any moment leaves what a start reads as this zone with these updates first.
@@ -27,8 +26,8 @@ pub trait UpdateStore: Drop {
         ensures kept { (zone : List Record) (versions : List Version) (updates : List (List ℕ)) → has zone self.old versions updates → has zone self.new versions updates }
         ensures crash { (zone : List Record) (versions : List Version) (updates : List (List ℕ)) → has zone self.old versions updates → leaves zone self.old self.new updates };
 
-    /// Writes the updates of a batch that make a version, at most 64, as one batch: what it has stays, whenever it crashes. After a fault their versions may not be published. Allocates memory, before anything is
-    /// written.
+    /// Writes the updates of a batch that make a version, at most 64, as one batch: what it has stays, whenever it crashes. Of none it writes nothing, and does not fail. After a
+    /// fault their versions may not be published. It allocates memory before anything is written.
     fn append<R: Wait>(
         &mut self,
         rt: &R,

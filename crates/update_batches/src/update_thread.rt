@@ -169,8 +169,8 @@ fn first_of(waiting: usize, room: usize) -> usize
     waiting.min(room.max(1).min(BATCH))
 }
 
-/// Writes the updates of a batch that make a version, if there are any; otherwise the store is not called. After a fault, which comes back, each update of the batch gets SERVFAIL,
-/// and none makes a version.
+/// Has the store write the updates of a batch that make a version; of none it writes nothing, and does not fail. After a fault, which comes back, each update of the batch gets
+/// SERVFAIL, and none makes a version.
 fn keep<R: Wait, S: UpdateStore>(
     rt: &R,
     alloc: Global,

@@ -15,6 +15,10 @@ pub struct Most {
     pub octets: usize,
 }
 
+/// A receipt that something was put where it waits. Only [`Waiting::put`] makes one, so that what is told to wait was put there.
+#[derive(Drop, PartialEq, Eq)]
+pub struct Put(());
+
 /// What waits, the first to come first, at most so much.
 pub struct Waiting<T> {
     /// Each with how many octets it has.
@@ -59,8 +63,8 @@ impl<T: Drop> Waiting<T> {
         })
     }
 
-    /// Puts one more, of so many octets, behind those that wait. It comes back where as many wait as may, or all would have more octets than they may.
-    pub fn put(&mut self, item: T, octets: usize) -> Result<(), T>
+    /// Puts one more, of so many octets, after those that wait. It comes back where as many wait as may, or all would have more octets than they may.
+    pub fn put(&mut self, item: T, octets: usize) -> Result<Put, T>
         ensures room { IsOk result ↔ HasRoom self.old octets }
         ensures put { OnOk result (self.new ≡ record self.old { items = self.old.items ++ (item, octets) ∷ [] }) }
         ensures full { IfErr result (λ back. (back ≡ item) × (self.new ≡ self.old)) }
@@ -71,7 +75,7 @@ impl<T: Drop> Waiting<T> {
         match self.items.try_push_back((item, octets)) {
             Ok(()) => {
                 self.octets += octets;
-                Ok(())
+                Ok(Put(()))
             }
             Err((item, _octets)) => Err(item),
         }

@@ -1,5 +1,5 @@
 -- What is told of updates that are taken up is their reply, by what was known when they were.
-use Rattle.std.proofs.Common.{◌≡◌, inl, inr, ℕ, true, false, List, [], ◌∷◌, length, Option, None, Some, Result, Ok, Err, IfOk, IfErr, sym, ap, ◌∙◌, subst, arith}
+use Rattle.std.proofs.Common.{◌≡◌, inl, inr, ℕ, true, false, List, [], ◌∷◌, length, Option, None, Some, Result, Ok, Err, IfOk, IfErr, OnErr, sym, ap, ◌∙◌, subst, arith}
 use Rattle.std.specs.Prelude.{◌++◌, take, replicate}
 use Rattle.dns_rdata.specs.Record.{Record}
 use Rattle.dns_message.specs.Request.{is_update, reads}
@@ -12,15 +12,15 @@ use Rattle.tcp_connections.specs.Asked.{EachGrows}
 use Rattle.tcp_connections.specs.Kept.{messages_of}
 use Rattle.tcp_connections.specs.declared.handler.Reply.{Reply}
 use Rattle.tcp_connections.specs.declared.handler.Unmade.{Unmade}
-use Rattle.tcp_connections.specs.declared.handler.Unmade.TheVariants.{Spent}
+use Rattle.tcp_connections.specs.declared.handler.Unmade.TheVariants.{Spent, Later}
 use Rattle.zone_server.specs.declared.update_result.UpdateResult.{UpdateResult}
 use Rattle.zone_server.specs.UpdateResult.{IsDone}
 use Rattle.zone_server.specs.Known.{learned_by}
 use Rattle.zone_server.specs.QueuedUpdate.{MeetsAt}
-use Rattle.zone_server.specs.Replied.{IsReplied, IsTransfer, HasNoAnswer}
+use Rattle.zone_server.specs.Replied.{IsReplied, IsQuery, IsTransfer, HasNoAnswer}
 use Rattle.zone_server.proofs.AboutLemmas.{no_older}
 use Rattle.zone_server.proofs.ReplyDoneLemmas.{done_replied, unheard_replied, grows_met}
-use Rattle.zone_server.proofs.ReplyLemmas.{still_replied}
+use Rattle.zone_server.proofs.ReplyLemmas.{still_replied, update_is_no_query}
 use Rattle.zone_replies.specs.declared.pending_updates.Place.{Place}
 use Rattle.zone_replies.specs.State.{PendingState, HandlerState}
 use Rattle.zone_server.specs.declared.answer.UpdateOutcome.{UpdateOutcome}
@@ -79,13 +79,10 @@ module _ (first : List Record) (peer : Peer) (taken : List (Option PendingState)
       subst (λ (l : Learned Version). IsReplied first peer l (known_at taken after key) request messages) (sym (none_known taken before key none))
       (subst (λ (l : Learned Version). IsReplied first peer (learned_by before) l request messages) (sym (none_known taken after key none)) replied)
 
-module _ {M E : Type 0} (first : List Record) (peer : Peer) (left : M → List (List ℕ)) (taken : List (Option PendingState)) (before after : ReaderState Version) (key : ℕ) (request out : List ℕ) where
-  pub none_served : (same : List (Option PendingState)) (result : Result (Reply M) E) → same ≡ taken → place_in taken key ≡ None → IfOk result (λ reply. IsReplied first peer (learned_by before) (learned_by after) request (messages_of left reply out))
-      → IfOk result (λ reply. IsReplied first peer (known_at taken before key) (known_at same after key) request (messages_of left reply out))
-  none_served same (Ok reply) is none replied =
-      subst (λ (l : List (Option PendingState)). IsReplied first peer (known_at taken before key) (known_at l after key) request (messages_of left reply out)) (sym is)
-      (none_replied first peer taken before after key request (messages_of left reply out) none replied)
-  none_served same (Err e) is none replied = tt
+  pub same_replied : (same : List (Option PendingState)) (messages : List (List ℕ)) → same ≡ taken → place_in taken key ≡ None → IsReplied first peer (learned_by before) (learned_by after) request messages
+      → IsReplied first peer (known_at taken before key) (known_at same after key) request messages
+  same_replied same messages is none replied =
+      subst (λ (l : List (Option PendingState)). IsReplied first peer (known_at taken before key) (known_at l after key) request messages) (sym is) (none_replied messages none replied)
 
 -- a reply at once to an update of which none is taken up, where there is room for it
 pub made_replied : (first : List Record) (peer : Peer) (taken made : List (Option PendingState)) (count : ℕ) (before after : ReaderState Version) (key : ℕ) (request : List ℕ) (messages : List (List ℕ)) → made ≡ taken ++ replicate count None → place_in taken key ≡ None
@@ -113,6 +110,13 @@ settled_replied first old peer taken before after request messages is none grown
     still_replied first old.peer (known_at old.taken old.reader old.asker) (known_at taken before old.asker) (known_at taken after old.asker) request messages (grown old.asker)
     (none_replied first old.peer taken before after old.asker request messages none (subst (λ (p : Peer). IsReplied first p (learned_by before) (learned_by after) request messages) is replied))
 
+-- the same of a transfer that is started
+pub settled_replies : {M E : Type 0} (first : List Record) (left : M → List (List ℕ)) (old : HandlerState) (peer : Peer) (taken : List (Option PendingState)) (before after : ReaderState Version) (request out : List ℕ) (result : Result (Reply M) E) → peer ≡ old.peer → place_in taken old.asker ≡ None
+    → EachGrows {T = Version} (known_at taken before) (known_at old.taken old.reader) → IfOk result (λ reply. IsReplied first peer (learned_by before) (learned_by after) request (messages_of left reply out))
+    → IfOk result (λ reply. IsReplied first old.peer (known_at old.taken old.reader old.asker) (known_at taken after old.asker) request (messages_of left reply out))
+settled_replies first left old peer taken before after request out (Ok reply) is none grown replied = settled_replied first old peer taken before after request (messages_of left reply out) is none grown replied
+settled_replies first left old peer taken before after request out (Err e) is none grown replied = tt
+
 -- a request that isn't an update is answered at once
 pub never_later : (peer : Peer) (request : List ℕ) → is_update request ≡ false → IsLater peer request → ⊥
 never_later peer request other later = none (later.0)
@@ -120,14 +124,35 @@ never_later peer request other later = none (later.0)
     none : is_update request ≡ true → ⊥
     none asks = cc
 
--- a transfer for which grants are wanted gets no answer
-pub spent_later : {T : Type 0} (first : List Record) (peer same : Peer) (request : List ℕ) (before after : ReaderState Version) (result : Result T Unmade) → peer ≡ same
-    → IfErr result (λ unmade. unmade ≡ Spent → IsTransfer first peer request × (after.left ≡ 0)) → IfErr result (λ unmade. unmade ≡ Spent → HasNoAnswer first same request before after)
-spent_later first peer same request before after (Ok x) is spent = tt
-spent_later first peer same request before after (Err unmade) is spent = λ e. inr (subst (λ (p : Peer). IsTransfer first p request × (after.left ≡ 0)) is (spent e))
+apart : Later ≡ Spent → ⊥
+apart same = cc
 
--- and no grant is left behind it
-pub spent_left : {T : Type 0} (first : List Record) (peer : Peer) (request : List ℕ) (after : ReaderState Version) (result : Result T Unmade)
-    → IfErr result (λ unmade. unmade ≡ Spent → IsTransfer first peer request × (after.left ≡ 0)) → IfErr result (λ unmade. unmade ≡ Spent → after.left ≡ 0)
+-- a query isn't answered later
+pub query_never_later : (peer : Peer) (request : List ℕ) → IsQuery request → IsLater peer request → ⊥
+query_never_later peer request query later = update_is_no_query request later.0 query
+
+-- an update that gets no reply yet gets it later
+pub update_later : {T : Type 0} (peer same : Peer) (request : List ℕ) (result : Result T Unmade) → peer ≡ same → IfErr result (λ unmade. (unmade ≡ Later) × IsLater peer request) → IfErr result (λ unmade. unmade ≡ Later → IsLater same request)
+update_later peer same request (Ok x) is later = tt
+update_later peer same request (Err unmade) is later = λ e. subst (λ (p : Peer). IsLater p request) is later.1
+
+-- and it needs no grant
+pub update_unspent : {T P : Type 0} (peer : Peer) (request : List ℕ) (result : Result T Unmade) → IfErr result (λ unmade. (unmade ≡ Later) × IsLater peer request) → IfErr result (λ unmade. unmade ≡ Spent → P)
+update_unspent peer request (Ok x) later = tt
+update_unspent peer request (Err unmade) later = λ e. absurd (apart (sym later.0 ∙ e))
+
+-- a transfer isn't answered later
+pub transfer_unlater : {T P : Type 0} (result : Result T Unmade) → IfErr result (λ unmade. unmade ≡ Spent) → IfErr result (λ unmade. unmade ≡ Later → P)
+transfer_unlater (Ok x) spent = tt
+transfer_unlater (Err unmade) spent = λ e. absurd (apart (sym e ∙ spent))
+
+-- if grants are lacking for it, none is left
+pub spent_left : {T : Type 0} (first : List Record) (peer : Peer) (request : List ℕ) (after : ReaderState Version) (result : Result T Unmade) → OnErr result (IsTransfer first peer request × (after.left ≡ 0)) → IfErr result (λ unmade. unmade ≡ Spent → after.left ≡ 0)
 spent_left first peer request after (Ok x) spent = tt
-spent_left first peer request after (Err unmade) spent = λ e. (spent e).1
+spent_left first peer request after (Err unmade) spent = λ e. spent.1
+
+-- and it gets no answer
+pub spent_unanswered : {T : Type 0} (first : List Record) (peer same : Peer) (request : List ℕ) (before after : ReaderState Version) (result : Result T Unmade) → peer ≡ same → OnErr result (IsTransfer first peer request × (after.left ≡ 0))
+    → IfErr result (λ unmade. unmade ≡ Spent → HasNoAnswer first same request before after)
+spent_unanswered first peer same request before after (Ok x) is spent = tt
+spent_unanswered first peer same request before after (Err unmade) is spent = λ e. inr (subst (λ (p : Peer). IsTransfer first p request × (after.left ≡ 0)) is spent)

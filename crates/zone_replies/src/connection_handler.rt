@@ -1,5 +1,5 @@
 //! The handler of the requests of connections, on top of a server.
-ghost use Rattle.std.specs.Prelude.{◌≡◌, ◌≤◌, ◌⊎◌, ℕ, true, false, None, length, take, IfOk, IfErr, OnErr, MatchOption};
+ghost use Rattle.std.specs.Prelude.{◌≡◌, ◌≤◌, ◌⊎◌, ℕ, true, false, [], ◌∷◌, None, length, take, IfOk, IfErr, OnErr, MatchOption};
 ghost use Rattle.dns_message.specs.Message.{message_limit};
 ghost use Rattle.zone_tree.specs.Version.{Version};
 ghost use Rattle.serve_core.specs.Transfers.{is_permitted, messages_to};
@@ -9,28 +9,31 @@ ghost use Rattle.tcp_connections.specs.Asked.{EachGrows};
 ghost use Rattle.tcp_connections.specs.Kept.{messages_of};
 ghost use Rattle.tcp_connections.specs.declared.handler.Reply.{Reply as ReplyOf};
 ghost use Rattle.tcp_connections.specs.declared.handler.Unmade.{Unmade as WhyUnmade};
-ghost use Rattle.zone_server.specs.Replied.{IsReplied, IsUpdate, IsTransfer, HasNoAnswer};
+ghost use Rattle.zone_server.specs.Replied.{IsReplied, IsUpdate, HasNoAnswer};
+ghost use Rattle.zone_server.specs.Answer.{IsStarted};
+ghost use Rattle.dns_engine.specs.Held.{IsLatest};
 ghost use Rattle.zone_replies.specs.Going.{transfer_left};
 ghost use Rattle.requests.specs.Served.{Grows};
-ghost use Rattle.zone_server.specs.Known.{learned_by};
+ghost use Rattle.zone_server.specs.Known.{learned_by, HasTooFew};
 ghost use Rattle.zone_replies.specs.PendingUpdates.{known_at, place_in, IsLater, IsWritten, IsToldOnce};
 
 use crate::pending_updates::{PendingUpdate, PendingUpdates, Place, told_at};
 use crate::transfer::Transfer;
-use dns_engine::{FirstZone, SharedVersion, VersionChain, VersionReader};
+use dns_engine::{FirstZone, SharedVersion, VersionChain, VersionOwner, VersionReader};
 use dns_message::{Query, is_update};
 use serve_core::{Peer, Transport};
 use std::alloc::Global;
 use std::marker::Model;
+use std::mem;
 use std::net::SocketAddr;
 use std::snapshot::Snapshot;
 use std::sync::Wait;
 use tcp_connections::{Handler, Reply, Unmade};
 use wire_names::NameWriter;
 use zone_server::{
-    Now, Poll, Served, Server, ServerName, ServiceLog, Submitted, UpdateResult, UpdateSender,
-    answer_kept, serve_one, submit_stream, tell_refused, tell_signed, tell_update, write_done,
-    write_transfer,
+    Answer, Poll, Server, ServerName, ServiceLog, Submitted, UpdateResult, UpdateSender,
+    answer_request, serve_update, start_transfer, submit_stream, tell_refused, tell_signed,
+    tell_update, write_done, write_transfer,
 };
 
 /// Answers the peers of connections from a server, with a worker's reader, and logs updates. Contracts see which versions the reader has seen
@@ -84,6 +87,31 @@ fn reply_transfer(
             Some(len) => Reply::One(len),
             None => Reply::Silent,
         },
+    }
+}
+
+/// Starts the transfer that a query asks for in the version that it was permitted in: the reply to it. `Spent` where the reader lacks a grant for one of
+/// the versions since the client's.
+fn begin_transfer<R: Wait, Z: FirstZone, N: ServerName>(
+    rt: &R,
+    server: &Server<'_, Z, N>,
+    reader: &mut VersionReader<N>,
+    strong: VersionOwner<'_, Z, N>,
+    query: Query,
+    peer: Peer,
+    out: &mut [u8],
+) -> Result<Reply<Transfer>, Unmade>
+    requires latest { IsLatest Z.zone reader.old.seen strong.value × (strong.value.number ≡ strong.number) }
+    requires permitted { is_permitted strong.value.zone peer query ≡ true }
+    requires room { message_limit ≤ length out.old }
+    ensures bound { IfOk result (λ reply. (len : ℕ) → reply ≡ ReplyOf.One len → (len ≤ message_limit) × (len ≤ length out.new)) }
+    ensures started { IfOk result (λ reply. IsStarted Z.zone peer query strong.entry.value reader.old reader.new (messages_of transfer_left reply out.new)) }
+    ensures unmade { IfErr result (λ unmade. unmade ≡ WhyUnmade.Spent) }
+    ensures spent { OnErr result (HasTooFew Z.zone query strong.entry.value reader.old reader.new) }
+{
+    match start_transfer(rt, server, reader, strong, &query) {
+        Ok((version, chain)) => Ok(reply_transfer(version, chain, query, peer, out)),
+        Err(_) => Err(Unmade::Spent),
     }
 }
 
@@ -230,15 +258,16 @@ impl<'a, 's, Z: FirstZone, N: ServerName, L: ServiceLog> ConnectionHandler<'a, '
                 Ok(Reply::One(len))
             }
             Submitted::Waits {
-                ticket: seat,
+                ticket,
                 number,
+                put: _,
             } => {
                 let from = self.from;
                 self.taken.put(
                     key,
                     PendingUpdate {
                         from,
-                        ticket: seat,
+                        ticket,
                         number,
                         known,
                     },
@@ -307,28 +336,21 @@ impl<'a, 's, Z: FirstZone, N: ServerName, L: ServiceLog> ConnectionHandler<'a, '
         }
     }
 
-    /// The reply of the engine to an update, or the reply to a query for a permitted transfer. `Spent` only for a transfer, where the reader has no load left.
+    /// Writes the reply of the engine to an update at the front of `out`, and logs it. Gives its length in octets.
     #[tactic(auto, using(zone_server::proofs::ReplyLemmas::limit_most, zone_server::proofs::ReplyLemmas::room_most))]
-    fn reply_served<R: Wait>(
-        &mut self,
-        rt: &R,
-        request: &[u8],
-        out: &mut [u8],
-    ) -> Result<Reply<Transfer>, Unmade>
-        requires later { IsUpdate request.now ⊎ IsTransfer Z.zone self.old.peer request.now }
+    fn reply_served<R: Wait>(&mut self, rt: &R, request: &[u8], out: &mut [u8]) -> usize
+        requires update { IsUpdate request.now }
         requires room { message_limit ≤ length out.old }
         ensures peer { self.new.peer ≡ self.old.peer }
         ensures asker { self.new.asker ≡ self.old.asker }
         ensures taken { self.new.taken ≡ self.old.taken }
         ensures grows { Grows {T = Version} (learned_by self.new.reader) (learned_by self.old.reader) }
-        ensures bound { IfOk result (λ reply. (len : ℕ) → reply ≡ ReplyOf.One len → (len ≤ message_limit) × (len ≤ length out.new)) }
-        ensures replied { IfOk result (λ reply. IsReplied Z.zone self.old.peer (learned_by self.old.reader) (learned_by self.new.reader) request.now (messages_of transfer_left reply out.new)) }
-        ensures now { IfErr result (λ unmade. unmade ≡ WhyUnmade.Later → ⊥) }
-        ensures spent { OnErr result (IsTransfer Z.zone self.old.peer request.now × (self.new.reader.left ≡ 0)) }
+        ensures bound { (result ≤ message_limit) × (result ≤ length out.new) }
+        ensures replied { IsReplied Z.zone self.old.peer (learned_by self.old.reader) (learned_by self.new.reader) request.now (take result out.new ∷ []) }
     {
         let peer = self.peer;
         tell_signed(rt, self.log, self.from, request);
-        match serve_one(
+        let (len, told) = serve_update(
             rt,
             self.alloc,
             self.server,
@@ -336,27 +358,19 @@ impl<'a, 's, Z: FirstZone, N: ServerName, L: ServiceLog> ConnectionHandler<'a, '
             peer,
             request,
             out,
-        ) {
-            Served::Reply(len) => Ok(Reply::One(len)),
-            Served::Updated(len, told) => {
-                tell_update(rt, self.log, peer, self.from, told);
-                Ok(Reply::One(len))
-            }
-            Served::Transfer(version, chain, query) => {
-                Ok(reply_transfer(version, chain, query, peer, out))
-            }
-            Served::Spent => Err(Unmade::Spent),
-        }
+        );
+        tell_update(rt, self.log, peer, self.from, told);
+        len
     }
 
-    /// The reply to an update, or to a query for a permitted transfer. `Later` only for an update of a peer that may update, `Spent` only for a transfer.
+    /// The reply to an update. `Later` only for an update of a peer that may update.
     fn reply_later<R: Wait>(
         &mut self,
         rt: &R,
         request: &[u8],
         out: &mut [u8],
     ) -> Result<Reply<Transfer>, Unmade>
-        requires later { IsUpdate request.now ⊎ IsTransfer Z.zone self.old.peer request.now }
+        requires update { IsUpdate request.now }
         requires other { (self.old.hands ≡ false) ⊎ (IsLater self.old.peer request.now → ⊥) → place_in self.old.taken self.old.asker ≡ None }
         requires room { message_limit ≤ length out.old }
         ensures peer { self.new.peer ≡ self.old.peer }
@@ -364,12 +378,11 @@ impl<'a, 's, Z: FirstZone, N: ServerName, L: ServiceLog> ConnectionHandler<'a, '
         ensures grows { EachGrows {T = Version} (known_at self.new.taken self.new.reader) (known_at self.old.taken self.old.reader) }
         ensures bound { IfOk result (λ reply. (len : ℕ) → reply ≡ ReplyOf.One len → (len ≤ message_limit) × (len ≤ length out.new)) }
         ensures replied { IfOk result (λ reply. IsReplied Z.zone self.old.peer (known_at self.old.taken self.old.reader self.old.asker) (known_at self.new.taken self.new.reader self.old.asker) request.now (messages_of transfer_left reply out.new)) }
-        ensures later { IfErr result (λ unmade. unmade ≡ WhyUnmade.Later → IsLater self.old.peer request.now) }
-        ensures spent { IfErr result (λ unmade. unmade ≡ WhyUnmade.Spent → IsTransfer Z.zone self.old.peer request.now × (self.new.reader.left ≡ 0)) }
+        ensures later { IfErr result (λ unmade. (unmade ≡ WhyUnmade.Later) × IsLater self.old.peer request.now) }
     {
         match self.sender_for(request) {
             Some(hand) => self.reply_update(rt, hand, request, out),
-            None => self.reply_served(rt, request, out),
+            None => Ok(Reply::One(self.reply_served(rt, request, out))),
         }
     }
 }
@@ -416,7 +429,7 @@ impl<'a, 's, Z: FirstZone, N: ServerName, L: ServiceLog> Handler<Transfer>
     {
         self.settle(rt, request);
         let cell = self.server.cell();
-        match answer_kept(
+        match answer_request(
             cell,
             &mut self.reader,
             &mut self.query,
@@ -425,13 +438,19 @@ impl<'a, 's, Z: FirstZone, N: ServerName, L: ServiceLog> Handler<Transfer>
             request,
             out,
         ) {
-            Now::Bytes(len) => {
+            Answer::Bytes(len) => {
                 tell_refused(rt, self.log, self.peer, self.from, &self.query, &out[..len]);
                 Ok(Reply::One(len))
             }
-            Now::Silent => Ok(Reply::Silent),
-            Now::Later => self.reply_later(rt, request, out),
-            Now::Spent => Err(Unmade::Spent),
+            Answer::Silent => Ok(Reply::Silent),
+            Answer::Update => self.reply_later(rt, request, out),
+            Answer::Transfer(strong) => {
+                tell_signed(rt, self.log, self.from, request);
+                let query = mem::replace(&mut self.query, Query::blank());
+                let (server, peer) = (self.server, self.peer);
+                begin_transfer(rt, server, &mut self.reader, strong, query, peer, out)
+            }
+            Answer::Spent => Err(Unmade::Spent),
         }
     }
 }

@@ -8,8 +8,7 @@ use Rattle.dns_engine.specs.Versions.{IsFirst, IsNext}
 use Rattle.dns_engine.specs.Held.{IsLatest}
 use Rattle.dns_engine.specs.Replayed.{IsReplay}
 use Rattle.dns_engine.proofs.ReplayLemmas.{last_number_of, last_latest, last_replay_of}
-use Rattle.requests.specs.Served.{Grows}
-use Rattle.zone_server.specs.Known.{learned_by, HasLoaded, HasSeen}
+use Rattle.zone_server.specs.Known.{HasLoaded}
 
 -- a version that is loaded has the number that it is published with
 pub loads : (first : List Record) (before after : ReaderState Version) (version : Numbered Version) → IsLoad (IsFirst first) IsNext before after version → HasLoaded first before after version.value
@@ -22,7 +21,3 @@ loaded_latest first before after version load = last_latest first after.seen ver
 
 pub loaded_replay : (first : List Record) (before after : ReaderState Version) (version : Numbered Version) → IsLoad (IsFirst first) IsNext before after version → IsReplay first version.value
 loaded_replay first before after version load = last_replay_of first after.seen version load.history load.last
-
--- who has loaded a version, and learned more, has seen it
-pub has_seen : (first : List Record) (before loaded after : ReaderState Version) (version : Version) → HasLoaded first before loaded version → Grows (learned_by after) (learned_by loaded) → HasSeen first before after version
-has_seen first before loaded after version load grown = (loaded, load, grown)

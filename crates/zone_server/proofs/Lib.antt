@@ -1,4 +1,5 @@
 pub mod AboutLemmas
+pub mod AnswerLemmas
 pub mod ChainLemmas
 pub mod CodeLemmas
 pub mod CountedLemmas
@@ -13,7 +14,9 @@ pub mod PublisherMetLemmas
 pub mod PublisherSendLemmas
 pub mod ReplyDoneLemmas
 pub mod ReplyLemmas
+pub mod ServeOneLemmas
 pub mod ServerSendLemmas
+pub mod StartedLemmas
 pub mod StateLemmas
 pub mod TransferLemmas
 pub mod WantedLemmas

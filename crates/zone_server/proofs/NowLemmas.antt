@@ -1,5 +1,5 @@
 -- What a reader has seen behind a request, and when no load is left for it.
-use Rattle.std.proofs.Common.{◌≡◌, ◌↔◌, refl, ℕ, ◌+◌, ◌-◌, List, [], inl, inr, ⊎_elim, sym, ap, ◌∙◌, subst, arith}
+use Rattle.std.proofs.Common.{◌≡◌, ◌↔◌, refl, ℕ, ◌+◌, ◌-◌, List, [], ⊎_elim, sym, ap, ◌∙◌, subst, arith}
 use Rattle.dns_rdata.specs.Record.{Record}
 use Rattle.dns_message.specs.Request.{reads}
 use Rattle.dns_message.specs.declared.query.Query.{Query as QueryAsked}
@@ -13,7 +13,7 @@ use Rattle.serve_core.specs.declared.peer.Peer.{Peer}
 use Rattle.requests.specs.Served.{Grows}
 use Rattle.requests.proofs.TurnLemmas.{grows_itself, grows_more}
 use Rattle.dns_engine.specs.Held.{EngineState}
-use Rattle.zone_server.specs.Known.{learned_by, HasLoaded, HasMet, HasSeen, HasTooFew, LoadsInVain}
+use Rattle.zone_server.specs.Known.{learned_by, HasLoaded, HasMet, HasTooFew}
 use Rattle.zone_server.specs.Updated.{IsUpdated, IsJudged, by_engine as judged_by_engine, in_version, IsToldOf, read, unread, bad_opt, starved}
 use Rattle.zone_server.specs.Replied.{IsQuery, IsUpdate, IsTransfer, LoadsFor, IsNow}
 use Rattle.zone_server.specs.declared.answer.UpdateOutcome.{UpdateOutcome}
@@ -63,30 +63,15 @@ told_grows first may request before after heading told (unread head reading alon
 told_grows first may request before after heading told (bad_opt head question dnssec_ok reading repeats none same) = same_grows before after same
 told_grows first may request before after heading told (starved head want alone code none same) = same_grows before after same
 
--- who has loaded and then seen more
-pub seen_grows : (first : List Record) (before after : ReaderState Version) (version : Version) → HasSeen first before after version → Grows (learned_by after) (learned_by before)
-seen_grows first before after version s = grows_more (learned_by before) (learned_by s.0) (learned_by after) (load_grows first before s.0 version s.1) s.2
-
-few_grows : (first : List Record) (query : QueryAsked) (version : Version) (before after : ReaderState Version) → HasTooFew first query version before after → Grows (learned_by after) (learned_by before)
+-- a reader that has too few grants has learned more
+pub few_grows : (first : List Record) (query : QueryAsked) (version : Version) (before after : ReaderState Version) → HasTooFew first query version before after → Grows (learned_by after) (learned_by before)
 few_grows first query version before after f = record {
   published = (f.begun.0, ap (λ (r : ReaderState Version). r.seen) f.few.spent ∙ sym f.begun.1);
   buried = ([], ap (λ (r : ReaderState Version). r.gone) f.few.spent);
 }
 
-pub vain_grows : (first : List Record) (query : QueryAsked) (before after : ReaderState Version) → LoadsInVain first query before after → Grows (learned_by after) (learned_by before)
-vain_grows first query before after (inl gone) = same_grows before after gone.1
-vain_grows first query before after (inr l) =
-    grows_more (learned_by before) (learned_by l.1) (learned_by after) (load_grows first before l.1 l.0 l.2) (few_grows first query l.0 l.1 after l.3)
-
--- who wants grants has none left
-pub vain_left : (first : List Record) (query : QueryAsked) (before after : ReaderState Version) → LoadsInVain first query before after → after.left ≡ 0
-vain_left first query before after (inl gone) = ap (λ (r : ReaderState Version). r.left) gone.1 ∙ gone.0
-vain_left first query before after (inr l) =
-    let all : l.1.left - l.1.left ≡ 0 = omega arith in
-    ap (λ (r : ReaderState Version). r.left) l.3.few.spent ∙ all
-
 -- who has loaded had a load left
-had_one : (first : List Record) (before after : ReaderState Version) (version : Version) → HasLoaded first before after version → before.left ≡ 0 → ⊥
+pub had_one : (first : List Record) (before after : ReaderState Version) (version : Version) → HasLoaded first before after version → before.left ≡ 0 → ⊥
 had_one first before after version load none = absurd (by before.left after.left load.left none)
   where
     by : (old new : ℕ) → old ≡ new + 1 → old ≡ 0 → ⊥

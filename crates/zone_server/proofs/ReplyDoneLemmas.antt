@@ -35,7 +35,7 @@ use Rattle.zone_server.specs.declared.answer.UpdateOutcome.{UpdateOutcome}
 use Rattle.zone_server.specs.Replied.{IsReplied}
 use Rattle.dns_engine.specs.Chain.{IsPublished}
 use Rattle.zone_server.proofs.AboutLemmas.{latest_known, no_older}
-use Rattle.zone_server.proofs.ReplyLemmas.{update_replied, update_limit, told_replied, still_replied}
+use Rattle.zone_server.proofs.ReplyLemmas.{update_replied, update_limit, told_replied}
 
 answered_reply : (transport : Transport) (heading : Heading) (zone : List Record) (next : Option (List Record)) (code : Option Rcode)
     → (answered transport heading zone next code).reply ≡ Some (fit (coded heading (unwrap_or code NoError)) (limit_of transport None))
@@ -94,29 +94,28 @@ unheard_replied first peer before after engine request out update len met readin
     (ap Some (sym written))
 
 -- SERVFAIL of an update that nobody judged, where the reader has met what is published
-pub refused_at_once : (first : List Record) (peer : Peer) (before after : ReaderState Version) (number : ℕ) (request out : List ℕ) (update : Update) (heading : Heading) (len : ℕ) → MeetsAt first before after number → is_update request ≡ true → reads request ≡ SaysUpdate update
-    → heading ≡ heading_of_update update → take len out ≡ fit (coded heading ServFail) (limit_of peer.transport None) → len ≤ limit_of peer.transport None → IsRepliedAtOnce first peer request before after out len
-refused_at_once first peer before after number request out update heading len met asks reading same written short = record {
+pub refused_at_once : (first : List Record) (peer : Peer) (before after : ReaderState Version) (number : ℕ) (request out : List ℕ) (update : Update) (heading : Heading) (len : ℕ) (outcome : UpdateOutcome) → MeetsAt first before after number → is_update request ≡ true → reads request ≡ SaysUpdate update
+    → heading ≡ heading_of_update update → take len out ≡ fit (coded heading ServFail) (limit_of peer.transport None) → len ≤ limit_of peer.transport None → outcome.code ≡ ServFail
+    → IsRepliedAtOnce first peer request before after out len outcome
+refused_at_once first peer before after number request out update heading len outcome met asks reading same written short failed = record {
   bound = subst (λ (n : ℕ). len ≤ n) (sym (update_limit peer.transport request asks)) short;
   replied = unheard_replied first peer before after met.0 request out update len met.1 reading (written ∙ ap (λ (h : Heading). fit (coded h ServFail) (limit_of peer.transport None)) same);
+  outcome = (heading, written ∙ ap (λ (c : Rcode). fit (coded heading c) (limit_of peer.transport None)) (sym failed), inr failed);
   grows = grows_met before after met.0.held.published met.1.seen met.1.begun;
 }
 
 -- and what is told of one that can't be read
 pub unread_at_once : (first : List Record) (peer : Peer) (reader : ReaderState Version) (request out : List ℕ) (heading : Heading) (told : UpdateOutcome) (len : ℕ) → is_update request ≡ true → IsToldUnread request heading told
-    → take len out ≡ fit (coded heading told.code) (limit_of peer.transport None) → len ≤ limit_of peer.transport None → IsRepliedAtOnce first peer request reader reader out len
+    → take len out ≡ fit (coded heading told.code) (limit_of peer.transport None) → len ≤ limit_of peer.transport None → IsRepliedAtOnce first peer request reader reader out len told
 unread_at_once first peer reader request out heading told len asks unread written short = record {
   bound = subst (λ (n : ℕ). len ≤ n) (sym (update_limit peer.transport request asks)) short;
   replied = told_replied first peer reader reader request out len short heading told (unread first peer.may_update reader) written;
+  outcome = (heading, written, inl unread);
   grows = grows_itself (learned_by reader);
 }
 
--- what is answered is so where less was known before
-still_answered : (first : List Record) (peer : Peer) (shorter longer later : Learned Version) (request : List ℕ) (messages : List (List ℕ)) → Grows longer shorter → IsAnswered first peer longer later request messages → IsAnswered first peer shorter later request messages
-still_answered first peer shorter longer later request messages grown (inl replied) = inl (still_replied first peer shorter longer later request messages grown replied)
-still_answered first peer shorter longer later request messages grown (inr handed) = inr handed
-
-pub datagram_answered : (first : List Record) (peer : Peer) (shorter longer later : Learned Version) (request out : List ℕ) {E : Type 0} (result : Result (Option ℕ) E) → Grows longer shorter
-    → IfOk result (λ len. IsAnswered first peer longer later request (messages_in len out)) → IfOk result (λ len. IsAnswered first peer shorter later request (messages_in len out))
-datagram_answered first peer shorter longer later request out (Ok len) grown answered = still_answered first peer shorter longer later request (messages_in len out) grown answered
-datagram_answered first peer shorter longer later request out (Err e) grown answered = tt
+-- a transfer by datagram that is replied to is answered
+pub datagram_replies : (first : List Record) (peer : Peer) (known later : Learned Version) (request out : List ℕ) {E : Type 0} (result : Result (Option ℕ) E) → IfOk result (λ len. IsReplied first peer known later request (messages_in len out))
+    → IfOk result (λ len. IsAnswered first peer known later request (messages_in len out))
+datagram_replies first peer known later request out (Ok len) replied = inl replied
+datagram_replies first peer known later request out (Err e) replied = tt

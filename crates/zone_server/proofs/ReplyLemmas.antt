@@ -1,5 +1,5 @@
 -- What is replied, by what is told of a request.
-use Rattle.std.proofs.Common.{◌≡◌, ◌≢◌, ◌≤◌, ◌==◌, refl, ℕ, Bool, true, false, not, ◌&&◌, ◌||◌, nat_lt, List, [], ◌∷◌, length, take, Option, None, Some, option_and_then, ◌⊎◌, inl, inr, ⊎_elim, sym, ap, ◌∙◌, subst, unwrap_or, if◌then◌else◌, Result, Ok, Err, OnErr, lit≤, arith, ◌+◌, ◌++◌, length-append}
+use Rattle.std.proofs.Common.{◌≡◌, ◌≢◌, ◌≤◌, ◌==◌, refl, ℕ, Bool, true, false, not, ◌&&◌, ◌||◌, nat_lt, List, [], ◌∷◌, length, take, Option, None, Some, option_and_then, ◌⊎◌, inl, inr, ⊎_elim, sym, ap, ◌∙◌, subst, unwrap_or, if◌then◌else◌, Ok, Err, lit≤, arith, ◌+◌, ◌++◌, length-append}
 use Rattle.std.proofs.lemmas.Bool.{eqb-true}
 use Rattle.std.proofs.lemmas.Bool.Decides.{nat_tests}
 use Rattle.std.specs.Option.{option_to_list, option_or, is_some}
@@ -48,7 +48,7 @@ use Rattle.zone_server.proofs.KnownLemmas.{loaded_latest}
 use Rattle.zone_server.proofs.AboutLemmas.{latest_known, unmade_about, made_about, known_about, no_older}
 use Rattle.zone_server.proofs.WantedLemmas.{wanted_got}
 use Rattle.zone_server.specs.Updated.{TellsOf, IsJudged, by_engine, in_version, IsToldOf, read, unread, bad_opt, starved as starved_reading}
-use Rattle.zone_server.specs.Replied.{TellsFor, TellsAbout, asks_changes, IsChained, IsReplied, IsUpdate, IsQuery, IsTransfer, IsAtOnce, LoadsFor, HasNoAnswer}
+use Rattle.zone_server.specs.Replied.{TellsFor, TellsAbout, asks_changes, IsChained, IsReplied, IsUpdate, IsQuery, IsAtOnce, LoadsFor}
 
 no_want : (head : Head) (heard : Parsed) → heard ≡ NoMemory head → heard ≡ IsSilent → ⊥
 no_want head heard wants is = cc
@@ -148,19 +148,6 @@ no_changes b is other = absurd (cc)
 
 no_other : {P : Type 0} (b : Bool) → b ≡ true → b ≡ false → P
 no_other b is other = absurd (cc)
-
--- a query that asks for no transfer of what changed gets what is sent for it in the last of the versions that are known then
-query_replied : (first : List Record) (peer : Peer) (known later : Learned Version) (version : Version) (request : List ℕ) (query : QueryAsked) (messages : List (List ℕ)) → IsReplay first version → IsLatest first later.published version → asks_changes version.zone peer query ≡ false
-    → reads request ≡ Query query → messages ≡ replies_to version.zone None peer ForNothing (Query query) → IsReplied first peer known later request messages
-query_replied first peer known later version request query messages replayed latest other asked gets = record {
-  version = version;
-  replayed = replayed;
-  changes = None;
-  told = subst (TellsFor first peer known later version None) (sym asked) (no_changes (asks_changes version.zone peer query) other, λ e. latest);
-  want = ForNothing;
-  about = subst (TellsAbout first peer known later version ForNothing) (sym asked) tt;
-  reply = gets ∙ ap (replies_to version.zone None peer ForNothing) (sym asked);
-}
 
 -- a transfer that is permitted in a version gets its messages, by a chain that tells what changed
 abbrev pub IsTransferred : List Record → Peer → Learned Version → ReaderState Version → Version → List ℕ → List (List ℕ) → Type 0
@@ -390,6 +377,10 @@ pub update_is_no_query : (request : List ℕ) → is_update request ≡ true →
 update_is_no_query request asks query =
     subst IsOfUpdate (sym (update_said request asks) ∙ query.1) (of_update (header_of request) (update_in (header_of request) request))
 
+-- what asks for an update gets a reply
+pub update_is_not_silent : (request : List ℕ) → is_update request ≡ true → reads request ≡ IsSilent → ⊥
+update_is_not_silent request asks silent = subst IsOfUpdate (sym (update_said request asks) ∙ silent) (of_update (header_of request) (update_in (header_of request) request))
+
 -- what is heard as an update is one
 pub heard_update : (request : List ℕ) (heard : Parsed) (update : Update) → Tells request heard → heard ≡ SaysUpdate update → reads request ≡ SaysUpdate update
 heard_update request heard update tells is =
@@ -562,33 +553,6 @@ query_now first peer before after version request out query len replayed latest 
       record { other = other; plain = subst (IsNoTransfer version.zone peer) (sym asked) may },
       subst (LoadsFor first before after version) (sym asked) loaded,
     )
-
--- a query that is answered in the version that is loaded for it, when it was to be answered later
-pub query_served : (first : List Record) (peer : Peer) (before after : ReaderState Version) (version : Version) (request out : List ℕ) (query : QueryAsked) (len : ℕ) → IsReplay first version → IsLatest first after.seen version → HasLoaded first before after version → reads request ≡ Query query
-    → is_permitted version.zone peer query ≡ false → take len out ≡ fit (reply_to_peer version.zone peer query) (limit_of peer.transport query.edns) → len ≤ limit_of peer.transport query.edns
-    → (len ≤ limit_for peer.transport (reads request)) × (replied : IsReplied first peer (learned_by before) (learned_by after) request (take len out ∷ [])) × IsQuery request × HasLoaded first before after replied.version
-unfolding query_replied
-query_served first peer before after version request out query len replayed latest loaded asked may written short =
-    let gets : take len out ∷ [] ≡ replies_to version.zone None peer ForNothing (Query query) = rw (may, written) refl in
-    let plain : asks_changes version.zone peer query ≡ false = rw may refl in (
-      subst (λ p. len ≤ limit_for peer.transport p) (sym asked) short,
-      query_replied first peer (learned_by before) (learned_by after) version request query (take len out ∷ []) replayed latest plain asked gets,
-      (query, asked),
-      loaded,
-    )
-
--- what comes later and doesn't ask for an update asks for a transfer
-pub later_transfer : (first : List Record) (peer : Peer) (request : List ℕ) → is_update request ≡ false → IsUpdate request ⊎ IsTransfer first peer request → IsTransfer first peer request
-later_transfer first peer request other later = ⊎_elim (λ (asks : is_update request ≡ true). absurd (no_both asks)) (λ (t : IsTransfer first peer request). t) later
-  where
-    no_both : is_update request ≡ true → ⊥
-    no_both asks = cc
-
--- a transfer for which grants are wanted is answered by nothing
-pub spent_transfer : {T E : Type 0} (result : Result T E) (first : List Record) (peer : Peer) (request : List ℕ) (before after : ReaderState Version)
-    → OnErr result (IsTransfer first peer request × (after.left ≡ 0)) → OnErr result (HasNoAnswer first peer request before after)
-spent_transfer (Ok x) first peer request before after t = tt
-spent_transfer (Err e) first peer request before after t = inr t
 
 -- who knew more before knew less
 older_known : (shorter longer : List Version) (version : Version) → BeginsWith longer shorter → IsNoOlder longer version → IsNoOlder shorter version

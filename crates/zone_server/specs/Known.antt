@@ -1,5 +1,5 @@
 -- What a reader has seen published, and how it comes to see more (own).
-use Rattle.std.specs.Prelude.{◌≡◌, ◌⊎◌, ◌==◌, true, ℕ, ◌+◌, ◌≤◌, List, length, Some}
+use Rattle.std.specs.Prelude.{◌≡◌, ◌==◌, true, ℕ, ◌+◌, ◌≤◌, List, length, Some}
 use Rattle.dns_rdata.specs.Numbers.{type_IXFR}
 use Rattle.dns_rdata.specs.Record.{Record}
 use Rattle.dns_rdata.specs.declared.numbers.Serial.{Serial}
@@ -11,7 +11,7 @@ use Rattle.counted_handles.specs.Ruled.{Begins}
 use Rattle.weak_history.specs.History.{Entered, later_entries}
 use Rattle.weak_history.specs.Owned.{AreTooMany, IsChain}
 use Rattle.weak_history.specs.declared.chain.Chain.{Chain}
-use Rattle.requests.specs.Served.{Learned, Grows}
+use Rattle.requests.specs.Served.{Learned}
 use Rattle.dns_engine.specs.Entries.{entries_of}
 use Rattle.dns_engine.specs.Held.{EngineState, IsLatest}
 use Rattle.dns_engine.specs.Replayed.{IsReplay}
@@ -29,10 +29,6 @@ HasLoaded first before after version = IsLoad (IsFirst first) IsNext before afte
 -- a reader has no grant left, and is unchanged (own)
 abbrev pub HasGone : ReaderState Version → ReaderState Version → Type 0
 HasGone before after = (before.left ≡ 0) × (after ≡ before)
-
--- a reader has loaded a version, and may have learned more since then (own)
-abbrev pub HasSeen : List Record → ReaderState Version → ReaderState Version → Version → Type 0
-HasSeen first before after version = (loaded : ReaderState Version) × HasLoaded first before loaded version × Grows (learned_by after) (learned_by loaded)
 
 -- a version is not older than the last one known to be published (own)
 abbrev pub IsNoOlder : List Version → Version → Type 0
@@ -58,11 +54,6 @@ pub record HasTooFew (first : List Record) (query : QueryAsked) (version : Versi
   pub since : List (Entered Version)
   pub found : later_entries serial.0 version.number (entries_of published) ≡ Some since
   pub few : AreTooMany since (record before { seen = published }) after
-
--- a transfer fails for lack of grants: the reader has none left, and is unchanged, or it has loaded a version, and then has too few for the versions since the client's (own)
-abbrev pub LoadsInVain : List Record → QueryAsked → ReaderState Version → ReaderState Version → Type 0
-LoadsInVain first query before after =
-    HasGone before after ⊎ ((version : Version) × (loaded : ReaderState Version) × HasLoaded first before loaded version × HasTooFew first query version loaded after)
 
 -- a reader meets what is published, of which it had seen a prefix, and asks its history for the versions after the one with a serial, up to a number (own)
 abbrev pub MeetsAndAsks : {C N : Type 0} → List Record → ℕ → ℕ → ReaderState Version → ReaderState Version → Chain Version C N → Type 0

@@ -1,3 +1,4 @@
+pub mod Answer
 pub mod Brought
 pub mod Known
 pub mod Met
@@ -7,6 +8,7 @@ pub mod QueuedUpdate
 pub mod Refused
 pub mod Replied
 pub mod Right
+pub mod ServeOne
 pub mod Signed
 pub mod UpdateResult
 pub mod Updated

@@ -1,20 +1,28 @@
 -- What a reader has seen when an update is queued (own).
-use Rattle.std.specs.Prelude.{◌≡◌, ◌≤◌, ◌⊎◌, ◌+◌, ◌*◌, ℕ, true, List, [], ◌∷◌, length, take, Option, None, Some}
+use Rattle.std.specs.Prelude.{◌≡◌, ◌≤◌, ◌⊎◌, ◌+◌, ◌*◌, ℕ, true, List, [], ◌∷◌, length, take, None}
 use Rattle.dns_rdata.specs.Record.{Record}
+use Rattle.dns_rdata.specs.declared.numbers.Rcode.TheVariants.{ServFail}
+use Rattle.dns_message.specs.Octets.{fit}
 use Rattle.dns_message.specs.Request.{is_update, reads}
 use Rattle.zone_tree.specs.Version.{Version}
 use Rattle.snapshot_cell.specs.Tokens.{ReaderState}
 use Rattle.dns_engine.specs.Held.{EngineState}
 use Rattle.update_batches.specs.declared.update_request.UpdateRequest.{UpdateRequest}
 use Rattle.serve_core.specs.declared.peer.Peer.{Peer}
+use Rattle.serve_core.specs.declared.heading.Heading.{Heading}
+use Rattle.serve_core.specs.Heading.{coded}
 use Rattle.serve_core.specs.Served.{limit_for}
+use Rattle.serve_core.specs.Transport.{limit_of}
 use Rattle.zone_server.specs.declared.server_state.BatchStart.{BatchStart}
 use Rattle.requests.specs.Served.{Learned, Grows}
 use Rattle.zone_server.specs.Known.{learned_by, HasMet}
 use Rattle.zone_server.specs.Replied.{IsReplied}
 use Rattle.zone_server.specs.declared.submit.Submitted.{Submitted}
 use Rattle.zone_server.specs.declared.submit.Submitted.TheVariants.{Told as AtOnce, Waits as IsPut}
-use Rattle.zone_server.specs.declared.answer.UpdateOutcome.{UpdateOutcome as ToldOf}
+use Rattle.zone_server.specs.declared.submit.DatagramSubmitted.{DatagramSubmitted}
+use Rattle.zone_server.specs.declared.submit.DatagramSubmitted.TheVariants.{Told as AtOnceByDatagram, Waits as IsPutByDatagram}
+use Rattle.zone_server.specs.declared.answer.UpdateOutcome.{UpdateOutcome}
+use Rattle.zone_server.specs.Updated.{IsToldUnread}
 
 -- how many bytes of memory a queued update is counted for: those received, and 320 for each record read from them (own)
 abbrev pub memory_of : UpdateRequest → ℕ
@@ -30,22 +38,28 @@ abbrev pub IsBegun : List Record → ReaderState Version → ReaderState Version
 IsBegun first before after begun =
     (engine : EngineState) × HasMet first engine before after × (engine.held.last ≡ begun.last) × (engine.held.last.number ≡ begun.number) × (engine.free ≡ begun.room)
 
--- a request gets a reply of so many octets at once, and its reader forgets nothing that it had seen (own)
-pub record IsRepliedAtOnce (first : List Record) (peer : Peer) (request : List ℕ) (before after : ReaderState Version) (out : List ℕ) (len : ℕ) : Type 0 where
+-- the outcome of an update that isn't judged is that of its reply: of one that can't be read what that gets, else SERVFAIL (own)
+abbrev pub IsRefusedWith : Peer → List ℕ → List ℕ → UpdateOutcome → Type 0
+IsRefusedWith peer request octets outcome =
+    (heading : Heading) × (octets ≡ fit (coded heading outcome.code) (limit_of peer.transport None)) × (IsToldUnread request heading outcome ⊎ (outcome.code ≡ ServFail))
+
+-- an update gets a reply of so many octets at once, with this outcome, and its reader forgets nothing that it had seen (own)
+pub record IsRepliedAtOnce (first : List Record) (peer : Peer) (request : List ℕ) (before after : ReaderState Version) (out : List ℕ) (len : ℕ) (outcome : UpdateOutcome) : Type 0 where
   pub bound : len ≤ limit_for peer.transport (reads request)
   pub replied : IsReplied first peer (learned_by before) (learned_by after) request (take len out ∷ [])
+  pub outcome : IsRefusedWith peer request (take len out) outcome
   pub grows : Grows (learned_by after) (learned_by before)
 
 -- the result of submitting an update: it gets a reply at once, or it is queued, and the reader has met everything published until then, whose last version has this number
 -- (own)
 abbrev pub IsSubmitted : List Record → Peer → List ℕ → ReaderState Version → ReaderState Version → List ℕ → Submitted → Type 0
-IsSubmitted first peer request before after out (AtOnce len told) = IsRepliedAtOnce first peer request before after out len
-IsSubmitted first peer request before after out (IsPut seat number) = MeetsAt first before after number
+IsSubmitted first peer request before after out (AtOnce len outcome) = IsRepliedAtOnce first peer request before after out len outcome
+IsSubmitted first peer request before after out (IsPut ticket number put) = MeetsAt first before after number
 
 -- the same for an update that came by datagram: there is no reply now if it is queued
-abbrev pub IsDatagramSubmitted : List Record → Peer → List ℕ → ReaderState Version → ReaderState Version → List ℕ → Option (ℕ × ToldOf) → Type 0
-IsDatagramSubmitted first peer request before after out (Some told) = IsRepliedAtOnce first peer request before after out told.0
-IsDatagramSubmitted first peer request before after out None = after ≡ before
+abbrev pub IsDatagramSubmitted : List Record → Peer → List ℕ → ReaderState Version → ReaderState Version → List ℕ → DatagramSubmitted → Type 0
+IsDatagramSubmitted first peer request before after out (AtOnceByDatagram len outcome) = IsRepliedAtOnce first peer request before after out len outcome
+IsDatagramSubmitted first peer request before after out (IsPutByDatagram put) = after ≡ before
 
 -- an update of a peer that may update is submitted, and gets no reply now (own)
 pub record IsPassedOn (peer : Peer) (request : List ℕ) (messages : List (List ℕ)) : Type 0 where

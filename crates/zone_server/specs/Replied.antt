@@ -16,13 +16,11 @@ use Rattle.requests.specs.Served.{Learned, Grows}
 use Rattle.serve_core.specs.declared.peer.Peer.{Peer}
 use Rattle.serve_core.specs.Served.{Want, limit_for}
 use Rattle.serve_core.specs.Replies.{replies_to, IsNoTransfer}
-use Rattle.serve_core.specs.Transfers.{is_permitted, list_for, messages_to}
-use Rattle.zone_server.specs.Known.{learned_by, HasLoaded, HasGone, HasSeen, IsNoOlder, LoadsInVain}
-use Rattle.zone_server.specs.Updated.{TellsOf, IsUpdateTold}
+use Rattle.serve_core.specs.Transfers.{is_permitted, list_for}
+use Rattle.zone_server.specs.Known.{learned_by, HasLoaded, HasGone, IsNoOlder}
+use Rattle.zone_server.specs.Updated.{TellsOf}
 use Rattle.zone_server.specs.declared.answer.Now.{Now}
 use Rattle.zone_server.specs.declared.answer.Now.TheVariants.{Bytes, Silent, Later, Spent}
-use Rattle.zone_server.specs.declared.answer.Served.{Served}
-use Rattle.zone_server.specs.declared.answer.Served.TheVariants.{Reply, Updated, Transfer, Spent as IsSpent}
 
 -- a query asks for an incremental transfer, and it is permitted in a zone (RFC 1995, 2)
 abbrev pub asks_changes : List Record → Peer → QueryAsked → Bool
@@ -123,18 +121,3 @@ IsNow first peer request before after out Spent = IsQuery request × HasGone bef
 -- nothing is answered: to a query if its reader has no grant left, or to a permitted transfer if none is left after it (own)
 abbrev pub HasNoAnswer : List Record → Peer → List ℕ → ReaderState Version → ReaderState Version → Type 0
 HasNoAnswer first peer request before after = (IsQuery request × (before.left ≡ 0)) ⊎ (IsTransfer first peer request × (after.left ≡ 0))
-
--- what is answered by the engine or from its versions, with a reader before and after: the reply to a query in a buffer; the reply to an update and its result; a permitted
--- transfer, whose messages are the reply in a version that is not older than what was seen; or, for a permitted transfer only, that its reader lacks grants for it
-abbrev pub IsServed : List Record → Peer → List ℕ → ReaderState Version → ReaderState Version → List ℕ → Served → Type 0
-IsServed first peer request before after out (Reply len) =
-    (len ≤ limit_for peer.transport (reads request)) × (replied : IsReplied first peer (learned_by before) (learned_by after) request (take len out ∷ [])) × IsQuery request
-    × HasLoaded first before after replied.version
-IsServed first peer request before after out (Updated len told) =
-    (len ≤ limit_for peer.transport (reads request)) × IsReplied first peer (learned_by before) (learned_by after) request (take len out ∷ [])
-    × IsUpdateTold first peer request before after (take len out) told
-IsServed first peer request before after out (Transfer version chain query) =
-    (is_permitted version.zone peer query ≡ true)
-    × ((replied : IsReplied first peer (learned_by before) (learned_by after) request (messages_to version.zone (changes_by (soa_of version.zone) chain) peer query)) × (replied.version ≡ version))
-    × (reads request ≡ Query query) × HasSeen first before after version
-IsServed first peer request before after out IsSpent = (transfer : IsTransfer first peer request) × LoadsInVain first transfer.query before after

@@ -1,27 +1,26 @@
-//! Answers to requests: at once in a version that is loaded (RFC 1034, 4.3.2), or by the engine and the versions that it keeps for updates (RFC 2136, 3) and transfers (RFC
-//! 1995, 4; RFC 5936, 2.2).
-ghost use Rattle.std.specs.Prelude.{◌≡◌, ◌↔◌, ◌≤◌, ◌⊎◌, Some, None, false, length, IfOk, OnErr, MatchResult};
+//! Answers to requests: at once in a version that is loaded (RFC 1034, 4.3.2), and to updates by the engine (RFC 2136, 3).
+ghost use Rattle.std.specs.Prelude.{◌≡◌, ◌↔◌, ◌≤◌, Some, None, false, [], ◌∷◌, length, take, MatchResult};
 ghost use Rattle.serve_core.specs.Transport.{room_of};
-ghost use Rattle.zone_server.specs.Known.{HasTooFew};
-ghost use Rattle.zone_server.specs.Replied.{IsUpdate, IsQuery, IsTransfer, IsChained, IsNow, IsServed};
-ghost use Rattle.dns_engine.specs.Held.{IsLatest};
+ghost use Rattle.serve_core.specs.Served.{limit_for};
+ghost use Rattle.zone_server.specs.Known.{learned_by};
+ghost use Rattle.zone_server.specs.Replied.{IsUpdate, IsQuery, IsNow, IsReplied};
 ghost use Rattle.zone_server.specs.declared.answer.Now.{Now as AtOnce};
 ghost use Rattle.dns_message.specs.Request.{reads};
 ghost use Rattle.dns_message.specs.declared.query.Parsed.TheVariants.{Update as SaysUpdate};
-ghost use Rattle.zone_server.specs.Updated.{IsJudged, IsToldOf, IsToldUnread, told_with};
+ghost use Rattle.zone_server.specs.Updated.{IsJudged, IsToldOf, IsToldUnread, IsUpdateTold, told_with};
 ghost use Rattle.update_core.specs.Verdict.{verdict};
 
+use crate::request_answer::{Answer, answer_request};
 use crate::right::ServerName;
 use crate::server::Server;
 use crate::update_result::UpdateResult;
-use dns_engine::{
-    FirstZone, SharedVersion, VersionCell, VersionChain, VersionOwner, VersionReader,
-};
-use dns_message::{Parsed, Query, Said, Update, is_update, parse, parse_into, parse_other};
-use dns_rdata::{RType, Rcode};
-use serve_core::{Heading, Peer, is_permitted, respond_by, respond_to_peer, write_code};
-use snapshot_cell::{Naming, Spent};
+use dns_engine::{FirstZone, VersionCell, VersionReader};
+use dns_message::{Parsed, Query, Update, parse};
+use dns_rdata::Rcode;
+use serve_core::{Heading, Peer, write_code};
+use snapshot_cell::Naming;
 use std::alloc::Global;
+use std::mem;
 use std::sync::Wait;
 use update_batches::Serials;
 use update_core::check;
@@ -89,19 +88,6 @@ impl UpdateOutcome {
     }
 }
 
-/// The answer to a request that was not answered at once.
-#[derive(Drop)]
-pub enum Served {
-    /// A reply of so many bytes.
-    Reply(usize),
-    /// A reply of so many bytes to an update, and the update's outcome.
-    Updated(usize, UpdateOutcome),
-    /// A transfer of this version for a query, with the versions since the client's.
-    Transfer(SharedVersion, VersionChain, Query),
-    /// The reader has too few grants for a transfer: none, or not one for each version since the client's.
-    Spent,
-}
-
 /// Answers a request at once, unless it is an update or a permitted transfer: writes the reply in the version that is loaded to the front of `out`. An update is recognised by
 /// its header alone. A query takes one load, any other request none: [`Now::Spent`] comes exactly for a query for which the reader has no load left. It does not block and
 /// allocates no memory.
@@ -118,53 +104,20 @@ pub fn answer_now<Z: FirstZone, N: Naming>(
 {
     let mut query = Query::blank();
     let mut names = NameWriter::new();
-    answer_kept(cell, reader, &mut query, &mut names, peer, request, out)
-}
-
-/// Answers a request at once, as [`answer_now`] does, with a query that the caller keeps to parse into.
-pub fn answer_kept<Z: FirstZone, N: Naming>(
-    cell: &VersionCell<Z, N>,
-    reader: &mut VersionReader<N>,
-    query: &mut Query,
-    names: &mut NameWriter,
-    peer: Peer,
-    request: &[u8],
-    out: &mut [u8],
-) -> Now
-    requires { room_of peer.transport ≤ length out.old }
-    ensures now { IsNow Z.zone peer request.now reader.old reader.new out.new result }
-    ensures spent { (result ≡ AtOnce.Spent) ↔ (IsQuery request.now × (reader.old.left ≡ 0)) }
-{
-    if is_update(request) {
-        return Now::Later;
-    }
-    match parse_into(request, query) {
-        Said::Silent => Now::Silent,
-        Said::Fault(head, code) => {
-            let heading = Heading::header_alone(head);
-            Now::Bytes(write_code(&heading, code, peer.transport, out))
+    match answer_request(cell, reader, &mut query, &mut names, peer, request, out) {
+        Answer::Bytes(len) => Now::Bytes(len),
+        Answer::Silent => Now::Silent,
+        Answer::Update => Now::Later,
+        Answer::Transfer(strong) => {
+            mem::drop(strong);
+            Now::Later
         }
-        Said::BadOpt(head, code, dnssec_ok) => {
-            let heading = Heading::of_bad(head, &query.question, dnssec_ok);
-            Now::Bytes(write_code(&heading, code, peer.transport, out))
-        }
-        Said::Query => {
-            let Ok(strong) = cell.load(reader) else {
-                return Now::Spent;
-            };
-            let version = strong.get().get();
-            if is_permitted(version, query, peer) {
-                return Now::Later;
-            }
-            Now::Bytes(respond_by(names, version.zone(), query, peer, out))
-        }
+        Answer::Spent => Now::Spent,
     }
 }
 
-/// Answers an update: writes its reply to the front of `out` (RFC 2136, 3.8), and gives its outcome. For a transfer it gives the version that is loaded and the query, and for
-/// IXFR the versions since the client's, as the engine has them when its lock is held. The messages are made from these after the lock is free. If the transfer is no longer
-/// permitted it gives the reply.
-pub fn serve_one<R: Wait, Z: FirstZone, N: ServerName>(
+/// Answers an update: writes its reply to the front of `out` (RFC 2136, 3.8), and gives its length in octets and the update's outcome.
+pub fn serve_update<R: Wait, Z: FirstZone, N: ServerName>(
     rt: &R,
     alloc: Global,
     server: &Server<'_, Z, N>,
@@ -172,54 +125,16 @@ pub fn serve_one<R: Wait, Z: FirstZone, N: ServerName>(
     peer: Peer,
     request: &[u8],
     out: &mut [u8],
-) -> Served
-    requires later { IsUpdate request.now ⊎ IsTransfer Z.zone peer request.now }
+) -> (usize, UpdateOutcome)
+    requires update { IsUpdate request.now }
     requires room { room_of peer.transport ≤ length out.old }
-    ensures { IsServed Z.zone peer request.now reader.old reader.new out.new result }
+    ensures bound { result.0 ≤ limit_for peer.transport (reads request.now) }
+    ensures replied { IsReplied Z.zone peer (learned_by reader.old) (learned_by reader.new) request.now (take result.0 out.new ∷ []) }
+    ensures told { IsUpdateTold Z.zone peer request.now reader.old reader.new (take result.0 out.new) result.1 }
 {
-    if is_update(request) {
-        let (heading, told) = told_of(rt, alloc, server, reader, peer.may_update, request);
-        let len = write_code(&heading, told.code, peer.transport, out);
-        return Served::Updated(len, told);
-    }
-    let Parsed::Query(query) = parse_other(request) else {
-        unreachable!()
-    };
-    let Ok(strong) = server.cell().load(reader) else {
-        return Served::Spent;
-    };
-    let version = strong.get().get();
-    if !is_permitted(version, &query, peer) {
-        return Served::Reply(respond_to_peer(version.zone(), &query, peer, out));
-    }
-    let shared = strong.get().share(rt);
-    let Ok(chain) = chain_for(rt, server, reader, &strong, &query) else {
-        return Served::Spent;
-    };
-    Served::Transfer(shared, chain, query)
-}
-
-/// The versions since the one that the asker of an IXFR holds, up to one that the reader has loaded: none of another query. [`Spent`] where
-/// the reader lacks a grant for one of them.
-fn chain_for<R: Wait, Z: FirstZone, N: ServerName>(
-    rt: &R,
-    server: &Server<'_, Z, N>,
-    reader: &mut VersionReader<N>,
-    strong: &VersionOwner<'_, Z, N>,
-    query: &Query,
-) -> Result<VersionChain, Spent>
-    requires { IsLatest Z.zone reader.old.seen strong.now.value × (strong.now.value.number ≡ strong.now.number) }
-    ensures chained { IfOk result (λ chain. IsChained Z.zone query.now strong.now.value reader.old reader.new chain) }
-    ensures spent { OnErr result (HasTooFew Z.zone query.now strong.now.value reader.old reader.new) }
-{
-    if query.question.rtype != RType::IXFR {
-        return Ok(VersionChain::none());
-    }
-    let Some(serial) = query.serial else {
-        return Ok(VersionChain::none());
-    };
-    let told = server.chain(rt, reader, serial, strong.number());
-    VersionChain::of(rt, told)
+    let (heading, told) = told_of(rt, alloc, server, reader, peer.may_update, request);
+    let len = write_code(&heading, told.code, peer.transport, out);
+    (len, told)
 }
 
 /// The outcome of a request that asks for an update, and what its reply repeats of it: the judged outcome of one that is read, otherwise what [`read_update`] gives.

@@ -1,24 +1,25 @@
 //! A server that answers datagrams.
-ghost use Rattle.std.specs.Prelude.{◌≡◌, ◌≤◌, ◌⊎◌, true, length, Some, IfOk, IfSome, OnErr};
+ghost use Rattle.std.specs.Prelude.{◌≡◌, ◌≤◌, true, length, Some, IfOk, IfSome, OnErr};
 ghost use Rattle.dns_message.specs.Message.{message_limit};
 ghost use Rattle.zone_tree.specs.Version.{Version};
 ghost use Rattle.zone_server.specs.Known.{learned_by};
 ghost use Rattle.requests.specs.Octets.{messages_in};
 ghost use Rattle.requests.specs.Datagrams.{by_datagram};
-ghost use Rattle.zone_server.specs.Replied.{IsUpdate, IsTransfer, HasNoAnswer};
+ghost use Rattle.zone_server.specs.Replied.{IsUpdate, HasNoAnswer};
 ghost use Rattle.zone_server.specs.QueuedUpdate.{IsAnswered};
 ghost use Rattle.requests.specs.Served.{Grows};
 
-use crate::answer::{Now, Served, answer_kept, serve_one};
+use crate::answer::serve_update;
 use crate::notifying::{NextTurn, Notifying};
+use crate::request_answer::{Answer, answer_request};
 use crate::right::ServerName;
 use crate::server::Server;
 use crate::service_log::ServiceLog;
-use crate::submit::{UpdateSender, submit_datagram};
+use crate::submit::{DatagramSubmitted, UpdateSender, submit_datagram};
 use crate::telling::{tell_refused, tell_signed, tell_update};
-use crate::transfer::write_transfer;
+use crate::transfer::answer_transfer;
 use dns_engine::{FirstZone, VersionReader};
-use dns_message::{Query, is_update};
+use dns_message::Query;
 use notify::Notifier;
 use requests::Handler;
 use serve_core::{Peer, Transport};
@@ -106,7 +107,7 @@ impl<'a, 's, Z: FirstZone, N: ServerName, L: ServiceLog> DatagramHandler<'a, 's,
         ensures replied { IsAnswered Z.zone peer (learned_by self.old.reader) (learned_by self.new.reader) request.now (messages_in result out.new) }
     {
         let from = self.from;
-        let (len, told) = submit_datagram(
+        let submitted = submit_datagram(
             rt,
             self.alloc,
             self.server,
@@ -116,35 +117,39 @@ impl<'a, 's, Z: FirstZone, N: ServerName, L: ServiceLog> DatagramHandler<'a, 's,
             peer,
             request,
             out,
-        )?;
-        tell_update(rt, self.log, peer, from, told);
-        Some(len)
+        );
+        match submitted {
+            DatagramSubmitted::Told(len, told) => {
+                tell_update(rt, self.log, peer, from, told);
+                Some(len)
+            }
+            DatagramSubmitted::Waits(_put) => None,
+        }
     }
 
-    /// Answers an update or a permitted transfer.
+    /// Answers an update. None if it is queued.
     #[tactic(auto, using(crate::proofs::ReplyLemmas::limit_most, crate::proofs::ReplyLemmas::room_most))]
-    fn answer_datagram_later<R: Wait>(
+    fn answer_update<R: Wait>(
         &mut self,
         rt: &R,
         peer: Peer,
         request: &[u8],
         out: &mut [u8],
-    ) -> Result<Option<usize>, Spent>
-        requires later { IsUpdate request.now ⊎ IsTransfer Z.zone peer request.now }
+    ) -> Option<usize>
+        requires update { IsUpdate request.now }
         requires datagram { peer.transport ≡ Transport.Udp }
         requires reply_room { message_limit ≤ length out.old }
         ensures peer { self.new.peer ≡ self.old.peer }
         ensures grows { Grows {T = Version} (learned_by self.new.reader) (learned_by self.old.reader) }
-        ensures bound { IfOk result (λ len. IfSome len (λ n. (n ≤ message_limit) × (n ≤ length out.new))) }
-        ensures replied { IfOk result (λ len. IsAnswered Z.zone peer (learned_by self.old.reader) (learned_by self.new.reader) request.now (messages_in len out.new)) }
-        ensures spent { OnErr result (IsTransfer Z.zone peer request.now × (self.new.reader.left ≡ 0)) }
+        ensures bound { IfSome result (λ n. (n ≤ message_limit) × (n ≤ length out.new)) }
+        ensures replied { IsAnswered Z.zone peer (learned_by self.old.reader) (learned_by self.new.reader) request.now (messages_in result out.new) }
     {
         if let Some(hand) = self.hand {
-            if peer.may_update && is_update(request) {
-                return Ok(self.submit_datagram(rt, hand, peer, request, out));
+            if peer.may_update {
+                return self.submit_datagram(rt, hand, peer, request, out);
             }
         }
-        match serve_one(
+        let (len, told) = serve_update(
             rt,
             self.alloc,
             self.server,
@@ -152,17 +157,9 @@ impl<'a, 's, Z: FirstZone, N: ServerName, L: ServiceLog> DatagramHandler<'a, 's,
             peer,
             request,
             out,
-        ) {
-            Served::Reply(len) => Ok(Some(len)),
-            Served::Updated(len, told) => {
-                tell_update(rt, self.log, peer, self.from, told);
-                Ok(Some(len))
-            }
-            Served::Transfer(version, chain, query) => {
-                Ok(write_transfer(version.get(), &chain, &query, peer, out))
-            }
-            Served::Spent => Err(Spent),
-        }
+        );
+        tell_update(rt, self.log, peer, self.from, told);
+        Some(len)
     }
 }
 
@@ -201,7 +198,7 @@ impl<'a, 's, Z: FirstZone, N: ServerName, L: ServiceLog> Handler
             ..self.peer
         };
         let cell = self.server.cell();
-        match answer_kept(
+        match answer_request(
             cell,
             &mut self.reader,
             &mut self.query,
@@ -210,16 +207,28 @@ impl<'a, 's, Z: FirstZone, N: ServerName, L: ServiceLog> Handler
             request,
             out,
         ) {
-            Now::Bytes(len) => {
+            Answer::Bytes(len) => {
                 tell_refused(rt, self.log, peer, self.from, &self.query, &out[..len]);
                 Ok(Some(len))
             }
-            Now::Silent => Ok(None),
-            Now::Later => {
+            Answer::Silent => Ok(None),
+            Answer::Update => {
                 tell_signed(rt, self.log, self.from, request);
-                self.answer_datagram_later(rt, peer, request, out)
+                Ok(self.answer_update(rt, peer, request, out))
             }
-            Now::Spent => Err(Spent),
+            Answer::Transfer(strong) => {
+                tell_signed(rt, self.log, self.from, request);
+                answer_transfer(
+                    rt,
+                    self.server,
+                    &mut self.reader,
+                    strong,
+                    &self.query,
+                    peer,
+                    out,
+                )
+            }
+            Answer::Spent => Err(Spent),
         }
     }
 }

@@ -1,7 +1,8 @@
 //! A server of one zone: queries, updates and transfers, over a cell of versions and its engine, with no device and no thread (RFC 1035; RFC 2136; RFC 5936; RFC 1995).
 //!
-//! [`answer_now`] answers a request with the version that it loads, and [`serve_one`] gives an update to the engine, which a [`Server`] keeps behind a lock: each reply is that of
-//! one version, the first zone with updates replayed (`IsReplied`). A [`DatagramHandler`] answers datagrams so. A [`ServiceLog`] gets each change.
+//! [`answer_request`] answers a request with the version that it loads, [`start_transfer`] starts a transfer in that version, and [`serve_update`] gives an update to the engine,
+//! which a [`Server`] keeps behind a lock: each reply is that of one version, the first zone with updates replayed (`IsReplied`). A [`DatagramHandler`] answers datagrams so. A
+//! [`ServiceLog`] gets each change.
 //!
 //! If updates are to survive a restart, [`submit_stream`] puts them into the queue of the update thread (`update_batches`). A request on a connection gets a ticket of the
 //! [`ServerState`], which keeps its [`UpdateResult`] until it is fetched. The result is about versions that are published: a reader that fetches it and meets what is published
@@ -18,7 +19,9 @@ mod notifying;
 mod outgoing;
 mod pending_replies;
 mod reply_sender;
+mod request_answer;
 mod right;
+mod serve_one;
 mod server;
 mod server_publisher;
 mod server_state;
@@ -26,20 +29,26 @@ mod service_log;
 mod submit;
 mod telling;
 mod transfer;
+mod transfer_start;
 mod update_result;
 
-pub use answer::{Now, Served, UpdateOutcome, answer_kept, answer_now, serve_one};
+pub use answer::{Now, UpdateOutcome, answer_now, serve_update};
 pub use datagram_handler::DatagramHandler;
 pub use notifying::{NextTurn, Notifying};
 pub use outgoing::{AtTicket, Outgoing};
 pub use reply_sender::ReplySender;
+pub use request_answer::{Answer, answer_request};
 pub use right::{PublishRight, ServerLedgers, ServerName};
+pub use serve_one::{Served, serve_one};
 pub use server::Server;
 pub use server_publisher::ServerPublisher;
 pub use server_state::{BatchStart, ServerState};
 pub use service_log::{Event, JobEnd, Losses, NoLog, ServiceLog, Wanted};
-pub use submit::{Submitted, UpdateSender, submit_datagram, submit_stream, write_done};
+pub use submit::{
+    DatagramSubmitted, Submitted, UpdateSender, submit_datagram, submit_stream, write_done,
+};
 pub use telling::{tell_refused, tell_signed, tell_update};
 pub use transfer::write_transfer;
+pub use transfer_start::start_transfer;
 pub use update_batches::{QueuedUpdate, ReplyTo, Serials};
 pub use update_result::{Poll, QueuedResult, UpdateResult};

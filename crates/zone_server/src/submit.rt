@@ -19,7 +19,7 @@ use serve_core::{Heading, Peer, write_code, write_code_by};
 use std::alloc::Global;
 use std::net::SocketAddr;
 use std::sync::Wait;
-use update_batches::{Queue, QueuedUpdate, ReplyTo, UpdateRequest};
+use update_batches::{Put, Queue, QueuedUpdate, ReplyTo, UpdateRequest};
 use wire_names::NameWriter;
 
 /// A worker's access to the update queue.
@@ -31,18 +31,29 @@ pub struct UpdateSender<'a> {
     pub worker: usize,
 }
 
-/// The result of submitting an update.
-#[derive(Clone, Copy)]
+/// The result of submitting an update of a connection.
+#[derive(Drop)]
 pub enum Submitted {
-    /// It has a reply at once, of so many bytes and with this code.
+    /// It has a reply at once, of so many bytes and with this outcome.
     Told(usize, UpdateOutcome),
-    /// It waits at this ticket, and this is the number of the version published last.
+    /// It waits in the queue, and its result will be at this ticket. This is the number of the version published last.
     Waits {
         /// The ticket.
         ticket: usize,
         /// The number.
         number: u64,
+        /// The queue's receipt.
+        put: Put,
     },
+}
+
+/// The result of submitting an update that came by datagram.
+#[derive(Drop)]
+pub enum DatagramSubmitted {
+    /// It has a reply at once, of so many bytes and with this outcome.
+    Told(usize, UpdateOutcome),
+    /// It waits in the queue, of which this is the receipt: the update thread sends the reply.
+    Waits(Put),
 }
 
 /// An update that was read, with its bytes, of a peer that may update. None if there is no memory for them.
@@ -72,24 +83,22 @@ fn memory_of(asked: &UpdateRequest) -> usize
         .saturating_add(asked.octets().len())
 }
 
-/// Appends an update to the queue. Gives whether there were room and memory for it.
-fn is_put<R: Wait>(
+/// Puts an update into the queue: the queue's receipt, or None if it has no room for it or there is no memory.
+fn put_update<R: Wait>(
     rt: &R,
     alloc: Global,
     hand: UpdateSender<'_>,
     update: Update,
     request: &[u8],
     reply_to: ReplyTo,
-) -> bool
+) -> Option<Put>
     requires { reads request.now ≡ SaysUpdate update }
 {
-    let Some(request) = asked_of(alloc, update, request) else {
-        return false;
-    };
+    let request = asked_of(alloc, update, request)?;
     let octets = memory_of(&request);
     hand.queue
         .put(rt, QueuedUpdate { request, reply_to }, octets)
-        .is_ok()
+        .ok()
 }
 
 /// Writes SERVFAIL for an update that is not judged (own).
@@ -133,34 +142,28 @@ pub fn submit_stream<R: Wait, Z: FirstZone, N: ServerName>(
         let (len, told) = refuse(&heading, peer, out);
         return Submitted::Told(len, told);
     };
-    let (number, seat) = server.open(rt, reader);
-    if let Some(seat) = seat {
+    let (number, ticket) = server.open(rt, reader);
+    if let Some(ticket) = ticket {
         let worker = hand.worker;
-        if is_put(
-            rt,
-            alloc,
-            hand,
-            update,
-            request,
-            ReplyTo::Connection {
-                worker,
-                key,
-                ticket: seat,
-            },
-        ) {
+        let reply_to = ReplyTo::Connection {
+            worker,
+            key,
+            ticket,
+        };
+        if let Some(put) = put_update(rt, alloc, hand, update, request, reply_to) {
             return Submitted::Waits {
-                ticket: seat,
+                ticket,
                 number,
+                put,
             };
         }
-        server.close(rt, seat);
+        server.close(rt, ticket);
     }
     let (len, told) = refuse(&heading, peer, out);
     Submitted::Told(len, told)
 }
 
-/// Submits an update of a peer that may update, which came by datagram. None if it is queued: the update thread sends the reply then. It is answered at once in the same cases
-/// as by [`submit_stream`].
+/// Submits an update of a peer that may update, which came by datagram. It is answered at once in the same cases as by [`submit_stream`].
 pub fn submit_datagram<R: Wait, Z: FirstZone, N: ServerName>(
     rt: &R,
     alloc: Global,
@@ -171,7 +174,7 @@ pub fn submit_datagram<R: Wait, Z: FirstZone, N: ServerName>(
     peer: Peer,
     request: &[u8],
     out: &mut [u8],
-) -> Option<(usize, UpdateOutcome)>
+) -> DatagramSubmitted
     requires update { IsUpdate request.now }
     requires may { peer.may_update ≡ true }
     requires room { room_of peer.transport ≤ length out.old }
@@ -180,23 +183,19 @@ pub fn submit_datagram<R: Wait, Z: FirstZone, N: ServerName>(
     let update = match read_update(alloc, request) {
         Ok(update) => update,
         Err((heading, told)) => {
-            return Some((write_code(&heading, told.code, peer.transport, out), told));
+            let len = write_code(&heading, told.code, peer.transport, out);
+            return DatagramSubmitted::Told(len, told);
         }
     };
     let heading = Heading::of_update(&update);
     let worker = hand.worker;
-    if is_put(
-        rt,
-        alloc,
-        hand,
-        update,
-        request,
-        ReplyTo::Datagram { worker, to },
-    ) {
-        return None;
+    let reply_to = ReplyTo::Datagram { worker, to };
+    if let Some(put) = put_update(rt, alloc, hand, update, request, reply_to) {
+        return DatagramSubmitted::Waits(put);
     }
     server.meet(rt, reader);
-    Some(refuse(&heading, peer, out))
+    let (len, told) = refuse(&heading, peer, out);
+    DatagramSubmitted::Told(len, told)
 }
 
 /// Writes the reply to an update that has waited to the front of `out`, with a name writer that the caller keeps, and gives its length in bytes (RFC 2136, 3.8).

@@ -2,7 +2,7 @@
 use Rattle.std.proofs.Common.{◌≡◌, ◌==◌, true, sym, ◌∙◌, rules}
 use Rattle.dns_rdata.specs.Numbers.{type_IXFR}
 use Rattle.zone_server.proofs.ChainLemmas.{chained_of, few_of}
-use Rattle.zone_server.proofs.answer.chain_for.Goals as goal
+use Rattle.zone_server.proofs.transfer_start.chain_for.Goals as goal
 
 pub returns-clause-chained : goal.returns-clause-chained
 returns-clause-chained g c =

@@ -1,0 +1,15 @@
+-- Its message is that of the version that it was permitted in.
+use Rattle.std.proofs.Common.{ap, ◌∙◌}
+use Rattle.zone_tree.specs.Zone.{soa_of}
+use Rattle.zone_tree.specs.Version.{Version}
+use Rattle.dns_engine.specs.Chain.{changes_by}
+use Rattle.serve_core.specs.Transfers.{messages_to}
+use Rattle.zone_server.proofs.transfer.answer_transfer.Goals as goal
+
+pub returns-in-Ok-clause-started : goal.returns-in-Ok-clause-started
+returns-in-Ok-clause-started g c =
+    let same = c.get.ensures ∙ c.in-Ok.ensures.version in (
+      c.in-Ok.chain,
+      c.in-Ok.ensures.chained,
+      c.write_transfer.ensures.messages ∙ ap (λ (v : Version). messages_to v.zone (changes_by (soa_of v.zone) c.in-Ok.chain) c.args.peer c.args.query.now) same,
+    )
