@@ -10,7 +10,6 @@ use std::io;
 pub const BAD_COMMAND: u8 = 2;
 
 /// Why a command line is refused.
-#[derive(Drop)]
 pub enum CommandFault<'a> {
     /// The arguments are not those of a command, or help or the version was requested.
     Words(clap::Error),
@@ -54,6 +53,36 @@ pub enum CommandFault<'a> {
     Take(&'a str),
     /// The option requires a store, and none is given.
     NoStore(&'static str),
+}
+
+// By hand: a derived drop is proved once more in each crate that lets such a value go.
+impl<'a> Drop for CommandFault<'a> {
+    fn drop(self) {
+        match self {
+            CommandFault::Words(_) => {}
+            CommandFault::Origin(_, _) => {}
+            CommandFault::Number {
+                option: _,
+                word: _,
+                least: _,
+                most: _,
+            } => {}
+            CommandFault::Time(_, _) => {}
+            CommandFault::Listen(_) => {}
+            CommandFault::Allow(_) => {}
+            CommandFault::Threads(_, _) => {}
+            CommandFault::Notify(_) => {}
+            CommandFault::Secondaries(_) => {}
+            CommandFault::SecondaryTwice(_) => {}
+            CommandFault::Size {
+                option: _,
+                takes: _,
+                word: _,
+            } => {}
+            CommandFault::Take(_) => {}
+            CommandFault::NoStore(_) => {}
+        }
+    }
 }
 
 impl From<clap::Error> for CommandFault<'_> {

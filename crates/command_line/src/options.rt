@@ -19,7 +19,6 @@ use std::net::{IpAddr, SocketAddr};
 use tcp_connections::Limits;
 
 /// A zone to serve, and how to serve it.
-#[derive(Drop)]
 pub struct Serve<'a> {
     /// Where the zone's text comes from.
     pub zone: Source<'a>,
@@ -58,6 +57,28 @@ pub struct Serve<'a> {
     ghost message: { IsPatience limits.message },
     ghost reply: { IsPatience limits.reply },
     ghost rate: { limits.rate ≤ 1073741824 },
+}
+
+// By hand: a derived drop is proved once more in each crate that lets such a value go.
+impl<'a> Drop for Serve<'a> {
+    fn drop(self) {
+        let Serve {
+            zone: _,
+            origin: _,
+            has_origin: _,
+            listen: _,
+            workers: _,
+            keep: _,
+            most: _,
+            allowed: _,
+            places: _,
+            limits: _,
+            udp_buffer: _,
+            update_queue: _,
+            secondaries: _,
+            store: _,
+        } = self;
+    }
 }
 
 /// The option for an address to listen on.

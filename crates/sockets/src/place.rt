@@ -9,9 +9,15 @@ use std::io;
 use tcp_loop::{Arrivals, Refusal};
 
 /// A non-blocking TCP listener.
-#[derive(Drop)]
 pub struct TcpPlace {
     pub(crate) listener: TcpListener,
+}
+
+// By hand: a derived drop is proved once more in each crate that lets such a value go.
+impl Drop for TcpPlace {
+    fn drop(self) {
+        let TcpPlace { listener: _ } = self;
+    }
 }
 
 impl TcpPlace {

@@ -8,16 +8,30 @@ use std::sync::atomic::{AtomicBool, Ordering};
 ///
 /// A read that returns fewer octets than its buffer holds has read all octets that had arrived, and the system reports later octets with a new
 /// event. So there is no read before that event. After the peer has closed its side there are no more events, and each read asks the system.
-#[derive(Drop)]
 struct ReadState {
     is_empty: AtomicBool,
     is_closed: AtomicBool,
 }
 
+// By hand: a derived drop is proved once more in each crate that lets such a value go.
+impl Drop for ReadState {
+    fn drop(self) {
+        let ReadState {
+            is_empty: _,
+            is_closed: _,
+        } = self;
+    }
+}
+
 /// A reference to this state, held by the connection or by the watch.
-#[derive(Drop)]
 pub(crate) struct ReadHint {
     told: Arc<ReadState, Global>,
+}
+
+impl Drop for ReadHint {
+    fn drop(self) {
+        let ReadHint { told: _ } = self;
+    }
 }
 
 impl ReadHint {

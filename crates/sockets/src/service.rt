@@ -13,9 +13,15 @@ use std::os::fd::{AsRawFd, OwnedFd};
 const NAME_OCTETS: usize = 107;
 
 /// A socket connected to the service manager.
-#[derive(Drop)]
 pub struct ServiceManager {
     socket: OwnedFd,
+}
+
+// By hand: a derived drop is proved once more in each crate that lets such a value go.
+impl Drop for ServiceManager {
+    fn drop(self) {
+        let ServiceManager { socket: _ } = self;
+    }
 }
 
 impl ServiceManager {

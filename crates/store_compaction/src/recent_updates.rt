@@ -21,11 +21,21 @@ use update_batches::VersionUpdate;
 
 /// The newest published versions: the last one and at most `keep` older ones, each but the oldest with the bytes of the update that made it. They are shared with the engine.
 /// Where the engine keeps as many, none is held longer than it keeps them. Contracts see the oldest version, the steps after it, and how many are kept.
-#[derive(Drop)]
 pub struct RecentUpdates {
     oldest: SharedVersion,
     steps: Vec<VersionUpdate>,
     keep: usize,
+}
+
+// By hand: a derived drop is proved once more in each crate that lets such a value go.
+impl Drop for RecentUpdates {
+    fn drop(self) {
+        let RecentUpdates {
+            oldest: _,
+            steps: _,
+            keep: _,
+        } = self;
+    }
 }
 
 impl Model for RecentUpdates {

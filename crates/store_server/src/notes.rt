@@ -5,10 +5,16 @@ use std::sync::Wait;
 use store_compaction::{CompactionEvent, Notes};
 
 /// Logs the results of compactions: that one has its journal in place, and why one failed, unless that is the reason logged last (own).
-#[derive(Drop)]
 pub struct StoreNotes<'a, L> {
     log: &'a L,
     told: Option<ErrorKind>,
+}
+
+// By hand: a derived drop is proved once more in each crate that lets such a value go.
+impl<'a, L> Drop for StoreNotes<'a, L> {
+    fn drop(self) {
+        let StoreNotes { log: _, told: _ } = self;
+    }
 }
 
 impl<'a, L> StoreNotes<'a, L> {

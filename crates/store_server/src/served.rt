@@ -9,12 +9,22 @@ use std::sync::Wait;
 use update_batches::{UpdateStore, VersionUpdate};
 
 /// A store for updates, and the log that says when a write fails, and when one succeeds again.
-#[derive(Drop)]
 pub struct LoggedStore<'a, S, L> {
     store: S,
     log: &'a L,
     /// Whether the last batch that was to be written could not be.
     failing: bool,
+}
+
+// By hand: a derived drop is proved once more in each crate that lets such a value go.
+impl<'a, S: Drop, L> Drop for LoggedStore<'a, S, L> {
+    fn drop(self) {
+        let LoggedStore {
+            store: _,
+            log: _,
+            failing: _,
+        } = self;
+    }
 }
 
 impl<'a, S, L> LoggedStore<'a, S, L> {
@@ -31,12 +41,20 @@ impl<'a, S, L> LoggedStore<'a, S, L> {
 }
 
 /// Where a server writes updates.
-#[derive(Drop)]
 pub enum ServerStore<'a, S, L> {
     /// Nowhere: they are lost when the program ends.
     Nowhere,
     /// A store.
     Store(LoggedStore<'a, S, L>),
+}
+
+impl<'a, S: Drop, L> Drop for ServerStore<'a, S, L> {
+    fn drop(self) {
+        match self {
+            ServerStore::Nowhere => {}
+            ServerStore::Store(_) => {}
+        }
+    }
 }
 
 /// That a batch could not be written. The log has the reason.

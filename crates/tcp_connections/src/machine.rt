@@ -31,13 +31,25 @@ pub enum Broken {
 }
 
 /// A connection's requests and replies: octets that came and aren't answered, and octets and messages that are to be sent.
-#[derive(Drop)]
 pub struct ConnectionState<M: Messages> {
     held: Queue,
     ready: Queue,
     rest: Option<M>,
     passed: u64,
     taken: u64,
+}
+
+// By hand: a derived drop is proved once more in each crate that lets such a value go.
+impl<M: Messages> Drop for ConnectionState<M> {
+    fn drop(self) {
+        let ConnectionState {
+            held: _,
+            ready: _,
+            rest: _,
+            passed: _,
+            taken: _,
+        } = self;
+    }
 }
 
 impl<M: Messages> Model for ConnectionState<M> {

@@ -11,10 +11,19 @@ pub trait Finished {
 }
 
 /// A poll that also reports the keys of connections whose replies are ready. What makes a reply has to end the poll's wait.
-#[derive(Drop)]
 pub struct Woken<P, F> {
     poll: P,
     finished: F,
+}
+
+// By hand: a derived drop is proved once more in each crate that lets such a value go.
+impl<P: Drop, F: Drop> Drop for Woken<P, F> {
+    fn drop(self) {
+        let Woken {
+            poll: _,
+            finished: _,
+        } = self;
+    }
 }
 
 impl<P, F> Woken<P, F> {

@@ -8,7 +8,6 @@ const OTHERS: usize = 16;
 
 /// Keys that wait for their turn, each once. All those reported ready get the next turn; of those that had a turn and could go on, at most
 /// [`OTHERS`] do, round robin, so that a client with a new request waits for few of the clients that send requests without end.
-#[derive(Drop)]
 pub(crate) struct Waiting {
     told: Vec<usize>,
     /// Keys of connections that could go on: in this round, and in the next one.
@@ -16,6 +15,18 @@ pub(crate) struct Waiting {
     after: Vec<usize>,
     /// For each key, whether it waits.
     is_in: Vec<bool>,
+}
+
+// By hand: a derived drop is proved once more in each crate that lets such a value go.
+impl Drop for Waiting {
+    fn drop(self) {
+        let Waiting {
+            told: _,
+            others: _,
+            after: _,
+            is_in: _,
+        } = self;
+    }
 }
 
 impl Waiting {

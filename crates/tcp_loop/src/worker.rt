@@ -48,7 +48,6 @@ pub enum TurnEnd {
 }
 
 /// The connections of a worker thread.
-#[derive(Drop)]
 pub struct EventLoop<S: Drop, M: Messages> {
     links: Slab<Connection<S, M>>,
     /// How many may be open.
@@ -66,6 +65,25 @@ pub struct EventLoop<S: Drop, M: Messages> {
     swept: u64,
     tally: Tally,
     alloc: Global,
+}
+
+// By hand: a derived drop is proved once more in each crate that lets such a value go.
+impl<S: Drop, M: Messages> Drop for EventLoop<S, M> {
+    fn drop(self) {
+        let EventLoop {
+            links: _,
+            places: _,
+            waiting: _,
+            told: _,
+            served: _,
+            next: _,
+            may_come: _,
+            shut_until: _,
+            swept: _,
+            tally: _,
+            alloc: _,
+        } = self;
+    }
 }
 
 impl<S: Blocking + Remote + Drop, M: Messages> EventLoop<S, M> {

@@ -28,7 +28,6 @@ pub const BATCH: usize = 64;
 pub struct Ended;
 
 /// Judges updates on a thread of its own.
-#[derive(Drop)]
 pub struct UpdateThread<'a, P: UpdatePublisher, S: UpdateStore> {
     publisher: P,
     store: S,
@@ -40,6 +39,20 @@ pub struct UpdateThread<'a, P: UpdatePublisher, S: UpdateStore> {
     verdicts: Vec<Verdict>,
     ghost waiting_room: { 0 < vec_capacity waiting },
     ghost verdicts_room: { 64 ≤ vec_capacity verdicts },
+}
+
+// By hand: a derived drop is proved once more in each crate that lets such a value go.
+impl<'a, P: UpdatePublisher, S: UpdateStore> Drop for UpdateThread<'a, P, S> {
+    fn drop(self) {
+        let UpdateThread {
+            publisher: _,
+            store: _,
+            queue: _,
+            alloc: _,
+            waiting: _,
+            verdicts: _,
+        } = self;
+    }
 }
 
 impl<'a, P: UpdatePublisher, S: UpdateStore> UpdateThread<'a, P, S> {

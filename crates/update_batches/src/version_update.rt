@@ -5,13 +5,22 @@ use dns_engine::SharedVersion;
 use std::alloc::{AllocError, Global};
 
 /// A version, with the bytes of the update that made it from the previous one, as they were received.
-#[derive(Drop)]
 pub struct VersionUpdate {
     /// The version.
     pub(crate) version: SharedVersion,
     /// The bytes of the update.
     pub(crate) octets: Vec<u8>,
     ghost short: { length octets.items < 2 ^ 16 },
+}
+
+// By hand: a derived drop is proved once more in each crate that lets such a value go.
+impl Drop for VersionUpdate {
+    fn drop(self) {
+        let VersionUpdate {
+            version: _,
+            octets: _,
+        } = self;
+    }
 }
 
 impl VersionUpdate {
@@ -47,6 +56,7 @@ impl VersionUpdate {
     pub fn into_version(self) -> SharedVersion
         ensures { result ≡ self.version }
     {
-        self.version
+        let VersionUpdate { version, octets: _ } = self;
+        version
     }
 }

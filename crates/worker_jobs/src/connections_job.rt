@@ -22,7 +22,6 @@ use zone_server::{Event, JobEnd, Losses, ServiceLog};
 const SILENCE: u64 = 1;
 
 /// A worker's job on connections: an event loop over those that its listeners accept.
-#[derive(Drop)]
 pub struct ConnectionsJob<'a, S: Drop, P, L, C> {
     /// The number of its worker.
     pub number: usize,
@@ -39,6 +38,26 @@ pub struct ConnectionsJob<'a, S: Drop, P, L, C> {
     counted: u64,
     end: Option<JobEnd>,
     scratch: CachePadded<Scratch>,
+}
+
+// By hand: a derived drop is proved once more in each crate that lets such a value go.
+impl<'a, S: Drop, P: Drop, L: Drop, C> Drop for ConnectionsJob<'a, S, P, L, C> {
+    fn drop(self) {
+        let ConnectionsJob {
+            number: _,
+            poll: _,
+            places: _,
+            turns: _,
+            plan: _,
+            standing: _,
+            clock: _,
+            told: _,
+            told_at: _,
+            counted: _,
+            end: _,
+            scratch: _,
+        } = self;
+    }
 }
 
 /// The connections lost so far, by cause.

@@ -11,10 +11,19 @@ pub(crate) const MOST: u32 = 16;
 const ROOM: usize = 16_384;
 
 /// Replies, in the order in which they are to be sent: the octets of all, one reply after another, and the length and the recipient of each.
-#[derive(Drop)]
 pub(crate) struct HeldReplies {
     octets: Vec<u8>,
     replies: Vec<(usize, SocketAddr)>,
+}
+
+// By hand: a derived drop is proved once more in each crate that lets such a value go.
+impl Drop for HeldReplies {
+    fn drop(self) {
+        let HeldReplies {
+            octets: _,
+            replies: _,
+        } = self;
+    }
 }
 
 impl HeldReplies {

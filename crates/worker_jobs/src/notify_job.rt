@@ -28,10 +28,19 @@ const MOST_REPLIES: usize = 16;
 const IDS: u32 = 65_536;
 
 /// The socket for a secondary, which receives datagrams only from its address.
-#[derive(Drop)]
 pub struct NotifySocket {
     address: SocketAddr,
     socket: UdpSocket,
+}
+
+// By hand: a derived drop is proved once more in each crate that lets such a value go.
+impl Drop for NotifySocket {
+    fn drop(self) {
+        let NotifySocket {
+            address: _,
+            socket: _,
+        } = self;
+    }
 }
 
 impl NotifySocket {
@@ -78,7 +87,6 @@ pub struct Secondaries {
 }
 
 /// The job that notifies secondaries of each version, with its worker's number.
-#[derive(Drop)]
 pub struct NotifyJob<'a, C> {
     /// The number of its worker.
     pub number: usize,
@@ -90,6 +98,22 @@ pub struct NotifyJob<'a, C> {
     muster: &'a Shutdown,
     sent: u64,
     end: Option<JobEnd>,
+}
+
+impl<'a, C> Drop for NotifyJob<'a, C> {
+    fn drop(self) {
+        let NotifyJob {
+            number: _,
+            sockets: _,
+            notifier: _,
+            apex: _,
+            ids: _,
+            clock: _,
+            muster: _,
+            sent: _,
+            end: _,
+        } = self;
+    }
 }
 
 impl<'a, C: Clock> NotifyJob<'a, C> {

@@ -5,13 +5,25 @@ use crossbeam_utils::CachePadded;
 use std::sync::atomic::{AtomicBool, AtomicU64, AtomicUsize, Ordering};
 
 /// Shared by all threads of a server: how many have begun and have ended, whether the server is to end, and whether the update thread judges updates.
-#[derive(Drop)]
 pub struct Shutdown {
     threads: usize,
     begun: AtomicUsize,
     ended: AtomicUsize,
     is_ending: AtomicBool,
     is_judging: AtomicBool,
+}
+
+// By hand: a derived drop is proved once more in each crate that lets such a value go.
+impl Drop for Shutdown {
+    fn drop(self) {
+        let Shutdown {
+            threads: _,
+            begun: _,
+            ended: _,
+            is_ending: _,
+            is_judging: _,
+        } = self;
+    }
 }
 
 impl Shutdown {
@@ -66,10 +78,15 @@ impl Shutdown {
 }
 
 /// Shared by the threads of a worker: how much it may do, and how much it has done.
-#[derive(Drop)]
 pub struct WorkLimit {
     most: u64,
     done: CachePadded<AtomicU64>,
+}
+
+impl Drop for WorkLimit {
+    fn drop(self) {
+        let WorkLimit { most: _, done: _ } = self;
+    }
 }
 
 impl WorkLimit {

@@ -6,16 +6,27 @@ use std::alloc::{AllocError, Global};
 use std::sync::{Mutex, Wait};
 
 /// The woken keys, and the waker that ends the worker's wait.
-#[derive(Drop)]
 struct State {
     told: WokenKeys,
     waker: Option<Waker>,
 }
 
+// By hand: a derived drop is proved once more in each crate that lets such a value go.
+impl Drop for State {
+    fn drop(self) {
+        let State { told: _, waker: _ } = self;
+    }
+}
+
 /// The keys of a worker's connections whose replies are ready. Other threads add them, and end the worker's wait by that (own).
-#[derive(Drop)]
 pub struct WakeList {
     state: Mutex<State>,
+}
+
+impl Drop for WakeList {
+    fn drop(self) {
+        let WakeList { state: _ } = self;
+    }
 }
 
 impl WakeList {

@@ -8,11 +8,17 @@ use tcp_connections::Blocking;
 use tcp_loop::{NotWatched, Readiness};
 
 /// The list to which other threads add keys, and the keys taken from it.
-#[derive(Drop)]
 struct WakeSource<'a> {
     told: &'a WakeList,
     /// Keys that were taken from the list, and aren't reported as ready yet.
     heard: Vec<usize>,
+}
+
+// By hand: a derived drop is proved once more in each crate that lets such a value go.
+impl<'a> Drop for WakeSource<'a> {
+    fn drop(self) {
+        let WakeSource { told: _, heard: _ } = self;
+    }
 }
 
 impl WakeSource<'_> {
@@ -32,10 +38,15 @@ impl WakeSource<'_> {
 }
 
 /// Waits until a stream may be ready, or another thread wakes a connection, whose key is then reported as ready.
-#[derive(Drop)]
 pub(crate) struct WakingPoll<'a, P> {
     poll: P,
     ears: Option<WakeSource<'a>>,
+}
+
+impl<'a, P: Drop> Drop for WakingPoll<'a, P> {
+    fn drop(self) {
+        let WakingPoll { poll: _, ears: _ } = self;
+    }
 }
 
 impl<'a, P> WakingPoll<'a, P> {

@@ -71,7 +71,6 @@ enum Mode {
 }
 
 /// A worker's UDP socket, with the count of its failures.
-#[derive(Drop)]
 pub struct WorkerSocket<'a> {
     socket: UdpSocket,
     standing: StopFlag<'a>,
@@ -80,6 +79,20 @@ pub struct WorkerSocket<'a> {
     /// How many replies failed to be sent, and aren't counted yet.
     lost: u64,
     faults: u64,
+}
+
+// By hand: a derived drop is proved once more in each crate that lets such a value go.
+impl<'a> Drop for WorkerSocket<'a> {
+    fn drop(self) {
+        let WorkerSocket {
+            socket: _,
+            standing: _,
+            mode: _,
+            held: _,
+            lost: _,
+            faults: _,
+        } = self;
+    }
 }
 
 impl<'a> WorkerSocket<'a> {

@@ -13,7 +13,6 @@ use std::snapshot::Snapshot;
 use zone_server::{UpdateOutcome, UpdateResult};
 
 /// A pending update.
-#[derive(Drop)]
 pub(crate) struct PendingUpdate<N: Naming> {
     /// The address of its connection's peer.
     pub from: SocketAddr,
@@ -23,6 +22,18 @@ pub(crate) struct PendingUpdate<N: Naming> {
     pub number: u64,
     /// What the reader knew before it was submitted.
     pub known: Snapshot<VersionReader<N>>,
+}
+
+// By hand: a derived drop is proved once more in each crate that lets such a value go.
+impl<N: Naming> Drop for PendingUpdate<N> {
+    fn drop(self) {
+        let PendingUpdate {
+            from: _,
+            ticket: _,
+            number: _,
+            known: _,
+        } = self;
+    }
 }
 
 impl<N: Naming> Model for PendingUpdate<N> {
@@ -56,9 +67,14 @@ pub(crate) fn told_at(place: Place, done: &UpdateResult) -> UpdateOutcome
 }
 
 /// The pending updates, at most one per connection, indexed by the connection's key. Contracts see them in the order of the keys.
-#[derive(Drop)]
 pub(crate) struct PendingUpdates<N: Naming> {
     entries: Vec<Option<PendingUpdate<N>>>,
+}
+
+impl<N: Naming> Drop for PendingUpdates<N> {
+    fn drop(self) {
+        let PendingUpdates { entries: _ } = self;
+    }
 }
 
 impl<N: Naming> Model for PendingUpdates<N> {

@@ -20,11 +20,20 @@ pub(crate) enum Ticket {
 }
 
 /// Tickets, each free or with a reply that is pending, abandoned or ready.
-#[derive(Drop)]
 pub(crate) struct PendingReplies {
     pub tickets: Vec<Ticket>,
     /// The first free ticket.
     free: Option<usize>,
+}
+
+// By hand: a derived drop is proved once more in each crate that lets such a value go.
+impl Drop for PendingReplies {
+    fn drop(self) {
+        let PendingReplies {
+            tickets: _,
+            free: _,
+        } = self;
+    }
 }
 
 impl PendingReplies {

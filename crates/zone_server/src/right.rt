@@ -65,7 +65,6 @@ impl ServerLedgers {
 }
 
 /// The right to publish in a server, of which there is only one. Its holder knows how many versions are published, and how many more are reserved for it.
-#[derive(Drop)]
 pub struct PublishRight<N: ServerName> {
     pub(crate) published: Share<Published<N>>,
     pub(crate) reserved: Share<Reserved<N>>,
@@ -73,6 +72,17 @@ pub struct PublishRight<N: ServerName> {
     ghost whole: { published.parts ≡ 1 },
     ghost all: { reserved.parts ≡ 1 },
     ghost is: { reserved.amount ≡ room },
+}
+
+// By hand: a derived drop is proved once more in each crate that lets such a value go.
+impl<N: ServerName> Drop for PublishRight<N> {
+    fn drop(self) {
+        let PublishRight {
+            published: _,
+            reserved: _,
+            room: _,
+        } = self;
+    }
 }
 
 impl<N: ServerName> PublishRight<N> {

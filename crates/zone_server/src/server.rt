@@ -31,10 +31,16 @@ use std::sync::{Mutex, Wait};
 use update_batches::{Serials, VersionUpdate};
 
 /// A cell of versions, with the engine that publishes in it behind a lock, and the results of updates that wait for their replies. Queries take no lock.
-#[derive(Drop)]
 pub struct Server<'a, Z: FirstZone, N: ServerName> {
     cell: &'a VersionCell<Z, N>,
     desk: Mutex<ServerState<'a, Z, N>>,
+}
+
+// By hand: a derived drop is proved once more in each crate that lets such a value go.
+impl<'a, Z: FirstZone, N: ServerName> Drop for Server<'a, Z, N> {
+    fn drop(self) {
+        let Server { cell: _, desk: _ } = self;
+    }
 }
 
 /// The serial of an engine's last version, after the reader has met everything published.

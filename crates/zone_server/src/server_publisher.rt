@@ -151,7 +151,6 @@ fn send_all<R: Wait, L: ServiceLog, P: ReplySender>(
 
 /// Publishes the versions of batches in a server with the right to publish, and replies to the clients whose updates waited. Its reader has seen everything published, since
 /// nobody else publishes.
-#[derive(Drop)]
 pub struct ServerPublisher<'a, 's, Z: FirstZone, N: ServerName, L, P: ReplySender + Drop> {
     server: &'a Server<'s, Z, N>,
     reader: VersionReader<N>,
@@ -173,6 +172,28 @@ pub struct ServerPublisher<'a, 's, Z: FirstZone, N: ServerName, L, P: ReplySende
     outgoing: Vec<Outgoing>,
     /// The replies made so far, for clauses only.
     replied: ReplyList,
+}
+
+// By hand: a derived drop is proved once more in each crate that lets such a value go.
+impl<'a, 's, Z: FirstZone, N: ServerName, L, P: ReplySender + Drop> Drop
+    for ServerPublisher<'a, 's, Z, N, L, P> {
+    fn drop(self) {
+        let ServerPublisher {
+            server: _,
+            reader: _,
+            right: _,
+            log: _,
+            replying: _,
+            out: _,
+            names: _,
+            last: _,
+            begun: _,
+            first: _,
+            results: _,
+            outgoing: _,
+            replied: _,
+        } = self;
+    }
 }
 
 impl<'a, 's, Z: FirstZone, N: ServerName, L, P: ReplySender + Drop> Model

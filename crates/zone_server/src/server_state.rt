@@ -32,7 +32,6 @@ use update_batches::{ReplyTo, VersionUpdate};
 
 /// The engine of a cell, and the results of updates that wait for their replies. Contracts see the engine, and know that each result is about versions that it has published.
 /// Only the holder of the right to publish can publish, so it knows what is published even while it does not hold the lock.
-#[derive(Drop)]
 pub struct ServerState<'a, Z: FirstZone, N: ServerName> {
     cell: &'a VersionCell<Z, N>,
     engine: Engine<'a, Z, N>,
@@ -43,6 +42,20 @@ pub struct ServerState<'a, Z: FirstZone, N: ServerName> {
     reserved: Book<Reserved<N>>,
     /// The right to publish, unless another holds it.
     right: Option<PublishRight<N>>,
+}
+
+// By hand: a derived drop is proved once more in each crate that lets such a value go.
+impl<'a, Z: FirstZone, N: ServerName> Drop for ServerState<'a, Z, N> {
+    fn drop(self) {
+        let ServerState {
+            cell: _,
+            engine: _,
+            replies: _,
+            published: _,
+            reserved: _,
+            right: _,
+        } = self;
+    }
 }
 
 impl<'a, Z: FirstZone, N: ServerName> Model for ServerState<'a, Z, N> {

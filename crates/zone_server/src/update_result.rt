@@ -6,7 +6,6 @@ use dns_rdata::Rcode;
 use update_batches::{QueuedUpdate, ReplyTo, Serials, UpdateRequest, Verdict};
 
 /// The result of an update that waited.
-#[derive(Drop)]
 pub struct UpdateResult {
     /// The update, with its bytes.
     pub asked: UpdateRequest,
@@ -16,6 +15,18 @@ pub struct UpdateResult {
     pub code: Rcode,
     /// Its own serials: those of the version in which it was judged and of the one that it made, equal if it changed nothing. None if its code is not NOERROR.
     pub serials: Option<Serials>,
+}
+
+// By hand: a derived drop is proved once more in each crate that lets such a value go.
+impl Drop for UpdateResult {
+    fn drop(self) {
+        let UpdateResult {
+            asked: _,
+            least: _,
+            code: _,
+            serials: _,
+        } = self;
+    }
 }
 
 /// What a ticket gives when it is polled.
