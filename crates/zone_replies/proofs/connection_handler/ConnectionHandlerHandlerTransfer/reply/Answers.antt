@@ -1,5 +1,5 @@
 -- What the reader has seen grows, and a reply by what it saw meanwhile is one by what it had seen.
-use Rattle.std.proofs.Common.{◌≡◌, [], ◌∷◌, None, IfErr, take, inl, inr, sym, ap, ◌∙◌, subst, rules}
+use Rattle.std.proofs.Common.{◌≡◌, [], ◌∷◌, None, take, inl, inr, sym, ap, ◌∙◌, subst, rules}
 use Rattle.zone_tree.specs.Version.{Version}
 use Rattle.snapshot_cell.specs.Tokens.{ReaderState}
 use Rattle.tcp_connections.specs.Asked.{EachGrows}
