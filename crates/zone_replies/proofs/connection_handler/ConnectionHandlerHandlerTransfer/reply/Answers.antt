@@ -66,7 +66,7 @@ pub returns-in-Update-clause-reply : goal.returns-in-Update-clause-reply
 returns-in-Update-clause-reply g c =
     let peer : c.self.inside.peer ≡ c.args.self.now.peer = subst (λ (s : HandlerState). s.peer ≡ c.args.self.now.peer) (sym c.self.view_is) c.settle.ensures.peer in
     let asker : c.self.inside.asker ≡ c.args.self.now.asker = subst (λ (s : HandlerState). s.asker ≡ c.args.self.now.asker) (sym c.self.view_is) c.settle.ensures.asker in
-    let mid : HandlerState = record { reader = c.answer_request.new.reader; peer = c.self.inside.peer; asker = c.self.inside.asker; taken = c.self.inside.taken; hands = c.args.self.now.hands } in
+    let mid : HandlerState = record { reader = c.answer_request.new.reader; peer = c.self.inside.peer; asker = c.self.inside.asker; taken = c.self.inside.taken; submits = c.args.self.now.submits } in
     step_replied g.Z.FirstZone.zone transfer_left c.args.request.now c.reply_later.new.out c.args.self.now mid (known_at c.reply_later.new.self.taken c.reply_later.new.self.reader) c.reply_later.result peer asker
     (each_more _ _ _ (subst (λ (s : HandlerState). EachGrows {T = Version} (known_at s.taken s.reader) (known_at c.args.self.now.taken c.args.self.now.reader)) (sym c.self.view_is) c.settle.ensures.grows)
     (known_grows c.self.inside.taken c.self.inside.reader c.answer_request.new.reader (answer_grows g.Z.FirstZone.zone c.self.inside.peer c.args.request.now c.self.inside.reader c.answer_request.new.reader c.answer_request.new.query c.answer_request.new.out c.answer_request.result c.answer_request.ensures.answer))) c.reply_later.ensures.replied
