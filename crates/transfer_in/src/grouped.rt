@@ -87,6 +87,8 @@ fn put_in(
     ensures rising { IfOk result (λ shares. OnTrue shares (AreInOrder sets.new.items)) }
     ensures other { IfOk result (λ shares. OnFalse shares (list_all (λ r. share_ttl r held.now) (records_in (sets.old.items ++ last ∷ [])) ≡ false)) }
 {
+    // That the set's records share their owner, type and TTL is known of it from here on.
+    let _records = last.data();
     if held.ttl().0 != last.ttl().0 {
         return Ok(false);
     }
