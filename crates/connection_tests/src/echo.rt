@@ -45,6 +45,9 @@ pub(crate) struct Echo {
     pub(crate) asked: u32,
     /// The key of the connection whose reply to such a request is ready. Without it the reply is made later.
     pub(crate) made: Option<usize>,
+    /// The number of such requests that were taken up before their turn, and how many came before the last of them.
+    pub(crate) prepared: u32,
+    pub(crate) ahead: usize,
 }
 
 impl Echo {
@@ -56,6 +59,8 @@ impl Echo {
             left,
             asked: 0,
             made: None,
+            prepared: 0,
+            ahead: 0,
         }
     }
 
@@ -97,7 +102,7 @@ impl Echo {
 }
 
 impl Handler<Both> for Echo {
-    ghost seen = { λ _ _. record { published = []; buried = [] } };
+    ghost known = { λ _ _. record { asked = record { published = []; buried = [] }; seen = record { published = []; buried = [] } } };
 
     ghost peer = { λ echo. echo.peer };
 
@@ -135,5 +140,14 @@ impl Handler<Both> for Echo {
             })),
             _ => Ok(Reply::One(self.message(request, out))),
         }
+    }
+
+    fn prepare<R: Wait>(&mut self, _rt: &R, ahead: usize, request: &[u8], _out: &mut [u8]) -> bool {
+        if request.first() != Some(&b'u') {
+            return false;
+        }
+        self.prepared = self.prepared.saturating_add(1);
+        self.ahead = ahead;
+        true
     }
 }

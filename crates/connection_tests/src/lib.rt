@@ -1,5 +1,5 @@
 //! Tests of `tcp_connections`: streams in memory that are read and written in pieces, that would block, and that end in each way, connections
-//! of several peers, and connections that take too long; of `tcp_loop`, over simulated polls; and of `sockets`: a worker's turns over sockets
+//! of several peers, requests that wait for their replies together, and connections that take too long; of `tcp_loop`, over simulated polls; and of `sockets`: a worker's turns over sockets
 //! of this machine. In `memory` each memory allocation fails in turn.
 #![tactic(auto)]
 
@@ -15,6 +15,8 @@ mod on_sockets;
 mod pauses;
 #[cfg(test)]
 mod pieces;
+#[cfg(test)]
+mod pipelined;
 #[cfg(test)]
 mod polls;
 #[cfg(test)]

@@ -17,7 +17,7 @@ pub(crate) struct Served {
     alloc: Global,
     pub(crate) links: Slab<Connection<Pieces, Both>>,
     pub(crate) ends: Ends,
-    echo: Echo,
+    pub(crate) echo: Echo,
     /// The keys of connections that could continue after the last share.
     next: Vec<usize>,
     room: Vec<u8>,

@@ -164,9 +164,9 @@ pub(crate) fn serve_connection<R: Wait, S: Blocking + Drop, M: Messages, A: Hand
     ensures from { link.new.from ≡ link.old.from }
     ensures group { link.new.group ≡ link.old.group }
     ensures window { link.new.window ≡ link.old.window }
-    ensures grows { EachGrows (A.seen answering.new) (A.seen answering.old) }
-    ensures goes { OnOk result (Goes (A.is_reply link.old.peer) (A.seen answering.old key) (told_by link.old.conversation (S.octets link.old.stream)) (A.seen answering.new key) (told_by link.new.conversation (S.octets link.new.stream))) }
-    ensures stops { IfErr result (λ end. Stops (A.is_reply link.old.peer) end (A.seen answering.old key) (told_by link.old.conversation (S.octets link.old.stream)) (A.seen answering.new key) (S.octets link.new.stream)) }
+    ensures grows { EachGrows (A.known answering.new) (A.known answering.old) }
+    ensures goes { OnOk result (Goes (A.is_reply link.old.peer) (A.known answering.old key) (told_by link.old.conversation (S.octets link.old.stream)) (A.known answering.new key) (told_by link.new.conversation (S.octets link.new.stream))) }
+    ensures stops { IfErr result (λ end. Stops (A.is_reply link.old.peer) end (A.known answering.old key) (told_by link.old.conversation (S.octets link.old.stream)) (A.known answering.new key) (S.octets link.new.stream)) }
     ensures written { Writes (S.octets link.old.stream) (S.octets link.new.stream) }
     ensures begun { link.new.begun ≡ begun_behind link.old.conversation.passed link.new.conversation.passed link.old.begun now }
     ensures blocked { result ≡ Ok Flow.Blocked → S.would_block link.new.stream }

@@ -1,8 +1,8 @@
 //! What answers the requests of connections.
-ghost use Rattle.std.specs.Prelude.{◌≡◌, ℕ, ◌≤◌, List, [], ◌∷◌, length, take, IfOk, IfErr, MatchOption};
+ghost use Rattle.std.specs.Prelude.{◌≡◌, ℕ, ◌≤◌, List, [], ◌∷◌, length, take, true, IfOk, IfErr, MatchOption};
 ghost use Rattle.dns_message.specs.Message.{message_limit};
 ghost use Rattle.zone_tree.specs.Version.{Version};
-ghost use Rattle.requests.specs.Served.{Learned};
+ghost use Rattle.requests.specs.Served.{Knowledge};
 ghost use Rattle.serve_core.specs.declared.peer.Peer.{Peer as PeerAsking};
 ghost use Rattle.tcp_connections.specs.Asked.{EachGrows};
 ghost use Rattle.tcp_connections.specs.Kept.{messages_of};
@@ -46,9 +46,9 @@ pub enum Unmade {
 /// which requests it may answer later.
 pub trait Handler<M: Messages> {
     /// What is known of versions, by the key of a connection: those that are published, the first one first, and the numbers of those that
-    /// are buried. If a connection's request is to be answered later, what was known when that request was taken up; otherwise what is
-    /// known.
-    ghost seen: { Self → ℕ → Learned Version };
+    /// are buried; and what was known of them when the first of the connection's requests that are to be answered later was taken up, or,
+    /// where there is none, what is known.
+    ghost known: { Self → ℕ → Knowledge Version };
 
     /// The peer that sends the request.
     ghost peer: { Self → PeerAsking };
@@ -56,9 +56,8 @@ pub trait Handler<M: Messages> {
     /// The key of the peer's connection.
     ghost asker: { Self → ℕ };
 
-    /// What the messages of a reply to a request are, by the peer, by the versions known before the reply, and by those known when it is
-    /// made.
-    ghost is_reply: { PeerAsking → Learned Version → Learned Version → List ℕ → List (List ℕ) → Type 0 };
+    /// What the messages of a reply to a request are, by the peer, by what is known before the reply, and by what is known when it is made.
+    ghost is_reply: { PeerAsking → Knowledge Version → Knowledge Version → List ℕ → List (List ℕ) → Type 0 };
 
     /// Which requests may be answered later, by the peer.
     ghost is_later: { PeerAsking → List ℕ → Type 0 };
@@ -70,18 +69,28 @@ pub trait Handler<M: Messages> {
     fn turn_to(&mut self, other: Peer, from: SocketAddr, key: usize)
         ensures other { peer self.new ≡ other }
         ensures asker { asker self.new ≡ key }
-        ensures grows { EachGrows (seen self.new) (seen self.old) };
+        ensures grows { EachGrows (known self.new) (known self.old) };
 
-    /// Makes the reply to a request: its one message at the start of a buffer, or what makes its messages. A reply that is to be made later
-    /// is made by another call with the same request, once the key of its connection is reported; until then each such call says that it is
-    /// to be made later.
+    /// Makes the reply to a request, the first of its connection that has none: its one message at the start of a buffer, or what makes its
+    /// messages. A reply that is to be made later is made by another call with the same request, once the key of its connection is
+    /// reported; until then each such call says that it is to be made later.
     fn reply<R: Wait>(&mut self, rt: &R, request: &[u8], out: &mut [u8]) -> Result<Reply<M>, Unmade>
         requires { message_limit ≤ length out.old }
         ensures same { peer self.new ≡ peer self.old }
         ensures asker { asker self.new ≡ asker self.old }
-        ensures grows { EachGrows (seen self.new) (seen self.old) }
+        ensures grows { EachGrows (known self.new) (known self.old) }
         ensures bound { IfOk result (λ reply. (len : ℕ) → reply ≡ Reply.One len → (len ≤ message_limit) × (len ≤ length out.new)) }
-        ensures reply { IfOk result (λ reply. is_reply (peer self.old) (seen self.old (asker self.old)) (seen self.new (asker self.old)) request.now (messages_of M.left reply out.new)) }
+        ensures reply { IfOk result (λ reply. is_reply (peer self.old) (known self.old (asker self.old)) (known self.new (asker self.old)) request.now (messages_of M.left reply out.new)) }
         ensures later { IfErr result (λ unmade. unmade ≡ Unmade.Later → is_later (peer self.old) request.now) }
         ensures spent { IfErr result (λ unmade. unmade ≡ Unmade.Spent → spent self.new) };
+
+    /// Takes up a request before its turn, if it may be answered later: so many of its connection, `ahead`, come before it, and all of them
+    /// wait for their replies. Its own reply is made later, by [`reply`](Handler::reply) in its turn. Returns false if it isn't taken up
+    /// yet. The buffer is left with anything.
+    fn prepare<R: Wait>(&mut self, rt: &R, ahead: usize, request: &[u8], out: &mut [u8]) -> bool
+        requires { message_limit ≤ length out.old }
+        ensures same { peer self.new ≡ peer self.old }
+        ensures asker { asker self.new ≡ asker self.old }
+        ensures grows { EachGrows (known self.new) (known self.old) }
+        ensures later { result ≡ true → is_later (peer self.old) request.now };
 }

@@ -19,6 +19,9 @@ use std::sync::Wait;
 /// With so many octets to be written no further request is answered, so that a share is as short for long replies (own).
 const MOST_DUE: usize = 16_384;
 
+/// So many requests of a connection wait for their replies at most, as many as a batch of updates has (own).
+const MOST_WAITING: usize = 64;
+
 /// Why a request isn't answered.
 #[derive(Clone, Copy)]
 pub enum Broken {
@@ -33,6 +36,8 @@ pub enum Broken {
 /// A connection's requests and replies: octets that came and aren't answered, and octets and messages that are to be sent.
 pub struct ConnectionState<M: Messages> {
     held: Queue,
+    /// How many of the requests that are held have been taken up and wait for their replies, the first ones.
+    waiting: usize,
     ready: Queue,
     rest: Option<M>,
     passed: u64,
@@ -44,6 +49,7 @@ impl<M: Messages> Drop for ConnectionState<M> {
     fn drop(self) {
         let ConnectionState {
             held: _,
+            waiting: _,
             ready: _,
             rest: _,
             passed: _,
@@ -69,6 +75,7 @@ impl<M: Messages> ConnectionState<M> {
     {
         ConnectionState {
             held: Queue::new(alloc),
+            waiting: 0,
             ready: Queue::new(alloc),
             rest: None,
             passed: 0,
@@ -203,8 +210,8 @@ impl<M: Messages> ConnectionState<M> {
         requires { message_limit ≤ length out.old }
         ensures peer { A.peer answering.new ≡ A.peer answering.old }
         ensures asker { A.asker answering.new ≡ A.asker answering.old }
-        ensures grows { EachGrows (A.seen answering.new) (A.seen answering.old) }
-        ensures turn { IfOk result (λ is_made. is_made ≡ true → Turn (A.is_reply (A.peer answering.old)) (A.seen answering.old (A.asker answering.old)) (self.old.held, due self.old) (A.seen answering.new (A.asker answering.old)) (self.new.held, due self.new)) }
+        ensures grows { EachGrows (A.known answering.new) (A.known answering.old) }
+        ensures turn { IfOk result (λ is_made. is_made ≡ true → Turn (A.is_reply (A.peer answering.old)) (A.known answering.old (A.asker answering.old)) (self.old.held, due self.old) (A.known answering.new (A.asker answering.old)) (self.new.held, due self.new)) }
         ensures passed { IfOk result (λ is_made. is_made ≡ true → self.new.passed ≡ one_passed self.old.passed) }
         ensures taken { IfOk result (λ is_made. self.new.taken ≡ self.old.taken) }
         ensures none { IfOk result (λ is_made. is_made ≡ false → self.new ≡ self.old) }
@@ -232,8 +239,21 @@ impl<M: Messages> ConnectionState<M> {
             Err(_) => return Err(Broken::NoMemory),
         }
         self.held.advance(count);
+        self.waiting = self.waiting.saturating_sub(1);
         self.passed = self.passed.wrapping_add(1);
         Ok(true)
+    }
+
+    /// Has requests taken up before their turn, while the first that is held waits for its reply: the whole ones after it, in their order, up
+    /// to the first that isn't taken up, so that at most 64 wait. Nothing is answered by that.
+    pub fn prepare<R: Wait, A: Handler<M>>(&mut self, rt: &R, answering: &mut A, out: &mut [u8])
+        requires { message_limit ≤ length out.old }
+        ensures same { self.new ≡ self.old }
+        ensures peer { A.peer answering.new ≡ A.peer answering.old }
+        ensures asker { A.asker answering.new ≡ A.asker answering.old }
+        ensures grows { EachGrows (A.known answering.new) (A.known answering.old) }
+    {
+        self.waiting = prepare_frames(rt, answering, self.held.as_slice(), self.waiting, out);
     }
 
     /// Writes the next message, if any is left, to the start of a buffer, and returns its number of octets.
@@ -277,6 +297,57 @@ impl<M: Messages> ConnectionState<M> {
         self.ready.push_frame(&out[..len])?;
         Ok(())
     }
+}
+
+/// Whether the request at a place among those that are held waits for its reply: so many have been taken up, and it is one of them; or it is
+/// taken up now.
+#[tactic(auto, using(crate::proofs::AskedLemmas::each_itself))]
+fn waits_at<R: Wait, M: Messages, A: Handler<M>>(
+    rt: &R,
+    answering: &mut A,
+    place: usize,
+    taken: usize,
+    request: &[u8],
+    out: &mut [u8],
+) -> bool
+    requires { message_limit ≤ length out.old }
+    ensures peer { A.peer answering.new ≡ A.peer answering.old }
+    ensures asker { A.asker answering.new ≡ A.asker answering.old }
+    ensures grows { EachGrows (A.known answering.new) (A.known answering.old) }
+{
+    if place < taken {
+        return true;
+    }
+    answering.prepare(rt, place, request, out)
+}
+
+/// Has requests taken up before their turn, those in whole frames that octets begin with: in their order, up to the first that isn't taken
+/// up. The first of all waits for its reply, and so many have been taken up, with that one. Returns how many have been then.
+#[tactic(auto, using(crate::proofs::AskedLemmas::each_itself))]
+fn prepare_frames<R: Wait, M: Messages, A: Handler<M>>(
+    rt: &R,
+    answering: &mut A,
+    octets: &[u8],
+    taken: usize,
+    out: &mut [u8],
+) -> usize
+    requires { message_limit ≤ length out.old }
+    ensures peer { A.peer answering.new ≡ A.peer answering.old }
+    ensures asker { A.asker answering.new ≡ A.asker answering.old }
+    ensures grows { EachGrows (A.known answering.new) (A.known answering.old) }
+{
+    let taken = taken.max(1);
+    let mut left = octets;
+    for place in 0..MOST_WAITING {
+        let Some((request, rest)) = take_frame(left) else {
+            return place;
+        };
+        if !waits_at(rt, answering, place, taken, request, out) {
+            return place;
+        }
+        left = rest;
+    }
+    MOST_WAITING
 }
 
 /// Why a request isn't answered, by why there is no reply to it.

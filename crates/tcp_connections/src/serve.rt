@@ -70,8 +70,8 @@ fn answer_some<R: Wait, M: Messages, A: Handler<M>, G: Gate>(
     requires { message_limit ≤ length out.old }
     ensures peer { A.peer answering.new ≡ A.peer answering.old }
     ensures asker { A.asker answering.new ≡ A.asker answering.old }
-    ensures grows { EachGrows (A.seen answering.new) (A.seen answering.old) }
-    ensures keeps { Keeps (A.is_reply (A.peer answering.old)) (A.seen answering.old (A.asker answering.old)) conversation.old (A.seen answering.new (A.asker answering.old)) conversation.new }
+    ensures grows { EachGrows (A.known answering.new) (A.known answering.old) }
+    ensures keeps { Keeps (A.is_reply (A.peer answering.old)) (A.known answering.old (A.asker answering.old)) conversation.old (A.known answering.new (A.asker answering.old)) conversation.new }
     ensures later { IfErr result (λ broken. broken ≡ WhyBroken.Later → Waits (A.is_later (A.peer answering.old)) conversation.new.held) }
     ensures spent { IfErr result (λ broken. broken ≡ WhyBroken.Spent → A.spent answering.new) }
 {
@@ -86,6 +86,34 @@ fn answer_some<R: Wait, M: Messages, A: Handler<M>, G: Gate>(
         }
     }
     Ok(())
+}
+
+/// Answers whole requests that are held, as [`answer_some`] does. If one of them waits for its reply, those after it that may be answered
+/// later are taken up, so that they wait together.
+fn answer_and_prepare<R: Wait, M: Messages, A: Handler<M>, G: Gate>(
+    rt: &R,
+    answering: &mut A,
+    conversation: &mut ConnectionState<M>,
+    gate: &G,
+    out: &mut [u8],
+) -> Result<(), Broken>
+    requires { message_limit ≤ length out.old }
+    ensures peer { A.peer answering.new ≡ A.peer answering.old }
+    ensures asker { A.asker answering.new ≡ A.asker answering.old }
+    ensures grows { EachGrows (A.known answering.new) (A.known answering.old) }
+    ensures keeps { Keeps (A.is_reply (A.peer answering.old)) (A.known answering.old (A.asker answering.old)) conversation.old (A.known answering.new (A.asker answering.old)) conversation.new }
+    ensures later { IfErr result (λ broken. broken ≡ WhyBroken.Later → Waits (A.is_later (A.peer answering.old)) conversation.new.held) }
+    ensures spent { IfErr result (λ broken. broken ≡ WhyBroken.Spent → A.spent answering.new) }
+{
+    match answer_some(rt, answering, conversation, gate, out) {
+        Ok(()) => Ok(()),
+        Err(Broken::Later) => {
+            conversation.prepare(rt, answering, out);
+            Err(Broken::Later)
+        }
+        Err(Broken::Spent) => Err(Broken::Spent),
+        Err(Broken::NoMemory) => Err(Broken::NoMemory),
+    }
 }
 
 /// Writes the first of the octets that are ready, as many as the stream takes at once.
@@ -279,9 +307,9 @@ fn turn<R: Wait, M: Messages, A: Handler<M>, S: Blocking, G: Gate>(
     requires out { message_limit ≤ length out.old }
     ensures peer { A.peer answering.new ≡ A.peer answering.old }
     ensures asker { A.asker answering.new ≡ A.asker answering.old }
-    ensures grows { EachGrows (A.seen answering.new) (A.seen answering.old) }
-    ensures goes { OnOk result (Goes (A.is_reply (A.peer answering.old)) (A.seen answering.old (A.asker answering.old)) (told_by conversation.old (S.octets stream.old)) (A.seen answering.new (A.asker answering.old)) (told_by conversation.new (S.octets stream.new))) }
-    ensures stops { IfErr result (λ end. Stops (A.is_reply (A.peer answering.old)) end (A.seen answering.old (A.asker answering.old)) (told_by conversation.old (S.octets stream.old)) (A.seen answering.new (A.asker answering.old)) (S.octets stream.new)) }
+    ensures grows { EachGrows (A.known answering.new) (A.known answering.old) }
+    ensures goes { OnOk result (Goes (A.is_reply (A.peer answering.old)) (A.known answering.old (A.asker answering.old)) (told_by conversation.old (S.octets stream.old)) (A.known answering.new (A.asker answering.old)) (told_by conversation.new (S.octets stream.new))) }
+    ensures stops { IfErr result (λ end. Stops (A.is_reply (A.peer answering.old)) end (A.known answering.old (A.asker answering.old)) (told_by conversation.old (S.octets stream.old)) (A.known answering.new (A.asker answering.old)) (S.octets stream.new)) }
     ensures written { Writes (S.octets stream.old) (S.octets stream.new) }
     ensures same { OnOk result (S.faults stream.new ≡ S.faults stream.old) }
     ensures counted { IfErr result (λ end. EndCounted end (S.faults stream.old) (S.faults stream.new)) }
@@ -289,7 +317,7 @@ fn turn<R: Wait, M: Messages, A: Handler<M>, S: Blocking, G: Gate>(
     ensures waits { result ≡ Ok Flow.Waits → IsHeldUp (A.is_later (A.peer answering.old)) conversation.new }
     ensures spent { IfErr result (λ end. end ≡ EndOf.Spent → A.spent answering.new) }
 {
-    match answer_some(rt, answering, conversation, gate, out) {
+    match answer_and_prepare(rt, answering, conversation, gate, out) {
         Ok(()) => match write_and_read(conversation, stream, room, out) {
             Ok(flow) => Ok(flow),
             Err(end) => Err(end),
@@ -306,8 +334,8 @@ fn turn<R: Wait, M: Messages, A: Handler<M>, S: Blocking, G: Gate>(
 /// Serves a connection by a share: some turns, which move octets between it and its stream. If the stream reports its octets, what is
 /// written and what is to be written is the frames of the replies to the requests that are read, in their order, each by what was known
 /// then to be published. If the stream ends by itself, all of it is written, otherwise a prefix of it (RFC 1035, 4.2.2; RFC 7766, 6.2.1.1).
-/// Each request passes the gate, which is left once its reply is made. If a reply is made later, the requests after it wait, and nothing
-/// more is read.
+/// Each request passes the gate, which is left once its reply is made. If a reply is made later, the requests after it wait, those that may
+/// be answered later too are taken up with it, and nothing more is read.
 pub fn serve_some<R: Wait, M: Messages, A: Handler<M>, S: Blocking, G: Gate>(
     rt: &R,
     answering: &mut A,
@@ -321,9 +349,9 @@ pub fn serve_some<R: Wait, M: Messages, A: Handler<M>, S: Blocking, G: Gate>(
     requires out { message_limit ≤ length out.old }
     ensures peer { A.peer answering.new ≡ A.peer answering.old }
     ensures asker { A.asker answering.new ≡ A.asker answering.old }
-    ensures grows { EachGrows (A.seen answering.new) (A.seen answering.old) }
-    ensures goes { OnOk result (Goes (A.is_reply (A.peer answering.old)) (A.seen answering.old (A.asker answering.old)) (told_by conversation.old (S.octets stream.old)) (A.seen answering.new (A.asker answering.old)) (told_by conversation.new (S.octets stream.new))) }
-    ensures stops { IfErr result (λ end. Stops (A.is_reply (A.peer answering.old)) end (A.seen answering.old (A.asker answering.old)) (told_by conversation.old (S.octets stream.old)) (A.seen answering.new (A.asker answering.old)) (S.octets stream.new)) }
+    ensures grows { EachGrows (A.known answering.new) (A.known answering.old) }
+    ensures goes { OnOk result (Goes (A.is_reply (A.peer answering.old)) (A.known answering.old (A.asker answering.old)) (told_by conversation.old (S.octets stream.old)) (A.known answering.new (A.asker answering.old)) (told_by conversation.new (S.octets stream.new))) }
+    ensures stops { IfErr result (λ end. Stops (A.is_reply (A.peer answering.old)) end (A.known answering.old (A.asker answering.old)) (told_by conversation.old (S.octets stream.old)) (A.known answering.new (A.asker answering.old)) (S.octets stream.new)) }
     ensures written { Writes (S.octets stream.old) (S.octets stream.new) }
     ensures same { OnOk result (S.faults stream.new ≡ S.faults stream.old) }
     ensures counted { IfErr result (λ end. EndCounted end (S.faults stream.old) (S.faults stream.new)) }

@@ -30,8 +30,8 @@ fn serve_key<R: Wait, S: Blocking + Drop, M: Messages, A: Handler<M>>(
 ) -> bool
     requires room { 0 < length room.old }
     requires out { message_limit ≤ length out.old }
-    ensures grows { EachGrows (A.seen answering.new) (A.seen answering.old) }
-    ensures own { OwnServed A.is_reply now (A.seen answering.old key) (option_map (seen_of S.octets) (get links.old key)) (A.seen answering.new key) (option_map (seen_of S.octets) (get links.new key)) }
+    ensures grows { EachGrows (A.known answering.new) (A.known answering.old) }
+    ensures own { OwnServed A.is_reply now (A.known answering.old key) (option_map (seen_of S.octets) (get links.old key)) (A.known answering.new key) (option_map (seen_of S.octets) (get links.new key)) }
     ensures others { (other : ℕ) → other ≢ key → get links.new other ≡ get links.old other }
     ensures ended { AreCounted ends.old ends.new (slab_len links.old) (slab_len links.new) }
     ensures stopped { result ≡ false → HasStopped S.would_block A.is_later (get links.new key) }
@@ -67,8 +67,8 @@ pub fn serve_ready<R: Wait, S: Blocking + Drop, M: Messages, A: Handler<M>>(
 ) -> Result<(), AllocError>
     requires room { 0 < length room.old }
     requires out { message_limit ≤ length out.old }
-    ensures grows { EachGrows (A.seen answering.new) (A.seen answering.old) }
-    ensures own { (key : ℕ) → OwnServed A.is_reply now (A.seen answering.old key) (option_map (seen_of S.octets) (get links.old key)) (A.seen answering.new key) (option_map (seen_of S.octets) (get links.new key)) }
+    ensures grows { EachGrows (A.known answering.new) (A.known answering.old) }
+    ensures own { (key : ℕ) → OwnServed A.is_reply now (A.known answering.old key) (option_map (seen_of S.octets) (get links.old key)) (A.known answering.new key) (option_map (seen_of S.octets) (get links.new key)) }
     ensures ended { AreCounted ends.old ends.new (slab_len links.old) (slab_len links.new) }
     ensures same { OnErr result (links.new ≡ links.old) }
     ensures next { BeginsWith next.new.items next.old.items }

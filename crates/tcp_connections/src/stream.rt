@@ -28,8 +28,8 @@ pub fn serve_stream<R: Wait, M: Messages, A: Handler<M>, S: Stream, G: Gate>(
     requires counting { stream.old.faults < 2 ^ 64 - 1 }
     requires room { 0 < length room.old }
     requires out { message_limit ≤ length out.old }
-    ensures served { IfSome (S.octets stream.old.inner) (λ o. EndsAs (A.is_reply (A.peer answering.old)) result (A.seen answering.old (A.asker answering.old)) o (A.seen answering.new (A.asker answering.old)) (S.octets stream.new.inner)) }
-    ensures grows { EachGrows (A.seen answering.new) (A.seen answering.old) }
+    ensures served { IfSome (S.octets stream.old.inner) (λ o. EndsAs (A.is_reply (A.peer answering.old)) result (A.known answering.old (A.asker answering.old)) o (A.known answering.new (A.asker answering.old)) (S.octets stream.new.inner)) }
+    ensures grows { EachGrows (A.known answering.new) (A.known answering.old) }
     ensures device { result ≡ End.Device → stream.old.faults < stream.new.faults }
     ensures spent { result ≡ End.Spent → A.spent answering.new }
 {

@@ -342,10 +342,10 @@ impl<S: Blocking + Remote + Drop, M: Messages> EventLoop<S, M> {
     ) -> Result<(), TurnEnd>
         requires room { 0 < length room.old }
         requires out { message_limit ≤ length out.old }
-        ensures grows { EachGrows (A.seen answering.new) (A.seen answering.old) }
+        ensures grows { EachGrows (A.known answering.new) (A.known answering.old) }
         ensures places { self.new.places ≡ self.old.places }
         ensures few { slab_len self.new.links ≤ slab_len self.old.links }
-        ensures own { Serves S.origin S.octets A.is_reply now (A.seen answering.old) self.old.links (A.seen answering.new) self.new.links }
+        ensures own { Serves S.origin S.octets A.is_reply now (A.known answering.old) self.old.links (A.known answering.new) self.new.links }
         ensures going { OnOk result (GoOn S.would_block A.is_later self.new.links self.new.served.items self.new.next.items) }
     {
         self.served.clear();
@@ -400,10 +400,10 @@ impl<S: Blocking + Remote + Drop, M: Messages> EventLoop<S, M> {
     ) -> Result<(), TurnEnd>
         requires room { 0 < length room.old }
         requires out { message_limit ≤ length out.old }
-        ensures grows { EachGrows (A.seen answering.new) (A.seen answering.old) }
+        ensures grows { EachGrows (A.known answering.new) (A.known answering.old) }
         ensures places { self.new.places ≡ self.old.places }
         ensures few { slab_len self.old.links ≤ self.old.places → slab_len self.new.links ≤ self.new.places }
-        ensures turned { HasTurned S.origin S.octets A.is_reply plan.entry.allowed.addresses.now plan.entry.limits (P.time poll.new) (A.seen answering.old) self.old.links (A.seen answering.new) self.new.links }
+        ensures turned { HasTurned S.origin S.octets A.is_reply plan.entry.allowed.addresses.now plan.entry.limits (P.time poll.new) (A.known answering.old) self.old.links (A.known answering.new) self.new.links }
         ensures going { OnOk result (GoOn S.would_block A.is_later self.new.links self.new.served.items self.new.next.items) }
     {
         let Ok(now) = poll.wait(self.patience(), &mut self.told) else {
@@ -435,10 +435,10 @@ impl<S: Blocking + Remote + Drop, M: Messages> EventLoop<S, M> {
     ) -> Result<(), TurnEnd>
         requires room { 0 < length room.old }
         requires out { message_limit ≤ length out.old }
-        ensures grows { EachGrows (A.seen answering.new) (A.seen answering.old) }
+        ensures grows { EachGrows (A.known answering.new) (A.known answering.old) }
         ensures places { self.new.places ≡ self.old.places }
         ensures few { slab_len self.old.links ≤ self.old.places → slab_len self.new.links ≤ self.new.places }
-        ensures turned { Turned S.origin S.octets A.is_reply plan.entry.allowed.addresses.now plan.entry.limits (A.seen answering.old) self.old.links (A.seen answering.new) self.new.links }
+        ensures turned { Turned S.origin S.octets A.is_reply plan.entry.allowed.addresses.now plan.entry.limits (A.known answering.old) self.old.links (A.known answering.new) self.new.links }
     {
         for _ in rt.forever() {
             if self.gone() >= most {

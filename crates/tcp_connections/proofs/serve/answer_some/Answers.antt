@@ -12,7 +12,7 @@ loop-answered-init g c = record {
   grows = each_itself _;
   peer = refl;
   asker = refl;
-  keeps = keeps_itself (g.A.Handler.is_reply (g.A.Handler.peer c.args.answering.now)) (g.A.Handler.seen c.args.answering.now (g.A.Handler.asker c.args.answering.now)) c.args.conversation.now;
+  keeps = keeps_itself (g.A.Handler.is_reply (g.A.Handler.peer c.args.answering.now)) (g.A.Handler.known c.args.answering.now (g.A.Handler.asker c.args.answering.now)) c.args.conversation.now;
 }
 
 pub loop-answered-preserved : goal.loop-answered-preserved
@@ -20,8 +20,8 @@ loop-answered-preserved g c =
     let so_far = c.loop-answered.invariant in
     let Reply = g.A.Handler.is_reply (g.A.Handler.peer c.args.answering.now) in
     let key = g.A.Handler.asker c.args.answering.now in
-    let seen = g.A.Handler.seen c.loop-answered.answering in
-    let later = g.A.Handler.seen c.answer.new.answering in
+    let seen = g.A.Handler.known c.loop-answered.answering in
+    let later = g.A.Handler.known c.answer.new.answering in
     let k = c.loop-answered.conversation in
     let m = c.answer.new.self in
     let keyed = subst (λ (n : ℕ). Turn (g.A.Handler.is_reply (g.A.Handler.peer c.loop-answered.answering)) (seen n) (k.held, due k) (later n) (m.held, due m)) so_far.asker (c.in-Ok.ensures.turn c.if-not-is_made.false) in
@@ -30,7 +30,7 @@ loop-answered-preserved g c =
       grows = each_more _ _ _ so_far.grows c.in-Ok.ensures.grows;
       peer = c.in-Ok.ensures.peer ∙ so_far.peer;
       asker = c.in-Ok.ensures.asker ∙ so_far.asker;
-      keeps = keeps_more Reply (g.A.Handler.seen c.args.answering.now key) (seen key) (later key) c.args.conversation.now k m so_far.keeps (keeps_turn Reply (seen key) (later key) k m moved);
+      keeps = keeps_more Reply (g.A.Handler.known c.args.answering.now key) (seen key) (later key) c.args.conversation.now k m so_far.keeps (keeps_turn Reply (seen key) (later key) k m moved);
     }
 
 pub returns-then-not-is_made-clause-keeps : goal.returns-then-not-is_made-clause-keeps
@@ -38,11 +38,11 @@ returns-then-not-is_made-clause-keeps g c =
     let so_far = c.loop-answered.invariant in
     let Reply = g.A.Handler.is_reply (g.A.Handler.peer c.args.answering.now) in
     let key = g.A.Handler.asker c.args.answering.now in
-    let seen = g.A.Handler.seen c.loop-answered.answering key in
-    let later = g.A.Handler.seen c.answer.new.answering key in
+    let seen = g.A.Handler.known c.loop-answered.answering key in
+    let later = g.A.Handler.known c.answer.new.answering key in
     let k = c.loop-answered.conversation in
     let m = c.answer.new.self in
-    keeps_more Reply (g.A.Handler.seen c.args.answering.now key) seen later c.args.conversation.now k m so_far.keeps (keeps_same Reply seen later k m (c.in-Ok.ensures.grows key) (c.in-Ok.ensures.none c.if-not-is_made.true))
+    keeps_more Reply (g.A.Handler.known c.args.answering.now key) seen later c.args.conversation.now k m so_far.keeps (keeps_same Reply seen later k m (c.in-Ok.ensures.grows key) (c.in-Ok.ensures.none c.if-not-is_made.true))
 
 pub returns-then-not-is_made-clause-grows : goal.returns-then-not-is_made-clause-grows
 returns-then-not-is_made-clause-grows g c = each_more _ _ _ c.loop-answered.invariant.grows c.in-Ok.ensures.grows
@@ -52,11 +52,11 @@ returns-in-Err-clause-keeps g c =
     let so_far = c.loop-answered.invariant in
     let Reply = g.A.Handler.is_reply (g.A.Handler.peer c.args.answering.now) in
     let key = g.A.Handler.asker c.args.answering.now in
-    let seen = g.A.Handler.seen c.loop-answered.answering key in
-    let later = g.A.Handler.seen c.answer.new.answering key in
+    let seen = g.A.Handler.known c.loop-answered.answering key in
+    let later = g.A.Handler.known c.answer.new.answering key in
     let k = c.loop-answered.conversation in
     let m = c.answer.new.self in
-    keeps_more Reply (g.A.Handler.seen c.args.answering.now key) seen later c.args.conversation.now k m so_far.keeps (keeps_same Reply seen later k m (c.in-Err.ensures.grows key) c.in-Err.ensures.broken)
+    keeps_more Reply (g.A.Handler.known c.args.answering.now key) seen later c.args.conversation.now k m so_far.keeps (keeps_same Reply seen later k m (c.in-Err.ensures.grows key) c.in-Err.ensures.broken)
 
 pub returns-in-Err-clause-grows : goal.returns-in-Err-clause-grows
 returns-in-Err-clause-grows g c = each_more _ _ _ c.loop-answered.invariant.grows c.in-Err.ensures.grows

@@ -12,8 +12,8 @@ returns-in-Err-Spent-clause-stops g c =
     let Reply = g.A.Handler.is_reply (g.A.Handler.peer c.args.answering.now) in
     let key = g.A.Handler.asker c.args.answering.now in
     let o = g.S.Blocking.octets c.args.stream.now in
-    let k = c.answer_some.new.conversation in
-    stops_told Reply Spent (g.A.Handler.seen c.args.answering.now key) (g.A.Handler.seen c.answer_some.new.answering key) (told_by c.args.conversation.now o) (told_by k o) o (c.answer_some.ensures.keeps o) (ends_here k o)
+    let k = c.answer_and_prepare.new.conversation in
+    stops_told Reply Spent (g.A.Handler.known c.args.answering.now key) (g.A.Handler.known c.answer_and_prepare.new.answering key) (told_by c.args.conversation.now o) (told_by k o) o (c.answer_and_prepare.ensures.keeps o) (ends_here k o)
 
 pub returns-in-Err-Spent-clause-written : goal.returns-in-Err-Spent-clause-written
 returns-in-Err-Spent-clause-written g c = writes_itself (g.S.Blocking.octets c.args.stream.now)
@@ -23,8 +23,8 @@ returns-in-Err-NoMemory-clause-stops g c =
     let Reply = g.A.Handler.is_reply (g.A.Handler.peer c.args.answering.now) in
     let key = g.A.Handler.asker c.args.answering.now in
     let o = g.S.Blocking.octets c.args.stream.now in
-    let k = c.answer_some.new.conversation in
-    stops_told Reply NoMemory (g.A.Handler.seen c.args.answering.now key) (g.A.Handler.seen c.answer_some.new.answering key) (told_by c.args.conversation.now o) (told_by k o) o (c.answer_some.ensures.keeps o) (ends_here k o)
+    let k = c.answer_and_prepare.new.conversation in
+    stops_told Reply NoMemory (g.A.Handler.known c.args.answering.now key) (g.A.Handler.known c.answer_and_prepare.new.answering key) (told_by c.args.conversation.now o) (told_by k o) o (c.answer_and_prepare.ensures.keeps o) (ends_here k o)
 
 pub returns-in-Err-NoMemory-clause-written : goal.returns-in-Err-NoMemory-clause-written
 returns-in-Err-NoMemory-clause-written g c = writes_itself (g.S.Blocking.octets c.args.stream.now)
@@ -34,10 +34,10 @@ returns-in-Ok-write_and_read-clause-goes g c =
     let Reply = g.A.Handler.is_reply (g.A.Handler.peer c.args.answering.now) in
     let key = g.A.Handler.asker c.args.answering.now in
     let o = g.S.Blocking.octets c.args.stream.now in
-    let later = g.A.Handler.seen c.answer_some.new.answering key in
-    let b = told_by c.answer_some.new.conversation o in
+    let later = g.A.Handler.known c.answer_and_prepare.new.answering key in
+    let b = told_by c.answer_and_prepare.new.conversation o in
     let n = told_by c.write_and_read.new.conversation (g.S.Blocking.octets c.write_and_read.new.stream) in
-    goes_more Reply (g.A.Handler.seen c.args.answering.now key) later later (told_by c.args.conversation.now o) b n (c.answer_some.ensures.keeps o) (goes_stays Reply later b n c.in-Ok-write_and_read.ensures.stays)
+    goes_more Reply (g.A.Handler.known c.args.answering.now key) later later (told_by c.args.conversation.now o) b n (c.answer_and_prepare.ensures.keeps o) (goes_stays Reply later b n c.in-Ok-write_and_read.ensures.stays)
 
 pub returns-in-Ok-write_and_read-clause-waits : goal.returns-in-Ok-write_and_read-clause-waits
 returns-in-Ok-write_and_read-clause-waits g c = λ is. absurd (c.in-Ok-write_and_read.ensures.going is)
@@ -47,17 +47,17 @@ returns-in-Err-clause-stops g c =
     let Reply = g.A.Handler.is_reply (g.A.Handler.peer c.args.answering.now) in
     let key = g.A.Handler.asker c.args.answering.now in
     let o = g.S.Blocking.octets c.args.stream.now in
-    stops_told Reply c.in-Err.end (g.A.Handler.seen c.args.answering.now key) (g.A.Handler.seen c.answer_some.new.answering key) (told_by c.args.conversation.now o) (told_by c.answer_some.new.conversation o) (g.S.Blocking.octets c.write_and_read.new.stream) (c.answer_some.ensures.keeps o) c.in-Err.ensures.ends
+    stops_told Reply c.in-Err.end (g.A.Handler.known c.args.answering.now key) (g.A.Handler.known c.answer_and_prepare.new.answering key) (told_by c.args.conversation.now o) (told_by c.answer_and_prepare.new.conversation o) (g.S.Blocking.octets c.write_and_read.new.stream) (c.answer_and_prepare.ensures.keeps o) c.in-Err.ensures.ends
 
 pub returns-in-Ok-write_and_wait-clause-goes : goal.returns-in-Ok-write_and_wait-clause-goes
 returns-in-Ok-write_and_wait-clause-goes g c =
     let Reply = g.A.Handler.is_reply (g.A.Handler.peer c.args.answering.now) in
     let key = g.A.Handler.asker c.args.answering.now in
     let o = g.S.Blocking.octets c.args.stream.now in
-    let later = g.A.Handler.seen c.answer_some.new.answering key in
-    let b = told_by c.answer_some.new.conversation o in
+    let later = g.A.Handler.known c.answer_and_prepare.new.answering key in
+    let b = told_by c.answer_and_prepare.new.conversation o in
     let n = told_by c.write_and_wait.new.conversation (g.S.Blocking.octets c.write_and_wait.new.stream) in
-    goes_more Reply (g.A.Handler.seen c.args.answering.now key) later later (told_by c.args.conversation.now o) b n (c.answer_some.ensures.keeps o) (goes_stays Reply later b n c.in-Ok-write_and_wait.ensures.stays)
+    goes_more Reply (g.A.Handler.known c.args.answering.now key) later later (told_by c.args.conversation.now o) b n (c.answer_and_prepare.ensures.keeps o) (goes_stays Reply later b n c.in-Ok-write_and_wait.ensures.stays)
 
 pub returns-in-Ok-write_and_wait-clause-waits : goal.returns-in-Ok-write_and_wait-clause-waits
 returns-in-Ok-write_and_wait-clause-waits g c = λ is. record {
@@ -71,4 +71,4 @@ returns-in-Err-write_and_wait-clause-stops g c =
     let Reply = g.A.Handler.is_reply (g.A.Handler.peer c.args.answering.now) in
     let key = g.A.Handler.asker c.args.answering.now in
     let o = g.S.Blocking.octets c.args.stream.now in
-    stops_told Reply c.in-Err-write_and_wait.end (g.A.Handler.seen c.args.answering.now key) (g.A.Handler.seen c.answer_some.new.answering key) (told_by c.args.conversation.now o) (told_by c.answer_some.new.conversation o) (g.S.Blocking.octets c.write_and_wait.new.stream) (c.answer_some.ensures.keeps o) c.in-Err-write_and_wait.ensures.ends
+    stops_told Reply c.in-Err-write_and_wait.end (g.A.Handler.known c.args.answering.now key) (g.A.Handler.known c.answer_and_prepare.new.answering key) (told_by c.args.conversation.now o) (told_by c.answer_and_prepare.new.conversation o) (g.S.Blocking.octets c.write_and_wait.new.stream) (c.answer_and_prepare.ensures.keeps o) c.in-Err-write_and_wait.ensures.ends

@@ -1,6 +1,6 @@
 -- The connection under the key has gone on, or has ended; the others are as they were.
 use Rattle.std.proofs.Common.{◌≡◌, refl, ◌∙◌, rules}
-use Rattle.requests.proofs.TurnLemmas.{grows_itself}
+use Rattle.requests.proofs.TurnLemmas.{extends_itself}
 use Rattle.slab.specs.Slab.{get, with_value, slab_len}
 use Rattle.slab.proofs.SlabLemmas.{Updates-with_value}
 use Rattle.tcp_connections.specs.Links.{seen_of}
@@ -15,7 +15,7 @@ returns-in-Ok-clause-own g c =
     let links = c.args.links.now in
     let new = c.serve_connection.new.link in
     let here = Updates-with_value links c.args.key new (search rules) in
-    own_gone g.A.Handler.is_reply (seen_of g.S.Blocking.octets) c.args.now (g.A.Handler.seen c.args.answering.now c.args.key) (g.A.Handler.seen c.serve_connection.new.answering c.args.key) (get links c.args.key) (get (with_value links c.args.key new) c.args.key) c.in-Some.link.now new c.in-Some.ensures.value here.changed (record {
+    own_gone g.A.Handler.is_reply (seen_of g.S.Blocking.octets) c.args.now (g.A.Handler.known c.args.answering.now c.args.key) (g.A.Handler.known c.serve_connection.new.answering c.args.key) (get links c.args.key) (get (with_value links c.args.key new) c.args.key) c.in-Some.link.now new c.in-Some.ensures.value here.changed (record {
       peer = c.in-Ok.ensures.peer;
       from = c.in-Ok.ensures.from;
       group = c.in-Ok.ensures.group;
@@ -27,11 +27,11 @@ returns-in-Ok-clause-own g c =
 
 pub returns-in-Err-clause-own : goal.returns-in-Err-clause-own
 returns-in-Err-clause-own g c =
-    own_ended g.A.Handler.is_reply (seen_of g.S.Blocking.octets) c.args.now (g.A.Handler.seen c.args.answering.now c.args.key) (g.A.Handler.seen c.serve_connection.new.answering c.args.key) (get c.args.links.now c.args.key) (get c.try_remove.new.self c.args.key) c.in-Some.link.now c.in-Some.ensures.value c.try_remove.ensures.updates.changed (record {
+    own_ended g.A.Handler.is_reply (seen_of g.S.Blocking.octets) c.args.now (g.A.Handler.known c.args.answering.now c.args.key) (g.A.Handler.known c.serve_connection.new.answering c.args.key) (get c.args.links.now c.args.key) (get c.try_remove.new.self c.args.key) c.in-Some.link.now c.in-Some.ensures.value c.try_remove.ensures.updates.changed (record {
       end = c.in-Err.end;
-      known = g.A.Handler.seen c.serve_connection.new.answering c.args.key;
+      known = g.A.Handler.known c.serve_connection.new.answering c.args.key;
       octets = g.S.Blocking.octets c.serve_connection.new.link.stream;
-      grown = grows_itself _;
+      grown = extends_itself _;
       stops = c.in-Err.ensures.stops;
       written = c.in-Err.ensures.written;
     })

@@ -3,7 +3,7 @@ use Rattle.std.proofs.Common.{ℕ, List, refl, sym, subst, option_map, arith, ge
 use Rattle.std.specs.List.{All, Contains}
 use Rattle.std.proofs.lemmas.List.{take_all}
 use Rattle.std.proofs.lemmas.List.Elements.{All-nil, Contains-push}
-use Rattle.requests.proofs.TurnLemmas.{begins_itself, begins_more, grows_itself}
+use Rattle.requests.proofs.TurnLemmas.{begins_itself, begins_more, extends_itself}
 use Rattle.tcp_connections.proofs.AskedLemmas.{each_itself, each_more}
 use Rattle.slab.specs.Slab.{get, slab_len}
 use Rattle.tcp_connections.specs.Links.{HasStopped, seen_of}
@@ -15,7 +15,7 @@ use Rattle.tcp_connections.proofs.serve_each.serve_ready.Goals.{then-serve_key+i
 
 pub returns-in_err-reserve-clause-own : goal.returns-in_err-reserve-clause-own
 returns-in_err-reserve-clause-own g c = λ key.
-    own_same g.A.Handler.is_reply c.args.now (g.A.Handler.seen c.args.answering.now key) (g.A.Handler.seen c.args.answering.now key) (option_map (seen_of g.S.Blocking.octets) (get c.args.links.now key)) (grows_itself _)
+    own_same g.A.Handler.is_reply c.args.now (g.A.Handler.known c.args.answering.now key) (g.A.Handler.known c.args.answering.now key) (option_map (seen_of g.S.Blocking.octets) (get c.args.links.now key)) (extends_itself _)
 
 pub returns-in_err-reserve-clause-ended : goal.returns-in_err-reserve-clause-ended
 returns-in_err-reserve-clause-ended g c = counted_none c.args.ends.now (slab_len c.args.links.now) (slab_len c.args.links.now) refl
@@ -23,7 +23,7 @@ returns-in_err-reserve-clause-ended g c = counted_none c.args.ends.now (slab_len
 pub loop-key-init : goal.loop-key-init
 loop-key-init g c = record {
   grows = each_itself _;
-  own = λ key. own_same g.A.Handler.is_reply c.args.now (g.A.Handler.seen c.args.answering.now key) (g.A.Handler.seen c.args.answering.now key) (option_map (seen_of g.S.Blocking.octets) (get c.args.links.now key)) (grows_itself _);
+  own = λ key. own_same g.A.Handler.is_reply c.args.now (g.A.Handler.known c.args.answering.now key) (g.A.Handler.known c.args.answering.now key) (option_map (seen_of g.S.Blocking.octets) (get c.args.links.now key)) (extends_itself _);
   ended = counted_none c.args.ends.now (slab_len c.args.links.now) (slab_len c.args.links.now) refl;
   next = begins_itself _;
   going = All-nil _;
@@ -33,9 +33,9 @@ loop-key-init g c = record {
 pub loop-key-preserved : goal.loop-key-preserved
 loop-key-preserved g c =
     let so_far = c.loop-key.invariant in
-    let seen = g.A.Handler.seen c.args.answering.now in
-    let mid = g.A.Handler.seen c.loop-key.answering in
-    let later = g.A.Handler.seen c.serve_key.new.answering in
+    let seen = g.A.Handler.known c.args.answering.now in
+    let mid = g.A.Handler.known c.loop-key.answering in
+    let later = g.A.Handler.known c.serve_key.new.answering in
     let stopped = HasStopped g.S.Blocking.would_block g.A.Handler.is_later in
     record {
       grows = each_more _ _ _ so_far.grows c.serve_key.ensures.grows;

@@ -11,8 +11,8 @@ use Rattle.tcp_connections.proofs.serve_each.serve_ready.Given as goal
 
 abbrev pub invariant-loop-key : goal.invariant-loop-key
 invariant-loop-key g l = record {
-  grows : EachGrows (g.A.Handler.seen l.answering) (g.A.Handler.seen l.initial.answering);
-  own : (key : ℕ) → OwnServed g.A.Handler.is_reply l.now (g.A.Handler.seen l.initial.answering key) (option_map (seen_of g.S.Blocking.octets) (get l.initial.links key)) (g.A.Handler.seen l.answering key) (option_map (seen_of g.S.Blocking.octets) (get l.links key));
+  grows : EachGrows (g.A.Handler.known l.answering) (g.A.Handler.known l.initial.answering);
+  own : (key : ℕ) → OwnServed g.A.Handler.is_reply l.now (g.A.Handler.known l.initial.answering key) (option_map (seen_of g.S.Blocking.octets) (get l.initial.links key)) (g.A.Handler.known l.answering key) (option_map (seen_of g.S.Blocking.octets) (get l.links key));
   ended : AreCounted l.initial.ends l.ends (slab_len l.initial.links) (slab_len l.links);
   next : BeginsWith l.next.items l.initial.next.items;
   going : All (λ key. Contains l.next.items key ⊎ HasStopped g.S.Blocking.would_block g.A.Handler.is_later (get l.links key)) (take l.key-index l.keys);

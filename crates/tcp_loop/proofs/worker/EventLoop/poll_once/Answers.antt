@@ -6,22 +6,22 @@ use Rattle.tcp_loop.proofs.worker.EventLoop.poll_once.Goals as goal
 
 pub returns-in_err-take_all-clause-turned : goal.returns-in_err-take_all-clause-turned
 returns-in_err-take_all-clause-turned g c =
-    let seen = g.A.Handler.seen c.args.answering.now in
+    let seen = g.A.Handler.known c.args.answering.now in
     let come = c.take_all.new.self.links in
     turned_whole g.S.Remote.origin g.S.Blocking.octets c.args.plan.allowed.addresses.now c.in-Ok.now g.A.Handler.is_reply c.args.plan.limits (g.P.Readiness.time c.take_all.new.poll) seen seen c.args.self.now.links c.mark.new.self.links come come come (c.in-Ok.ensures ∙ sym c.take_all.ensures.time) c.mark.ensures.links c.take_all.ensures.moves
     (serves_none g.S.Remote.origin g.S.Blocking.octets c.args.plan.allowed.addresses.now c.in-Ok.now g.A.Handler.is_reply seen seen come (each_itself seen)) (inl refl)
 
 pub returns-in_default-clause-turned : goal.returns-in_default-clause-turned
 returns-in_default-clause-turned g c =
-    turned_none g.S.Remote.origin g.S.Blocking.octets c.args.plan.allowed.addresses.now (g.P.Readiness.time c.wait.new.self) g.A.Handler.is_reply c.args.plan.limits (g.A.Handler.seen c.args.answering.now) c.args.self.now.links c.args.self.now.links refl
+    turned_none g.S.Remote.origin g.S.Blocking.octets c.args.plan.allowed.addresses.now (g.P.Readiness.time c.wait.new.self) g.A.Handler.is_reply c.args.plan.limits (g.A.Handler.known c.args.answering.now) c.args.self.now.links c.args.self.now.links refl
 
 pub returns-in_err-serve-clause-turned : goal.returns-in_err-serve-clause-turned
 returns-in_err-serve-clause-turned g c =
-    turned_whole g.S.Remote.origin g.S.Blocking.octets c.args.plan.allowed.addresses.now c.in-Ok.now g.A.Handler.is_reply c.args.plan.limits (g.P.Readiness.time c.take_all.new.poll) (g.A.Handler.seen c.args.answering.now) (g.A.Handler.seen c.serve.new.answering) c.args.self.now.links c.mark.new.self.links c.take_all.new.self.links c.serve.new.self.links c.serve.new.self.links (c.in-Ok.ensures ∙ sym c.take_all.ensures.time) c.mark.ensures.links c.take_all.ensures.moves c.serve.ensures.own (inl refl)
+    turned_whole g.S.Remote.origin g.S.Blocking.octets c.args.plan.allowed.addresses.now c.in-Ok.now g.A.Handler.is_reply c.args.plan.limits (g.P.Readiness.time c.take_all.new.poll) (g.A.Handler.known c.args.answering.now) (g.A.Handler.known c.serve.new.answering) c.args.self.now.links c.mark.new.self.links c.take_all.new.self.links c.serve.new.self.links c.serve.new.self.links (c.in-Ok.ensures ∙ sym c.take_all.ensures.time) c.mark.ensures.links c.take_all.ensures.moves c.serve.ensures.own (inl refl)
 
 pub returns-clause-turned : goal.returns-clause-turned
 returns-clause-turned g c =
-    turned_whole g.S.Remote.origin g.S.Blocking.octets c.args.plan.allowed.addresses.now c.in-Ok.now g.A.Handler.is_reply c.args.plan.limits (g.P.Readiness.time c.take_all.new.poll) (g.A.Handler.seen c.args.answering.now) (g.A.Handler.seen c.serve.new.answering) c.args.self.now.links c.mark.new.self.links c.take_all.new.self.links c.serve.new.self.links c.sweep.new.self.links (c.in-Ok.ensures ∙ sym c.take_all.ensures.time) c.mark.ensures.links c.take_all.ensures.moves c.serve.ensures.own c.sweep.ensures.swept
+    turned_whole g.S.Remote.origin g.S.Blocking.octets c.args.plan.allowed.addresses.now c.in-Ok.now g.A.Handler.is_reply c.args.plan.limits (g.P.Readiness.time c.take_all.new.poll) (g.A.Handler.known c.args.answering.now) (g.A.Handler.known c.serve.new.answering) c.args.self.now.links c.mark.new.self.links c.take_all.new.self.links c.serve.new.self.links c.sweep.new.self.links (c.in-Ok.ensures ∙ sym c.take_all.ensures.time) c.mark.ensures.links c.take_all.ensures.moves c.serve.ensures.own c.sweep.ensures.swept
 
 pub returns-clause-going : goal.returns-clause-going
 returns-clause-going g c =
