@@ -28,8 +28,8 @@ pub fn answer_stream<R: Wait, M: Messages, A: tcp_connections::Handler<M>, G: Ga
 ) -> (StreamEnd, MemoryStream)
     requires room { 0 < length room.old }
     requires out { message_limit ≤ length out.old }
-    ensures ends { EndsAs (A.is_reply (A.peer answering.old)) result.0 (A.seen answering.old (A.asker answering.old)) (tape_told tape) (A.seen answering.new (A.asker answering.old)) (Some (tape_told result.1)) }
-    ensures grows { EachGrows (A.seen answering.new) (A.seen answering.old) }
+    ensures ends { EndsAs (A.is_reply (A.peer answering.old)) result.0 (A.known answering.old (A.asker answering.old)) (tape_told tape) (A.known answering.new (A.asker answering.old)) (Some (tape_told result.1)) }
+    ensures grows { EachGrows (A.known answering.new) (A.known answering.old) }
 {
     let mut stream = Counted::new(tape);
     let end = serve_stream(rt, alloc, answering, &mut stream, gate, room, out);

@@ -209,8 +209,8 @@ impl<
         answering: &mut A,
         log: &O,
     ) -> Option<JobEnd>
-        ensures grows { EachGrows (A.seen answering.new) (A.seen answering.old) }
-        ensures turned { Turned S.origin S.octets A.is_reply self.old.plan.allowed.addresses.now self.old.plan.limits (A.seen answering.old) self.old.turns.links (A.seen answering.new) self.new.turns.links }
+        ensures grows { EachGrows (A.known answering.new) (A.known answering.old) }
+        ensures turned { Turned S.origin S.octets A.is_reply self.old.plan.allowed.addresses.now self.old.plan.limits (A.known answering.old) self.old.turns.links (A.known answering.new) self.new.turns.links }
         ensures number { self.new.number ≡ self.old.number }
         ensures plan { self.new.plan ≡ self.old.plan }
     {
@@ -245,8 +245,8 @@ impl<
         answering: &mut A,
         log: &O,
     ) -> JobEnd
-        ensures grows { EachGrows (A.seen answering.new) (A.seen answering.old) }
-        ensures turned { Turned S.origin S.octets A.is_reply self.old.plan.allowed.addresses.now self.old.plan.limits (A.seen answering.old) self.old.turns.links (A.seen answering.new) self.new.turns.links }
+        ensures grows { EachGrows (A.known answering.new) (A.known answering.old) }
+        ensures turned { Turned S.origin S.octets A.is_reply self.old.plan.allowed.addresses.now self.old.plan.limits (A.known answering.old) self.old.turns.links (A.known answering.new) self.new.turns.links }
         ensures number { self.new.number ≡ self.old.number }
         ensures plan { self.new.plan ≡ self.old.plan }
         ensures end { self.new.end ≡ Some result }

@@ -1,13 +1,14 @@
--- What is told of updates that are taken up is their reply, by what was known when they were.
-use Rattle.std.proofs.Common.{◌≡◌, inl, inr, ℕ, true, false, List, [], ◌∷◌, length, Option, None, Some, Result, Ok, Err, IfOk, IfErr, OnErr, sym, ap, ◌∙◌, subst, arith}
-use Rattle.std.specs.Prelude.{◌++◌, take, replicate}
+-- What is told of updates that were pending is their reply, by what was known when they were submitted.
+use Rattle.std.proofs.Common.{◌≡◌, ◌≤◌, ◌+◌, ◌⊎◌, inl, inr, ℕ, true, false, List, [], ◌∷◌, length, Option, None, Some, Result, Ok, Err, IfOk, IfErr, OnErr, sym, ap, ◌∙◌, subst, arith}
+use Rattle.std.specs.Prelude.{take, drop, slice_set}
 use Rattle.dns_rdata.specs.Record.{Record}
 use Rattle.dns_message.specs.Request.{is_update, reads}
 use Rattle.dns_message.specs.declared.query.Parsed.TheVariants.{Update as SaysUpdate}
 use Rattle.zone_tree.specs.Version.{Version}
 use Rattle.snapshot_cell.specs.Tokens.{ReaderState}
 use Rattle.serve_core.specs.declared.peer.Peer.{Peer}
-use Rattle.requests.specs.Served.{Learned, Grows}
+use Rattle.requests.specs.Served.{Learned, Grows, Knowledge, Extends}
+use Rattle.requests.proofs.TurnLemmas.{grows_itself, grows_more}
 use Rattle.tcp_connections.specs.Asked.{EachGrows}
 use Rattle.tcp_connections.specs.Kept.{messages_of}
 use Rattle.tcp_connections.specs.declared.handler.Reply.{Reply}
@@ -28,22 +29,19 @@ use Rattle.dns_rdata.specs.declared.numbers.Rcode.{Rcode}
 use Rattle.dns_message.specs.Octets.{fit}
 use Rattle.serve_core.specs.Heading.{heading_of_update, coded}
 use Rattle.serve_core.specs.Transport.{limit_of}
-use Rattle.zone_replies.specs.PendingUpdates.{known_at, place_in, IsTakenUp, AreTakenUp, IsLater, IsToldAt, IsWritten}
-use Rattle.zone_replies.proofs.PendingLemmas.{none_known, place_known, known_room}
+use Rattle.zone_replies.specs.PendingUpdates.{queue_at, asked_of, known_at, place_of, place_in, AreQueued, AreTakenUp, IsLater, IsMadeBy, IsToldAt, IsWritten}
+use Rattle.zone_replies.proofs.PendingLemmas.{queue_put, queue_queued, asked_grows, asked_least, none_asked}
 
 -- a reader that meets what is published has forgotten nothing
 pub meets_grows : (first : List Record) (before after : ReaderState Version) (number : ℕ) → MeetsAt first before after number → Grows (learned_by after) (learned_by before)
 meets_grows first before after number meets = grows_met before after meets.0.held.published meets.1.seen meets.1.begun
 
 -- and what was known before isn't newer than the version of the number that it has met
-pub meets_taken : (first : List Record) (before after : ReaderState Version) (number : ℕ) (one : PendingState) → MeetsAt first before after number → one.known ≡ before → one.number ≡ number → IsTakenUp after one
-meets_taken first before after number one meets is same = record {
-  grown = subst (λ (r : ReaderState Version). Grows (learned_by after) (learned_by r)) (sym is) (meets_grows first before after number meets);
-  number =
-      let fresh = no_older first before.seen meets.0.held.published meets.0.held.last meets.1.begun meets.1.latest in
-      let here : length one.known.seen ≡ length before.seen = ap (λ (r : ReaderState Version). length r.seen) is in
-      omega (arith, fresh, here, meets.2, same);
-}
+pub meets_number : (first : List Record) (before after : ReaderState Version) (number : ℕ) (one : PendingState) → MeetsAt first before after number → one.known ≡ before → one.number ≡ number → length one.known.seen ≤ one.number + 1
+meets_number first before after number one meets is same =
+    let fresh = no_older first before.seen meets.0.held.published meets.0.held.last meets.1.begun meets.1.latest in
+    let here : length one.known.seen ≡ length before.seen = ap (λ (r : ReaderState Version). length r.seen) is in
+    omega (arith, fresh, here, meets.2, same)
 
 -- what is told is what is written
 pub told_written : (peer : Peer) (place : Place) (done : UpdateResult) (told : UpdateOutcome) (octets : List ℕ) → IsToldAt place done told
@@ -53,69 +51,100 @@ told_written peer place done told octets (inl own) is =
 told_written peer place done told octets (inr late) is =
     inr (late.0, is ∙ ap (λ (r : Rcode). fit (coded (heading_of_update done.asked.update) r) (limit_of peer.transport None)) late.1)
 
-module _ (first : List Record) (peer : Peer) (taken : List (Option PendingState)) (before after : ReaderState Version) (key number : ℕ) (place : Place) (done : UpdateResult) (request out : List ℕ) (len : ℕ) where
-  -- what is written of an update that was taken up is its reply
-  by_one : (one : PendingState) → IsTakenUp before one → one.number ≡ place.number → MeetsAt first before after number → IsDone first after.seen done → reads request ≡ SaysUpdate done.asked.update → done.asked.may ≡ peer.may_update
-      → IsWritten peer place done (take len out) → IsReplied first peer (learned_by one.known) (learned_by after) request (take len out ∷ [])
-  by_one one is same meets told reading may (inl written) =
-      done_replied first peer (learned_by one.known) (learned_by after) request out len done told (omega (arith, is.number, same, written.0)) reading may written.1
-  by_one one is same meets told reading may (inr late) =
-      still_replied first peer (learned_by one.known) (learned_by before) (learned_by after) request (take len out ∷ []) is.grown
+module _ (first : List Record) (peer : Peer) (before after : ReaderState Version) (number : ℕ) (place : Place) (done : UpdateResult) (request out : List ℕ) (len : ℕ) where
+  -- what is written of an update that was pending is its reply
+  by_one : (one : PendingState) → length one.known.seen ≤ one.number + 1 → Grows (learned_by before) (learned_by one.known) → one.number ≡ place.number → MeetsAt first before after number → IsDone first after.seen done
+      → reads request ≡ SaysUpdate done.asked.update → done.asked.may ≡ peer.may_update → IsWritten peer place done (take len out) → IsReplied first peer (learned_by one.known) (learned_by after) request (take len out ∷ [])
+  by_one one fresh grown same meets told reading may (inl written) =
+      done_replied first peer (learned_by one.known) (learned_by after) request out len done told (omega (arith, fresh, same, written.0)) reading may written.1
+  by_one one fresh grown same meets told reading may (inr late) =
+      still_replied first peer (learned_by one.known) (learned_by before) (learned_by after) request (take len out ∷ []) grown
       (unheard_replied first peer before after meets.0 request out done.asked.update len meets.1 reading late.1)
 
-  pub taken_replied : AreTakenUp taken before → place_in taken key ≡ Some place → MeetsAt first before after number → IsDone first after.seen done → done.asked.octets.items ≡ request → done.asked.may ≡ true → peer.may_update ≡ true
-      → IsWritten peer place done (take len out) → IsReplied first peer (known_at taken before key) (learned_by after) request (take len out ∷ [])
-  taken_replied all here meets told octets may permitted written =
-      let one = place_known taken before key place all here in
+  -- it was the first of some
+  first_made : (queue : List PendingState) → AreQueued before queue → place_of queue ≡ Some place → MeetsAt first before after number → IsDone first after.seen done → reads request ≡ SaysUpdate done.asked.update → done.asked.may ≡ peer.may_update
+      → IsLater peer request → IsWritten peer place done (take len out)
+      → IsMadeBy first peer (record { asked = asked_of queue before; seen = learned_by before }) (record { asked = asked_of (drop 1 queue) after; seen = learned_by after }) request (take len out ∷ [])
+  first_made [] queued here meets told reading may later written = absurd (cc)
+  first_made (one ∷ more) queued here meets told reading may later written =
+      let grown = meets_grows first before after number meets in
+      let learned : Grows (learned_by before) (learned_by one.known) = grows_more (learned_by one.known) (asked_of more before) (learned_by before) queued.1 (asked_least before more queued.2) in
+      record {
+        taken = learned_by one.known;
+        ordered = grows_itself (learned_by one.known);
+        prompt = inl later;
+        after = grows_more (learned_by one.known) (asked_of more before) (asked_of more after) queued.1 (asked_grows more before after grown);
+        grows = grows_more (learned_by one.known) (learned_by before) (learned_by after) learned grown;
+        reply = by_one one queued.0 learned (ap (λ (p : Option Place). number_or p one.number) here) meets told reading may written;
+      }
+    where
+      number_or : Option Place → ℕ → ℕ
+      number_or None n = n
+      number_or (Some p) n = p.number
+
+  pub taken_made : (taken left : List (List PendingState)) (key : ℕ) → left ≡ slice_set taken key (drop 1 (queue_at taken key)) → AreTakenUp taken before → place_in taken key ≡ Some place → MeetsAt first before after number → IsDone first after.seen done
+      → done.asked.octets.items ≡ request → done.asked.may ≡ true → IsLater peer request → IsWritten peer place done (take len out) → IsMadeBy first peer (known_at taken before key) (known_at left after key) request (take len out ∷ [])
+  taken_made taken left key is all here meets told octets may later written =
       let reading : reads request ≡ SaysUpdate done.asked.update = subst (λ (o : List ℕ). reads o ≡ SaysUpdate done.asked.update) octets done.asked.read in
-      subst (λ (l : Learned Version). IsReplied first peer l (learned_by after) request (take len out ∷ [])) (sym one.1)
-      (by_one one.0 one.2 one.3 meets told reading (may ∙ sym permitted) written)
+      let own : queue_at left key ≡ drop 1 (queue_at taken key) = ap (λ (l : List (List PendingState)). queue_at l key) is ∙ queue_put taken key place (drop 1 (queue_at taken key)) here in
+      subst (λ (q : List PendingState). IsMadeBy first peer (known_at taken before key) (record { asked = asked_of q after; seen = learned_by after }) request (take len out ∷ [])) (sym own)
+      (first_made (queue_at taken key) (queue_queued taken before key all) here meets told reading (may ∙ sym later.1) later written)
 
-module _ (first : List Record) (peer : Peer) (taken : List (Option PendingState)) (before after : ReaderState Version) (key : ℕ) (request : List ℕ) where
-  -- a reply where none is taken up
-  pub none_replied : (messages : List (List ℕ)) → place_in taken key ≡ None → IsReplied first peer (learned_by before) (learned_by after) request messages
-      → IsReplied first peer (known_at taken before key) (known_at taken after key) request messages
-  none_replied messages none replied =
-      subst (λ (l : Learned Version). IsReplied first peer l (known_at taken after key) request messages) (sym (none_known taken before key none))
-      (subst (λ (l : Learned Version). IsReplied first peer (learned_by before) l request messages) (sym (none_known taken after key none)) replied)
+module _ (first : List Record) (peer : Peer) (taken left : List (List PendingState)) (before after : ReaderState Version) (key : ℕ) (request : List ℕ) where
+  -- a reply at once, where none is pending
+  pub none_made : (messages : List (List ℕ)) → place_in taken key ≡ None → place_in left key ≡ None → Grows (learned_by after) (learned_by before) → IsReplied first peer (learned_by before) (learned_by after) request messages
+      → IsMadeBy first peer (known_at taken before key) (known_at left after key) request messages
+  none_made messages none still grown replied = record {
+    taken = learned_by before;
+    ordered = subst (λ (l : Learned Version). Grows (learned_by before) l) (sym (none_asked (queue_at taken key) before none)) (grows_itself (learned_by before));
+    prompt = inr (grows_itself (learned_by before));
+    after = subst (λ (l : Learned Version). Grows l (learned_by before)) (sym (none_asked (queue_at left key) after still)) grown;
+    grows = grown;
+    reply = replied;
+  }
 
-  pub same_replied : (same : List (Option PendingState)) (messages : List (List ℕ)) → same ≡ taken → place_in taken key ≡ None → IsReplied first peer (learned_by before) (learned_by after) request messages
-      → IsReplied first peer (known_at taken before key) (known_at same after key) request messages
-  same_replied same messages is none replied =
-      subst (λ (l : List (Option PendingState)). IsReplied first peer (known_at taken before key) (known_at l after key) request messages) (sym is) (none_replied messages none replied)
-
--- a reply at once to an update of which none is taken up, where there is room for it
-pub made_replied : (first : List Record) (peer : Peer) (taken made : List (Option PendingState)) (count : ℕ) (before after : ReaderState Version) (key : ℕ) (request : List ℕ) (messages : List (List ℕ)) → made ≡ taken ++ replicate count None → place_in taken key ≡ None
-    → IsReplied first peer (learned_by before) (learned_by after) request messages → IsReplied first peer (known_at taken before key) (known_at made after key) request messages
-made_replied first peer taken made count before after key request messages is none replied =
-    subst (λ (l : List (Option PendingState)). IsReplied first peer (known_at taken before key) (known_at l after key) request messages) (sym is)
-    (subst (λ (l : Learned Version). IsReplied first peer (known_at taken before key) l request messages) (sym (known_room taken count after key))
-    (none_replied first peer taken before after key request messages none replied))
+  pub same_made : (messages : List (List ℕ)) → left ≡ taken → place_in taken key ≡ None → Grows (learned_by after) (learned_by before) → IsReplied first peer (learned_by before) (learned_by after) request messages
+      → IsMadeBy first peer (known_at taken before key) (known_at left after key) request messages
+  same_made messages is none grown replied = none_made messages none (ap (λ (l : List (List PendingState)). place_in l key) is ∙ none) grown replied
 
 -- a reply by what was known between two steps is one by what was known before both
-pub step_replied : {M E : Type 0} (first : List Record) (left : M → List (List ℕ)) (request out : List ℕ) (old mid : HandlerState) (later : ℕ → Learned Version) (result : Result (Reply M) E) → mid.peer ≡ old.peer → mid.asker ≡ old.asker
-    → EachGrows {T = Version} (known_at mid.taken mid.reader) (known_at old.taken old.reader) → IfOk result (λ reply. IsReplied first mid.peer (known_at mid.taken mid.reader mid.asker) (later mid.asker) request (messages_of left reply out))
-    → IfOk result (λ reply. IsReplied first old.peer (known_at old.taken old.reader old.asker) (later old.asker) request (messages_of left reply out))
-step_replied first left request out old mid later (Ok reply) peer asker grown replied =
-    still_replied first old.peer (known_at old.taken old.reader old.asker) (known_at mid.taken mid.reader old.asker) (later old.asker) request (messages_of left reply out) (grown old.asker)
-    (subst (λ (k : ℕ). IsReplied first old.peer (known_at mid.taken mid.reader k) (later k) request (messages_of left reply out)) asker
-    (subst (λ (p : Peer). IsReplied first p (known_at mid.taken mid.reader mid.asker) (later mid.asker) request (messages_of left reply out)) peer replied))
-step_replied first left request out old mid later (Err e) peer asker grown replied = tt
+made_more : (first : List Record) (peer : Peer) (old mid later : Knowledge Version) (request : List ℕ) (messages : List (List ℕ)) → Extends mid old → IsMadeBy first peer mid later request messages → IsMadeBy first peer old later request messages
+made_more first peer old mid later request messages grown made = record {
+  taken = made.taken;
+  ordered = grows_more old.asked mid.asked made.taken grown.asked made.ordered;
+  prompt = by made.prompt;
+  after = made.after;
+  grows = made.grows;
+  reply = made.reply;
+}
+  where
+    by : IsLater peer request ⊎ Grows made.taken mid.seen → IsLater peer request ⊎ Grows made.taken old.seen
+    by (inl later) = inl later
+    by (inr prompt) = inr (grows_more old.seen mid.seen made.taken grown.seen prompt)
 
--- a reply at once, to a request of whose connection none is taken up any more
-pub settled_replied : (first : List Record) (old : HandlerState) (peer : Peer) (taken : List (Option PendingState)) (before after : ReaderState Version) (request : List ℕ) (messages : List (List ℕ)) → peer ≡ old.peer → place_in taken old.asker ≡ None
-    → EachGrows {T = Version} (known_at taken before) (known_at old.taken old.reader) → IsReplied first peer (learned_by before) (learned_by after) request messages
-    → IsReplied first old.peer (known_at old.taken old.reader old.asker) (known_at taken after old.asker) request messages
-settled_replied first old peer taken before after request messages is none grown replied =
-    still_replied first old.peer (known_at old.taken old.reader old.asker) (known_at taken before old.asker) (known_at taken after old.asker) request messages (grown old.asker)
-    (none_replied first old.peer taken before after old.asker request messages none (subst (λ (p : Peer). IsReplied first p (learned_by before) (learned_by after) request messages) is replied))
+pub step_made : {M E : Type 0} (first : List Record) (left : M → List (List ℕ)) (request out : List ℕ) (old mid : HandlerState) (later : ℕ → Knowledge Version) (result : Result (Reply M) E) → mid.peer ≡ old.peer → mid.asker ≡ old.asker
+    → EachGrows {T = Version} (known_at mid.taken mid.reader) (known_at old.taken old.reader) → IfOk result (λ reply. IsMadeBy first mid.peer (known_at mid.taken mid.reader mid.asker) (later mid.asker) request (messages_of left reply out))
+    → IfOk result (λ reply. IsMadeBy first old.peer (known_at old.taken old.reader old.asker) (later old.asker) request (messages_of left reply out))
+step_made first left request out old mid later (Ok reply) peer asker grown made =
+    made_more first old.peer (known_at old.taken old.reader old.asker) (known_at mid.taken mid.reader old.asker) (later old.asker) request (messages_of left reply out) (grown old.asker)
+    (subst (λ (k : ℕ). IsMadeBy first old.peer (known_at mid.taken mid.reader k) (later k) request (messages_of left reply out)) asker
+    (subst (λ (p : Peer). IsMadeBy first p (known_at mid.taken mid.reader mid.asker) (later mid.asker) request (messages_of left reply out)) peer made))
+step_made first left request out old mid later (Err e) peer asker grown made = tt
+
+-- a reply at once, to a request of whose connection none is pending any more
+pub settled_made : (first : List Record) (old : HandlerState) (peer : Peer) (taken : List (List PendingState)) (before after : ReaderState Version) (request : List ℕ) (messages : List (List ℕ)) → peer ≡ old.peer → place_in taken old.asker ≡ None
+    → EachGrows {T = Version} (known_at taken before) (known_at old.taken old.reader) → Grows (learned_by after) (learned_by before) → IsReplied first peer (learned_by before) (learned_by after) request messages
+    → IsMadeBy first old.peer (known_at old.taken old.reader old.asker) (known_at taken after old.asker) request messages
+settled_made first old peer taken before after request messages is none grown more replied =
+    made_more first old.peer (known_at old.taken old.reader old.asker) (known_at taken before old.asker) (known_at taken after old.asker) request messages (grown old.asker)
+    (none_made first old.peer taken taken before after old.asker request messages none none more (subst (λ (p : Peer). IsReplied first p (learned_by before) (learned_by after) request messages) is replied))
 
 -- the same of a transfer that is started
-pub settled_replies : {M E : Type 0} (first : List Record) (left : M → List (List ℕ)) (old : HandlerState) (peer : Peer) (taken : List (Option PendingState)) (before after : ReaderState Version) (request out : List ℕ) (result : Result (Reply M) E) → peer ≡ old.peer → place_in taken old.asker ≡ None
-    → EachGrows {T = Version} (known_at taken before) (known_at old.taken old.reader) → IfOk result (λ reply. IsReplied first peer (learned_by before) (learned_by after) request (messages_of left reply out))
-    → IfOk result (λ reply. IsReplied first old.peer (known_at old.taken old.reader old.asker) (known_at taken after old.asker) request (messages_of left reply out))
-settled_replies first left old peer taken before after request out (Ok reply) is none grown replied = settled_replied first old peer taken before after request (messages_of left reply out) is none grown replied
-settled_replies first left old peer taken before after request out (Err e) is none grown replied = tt
+pub settled_all : {M E : Type 0} (first : List Record) (left : M → List (List ℕ)) (old : HandlerState) (peer : Peer) (taken : List (List PendingState)) (before after : ReaderState Version) (request out : List ℕ) (result : Result (Reply M) E) → peer ≡ old.peer → place_in taken old.asker ≡ None
+    → EachGrows {T = Version} (known_at taken before) (known_at old.taken old.reader) → Grows (learned_by after) (learned_by before) → IfOk result (λ reply. IsReplied first peer (learned_by before) (learned_by after) request (messages_of left reply out))
+    → IfOk result (λ reply. IsMadeBy first old.peer (known_at old.taken old.reader old.asker) (known_at taken after old.asker) request (messages_of left reply out))
+settled_all first left old peer taken before after request out (Ok reply) is none grown more replied = settled_made first old peer taken before after request (messages_of left reply out) is none grown more replied
+settled_all first left old peer taken before after request out (Err e) is none grown more replied = tt
 
 -- a request that isn't an update is answered at once
 pub never_later : (peer : Peer) (request : List ℕ) → is_update request ≡ false → IsLater peer request → ⊥

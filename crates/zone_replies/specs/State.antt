@@ -1,5 +1,5 @@
 -- The handler of connections, and the updates that are pending on them, as contracts see them (own).
-use Rattle.std.specs.Prelude.{ℕ, Bool, List, Option}
+use Rattle.std.specs.Prelude.{ℕ, Bool, List}
 use Rattle.std.specs.declared.net.socket_addr.SocketAddr.{SocketAddr}
 use Rattle.zone_tree.specs.Version.{Version}
 use Rattle.snapshot_cell.specs.Tokens.{ReaderState}
@@ -13,11 +13,11 @@ pub record PendingState : Type 0 where
   pub number : ℕ
   pub known : ReaderState Version
 
--- the handler: its reader, the current peer and the key of its connection, the pending updates by the keys of their connections, and whether it submits
--- updates to the update thread
+-- the handler: its reader, the current peer and the key of its connection, the pending updates by the keys of their connections, those of each in the order in
+-- which they were submitted, and whether it submits updates to the update thread
 pub record HandlerState : Type 0 where
   pub reader : ReaderState Version
   pub peer : Peer
   pub asker : ℕ
-  pub taken : List (Option PendingState)
+  pub taken : List (List PendingState)
   pub hands : Bool

@@ -1,5 +1,5 @@
 //! The handler of the requests of connections, on top of a server.
-ghost use Rattle.std.specs.Prelude.{◌≡◌, ◌≤◌, ◌⊎◌, ℕ, true, false, [], ◌∷◌, None, length, take, IfOk, IfErr, OnErr, MatchOption};
+ghost use Rattle.std.specs.Prelude.{◌≡◌, ◌≤◌, ◌⊎◌, ℕ, true, false, [], ◌∷◌, None, length, take, IfSome, IfOk, IfErr, OnErr, MatchOption};
 ghost use Rattle.dns_message.specs.Message.{message_limit};
 ghost use Rattle.zone_tree.specs.Version.{Version};
 ghost use Rattle.serve_core.specs.Transfers.{is_permitted, messages_to};
@@ -15,7 +15,7 @@ ghost use Rattle.dns_engine.specs.Held.{IsLatest};
 ghost use Rattle.zone_replies.specs.Going.{transfer_left};
 ghost use Rattle.requests.specs.Served.{Grows};
 ghost use Rattle.zone_server.specs.Known.{learned_by, HasTooFew};
-ghost use Rattle.zone_replies.specs.PendingUpdates.{known_at, place_in, IsLater, IsWritten, IsToldOnce};
+ghost use Rattle.zone_replies.specs.PendingUpdates.{known_at, place_in, IsLater, IsWritten, IsMadeBy, IsToldOnce};
 
 use crate::pending_updates::{PendingUpdate, PendingUpdates, Place, told_at};
 use crate::transfer::Transfer;
@@ -31,9 +31,9 @@ use std::sync::Wait;
 use tcp_connections::{Handler, Reply, Unmade};
 use wire_names::NameWriter;
 use zone_server::{
-    Answer, Poll, Server, ServerName, ServiceLog, Submitted, UpdateResult, UpdateSender,
-    answer_request, serve_update, start_transfer, submit_stream, tell_refused, tell_signed,
-    tell_update, write_done, write_transfer,
+    Answer, Poll, Server, ServerName, ServiceLog, Submitted, UpdateOutcome, UpdateResult,
+    UpdateSender, answer_request, serve_update, start_transfer, submit_stream, tell_refused,
+    tell_signed, tell_update, write_done, write_transfer,
 };
 
 /// Answers the peers of connections from a server, with a worker's reader, and logs updates. Contracts see which versions the reader has seen
@@ -115,6 +115,17 @@ fn begin_transfer<R: Wait, Z: FirstZone, N: ServerName>(
     }
 }
 
+/// Abandons the tickets of updates.
+fn leave_all<R: Wait, Z: FirstZone, N: ServerName>(
+    rt: &R,
+    server: &Server<'_, Z, N>,
+    left: &[PendingUpdate<N>],
+) {
+    for one in left {
+        server.leave(rt, one.ticket);
+    }
+}
+
 impl<'a, 's, Z: FirstZone, N: ServerName, L: ServiceLog> ConnectionHandler<'a, 's, Z, N, L> {
     /// A handler with a reader, turned to this peer at this address. It submits no updates.
     pub fn new(
@@ -177,7 +188,20 @@ impl<'a, 's, Z: FirstZone, N: ServerName, L: ServiceLog> ConnectionHandler<'a, '
         None
     }
 
-    /// Abandons the pending update under the current connection's key where the request isn't one to submit, or where another connection has that key
+    /// Abandons the pending updates under the current connection's key.
+    fn abandon<R: Wait>(&mut self, rt: &R)
+        ensures peer { self.new.peer ≡ self.old.peer }
+        ensures asker { self.new.asker ≡ self.old.asker }
+        ensures reader { self.new.reader ≡ self.old.reader }
+        ensures hands { self.new.hands ≡ self.old.hands }
+        ensures none { place_in self.new.taken self.old.asker ≡ None }
+        ensures grows { EachGrows {T = Version} (known_at self.new.taken self.new.reader) (known_at self.old.taken self.old.reader) }
+    {
+        let left = self.taken.take(self.asker);
+        leave_all(rt, self.server, left.as_slice());
+    }
+
+    /// Abandons the pending updates under the current connection's key where the request isn't one to submit, or where another connection has that key
     /// now: its address differs.
     fn settle<R: Wait>(&mut self, rt: &R, request: &[u8])
         ensures peer { self.new.peer ≡ self.old.peer }
@@ -187,15 +211,14 @@ impl<'a, 's, Z: FirstZone, N: ServerName, L: ServiceLog> ConnectionHandler<'a, '
         ensures other { (self.old.hands ≡ false) ⊎ (IsLater self.old.peer request.now → ⊥) → place_in self.new.taken self.old.asker ≡ None }
         ensures grows { EachGrows {T = Version} (known_at self.new.taken self.new.reader) (known_at self.old.taken self.old.reader) }
     {
-        let Some(place) = self.taken.at(self.asker) else {
+        let Some(place) = self.taken.first(self.asker) else {
             return;
         };
         let is_handed = self.sender_for(request).is_some();
         if is_handed && place.from == self.from {
             return;
         }
-        self.server.leave(rt, place.ticket);
-        self.taken.remove(self.asker);
+        self.abandon(rt);
     }
 
     /// Writes the reply to a pending update at the front of `out`, with the code of [`told_at`], and logs it. Gives its length in octets.
@@ -215,29 +238,30 @@ impl<'a, 's, Z: FirstZone, N: ServerName, L: ServiceLog> ConnectionHandler<'a, '
         )
     }
 
-    /// Submits an update of a peer that may update. `Later` where it is now pending, and its reply is made later. It gets a reply at once where it
-    /// wasn't queued.
-    fn take_up<R: Wait>(
+    /// Submits an update of a peer that may update, after those that are pending on its connection. None where it is now pending, too. Otherwise it wasn't
+    /// queued, and has its reply at the front of `out`: its length in octets, and its outcome.
+    fn submit<R: Wait>(
         &mut self,
         rt: &R,
         hand: UpdateSender<'a>,
         request: &[u8],
         out: &mut [u8],
-    ) -> Result<Reply<Transfer>, Unmade>
+    ) -> Option<(usize, UpdateOutcome)>
         requires later { IsLater self.old.peer request.now }
-        requires none { place_in self.old.taken self.old.asker ≡ None }
         requires room { message_limit ≤ length out.old }
         ensures peer { self.new.peer ≡ self.old.peer }
         ensures asker { self.new.asker ≡ self.old.asker }
         ensures grows { EachGrows {T = Version} (known_at self.new.taken self.new.reader) (known_at self.old.taken self.old.reader) }
-        ensures bound { IfOk result (λ reply. (len : ℕ) → reply ≡ ReplyOf.One len → (len ≤ message_limit) × (len ≤ length out.new)) }
-        ensures replied { IfOk result (λ reply. IsReplied Z.zone self.old.peer (known_at self.old.taken self.old.reader self.old.asker) (known_at self.new.taken self.new.reader self.old.asker) request.now (messages_of transfer_left reply out.new)) }
-        ensures unspent { IfErr result (λ unmade. unmade ≡ WhyUnmade.Later) }
+        ensures bound { IfSome result (λ told. (told.0 ≤ message_limit) × (told.0 ≤ length out.new)) }
+        ensures place { IfSome result (λ _. place_in self.new.taken self.old.asker ≡ place_in self.old.taken self.old.asker) }
+        ensures replied { IfSome result (λ told. IsReplied Z.zone self.old.peer (learned_by self.old.reader) (learned_by self.new.reader) request.now (take told.0 out.new ∷ [])) }
     {
-        let (key, peer) = (self.asker, self.peer);
-        tell_signed(rt, self.log, self.from, request);
+        let (key, peer, from) = (self.asker, self.peer, self.from);
         let known = Snapshot::of(&self.reader);
-        let hand = if self.taken.make_room(key) {
+        let has_entry = self.taken.make_room(key);
+        let mut queue = self.taken.take(key);
+        let has_room = queue.reserve(1).is_ok();
+        let hand = if has_entry && has_room {
             Some(hand)
         } else {
             None
@@ -254,31 +278,58 @@ impl<'a, 's, Z: FirstZone, N: ServerName, L: ServiceLog> ConnectionHandler<'a, '
             out,
         ) {
             Submitted::Told(len, told) => {
-                tell_update(rt, self.log, peer, self.from, told);
-                Ok(Reply::One(len))
+                self.taken.put(key, queue);
+                Some((len, told))
             }
             Submitted::Waits {
                 ticket,
                 number,
                 put: _,
             } => {
-                let from = self.from;
-                self.taken.put(
-                    key,
-                    PendingUpdate {
-                        from,
-                        ticket,
-                        number,
-                        known,
-                    },
-                );
-                Err(Unmade::Later)
+                // There is room for it.
+                let _ = queue.push(PendingUpdate {
+                    from,
+                    ticket,
+                    number,
+                    known,
+                });
+                self.taken.put(key, queue);
+                None
             }
         }
     }
 
-    /// Writes the reply to the pending update under the current connection's key at the front of `out`, and gives its length in octets. `Later` while
-    /// it is still pending. None where no update is pending, or its ticket has no result for this request. Then none is pending.
+    /// Submits an update of a peer that may update, while none is pending on its connection. `Later` where it is now pending, and its reply is made later. It
+    /// gets a reply at once where it wasn't queued.
+    fn take_up<R: Wait>(
+        &mut self,
+        rt: &R,
+        hand: UpdateSender<'a>,
+        request: &[u8],
+        out: &mut [u8],
+    ) -> Result<Reply<Transfer>, Unmade>
+        requires later { IsLater self.old.peer request.now }
+        requires none { place_in self.old.taken self.old.asker ≡ None }
+        requires room { message_limit ≤ length out.old }
+        ensures peer { self.new.peer ≡ self.old.peer }
+        ensures asker { self.new.asker ≡ self.old.asker }
+        ensures grows { EachGrows {T = Version} (known_at self.new.taken self.new.reader) (known_at self.old.taken self.old.reader) }
+        ensures bound { IfOk result (λ reply. (len : ℕ) → reply ≡ ReplyOf.One len → (len ≤ message_limit) × (len ≤ length out.new)) }
+        ensures replied { IfOk result (λ reply. IsMadeBy Z.zone self.old.peer (known_at self.old.taken self.old.reader self.old.asker) (known_at self.new.taken self.new.reader self.old.asker) request.now (messages_of transfer_left reply out.new)) }
+        ensures unspent { IfErr result (λ unmade. unmade ≡ WhyUnmade.Later) }
+    {
+        tell_signed(rt, self.log, self.from, request);
+        match self.submit(rt, hand, request, out) {
+            Some((len, told)) => {
+                tell_update(rt, self.log, self.peer, self.from, told);
+                Ok(Reply::One(len))
+            }
+            None => Err(Unmade::Later),
+        }
+    }
+
+    /// Writes the reply to the first pending update under the current connection's key at the front of `out`, and gives its length in octets. `Later` while it
+    /// is still pending. None where no update is pending, or the result at its ticket isn't one for this request.
     fn reply_taken<R: Wait>(
         &mut self,
         rt: &R,
@@ -290,17 +341,17 @@ impl<'a, 's, Z: FirstZone, N: ServerName, L: ServiceLog> ConnectionHandler<'a, '
         ensures peer { self.new.peer ≡ self.old.peer }
         ensures asker { self.new.asker ≡ self.old.asker }
         ensures grows { EachGrows {T = Version} (known_at self.new.taken self.new.reader) (known_at self.old.taken self.old.reader) }
-        ensures replied { IfOk result (λ told. IsToldOnce Z.zone self.old.peer (known_at self.old.taken self.old.reader self.old.asker) (known_at self.new.taken self.new.reader self.old.asker) request.now out.new (place_in self.new.taken self.old.asker) told) }
+        ensures replied { IfOk result (λ told. IsToldOnce Z.zone self.old.peer (known_at self.old.taken self.old.reader self.old.asker) (known_at self.new.taken self.new.reader self.old.asker) request.now out.new told) }
         ensures unspent { IfErr result (λ unmade. unmade ≡ WhyUnmade.Later) }
     {
-        let Some(place) = self.taken.at(self.asker) else {
+        let Some(place) = self.taken.first(self.asker) else {
             return Ok(None);
         };
         let (_, fetched) = self.server.fetch(rt, &mut self.reader, place.ticket);
         if let Poll::Pending = fetched {
             return Err(Unmade::Later);
         }
-        self.taken.remove(self.asker);
+        self.taken.remove_first(self.asker);
         let Poll::Ready(done) = fetched else {
             return Ok(None);
         };
@@ -310,7 +361,8 @@ impl<'a, 's, Z: FirstZone, N: ServerName, L: ServiceLog> ConnectionHandler<'a, '
         Ok(None)
     }
 
-    /// The reply to an update of a peer that may update, once it is ready. Submits the update where none is pending. `Later` while it is pending.
+    /// The reply to an update of a peer that may update, once it is ready. Submits the update where it isn't pending; those that are were another
+    /// connection's, and are abandoned. `Later` while it is pending.
     fn reply_update<R: Wait>(
         &mut self,
         rt: &R,
@@ -324,13 +376,16 @@ impl<'a, 's, Z: FirstZone, N: ServerName, L: ServiceLog> ConnectionHandler<'a, '
         ensures asker { self.new.asker ≡ self.old.asker }
         ensures grows { EachGrows {T = Version} (known_at self.new.taken self.new.reader) (known_at self.old.taken self.old.reader) }
         ensures bound { IfOk result (λ reply. (len : ℕ) → reply ≡ ReplyOf.One len → (len ≤ message_limit) × (len ≤ length out.new)) }
-        ensures replied { IfOk result (λ reply. IsReplied Z.zone self.old.peer (known_at self.old.taken self.old.reader self.old.asker) (known_at self.new.taken self.new.reader self.old.asker) request.now (messages_of transfer_left reply out.new)) }
+        ensures replied { IfOk result (λ reply. IsMadeBy Z.zone self.old.peer (known_at self.old.taken self.old.reader self.old.asker) (known_at self.new.taken self.new.reader self.old.asker) request.now (messages_of transfer_left reply out.new)) }
         ensures unspent { IfErr result (λ unmade. unmade ≡ WhyUnmade.Later) }
     {
         match self.reply_taken(rt, request, out) {
             Ok(told) => match told {
                 Some(len) => Ok(Reply::One(len)),
-                None => self.take_up(rt, hand, request, out),
+                None => {
+                    self.abandon(rt);
+                    self.take_up(rt, hand, request, out)
+                }
             },
             Err(unmade) => Err(unmade),
         }
@@ -377,7 +432,7 @@ impl<'a, 's, Z: FirstZone, N: ServerName, L: ServiceLog> ConnectionHandler<'a, '
         ensures asker { self.new.asker ≡ self.old.asker }
         ensures grows { EachGrows {T = Version} (known_at self.new.taken self.new.reader) (known_at self.old.taken self.old.reader) }
         ensures bound { IfOk result (λ reply. (len : ℕ) → reply ≡ ReplyOf.One len → (len ≤ message_limit) × (len ≤ length out.new)) }
-        ensures replied { IfOk result (λ reply. IsReplied Z.zone self.old.peer (known_at self.old.taken self.old.reader self.old.asker) (known_at self.new.taken self.new.reader self.old.asker) request.now (messages_of transfer_left reply out.new)) }
+        ensures replied { IfOk result (λ reply. IsMadeBy Z.zone self.old.peer (known_at self.old.taken self.old.reader self.old.asker) (known_at self.new.taken self.new.reader self.old.asker) request.now (messages_of transfer_left reply out.new)) }
         ensures later { IfErr result (λ unmade. (unmade ≡ WhyUnmade.Later) × IsLater self.old.peer request.now) }
     {
         match self.sender_for(request) {
@@ -389,14 +444,14 @@ impl<'a, 's, Z: FirstZone, N: ServerName, L: ServiceLog> ConnectionHandler<'a, '
 
 impl<'a, 's, Z: FirstZone, N: ServerName, L: ServiceLog> Handler<Transfer>
     for ConnectionHandler<'a, 's, Z, N, L> {
-    // While an update is pending, what is known on its connection is what was known when it was submitted.
-    ghost seen = { λ replies. known_at replies.taken replies.reader };
+    // While updates are pending on a connection, what was known when the first of them was submitted is known beside what the reader has learned.
+    ghost known = { λ replies. known_at replies.taken replies.reader };
 
     ghost peer = { λ replies. replies.peer };
 
     ghost asker = { λ replies. replies.asker };
 
-    ghost is_reply = { λ peer known later request messages. IsReplied Z.zone peer known later request messages };
+    ghost is_reply = { IsMadeBy Z.zone };
 
     ghost is_later = { IsLater };
 
@@ -421,7 +476,7 @@ impl<'a, 's, Z: FirstZone, N: ServerName, L: ServiceLog> Handler<Transfer>
         ensures asker { self.new.asker ≡ self.old.asker }
         ensures grows { EachGrows {T = Version} (known_at self.new.taken self.new.reader) (known_at self.old.taken self.old.reader) }
         ensures bound { IfOk result (λ reply. (len : ℕ) → reply ≡ ReplyOf.One len → (len ≤ message_limit) × (len ≤ length out.new)) }
-        ensures reply { IfOk result (λ reply. IsReplied Z.zone self.old.peer (known_at self.old.taken self.old.reader self.old.asker) (known_at self.new.taken self.new.reader self.old.asker) request.now (messages_of transfer_left reply out.new)) }
+        ensures reply { IfOk result (λ reply. IsMadeBy Z.zone self.old.peer (known_at self.old.taken self.old.reader self.old.asker) (known_at self.new.taken self.new.reader self.old.asker) request.now (messages_of transfer_left reply out.new)) }
         ensures later { IfErr result (λ unmade. unmade ≡ WhyUnmade.Later → IsLater self.old.peer request.now) }
         ensures spent { IfErr result (λ unmade. unmade ≡ WhyUnmade.Spent → self.new.reader.left ≡ 0) }
         // A request that can't be read as a query gets its reply, whether a version can be loaded or not.
@@ -451,6 +506,30 @@ impl<'a, 's, Z: FirstZone, N: ServerName, L: ServiceLog> Handler<Transfer>
                 begin_transfer(rt, server, &mut self.reader, strong, query, peer, out)
             }
             Answer::Spent => Err(Unmade::Spent),
+        }
+    }
+
+    #[tactic(auto, using(tcp_connections::proofs::AskedLemmas::each_itself))]
+    fn prepare<R: Wait>(&mut self, rt: &R, ahead: usize, request: &[u8], out: &mut [u8]) -> bool
+        requires { message_limit ≤ length out.old }
+        ensures same { self.new.peer ≡ self.old.peer }
+        ensures asker { self.new.asker ≡ self.old.asker }
+        ensures grows { EachGrows {T = Version} (known_at self.new.taken self.new.reader) (known_at self.old.taken self.old.reader) }
+        ensures later { result ≡ true → IsLater self.old.peer request.now }
+    {
+        let Some(hand) = self.sender_for(request) else {
+            return false;
+        };
+        if self.taken.count(self.asker) != ahead {
+            return false;
+        }
+        match self.submit(rt, hand, request, out) {
+            // It wasn't queued: it is submitted again in its turn.
+            Some(_) => false,
+            None => {
+                tell_signed(rt, self.log, self.from, request);
+                true
+            }
         }
     }
 }

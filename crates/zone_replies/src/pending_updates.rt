@@ -1,13 +1,14 @@
 //! Updates submitted on connections, which are still pending.
-ghost use Rattle.std.specs.Prelude.{◌≡◌, ◌<◌, ◌++◌, ℕ, [], None, Some, length, replicate, slice_set};
+ghost use Rattle.std.specs.Prelude.{◌≡◌, ◌<◌, ◌++◌, ℕ, [], drop, length, replicate, slice_set};
 ghost use Rattle.std.specs.Bool.{OnTrue};
-ghost use Rattle.zone_replies.specs.PendingUpdates.{place_in, IsToldAt};
+ghost use Rattle.zone_replies.specs.PendingUpdates.{place_of, place_in, queue_at, IsToldAt};
 
 use dns_engine::VersionReader;
 use dns_rdata::Rcode;
 use snapshot_cell::Naming;
 use std::alloc::Global;
 use std::marker::Model;
+use std::mem;
 use std::net::SocketAddr;
 use std::snapshot::Snapshot;
 use zone_server::{UpdateOutcome, UpdateResult};
@@ -66,22 +67,85 @@ pub(crate) fn told_at(place: Place, done: &UpdateResult) -> UpdateOutcome
     UpdateOutcome::code(Rcode::ServFail)
 }
 
-/// The pending updates, at most one per connection, indexed by the connection's key. Contracts see them in the order of the keys.
+/// The pending updates of a connection, in the order in which they were submitted.
+pub(crate) struct PendingQueue<N: Naming> {
+    updates: Vec<PendingUpdate<N>>,
+}
+
+impl<N: Naming> Drop for PendingQueue<N> {
+    fn drop(self) {
+        let PendingQueue { updates: _ } = self;
+    }
+}
+
+impl<N: Naming> Model for PendingQueue<N> {
+    ghost use Rattle.std.specs.Prelude.{List};
+    ghost use Rattle.zone_replies.specs.State.{PendingState};
+
+    ghost Value = { List PendingState };
+
+    ghost view = { λ q. q.updates.items };
+}
+
+impl<N: Naming> PendingQueue<N> {
+    /// None is pending.
+    fn new(alloc: Global) -> PendingQueue<N>
+        ensures { result ≡ [] }
+    {
+        PendingQueue {
+            updates: Vec::new(alloc),
+        }
+    }
+
+    /// Where the reply to the first of them will be. None where none is pending.
+    fn first(&self) -> Option<Place>
+        ensures { result ≡ place_of self.now }
+    {
+        let first = self.updates.as_slice().first()?;
+        Some(Place {
+            from: first.from,
+            ticket: first.ticket,
+            number: first.number,
+        })
+    }
+
+    /// How many are pending.
+    fn len(&self) -> usize
+        ensures { result ≡ length self.now }
+    {
+        self.updates.len()
+    }
+
+    /// Removes the first of them, if there is one.
+    fn remove_first(&mut self)
+        ensures { self.new ≡ drop 1 self.old }
+    {
+        if !self.updates.is_empty() {
+            self.updates.remove(0);
+        }
+    }
+}
+
+/// The pending updates, indexed by the keys of their connections. Contracts see them in the order of the keys.
 pub(crate) struct PendingUpdates<N: Naming> {
-    entries: Vec<Option<PendingUpdate<N>>>,
+    alloc: Global,
+    entries: Vec<PendingQueue<N>>,
 }
 
 impl<N: Naming> Drop for PendingUpdates<N> {
     fn drop(self) {
-        let PendingUpdates { entries: _ } = self;
+        let PendingUpdates {
+            alloc: _,
+            entries: _,
+        } = self;
     }
 }
 
 impl<N: Naming> Model for PendingUpdates<N> {
-    ghost use Rattle.std.specs.Prelude.{List, Option};
+    ghost use Rattle.std.specs.Prelude.{List};
     ghost use Rattle.zone_replies.specs.State.{PendingState};
 
-    ghost Value = { List (Option PendingState) };
+    ghost Value = { List (List PendingState) };
 
     ghost view = { λ t. t.entries.items };
 }
@@ -92,55 +156,74 @@ impl<N: Naming> PendingUpdates<N> {
         ensures { result ≡ [] }
     {
         PendingUpdates {
+            alloc,
             entries: Vec::new(alloc),
         }
     }
 
-    /// Where the reply to the pending update under a key will be. None where no update is pending.
-    pub fn at(&self, key: usize) -> Option<Place>
+    /// Where the reply to the first pending update under a key will be. None where no update is pending.
+    pub fn first(&self, key: usize) -> Option<Place>
         ensures { result ≡ place_in self.now key }
     {
-        match self.entries.get(key)? {
-            Some(taken) => Some(Place {
-                from: taken.from,
-                ticket: taken.ticket,
-                number: taken.number,
-            }),
+        match self.entries.get(key) {
+            Some(queue) => queue.first(),
             None => None,
+        }
+    }
+
+    /// How many updates are pending under a key.
+    pub fn count(&self, key: usize) -> usize
+        ensures { result ≡ length (queue_at self.now key) }
+    {
+        match self.entries.get(key) {
+            Some(queue) => queue.len(),
+            None => 0,
         }
     }
 
     /// Makes room for an entry under a key. False where there is no memory for it.
     pub fn make_room(&mut self, key: usize) -> bool
         ensures room { OnTrue result (key < length self.new) }
-        ensures none { (more : ℕ) × (self.new ≡ self.old ++ replicate more None) }
+        ensures none { (more : ℕ) × (self.new ≡ self.old ++ replicate more []) }
     {
         let Some(count) = key.checked_add(1) else {
             return false;
         };
         for _entry in self.entries.len()..count {
-            let Ok(()) = self.entries.push(None) else {
+            let Ok(()) = self.entries.push(PendingQueue::new(self.alloc)) else {
                 return false;
             };
         }
         true
     }
 
-    /// Puts an update under a key for which there is room.
-    pub fn put(&mut self, key: usize, taken: PendingUpdate<N>)
-        ensures { self.new ≡ slice_set self.old key (Some taken) }
+    /// Takes the pending updates under a key out, so that none is left there.
+    pub fn take(&mut self, key: usize) -> Vec<PendingUpdate<N>>
+        ensures queue { result.items ≡ queue_at self.old key }
+        ensures rest { self.new ≡ slice_set self.old key [] }
     {
-        if let Some(entry) = self.entries.get_mut(key) {
-            *entry = Some(taken);
+        let none = Vec::new(self.alloc);
+        match self.entries.get_mut(key) {
+            Some(queue) => mem::replace(&mut queue.updates, none),
+            None => none,
         }
     }
 
-    /// Removes the update under a key, if there is one.
-    pub fn remove(&mut self, key: usize)
-        ensures { self.new ≡ slice_set self.old key None }
+    /// Puts pending updates under a key for which there is an entry, in place of those that are there.
+    pub fn put(&mut self, key: usize, updates: Vec<PendingUpdate<N>>)
+        ensures { self.new ≡ slice_set self.old key updates.items }
     {
-        if let Some(entry) = self.entries.get_mut(key) {
-            *entry = None;
+        if let Some(queue) = self.entries.get_mut(key) {
+            queue.updates = updates;
+        }
+    }
+
+    /// Removes the first pending update under a key, if there is one.
+    pub fn remove_first(&mut self, key: usize)
+        ensures { self.new ≡ slice_set self.old key (drop 1 (queue_at self.old key)) }
+    {
+        if let Some(queue) = self.entries.get_mut(key) {
+            queue.remove_first();
         }
     }
 }

@@ -13,7 +13,7 @@ use Rattle.zone_replies.specs.Going.{transfer_left}
 use Rattle.zone_replies.specs.State.{HandlerState}
 use Rattle.zone_replies.specs.PendingUpdates.{known_at, place_in}
 use Rattle.zone_replies.proofs.PendingLemmas.{known_grows, taken_grow}
-use Rattle.zone_replies.proofs.PendingRepliedLemmas.{step_replied, settled_replied, settled_replies, never_later, query_never_later, update_later, update_unspent, transfer_unlater, spent_left, spent_unanswered}
+use Rattle.zone_replies.proofs.PendingRepliedLemmas.{step_made, settled_made, settled_all, never_later, query_never_later, update_later, update_unspent, transfer_unlater, spent_left, spent_unanswered}
 use Rattle.zone_replies.proofs.connection_handler.ConnectionHandlerHandlerTransfer.reply.Goals as goal
 
 pub invariant_of-self : goal.invariant_of-self
@@ -46,8 +46,9 @@ returns-in-Bytes-clause-reply g c =
     let peer : c.self.inside.peer ≡ c.args.self.now.peer = subst (λ (s : HandlerState). s.peer ≡ c.args.self.now.peer) (sym c.self.view_is) c.settle.ensures.peer in
     let none : place_in c.self.inside.taken c.args.self.now.asker ≡ None = subst (λ (s : HandlerState). place_in s.taken c.args.self.now.asker ≡ None) (sym c.self.view_is)
     (c.settle.ensures.other (inr (never_later c.args.self.now.peer c.args.request.now c.in-Bytes.ensures.answer.2.other))) in
-    settled_replied g.Z.FirstZone.zone c.args.self.now c.self.inside.peer c.self.inside.taken c.self.inside.reader c.answer_request.new.reader c.args.request.now (take c.in-Bytes.len c.answer_request.new.out ∷ []) peer none
-    (subst (λ (s : HandlerState). EachGrows {T = Version} (known_at s.taken s.reader) (known_at c.args.self.now.taken c.args.self.now.reader)) (sym c.self.view_is) c.settle.ensures.grows) c.in-Bytes.ensures.answer.1
+    settled_made g.Z.FirstZone.zone c.args.self.now c.self.inside.peer c.self.inside.taken c.self.inside.reader c.answer_request.new.reader c.args.request.now (take c.in-Bytes.len c.answer_request.new.out ∷ []) peer none
+    (subst (λ (s : HandlerState). EachGrows {T = Version} (known_at s.taken s.reader) (known_at c.args.self.now.taken c.args.self.now.reader)) (sym c.self.view_is) c.settle.ensures.grows)
+    (answer_grows g.Z.FirstZone.zone c.self.inside.peer c.args.request.now c.self.inside.reader c.answer_request.new.reader c.answer_request.new.query c.answer_request.new.out c.answer_request.result c.answer_request.ensures.answer) c.in-Bytes.ensures.answer.1
 
 pub returns-in-Spent-clause-spent : goal.returns-in-Spent-clause-spent
 returns-in-Spent-clause-spent g c = λ _. ap (λ (r : ReaderState Version). r.left) c.in-Spent.ensures.answer.1.1 ∙ c.in-Spent.ensures.answer.1.0
@@ -67,7 +68,7 @@ returns-in-Update-clause-reply g c =
     let peer : c.self.inside.peer ≡ c.args.self.now.peer = subst (λ (s : HandlerState). s.peer ≡ c.args.self.now.peer) (sym c.self.view_is) c.settle.ensures.peer in
     let asker : c.self.inside.asker ≡ c.args.self.now.asker = subst (λ (s : HandlerState). s.asker ≡ c.args.self.now.asker) (sym c.self.view_is) c.settle.ensures.asker in
     let mid : HandlerState = record { reader = c.answer_request.new.reader; peer = c.self.inside.peer; asker = c.self.inside.asker; taken = c.self.inside.taken; hands = c.args.self.now.hands } in
-    step_replied g.Z.FirstZone.zone transfer_left c.args.request.now c.reply_later.new.out c.args.self.now mid (known_at c.reply_later.new.self.taken c.reply_later.new.self.reader) c.reply_later.result peer asker
+    step_made g.Z.FirstZone.zone transfer_left c.args.request.now c.reply_later.new.out c.args.self.now mid (known_at c.reply_later.new.self.taken c.reply_later.new.self.reader) c.reply_later.result peer asker
     (each_more _ _ _ (subst (λ (s : HandlerState). EachGrows {T = Version} (known_at s.taken s.reader) (known_at c.args.self.now.taken c.args.self.now.reader)) (sym c.self.view_is) c.settle.ensures.grows)
     (known_grows c.self.inside.taken c.self.inside.reader c.answer_request.new.reader (answer_grows g.Z.FirstZone.zone c.self.inside.peer c.args.request.now c.self.inside.reader c.answer_request.new.reader c.answer_request.new.query c.answer_request.new.out c.answer_request.result c.answer_request.ensures.answer))) c.reply_later.ensures.replied
 
@@ -104,8 +105,9 @@ returns-in-Transfer-clause-reply g c =
     let peer : c.self.inside.peer ≡ c.args.self.now.peer = subst (λ (s : HandlerState). s.peer ≡ c.args.self.now.peer) (sym c.self.view_is) c.settle.ensures.peer in
     let none : place_in c.self.inside.taken c.args.self.now.asker ≡ None = subst (λ (s : HandlerState). place_in s.taken c.args.self.now.asker ≡ None) (sym c.self.view_is)
     (c.settle.ensures.other (inr (query_never_later c.args.self.now.peer c.args.request.now (c.answer_request.new.query, c.in-Transfer.ensures.answer.asked)))) in
-    settled_replies g.Z.FirstZone.zone transfer_left c.args.self.now c.self.inside.peer c.self.inside.taken c.self.inside.reader c.begin_transfer.new.reader c.args.request.now c.begin_transfer.new.out c.begin_transfer.result peer none
+    settled_all g.Z.FirstZone.zone transfer_left c.args.self.now c.self.inside.peer c.self.inside.taken c.self.inside.reader c.begin_transfer.new.reader c.args.request.now c.begin_transfer.new.out c.begin_transfer.result peer none
     (subst (λ (s : HandlerState). EachGrows {T = Version} (known_at s.taken s.reader) (known_at c.args.self.now.taken c.args.self.now.reader)) (sym c.self.view_is) c.settle.ensures.grows)
+    (transfer_grows g.Z.FirstZone.zone c.self.inside.peer c.args.request.now c.self.inside.reader c.answer_request.new.reader c.begin_transfer.new.reader c.answer_request.new.query c.in-Transfer.strong c.in-Transfer.ensures.answer (λ (reply : Reply Transfer). messages_of transfer_left reply c.begin_transfer.new.out) c.begin_transfer.result c.begin_transfer.ensures.started c.begin_transfer.ensures.spent)
     (transfer_replies g.Z.FirstZone.zone c.self.inside.peer c.args.request.now c.self.inside.reader c.answer_request.new.reader c.begin_transfer.new.reader c.answer_request.new.query c.in-Transfer.strong c.in-Transfer.ensures.answer (λ (reply : Reply Transfer). messages_of transfer_left reply c.begin_transfer.new.out)
     c.begin_transfer.result c.begin_transfer.ensures.started)
 
