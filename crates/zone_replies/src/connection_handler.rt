@@ -2,26 +2,22 @@
 ghost use Rattle.std.specs.Prelude.{◌≡◌, ◌≤◌, ◌⊎◌, ℕ, true, false, [], ◌∷◌, None, length, take, IfSome, IfOk, IfErr, OnErr, MatchOption};
 ghost use Rattle.dns_message.specs.Message.{message_limit};
 ghost use Rattle.zone_tree.specs.Version.{Version};
-ghost use Rattle.serve_core.specs.Transfers.{is_permitted, messages_to};
-ghost use Rattle.zone_tree.specs.Zone.{soa_of};
-ghost use Rattle.dns_engine.specs.Chain.{changes_by};
 ghost use Rattle.tcp_connections.specs.Asked.{EachGrows};
 ghost use Rattle.tcp_connections.specs.Kept.{messages_of};
 ghost use Rattle.tcp_connections.specs.declared.handler.Reply.{Reply as ReplyOf};
 ghost use Rattle.tcp_connections.specs.declared.handler.Unmade.{Unmade as WhyUnmade};
 ghost use Rattle.zone_server.specs.Replied.{IsReplied, IsUpdate, HasNoAnswer};
-ghost use Rattle.zone_server.specs.Answer.{IsStarted};
-ghost use Rattle.dns_engine.specs.Held.{IsLatest};
 ghost use Rattle.zone_replies.specs.Going.{transfer_left};
 ghost use Rattle.requests.specs.Served.{Grows};
-ghost use Rattle.zone_server.specs.Known.{learned_by, HasTooFew};
+ghost use Rattle.zone_server.specs.Known.{learned_by};
 ghost use Rattle.zone_replies.specs.PendingUpdates.{known_at, place_in, IsLater, IsWritten, IsMadeBy, IsToldOnce};
 
 use crate::pending_updates::{PendingUpdate, PendingUpdates, Place, told_at};
 use crate::transfer::Transfer;
-use dns_engine::{FirstZone, SharedVersion, VersionChain, VersionOwner, VersionReader};
+use crate::transfer_reply::begin_transfer;
+use dns_engine::{FirstZone, VersionReader};
 use dns_message::{Query, is_update};
-use serve_core::{Peer, Transport};
+use serve_core::Peer;
 use std::alloc::Global;
 use std::marker::Model;
 use std::mem;
@@ -32,8 +28,8 @@ use tcp_connections::{Handler, Reply, Unmade};
 use wire_names::NameWriter;
 use zone_server::{
     Answer, Poll, Server, ServerName, ServiceLog, Submitted, UpdateOutcome, UpdateResult,
-    UpdateSender, answer_request, serve_update, start_transfer, submit_stream, tell_refused,
-    tell_signed, tell_update, write_done, write_transfer,
+    UpdateSender, answer_request, serve_update, submit_stream, tell_refused, tell_signed,
+    tell_update, write_done,
 };
 
 /// Answers the peers of connections from a server, with a worker's reader, and logs updates. Contracts see which versions the reader has seen
@@ -65,54 +61,6 @@ impl<'a, 's, Z: FirstZone, N: ServerName, L> Model for ConnectionHandler<'a, 's,
     ghost view = { λ a. record { reader = a.reader; peer = a.peer; asker = a.asker; taken = a.taken; hands = is_some a.hand } };
 
     ghost invariant = { λ a. AreTakenUp a.taken a.reader };
-}
-
-/// The reply to a query for a transfer that is permitted in a version. The chain has the versions since the client's. Over a stream the reply is a
-/// [`Transfer`], which makes the messages. Over UDP it is one message.
-fn reply_transfer(
-    version: SharedVersion,
-    chain: VersionChain,
-    query: Query,
-    peer: Peer,
-    out: &mut [u8],
-) -> Reply<Transfer>
-    requires permitted { is_permitted version.zone peer query ≡ true }
-    requires room { message_limit ≤ length out.old }
-    ensures bound { (len : ℕ) → result ≡ ReplyOf.One len → (len ≤ message_limit) × (len ≤ length out.new) }
-    ensures messages { messages_of transfer_left result out.new ≡ messages_to version.zone (changes_by (soa_of version.zone) chain) peer query }
-{
-    match peer.transport {
-        Transport::Tcp => Reply::Many(Transfer::new(version, chain, query)),
-        Transport::Udp => match write_transfer(version.get(), &chain, &query, peer, out) {
-            Some(len) => Reply::One(len),
-            None => Reply::Silent,
-        },
-    }
-}
-
-/// Starts the transfer that a query asks for in the version that it was permitted in: the reply to it. `Spent` where the reader lacks a grant for one of
-/// the versions since the client's.
-fn begin_transfer<R: Wait, Z: FirstZone, N: ServerName>(
-    rt: &R,
-    server: &Server<'_, Z, N>,
-    reader: &mut VersionReader<N>,
-    strong: VersionOwner<'_, Z, N>,
-    query: Query,
-    peer: Peer,
-    out: &mut [u8],
-) -> Result<Reply<Transfer>, Unmade>
-    requires latest { IsLatest Z.zone reader.old.seen strong.value × (strong.value.number ≡ strong.number) }
-    requires permitted { is_permitted strong.value.zone peer query ≡ true }
-    requires room { message_limit ≤ length out.old }
-    ensures bound { IfOk result (λ reply. (len : ℕ) → reply ≡ ReplyOf.One len → (len ≤ message_limit) × (len ≤ length out.new)) }
-    ensures started { IfOk result (λ reply. IsStarted Z.zone peer query strong.entry.value reader.old reader.new (messages_of transfer_left reply out.new)) }
-    ensures unmade { IfErr result (λ unmade. unmade ≡ WhyUnmade.Spent) }
-    ensures spent { OnErr result (HasTooFew Z.zone query strong.entry.value reader.old reader.new) }
-{
-    match start_transfer(rt, server, reader, strong, &query) {
-        Ok((version, chain)) => Ok(reply_transfer(version, chain, query, peer, out)),
-        Err(_) => Err(Unmade::Spent),
-    }
 }
 
 /// Abandons the tickets of updates.
