@@ -16,6 +16,7 @@ use Rattle.zone_server.specs.declared.right.ServerName as server_names
 use Rattle.zone_server.proofs.ServerSendLemmas.{server_sync, sender_send}
 use Rattle.zone_replies.specs.contracts.connection_handler.ConnectionHandler as replies
 use Rattle.zone_replies.specs.contracts.connection_handler.ConnectionHandler.TheInside as inside
+use Rattle.zone_replies.specs.contracts.pending_updates.PendingQueue as queue
 use Rattle.zone_replies.specs.contracts.pending_updates.PendingUpdates as taken
 
 query_send : IsSend (query.the_field).row
@@ -24,8 +25,11 @@ query_send = search (array_vec.the_send, option.the_field_send, crossing.crosses
 names_send : IsSend names.the_row
 names_send = search (array_vec.the_send, crossing.crosses, sendable) depth 60 fits 20000
 
+queue_send : (N : RattleType) (n : naming.Ghosts N.Denot) → IsSend (queue.the_row N n)
+queue_send N n = search (cell.crosses, option.the_field_send, option.the_send, crossing.crosses, sendable) depth 60 fits 20000
+
 pending_send : (N : RattleType) (n : naming.Ghosts N.Denot) → IsSend (taken.the_row N n)
-pending_send N n = search (cell.crosses, option.the_field_send, option.the_send, crossing.crosses, sendable) depth 60 fits 20000
+pending_send N n = search (queue_send, cell.crosses, global.the_field_send, option.the_field_send, option.the_send, crossing.crosses, sendable) depth 60 fits 20000
 
 module _ (a b : NamedLft) (T N L : RattleType) (g : Ghosts T.Denot) (n : naming.Ghosts N.Denot) (s : server_names.Ghosts N.Denot) (hears : IsSync L) where
   inside_send : IsSend (inside.the_row a b T N L n g s)
