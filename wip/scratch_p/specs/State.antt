@@ -1,0 +1,14 @@
+-- The handler of connections, and the updates that are pending on them, as contracts see them (own).
+use Rattle.std.specs.Prelude.{ℕ, Bool, List}
+use Rattle.std.specs.declared.net.socket_addr.SocketAddr.{SocketAddr}
+use Rattle.zone_tree.specs.Version.{Version}
+use Rattle.snapshot_cell.specs.Tokens.{ReaderState}
+
+-- a pending update: the address of its peer, the ticket for its result, the number of the last version that was published when it was submitted, and
+-- what the reader knew before
+pub record PendingState : Type 0 where
+  pub from : SocketAddr
+  pub ticket : ℕ
+  pub number : ℕ
+  pub known : ReaderState Version
+

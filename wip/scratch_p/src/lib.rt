@@ -1,0 +1,4 @@
+//! Scratch.
+#![tactic(auto)]
+
+mod pending_updates;
