@@ -1,0 +1,3 @@
+pub mod Change
+pub mod Apart
+pub use Rattle.update_core.specs.Act
