@@ -5,3 +5,5 @@ pub mod First
 pub mod Law
 pub mod Serials
 pub mod ApartLemmas
+pub mod ChangeLemmas
+pub mod UpdateLemmas

@@ -69,6 +69,9 @@ module _ (r s : Record) (e : is_same_record r s ≡ true) where
   pub same_type : r.rtype ≡ s.rtype
   same_type = eqb-true r.rtype s.rtype (eqb_from_tie r.rtype s.rtype parts.1)
 
+  pub same_owner : is_same r.owner s.owner ≡ true
+  same_owner = same_from_tie r.owner s.owner parts.0
+
   pub is_one : IsLawful r → IsLawful s → r ≡ s
   is_one h k =
       let owner = h.folded ∙ folds_from_same r.owner s.owner (same_from_tie r.owner s.owner parts.0) ∙ sym k.folded in

@@ -4,7 +4,7 @@ ghost use Rattle.std.specs.Option.{option_copied};
 ghost use Rattle.std.specs.Ordering.{is_lt};
 ghost use Rattle.dns_rdata.specs.Record.{Record};
 ghost use Rattle.zone_tree.specs.Delta.{DifferOnlyAt};
-ghost use Rattle.zone_tree.specs.Sets.{set_cmp};
+ghost use Rattle.zone_tree.specs.Sets.{records_in, set_cmp};
 ghost use Rattle.zone_change.specs.Apart.{records_left};
 
 use dns_name::Name;
@@ -51,7 +51,7 @@ fn pass_before<'a>(
     next: Option<&'a RRset>,
     set: &RRset,
 ) -> Result<Option<&'a RRset>, AllocError>
-    ensures { (front other : List Record) → DifferOnlyAt owners.old.items (front ++ records_left (option_copied next) others.old) other
+    ensures { (front other : List Record) → DifferOnlyAt owners.old.items (front ++ records_left (option_copied next.entry) others.old) other
         → IfOk result (λ left. DifferOnlyAt owners.new.items (front ++ records_left (option_copied left) others.new) other) }
 {
     let mut left = next;
@@ -73,7 +73,7 @@ fn pass_beside<'a>(
     next: Option<&'a RRset>,
     set: &RRset,
 ) -> Result<Option<&'a RRset>, AllocError>
-    ensures { (front other : List Record) → DifferOnlyAt owners.old.items (front ++ records_left (option_copied next) others.old) other
+    ensures { (front other : List Record) → DifferOnlyAt owners.old.items (front ++ records_left (option_copied next.entry) others.old) other
         → IfOk result (λ left. DifferOnlyAt owners.new.items ((front ++ set.now) ++ records_left (option_copied left) others.new) other) }
 {
     if let Some(there) = next {
@@ -85,19 +85,29 @@ fn pass_beside<'a>(
     Ok(next)
 }
 
-/// Passes all sets that a walk has left, and notes their owners.
+/// Passes all sets that a walk has left after one that was taken from it, and notes their owners.
 fn pass_all<'a>(
     owners: &mut Vec<Name>,
     others: &mut Walk<'a>,
     next: Option<&'a RRset>,
 ) -> Result<(), AllocError>
-    ensures { (front other : List Record) → DifferOnlyAt owners.old.items (front ++ records_left (option_copied next) others.old) other
+    ensures { (front other : List Record) → DifferOnlyAt owners.old.items (front ++ records_left (option_copied next.entry) others.old) other
         → OnOk result (DifferOnlyAt owners.new.items front other) }
 {
-    let mut left = next;
-    while let Some(there) = left {
+    let Some(there) = next else {
+        return pass_rest(owners, others);
+    };
+    owners.push(there.owner())?;
+    pass_rest(owners, others)
+}
+
+/// Passes all sets that a walk has left, and notes their owners.
+fn pass_rest(owners: &mut Vec<Name>, others: &mut Walk<'_>) -> Result<(), AllocError>
+    ensures { (front other : List Record) → DifferOnlyAt owners.old.items (front ++ records_in others.old) other
+        → OnOk result (DifferOnlyAt owners.new.items front other) }
+{
+    while let Some(there) = others.next() {
         owners.push(there.owner())?;
-        left = others.next();
     }
     Ok(())
 }
