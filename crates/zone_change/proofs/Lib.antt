@@ -7,3 +7,4 @@ pub mod Serials
 pub mod ApartLemmas
 pub mod ChangeLemmas
 pub mod UpdateLemmas
+pub mod RecordsLemmas

@@ -1,5 +1,5 @@
 //! What changes between two zones of one apex.
-ghost use Rattle.std.specs.Prelude.{◌≡◌, ◌↔◌, false, IfOk, MatchOption};
+ghost use Rattle.std.specs.Prelude.{◌≡◌, ◌≢◌, ◌↔◌, false, IfOk, MatchOption};
 ghost use Rattle.std.specs.Result.{IsErrOf};
 ghost use Rattle.dns_name.specs.Name.{is_same};
 ghost use Rattle.zone_tree.specs.Zone.{IsZone, soa_of, apex_of};
@@ -35,7 +35,7 @@ pub fn change_between(
     next: &Zone,
 ) -> Result<Option<ZoneChange>, ChangeFault>
     ensures change { IfOk result (λ found. MatchOption found (aimed old.now next.now ≡ old.now)
-        (λ change. AreChanges change.delta old.now (aimed old.now next.now) × (change.soa ≡ soa_of (aimed old.now next.now)))) }
+        (λ change. AreChanges change.delta old.now (aimed old.now next.now) × (change.soa ≡ soa_of (aimed old.now next.now)) × (aimed old.now next.now ≢ old.now))) }
     ensures other { IsErrOf result ChangeFault.OtherApex ↔ (is_same (apex_of old.now) (apex_of next.now) ≡ false) }
     ensures room { IsErrOf result ChangeFault.NoRoom → ⊥ }
 {

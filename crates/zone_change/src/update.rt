@@ -1,5 +1,5 @@
 //! The update that takes one zone to another.
-ghost use Rattle.std.specs.Prelude.{◌≡◌, ◌↔◌, false, true, ◌++◌, map, take, All, bytes_eq, unwrap_or, None, IfOk, OnOk, IfSome, IsNone, MatchOption};
+ghost use Rattle.std.specs.Prelude.{◌≡◌, ◌≢◌, ◌↔◌, false, true, ◌++◌, map, take, All, bytes_eq, unwrap_or, None, IfOk, OnOk, IfSome, IsNone, MatchOption};
 ghost use Rattle.std.specs.List.{list_any};
 ghost use Rattle.std.specs.Result.{IsErrOf};
 ghost use Rattle.dns_name.specs.Name.{is_same};
@@ -94,7 +94,7 @@ fn records_to(
     requires apex { apex_of old.now ≡ apex_of next.now }
     requires delta { AreChanges change.now.delta old.now (aimed old.now next.now) }
     requires soa { change.now.soa ≡ soa_of (aimed old.now next.now) }
-    requires apart { aimed old.now next.now ≡ old.now → ⊥ }
+    requires apart { aimed old.now next.now ≢ old.now }
     ensures records { IfOk result (λ raws. raws.items ≡ change_records old.now (aimed old.now next.now)) }
     ensures other { IsErrOf result ChangeFault.OtherApex → ⊥ }
     ensures room { IsErrOf result ChangeFault.NoRoom → HasRoom old.now next.now → ⊥ }
