@@ -1,5 +1,6 @@
 pub mod Answers
 pub mod Apply
+pub mod Changed
 pub mod Fault
 pub mod Input
 pub mod Lines

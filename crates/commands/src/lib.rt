@@ -10,6 +10,7 @@
 
 mod answer;
 mod apply;
+mod changed;
 mod check;
 mod command;
 mod fault;
@@ -29,6 +30,7 @@ mod units;
 mod whole;
 
 pub use answer::run_answer;
+pub use changed::{ChangeEnd, ChangeForm, run_change};
 pub use check::run_check;
 pub use command::{Command, Source};
 pub use fault::{DONE, FAILED, Fault, REFUSED};

@@ -7,6 +7,7 @@
 
 pub mod begin;
 pub mod bound;
+pub mod changed;
 pub mod descriptors;
 pub mod kept;
 pub mod secondaries;
@@ -14,6 +15,7 @@ pub mod serve;
 pub mod stored;
 pub mod zone_file;
 
+use changed::run_changed;
 use command_line::{Task, parse_words, tell_fault};
 use commands::{Command, Ended, FAILED, Outcome, Source, run_text, run_with_zone, tell_of};
 use serve::run_serve;
@@ -72,6 +74,7 @@ fn run_words<
         ) => run_command(rt, &command, has_origin),
         Ok(Task::Serve(serve)) => run_serve(rt, &serve),
         Ok(Task::Stored(stored)) => run_stored(rt, stored),
+        Ok(Task::Change(change)) => run_changed(rt, &change),
         Err(fault) => tell_fault(rt, &fault),
     }
 }

@@ -51,7 +51,7 @@ fn pass_before<'a>(
     next: Option<&'a RRset>,
     set: &RRset,
 ) -> Result<Option<&'a RRset>, AllocError>
-    ensures { (front other : List Record) → DifferOnlyAt owners.old.items (front ++ records_left (option_copied next) others.old) other
+    ensures { (front other : List Record) → DifferOnlyAt owners.old.items (front ++ records_left (option_copied next.entry) others.old) other
         → IfOk result (λ left. DifferOnlyAt owners.new.items (front ++ records_left (option_copied left) others.new) other) }
 {
     let mut left = next;
@@ -73,7 +73,7 @@ fn pass_beside<'a>(
     next: Option<&'a RRset>,
     set: &RRset,
 ) -> Result<Option<&'a RRset>, AllocError>
-    ensures { (front other : List Record) → DifferOnlyAt owners.old.items (front ++ records_left (option_copied next) others.old) other
+    ensures { (front other : List Record) → DifferOnlyAt owners.old.items (front ++ records_left (option_copied next.entry) others.old) other
         → IfOk result (λ left. DifferOnlyAt owners.new.items ((front ++ set.now) ++ records_left (option_copied left) others.new) other) }
 {
     if let Some(there) = next {
@@ -91,7 +91,7 @@ fn pass_all<'a>(
     others: &mut Walk<'a>,
     next: Option<&'a RRset>,
 ) -> Result<(), AllocError>
-    ensures { (front other : List Record) → DifferOnlyAt owners.old.items (front ++ records_left (option_copied next) others.old) other
+    ensures { (front other : List Record) → DifferOnlyAt owners.old.items (front ++ records_left (option_copied next.entry) others.old) other
         → OnOk result (DifferOnlyAt owners.new.items front other) }
 {
     let mut left = next;

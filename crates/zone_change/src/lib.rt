@@ -9,9 +9,11 @@ mod apart;
 mod change;
 mod fault;
 mod laws;
+mod message;
 mod update;
 
 pub use change::{ZoneChange, change_between};
 pub use fault::ChangeFault;
 pub use laws::changes_lead_there;
+pub use message::{MessageFault, message_of};
 pub use update::change_to;
