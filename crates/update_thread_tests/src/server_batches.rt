@@ -57,7 +57,8 @@ fn put_three<R: Wait>(
     };
     put(rt, alloc, queue, ADD_1, first)?;
     put(rt, alloc, queue, ADD_2, second)?;
-    put(rt, alloc, queue, OUTSIDE, third)
+    put(rt, alloc, queue, OUTSIDE, third)?;
+    Some(())
 }
 
 /// Whether each reply datagram went to the address of its client, by the socket that received the request, and only the connection's key was

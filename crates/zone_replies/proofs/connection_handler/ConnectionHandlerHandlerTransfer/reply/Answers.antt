@@ -1,5 +1,5 @@
 -- What the reader has seen grows, and a reply by what it saw meanwhile is one by what it had seen.
-use Rattle.std.proofs.Common.{◌≡◌, [], ◌∷◌, None, IfErr, take, inl, inr, sym, ap, ◌∙◌, subst}
+use Rattle.std.proofs.Common.{◌≡◌, [], ◌∷◌, None, IfErr, take, inl, inr, sym, ap, ◌∙◌, subst, rules}
 use Rattle.zone_tree.specs.Version.{Version}
 use Rattle.snapshot_cell.specs.Tokens.{ReaderState}
 use Rattle.tcp_connections.specs.Asked.{EachGrows}
@@ -85,7 +85,8 @@ returns-in-Update-clause-unanswered g c = update_unspent c.self.inside.peer c.ar
 pub begin_transfer-requires : goal.begin_transfer-requires
 begin_transfer-requires g c =
     let permits = c.in-Transfer.ensures.answer in
-    record { latest = starts g.Z.FirstZone.zone c.self.inside.peer c.args.request.now c.self.inside.reader c.answer_request.new.reader c.answer_request.new.reader c.answer_request.new.query c.in-Transfer.strong permits; permitted = permits.permitted }
+    let latest = starts g.Z.FirstZone.zone c.self.inside.peer c.args.request.now c.self.inside.reader c.answer_request.new.reader c.answer_request.new.reader c.answer_request.new.query c.in-Transfer.strong permits in
+    (search rules, (latest, (permits.permitted, search rules)))
 
 pub invariant_of-self-in-Transfer : goal.invariant_of-self-in-Transfer
 invariant_of-self-in-Transfer g c =
