@@ -4,32 +4,31 @@ ghost use Rattle.transfer_core.specs.declared.kept.TheConstants.{KEPT};
 ghost use Rattle.dnsd.specs.Begun.{CanBegin};
 
 use crate::begin::{ServedZone, StartedStore, StartedZone, ZoneStore, prepare_zone};
-use crate::bound::{Unbound, WorkerSockets, bind_all, keep_datagrams, thread_specs_of};
-use crate::descriptors;
-use crate::kept::start_kept;
-use crate::secondaries::{SecondarySockets, put_secondaries, secondaries_for};
-use crate::zone_file::read_zone_file;
+use crate::thread_specs::{thread_specs_for, work_limits_of};
 use command_line::{MAX_THREADS, Serve, StorePlan, is_routed};
-use commands::{DONE, FAILED, Fault, Source, read_zone_text, tell};
-use master_file::{FileFault, read_zone};
+use commands::{DONE, FAILED};
+use dnsd_setup::{
+    SecondarySockets, WorkerSockets, bind_all, descriptors, keep_datagrams, secondaries_for,
+    start_kept, tell_unbound, tell_zone, text_for,
+};
+use master_file::read_zone;
 use notify::large_in;
 use requests::Allowed;
 use serve_workers::{
     ConnectionPlan, Most, Plan, Secondaries, ServeFault, Shutdown, ThreadSpec, UpdateConfig,
     WorkLimit, serve_zone,
 };
-use server_log::{Entries, Level, Listening, Log, LogLine, start_entries};
+use server_log::{Entries, Listening, Log, LogLine, start_entries};
 use std::alloc::Global;
 use std::fs::{File, Files};
-use std::io::{self, BufReader, ErrorKind};
 use std::marker::Brand;
-use std::mem;
 use std::net::{Net, SocketAddr, TcpListener, TcpStream};
 use std::random::RandomSource;
 use std::rt::Env;
 use std::sync::Wait;
 use std::thread::Threads;
 use std::time::Clock;
+use std::{io, mem};
 use store_compaction::{TextWriter, ThreadTextWriter};
 use zone_tree::{Zone, ZoneRead};
 
@@ -93,21 +92,6 @@ fn serve_zone_text<
     serve_on_sockets(rt, serve, StartedZone::Zone(zone), bound)
 }
 
-/// The zone's text. None if its file cannot be read; standard error then has the reason.
-fn text_for<R: Files<File = File> + Env + Eprint + Input + AllocGlobal>(
-    rt: &R,
-    serve: &Serve<'_>,
-) -> io::Result<Option<Vec<u8>>> {
-    let alloc = rt.alloc();
-    match serve.zone {
-        Source::Input => {
-            let text = read_zone_text(alloc, &mut BufReader::new(alloc, rt.reader())?)?;
-            Ok(Some(text))
-        }
-        Source::File(path) => read_zone_file(rt, path),
-    }
-}
-
 /// Serves the zone of a store, or the zone of the text from which the store is created.
 fn serve_store<
     R: Files<File = File>
@@ -139,20 +123,6 @@ fn serve_store<
         started,
     };
     serve_on_sockets(rt, serve, StartedZone::Store(kept), bound)
-}
-
-/// Reports on standard error why a zone's text is refused, and returns the program's status.
-fn tell_zone<R: Env + Eprint + AllocGlobal>(
-    rt: &R,
-    text: &[u8],
-    fault: FileFault,
-) -> io::Result<u8> {
-    let alloc = rt.alloc();
-    let mut errors = Vec::new(alloc);
-    let status = tell(alloc, Err(Fault::Zone(fault)), text, &mut errors);
-    rt.eprint(Level::Error.mark_for(rt))?;
-    rt.eprint(String::from_utf8_lossy(alloc, errors.as_slice())?)?;
-    Ok(status)
 }
 
 /// What a server acquires from the system before it has a zone.
@@ -205,34 +175,6 @@ fn bind<
         secondaries,
         entries: start_entries(rt)?,
     }))
-}
-
-/// Writes why an address cannot be listened on to standard error.
-fn tell_unbound<R: Env + AllocGlobal + Eprint>(rt: &R, unbound: &Unbound) -> io::Result<()> {
-    let Unbound {
-        listen,
-        transport,
-        fault,
-    } = unbound;
-    let mark = Level::Error.mark_for(rt);
-    match reason_of(fault) {
-        Some(reason) => {
-            eprintln!(rt; "{mark}error: cannot listen on {listen} ({transport}): {reason}")
-        }
-        None => { eprintln!(rt; "{mark}error: cannot listen on {listen} ({transport}): {fault}") }
-    }
-}
-
-/// Why an address cannot be listened on, in an operator's words. None if the text of the I/O error is used.
-fn reason_of(fault: &io::Error) -> Option<&'static str> {
-    match fault.kind() {
-        ErrorKind::AddrInUse => Some("address in use"),
-        ErrorKind::AddrNotAvailable => Some("not an address of this machine"),
-        ErrorKind::PermissionDenied => {
-            Some("a port below 1024 needs root or the capability CAP_NET_BIND_SERVICE")
-        }
-        _ => None,
-    }
 }
 
 /// Serves a zone on sockets that are already bound.
@@ -357,20 +299,6 @@ fn serve_on_workers<
     serve_with_specs(rt, alloc, serve, begun, duties, log)
 }
 
-/// What each thread serves: each worker's listeners, each of its UDP sockets, and, in one more thread, the secondaries. None if there is not enough
-/// memory.
-fn thread_specs_for<'a>(
-    alloc: Global,
-    sockets: Vec<WorkerSockets>,
-    secondaries: Secondaries,
-    progresses: &'a [WorkLimit],
-    telling: &'a WorkLimit,
-) -> Option<Vec<ThreadSpec<'a>>> {
-    let mut duties = thread_specs_of(alloc, sockets, progresses)?;
-    put_secondaries(&mut duties, telling, secondaries)?;
-    Some(duties)
-}
-
 /// Serves a zone with one thread for each of these duties.
 fn serve_with_specs<
     R: Files<File = File>
@@ -416,15 +344,6 @@ fn serve_with_specs<
         octets: serve.update_queue,
     };
     serve_with_store(rt, alloc, most, begun, texts, duties, plan, log)
-}
-
-/// The work limits of the workers, each of which exits after `most` datagrams and connections. None if there is not enough memory.
-fn work_limits_of(alloc: Global, workers: usize, most: u64) -> Option<Vec<WorkLimit>> {
-    let mut progresses = Vec::new(alloc);
-    for _ in 0..workers {
-        progresses.push(WorkLimit::new(most)).ok()?;
-    }
-    Some(progresses)
 }
 
 /// Serves a zone with one thread for each of these duties. At most `most` updates wait, and the store's zone texts are written by `texts`.

@@ -1,19 +1,21 @@
 //! The sockets on which a zone is served (RFC 1035, 4.2).
-use serve_workers::{Sockets, ThreadSpec, WorkLimit};
+use log_lines::Level;
 use sockets::{Turn, bind_datagrams, bind_listener, keep_received};
 use std::alloc::Global;
 use std::io::{self, ErrorKind};
 use std::net::{Net, SocketAddr, TcpListener, UdpSocket};
+use std::rt::Env;
 
 /// The sockets of a worker: for each address a UDP socket and a TCP listener.
 #[derive(Drop)]
 pub struct WorkerSockets {
-    datagrams: Vec<UdpSocket>,
-    listeners: Vec<TcpListener>,
+    /// The UDP sockets.
+    pub datagrams: Vec<UdpSocket>,
+    /// The TCP listeners.
+    pub listeners: Vec<TcpListener>,
 }
 
 /// An address that cannot be listened on, and why.
-#[derive(Drop)]
 pub struct Unbound {
     /// The address and port.
     pub listen: SocketAddr,
@@ -21,6 +23,17 @@ pub struct Unbound {
     pub transport: &'static str,
     /// The reason.
     pub fault: io::Error,
+}
+
+// By hand: a derived drop is proved once more in each crate that lets such a value go.
+impl Drop for Unbound {
+    fn drop(self) {
+        let Unbound {
+            listen: _,
+            transport: _,
+            fault: _,
+        } = self;
+    }
 }
 
 /// Binds a listener and a UDP socket at an address. Also returns the address with the port that they were given.
@@ -148,49 +161,30 @@ fn keep_for(worker: &WorkerSockets, octets: u32) -> u32 {
     fewest
 }
 
-/// What each thread serves: for each worker, one thread serves its listeners, and one more thread each of its UDP sockets. None if there is not
-/// enough memory, or fewer limits than workers.
-pub fn thread_specs_of<'a>(
-    alloc: Global,
-    workers: Vec<WorkerSockets>,
-    progresses: &'a [WorkLimit],
-) -> Option<Vec<ThreadSpec<'a>>> {
-    let mut duties = Vec::new(alloc);
-    let mut worker = 0usize;
-    for sockets in workers {
-        let progress = progresses.get(worker)?;
-        worker = worker.saturating_add(1);
-        put_thread_specs(&mut duties, worker, progress, sockets)?;
+/// Writes why an address cannot be listened on to standard error.
+pub fn tell_unbound<R: Env + AllocGlobal + Eprint>(rt: &R, unbound: &Unbound) -> io::Result<()> {
+    let Unbound {
+        listen,
+        transport,
+        fault,
+    } = unbound;
+    let mark = Level::Error.mark_for(rt);
+    match reason_of(fault) {
+        Some(reason) => {
+            eprintln!(rt; "{mark}error: cannot listen on {listen} ({transport}): {reason}")
+        }
+        None => { eprintln!(rt; "{mark}error: cannot listen on {listen} ({transport}): {fault}") }
     }
-    Some(duties)
 }
 
-/// Appends what a worker's threads serve.
-fn put_thread_specs<'a>(
-    duties: &mut Vec<ThreadSpec<'a>>,
-    worker: usize,
-    progress: &'a WorkLimit,
-    sockets: WorkerSockets,
-) -> Option<()> {
-    let WorkerSockets {
-        datagrams,
-        listeners,
-    } = sockets;
-    duties
-        .push(ThreadSpec {
-            worker,
-            progress,
-            sockets: Sockets::Connections(listeners),
-        })
-        .ok()?;
-    for socket in datagrams {
-        duties
-            .push(ThreadSpec {
-                worker,
-                progress,
-                sockets: Sockets::Datagrams(socket),
-            })
-            .ok()?;
+/// Why an address cannot be listened on, in an operator's words. None if the text of the I/O error is used.
+fn reason_of(fault: &io::Error) -> Option<&'static str> {
+    match fault.kind() {
+        ErrorKind::AddrInUse => Some("address in use"),
+        ErrorKind::AddrNotAvailable => Some("not an address of this machine"),
+        ErrorKind::PermissionDenied => {
+            Some("a port below 1024 needs root or the capability CAP_NET_BIND_SERVICE")
+        }
+        _ => None,
     }
-    Some(())
 }

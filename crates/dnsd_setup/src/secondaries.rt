@@ -1,13 +1,13 @@
 //! The sockets for notifying secondaries of each version of the zone (RFC 1996).
 use command_line::{Secondary, source_of};
 use dns_name::Name;
-use serve_workers::{NotifySocket, Secondaries, Sockets, ThreadSpec, WorkLimit};
-use server_log::Level;
+use log_lines::Level;
 use std::alloc::Global;
 use std::io::{self, ErrorKind};
 use std::net::{Net, SocketAddr, UdpSocket};
 use std::random::RandomSource;
 use std::rt::Env;
+use worker_jobs::{NotifySocket, Secondaries};
 
 /// The size of the seed for message IDs, in octets.
 const SEED: usize = 32;
@@ -45,12 +45,21 @@ fn socket_for<R: Net>(rt: &R, source: SocketAddr, address: SocketAddr) -> io::Re
 }
 
 /// What is needed to notify secondaries of any zone.
-#[derive(Drop)]
 pub struct SecondarySockets {
     /// A socket for each secondary.
     sockets: Vec<NotifySocket>,
     /// The seed for message IDs.
     seed: [u8; SEED],
+}
+
+// By hand: a derived drop is proved once more in each crate that lets such a value go.
+impl Drop for SecondarySockets {
+    fn drop(self) {
+        let SecondarySockets {
+            sockets: _,
+            seed: _,
+        } = self;
+    }
 }
 
 impl SecondarySockets {
@@ -85,23 +94,4 @@ pub fn secondaries_for<R: Env + AllocGlobal + Net + Eprint + RandomSource>(
         rt.fill_bytes(&mut seed)?;
     }
     Ok(Some(SecondarySockets { sockets, seed }))
-}
-
-/// Appends what the thread for secondaries serves, if there are any. None if there is not enough memory.
-pub fn put_secondaries<'a>(
-    duties: &mut Vec<ThreadSpec<'a>>,
-    progress: &'a WorkLimit,
-    secondaries: Secondaries,
-) -> Option<()> {
-    if secondaries.sockets.is_empty() {
-        return Some(());
-    }
-    let worker = duties.len().saturating_add(1);
-    duties
-        .push(ThreadSpec {
-            worker,
-            progress,
-            sockets: Sockets::Secondaries(secondaries),
-        })
-        .ok()
 }

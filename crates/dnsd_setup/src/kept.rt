@@ -4,7 +4,7 @@ ghost use Rattle.store_server.specs.Resumed.{IsGiven};
 
 use command_line::{Serve, StorePlan};
 use commands::{FAILED, Fault, REFUSED, tell};
-use server_log::Level;
+use log_lines::Level;
 use std::alloc::Global;
 use std::fs::{File, Files};
 use std::io;
