@@ -23,7 +23,7 @@ use Rattle.zone_server.proofs.ServerSendLemmas.{server_sync, sender_send}
 use Rattle.zone_server.specs.contracts.datagram_handler.DatagramHandler as asked
 use Rattle.zone_replies.specs.contracts.transfer.Transfer as transfer
 use Rattle.worker_jobs.specs.contracts.connections_job.ConnectionsJob as connections
-use Rattle.worker_jobs.specs.contracts.waking_poll.WakingPoll as hearing
+use Rattle.worker_jobs.specs.contracts.waking_poll.WakingPoll as waking
 use Rattle.worker_jobs.specs.contracts.notify_job.NotifyJob as telling
 use Rattle.worker_jobs.specs.contracts.wake_list.State as state
 use Rattle.worker_jobs.specs.contracts.wake_list.WakeList as keys
@@ -53,7 +53,7 @@ woken_send = search (option.the_field_send, option.the_send, crossing.crosses, s
 pub woken_sync : IsSync keys.the_row
 woken_sync = recorded_sync (keys.the_field).row _ _ (keys.the_type).to_one (struct_sync (shape (keys.the_type)) (mutex.the_sync _ woken_send, tt))
 
-waking_send : (a : NamedLft) (P : RattleType) → IsSend P → IsSend (hearing.the_field a P).row
+waking_send : (a : NamedLft) (P : RattleType) → IsSend P → IsSend (waking.the_field a P).row
 waking_send a P polls = search (woken_sync, option.the_field_send, option.the_send, crossing.crosses, sendable) depth 60 fits 20000
 
 connections_send : (a : NamedLft) (S P L C : RattleType) → IsSend S → IsSend P → IsSend L → IsSync C → IsSend (connections.the_field a S P L C).row

@@ -217,7 +217,7 @@ impl<
         if self.standing.is_over() {
             return Some(JobEnd::Done(self.standing.progress.done()));
         }
-        self.poll.hear(rt);
+        self.poll.take_woken(rt);
         let Scratch { request, reply } = &mut *self.scratch;
         let taken = self.turns.poll_once(
             rt,

@@ -95,7 +95,7 @@ pub struct NotifyJob<'a, C> {
     apex: Name,
     ids: ChaCha20Rng,
     clock: &'a C,
-    muster: &'a Shutdown,
+    shutdown: &'a Shutdown,
     sent: u64,
     end: Option<JobEnd>,
 }
@@ -109,7 +109,7 @@ impl<'a, C> Drop for NotifyJob<'a, C> {
             apex: _,
             ids: _,
             clock: _,
-            muster: _,
+            shutdown: _,
             sent: _,
             end: _,
         } = self;
@@ -123,7 +123,7 @@ impl<'a, C: Clock> NotifyJob<'a, C> {
         number: usize,
         secondaries: Secondaries,
         clock: &'a C,
-        muster: &'a Shutdown,
+        shutdown: &'a Shutdown,
     ) -> Result<NotifyJob<'a, C>, AllocError>
         ensures { IfOk result (λ job. job.number ≡ number) }
     {
@@ -143,7 +143,7 @@ impl<'a, C: Clock> NotifyJob<'a, C> {
             apex,
             ids: ChaCha20Rng::from_seed(seed),
             clock,
-            muster,
+            shutdown,
             sent: 0,
             end: None,
         })
@@ -207,7 +207,7 @@ impl<'a, C: Clock> NotifyJob<'a, C> {
         ensures grows { Grows (A.seen answering.new) (A.seen answering.old) }
         ensures number { self.new.number ≡ self.old.number }
     {
-        let is_over = self.muster.is_ending() || self.muster.has_one_left();
+        let is_over = self.shutdown.is_ending() || self.shutdown.has_one_left();
         self.notifier.show(millis_of(self.clock));
         let wait = match self.do_due(rt, answering, log) {
             Ok(wait) => wait.unwrap_or(LONGEST_LOOK).min(LONGEST_LOOK),

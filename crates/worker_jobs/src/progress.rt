@@ -119,18 +119,18 @@ impl WorkLimit {
 /// Tells a thread whether to end, from the limit of its worker and the shutdown of the server.
 #[derive(Clone, Copy)]
 pub struct StopFlag<'a> {
-    pub(crate) muster: &'a Shutdown,
+    pub(crate) shutdown: &'a Shutdown,
     pub(crate) progress: &'a WorkLimit,
 }
 
 impl<'a> StopFlag<'a> {
     /// For a thread of a worker.
-    pub fn new(muster: &'a Shutdown, progress: &'a WorkLimit) -> StopFlag<'a> {
-        StopFlag { muster, progress }
+    pub fn new(shutdown: &'a Shutdown, progress: &'a WorkLimit) -> StopFlag<'a> {
+        StopFlag { shutdown, progress }
     }
 
     /// Whether the thread is to end: its worker has reached its limit, or the server is to end.
     pub(crate) fn is_over(self) -> bool {
-        self.progress.is_done() || self.muster.is_ending()
+        self.progress.is_done() || self.shutdown.is_ending()
     }
 }

@@ -9,30 +9,30 @@ use tcp_loop::{NotWatched, Readiness};
 
 /// The list to which other threads add keys, and the keys taken from it.
 struct WakeSource<'a> {
-    told: &'a WakeList,
+    list: &'a WakeList,
     /// Keys that were taken from the list, and aren't reported as ready yet.
-    heard: Vec<usize>,
+    woken: Vec<usize>,
 }
 
 // By hand: a derived drop is proved once more in each crate that lets such a value go.
 impl<'a> Drop for WakeSource<'a> {
     fn drop(self) {
-        let WakeSource { told: _, heard: _ } = self;
+        let WakeSource { list: _, woken: _ } = self;
     }
 }
 
 impl WakeSource<'_> {
     /// Takes the woken keys from the list.
-    fn hear<R: Wait>(&mut self, rt: &R) {
+    fn take_woken<R: Wait>(&mut self, rt: &R) {
         for _ in rt.forever() {
             // A key for which there is no memory stays in the list.
-            if self.heard.try_reserve(1).is_err() {
+            if self.woken.try_reserve(1).is_err() {
                 return;
             }
-            let Some(key) = self.told.take(rt) else {
+            let Some(key) = self.list.take(rt) else {
                 return;
             };
-            let _ = self.heard.push(key);
+            let _ = self.woken.push(key);
         }
     }
 }
@@ -40,63 +40,63 @@ impl WakeSource<'_> {
 /// Waits until a stream may be ready, or another thread wakes a connection, whose key is then reported as ready.
 pub(crate) struct WakingPoll<'a, P> {
     poll: P,
-    ears: Option<WakeSource<'a>>,
+    wakes: Option<WakeSource<'a>>,
 }
 
 impl<'a, P: Drop> Drop for WakingPoll<'a, P> {
     fn drop(self) {
-        let WakingPoll { poll: _, ears: _ } = self;
+        let WakingPoll { poll: _, wakes: _ } = self;
     }
 }
 
 impl<'a, P> WakingPoll<'a, P> {
     /// Waits with a poll alone.
     pub(crate) fn new(poll: P) -> WakingPoll<'a, P> {
-        WakingPoll { poll, ears: None }
+        WakingPoll { poll, wakes: None }
     }
 
     /// Makes it take woken keys from a list too. Threads that add a key end its waits.
-    pub(crate) fn listen(&mut self, alloc: Global, told: &'a WakeList) {
-        self.ears = Some(WakeSource {
-            told,
-            heard: Vec::new(alloc),
+    pub(crate) fn listen(&mut self, alloc: Global, list: &'a WakeList) {
+        self.wakes = Some(WakeSource {
+            list,
+            woken: Vec::new(alloc),
         });
     }
 
     /// Takes the woken keys from the list.
-    pub(crate) fn hear<R: Wait>(&mut self, rt: &R) {
-        if let Some(ears) = &mut self.ears {
-            ears.hear(rt);
+    pub(crate) fn take_woken<R: Wait>(&mut self, rt: &R) {
+        if let Some(wakes) = &mut self.wakes {
+            wakes.take_woken(rt);
         }
     }
 
     /// How long to wait: `most`, or not at all where woken keys were taken.
     fn patience(&self, most: u64) -> u64 {
-        match &self.ears {
-            Some(ears) => { if ears.heard.is_empty() { most } else { 0 } }
+        match &self.wakes {
+            Some(wakes) => { if wakes.woken.is_empty() { most } else { 0 } }
             None => most,
         }
     }
 
     /// Appends the woken keys that were taken to `keys`. False where there was no memory for all of them.
-    fn put_heard(&mut self, keys: &mut Vec<usize>) -> bool
+    fn put_woken(&mut self, keys: &mut Vec<usize>) -> bool
         ensures { self.new.poll ≡ self.old.poll }
     {
-        let Some(ears) = &mut self.ears else {
+        let Some(wakes) = &mut self.wakes else {
             return true;
         };
-        for key in ears.heard.iter() {
+        for key in wakes.woken.iter() {
             if keys.push(*key).is_err() {
                 return false;
             }
         }
-        ears.heard.clear();
+        wakes.woken.clear();
         true
     }
 }
 
 impl<S: Blocking, P: Readiness<S>> Readiness<S> for WakingPoll<'_, P> {
-    ghost time = { λ hearing. P.time hearing.poll };
+    ghost time = { λ polling. P.time polling.poll };
 
     fn watch(&mut self, stream: &mut S, key: usize) -> Result<(), NotWatched> {
         self.poll.watch(stream, key)
@@ -107,7 +107,7 @@ impl<S: Blocking, P: Readiness<S>> Readiness<S> for WakingPoll<'_, P> {
         let Ok(now) = self.poll.wait(most, keys) else {
             return Err(NotWatched);
         };
-        if self.put_heard(keys) {
+        if self.put_woken(keys) {
             Ok(now)
         } else {
             Err(NotWatched)

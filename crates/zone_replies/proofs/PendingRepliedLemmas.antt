@@ -4,6 +4,7 @@ use Rattle.std.specs.Prelude.{◌++◌, take, replicate}
 use Rattle.dns_rdata.specs.Record.{Record}
 use Rattle.dns_message.specs.Request.{is_update, reads}
 use Rattle.dns_message.specs.declared.query.Parsed.TheVariants.{Update as SaysUpdate}
+use Rattle.dns_message.specs.declared.query.Query.{Query as QueryAsked}
 use Rattle.zone_tree.specs.Version.{Version}
 use Rattle.snapshot_cell.specs.Tokens.{ReaderState}
 use Rattle.serve_core.specs.declared.peer.Peer.{Peer}
@@ -17,6 +18,7 @@ use Rattle.zone_server.specs.declared.update_result.UpdateResult.{UpdateResult}
 use Rattle.zone_server.specs.UpdateResult.{IsDone}
 use Rattle.zone_server.specs.Known.{learned_by}
 use Rattle.zone_server.specs.QueuedUpdate.{MeetsAt}
+use Rattle.zone_server.specs.Answer.{PermitsTransfer}
 use Rattle.zone_server.specs.Replied.{IsReplied, IsQuery, IsTransfer, HasNoAnswer}
 use Rattle.zone_server.proofs.AboutLemmas.{no_older}
 use Rattle.zone_server.proofs.ReplyDoneLemmas.{done_replied, unheard_replied, grows_met}
@@ -137,14 +139,14 @@ update_later peer same request (Ok x) is later = tt
 update_later peer same request (Err unmade) is later = λ e. subst (λ (p : Peer). IsLater p request) is later.1
 
 -- and it needs no grant
-pub update_unspent : {T P : Type 0} (peer : Peer) (request : List ℕ) (result : Result T Unmade) → IfErr result (λ unmade. (unmade ≡ Later) × IsLater peer request) → IfErr result (λ unmade. unmade ≡ Spent → P)
-update_unspent peer request (Ok x) later = tt
-update_unspent peer request (Err unmade) later = λ e. absurd (apart (sym later.0 ∙ e))
+pub update_unspent : {T : Type 0} (P : Type 0) (peer : Peer) (request : List ℕ) (result : Result T Unmade) → IfErr result (λ unmade. (unmade ≡ Later) × IsLater peer request) → IfErr result (λ unmade. unmade ≡ Spent → P)
+update_unspent P peer request (Ok x) later = tt
+update_unspent P peer request (Err unmade) later = λ e. absurd (apart (sym later.0 ∙ e))
 
 -- a transfer isn't answered later
-pub transfer_unlater : {T P : Type 0} (result : Result T Unmade) → IfErr result (λ unmade. unmade ≡ Spent) → IfErr result (λ unmade. unmade ≡ Later → P)
-transfer_unlater (Ok x) spent = tt
-transfer_unlater (Err unmade) spent = λ e. absurd (apart (sym e ∙ spent))
+pub transfer_unlater : {T : Type 0} (P : Type 0) (result : Result T Unmade) → IfErr result (λ unmade. unmade ≡ Spent) → IfErr result (λ unmade. unmade ≡ Later → P)
+transfer_unlater P (Ok x) spent = tt
+transfer_unlater P (Err unmade) spent = λ e. absurd (apart (sym e ∙ spent))
 
 -- if grants are lacking for it, none is left
 pub spent_left : {T : Type 0} (first : List Record) (peer : Peer) (request : List ℕ) (after : ReaderState Version) (result : Result T Unmade) → OnErr result (IsTransfer first peer request × (after.left ≡ 0)) → IfErr result (λ unmade. unmade ≡ Spent → after.left ≡ 0)
@@ -156,3 +158,8 @@ pub spent_unanswered : {T : Type 0} (first : List Record) (peer same : Peer) (re
     → IfErr result (λ unmade. unmade ≡ Spent → HasNoAnswer first same request before after)
 spent_unanswered first peer same request before after (Ok x) is spent = tt
 spent_unanswered first peer same request before after (Err unmade) is spent = λ e. inr (subst (λ (p : Peer). IsTransfer first p request × (after.left ≡ 0)) is spent)
+
+-- a transfer is permitted by the query that was moved out, as by the one that was read
+pub permits_moved : (first : List Record) (peer : Peer) (request : List ℕ) (before after : ReaderState Version) (owned : _) (read moved : QueryAsked) → moved ≡ read → PermitsTransfer first peer request before after read owned
+    → PermitsTransfer first peer request before after moved owned
+permits_moved first peer request before after owned read moved same permits = subst (λ (q : QueryAsked). PermitsTransfer first peer request before after q owned) (sym same) permits

@@ -20,4 +20,4 @@ pub record HandlerState : Type 0 where
   pub peer : Peer
   pub asker : ℕ
   pub taken : List (Option PendingState)
-  pub hands : Bool
+  pub submits : Bool

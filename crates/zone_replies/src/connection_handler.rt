@@ -51,7 +51,7 @@ pub struct ConnectionHandler<'a, 's, Z: FirstZone, N: ServerName, L> {
     query: Query,
     names: NameWriter,
     /// The sender to the update thread. None where the engine answers updates at once.
-    hand: Option<UpdateSender<'a>>,
+    sender: Option<UpdateSender<'a>>,
     taken: PendingUpdates<N>,
 }
 
@@ -62,7 +62,7 @@ impl<'a, 's, Z: FirstZone, N: ServerName, L> Model for ConnectionHandler<'a, 's,
 
     ghost Value = { HandlerState };
 
-    ghost view = { λ a. record { reader = a.reader; peer = a.peer; asker = a.asker; taken = a.taken; hands = is_some a.hand } };
+    ghost view = { λ a. record { reader = a.reader; peer = a.peer; asker = a.asker; taken = a.taken; submits = is_some a.sender } };
 
     ghost invariant = { λ a. AreTakenUp a.taken a.reader };
 }
@@ -127,7 +127,7 @@ impl<'a, 's, Z: FirstZone, N: ServerName, L: ServiceLog> ConnectionHandler<'a, '
     ) -> ConnectionHandler<'a, 's, Z, N, L>
         ensures reader { result.reader ≡ reader }
         ensures peer { result.peer ≡ peer }
-        ensures hands { result.hands ≡ false }
+        ensures submits { result.submits ≡ false }
     {
         ConnectionHandler {
             server,
@@ -139,22 +139,22 @@ impl<'a, 's, Z: FirstZone, N: ServerName, L: ServiceLog> ConnectionHandler<'a, '
             asker: 0,
             query: Query::blank(),
             names: NameWriter::new(),
-            hand: None,
+            sender: None,
             taken: PendingUpdates::new(alloc),
         }
     }
 
     /// The same handler, which submits updates of peers that may update to the update thread, and answers them later.
-    pub fn with_sender(self, hand: UpdateSender<'a>) -> ConnectionHandler<'a, 's, Z, N, L>
+    pub fn with_sender(self, sender: UpdateSender<'a>) -> ConnectionHandler<'a, 's, Z, N, L>
         ensures reader { result.reader ≡ self.entry.reader }
         ensures peer { result.peer ≡ self.entry.peer }
         ensures asker { result.asker ≡ self.entry.asker }
         ensures taken { result.taken ≡ self.entry.taken }
-        ensures hands { result.hands ≡ true }
+        ensures submits { result.submits ≡ true }
     {
-        let mut handing = self;
-        handing.hand = Some(hand);
-        handing
+        let mut handler = self;
+        handler.sender = Some(sender);
+        handler
     }
 
     /// Gives back its reader.
@@ -166,13 +166,13 @@ impl<'a, 's, Z: FirstZone, N: ServerName, L: ServiceLog> ConnectionHandler<'a, '
 
     /// The sender for a request: some exactly where the handler submits updates and the request is an update of a peer that may update.
     fn sender_for(&self, request: &[u8]) -> Option<UpdateSender<'a>>
-        ensures { MatchOption result ((self.now.hands ≡ false) ⊎ (IsLater self.now.peer request.now → ⊥)) (λ _. IsLater self.now.peer request.now × (self.now.hands ≡ true)) }
+        ensures { MatchOption result ((self.now.submits ≡ false) ⊎ (IsLater self.now.peer request.now → ⊥)) (λ _. IsLater self.now.peer request.now × (self.now.submits ≡ true)) }
     {
-        let Some(hand) = self.hand else {
+        let Some(sender) = self.sender else {
             return None;
         };
         if self.peer.may_update && is_update(request) {
-            return Some(hand);
+            return Some(sender);
         }
         None
     }
@@ -183,8 +183,8 @@ impl<'a, 's, Z: FirstZone, N: ServerName, L: ServiceLog> ConnectionHandler<'a, '
         ensures peer { self.new.peer ≡ self.old.peer }
         ensures asker { self.new.asker ≡ self.old.asker }
         ensures reader { self.new.reader ≡ self.old.reader }
-        ensures hands { self.new.hands ≡ self.old.hands }
-        ensures other { (self.old.hands ≡ false) ⊎ (IsLater self.old.peer request.now → ⊥) → place_in self.new.taken self.old.asker ≡ None }
+        ensures submits { self.new.submits ≡ self.old.submits }
+        ensures other { (self.old.submits ≡ false) ⊎ (IsLater self.old.peer request.now → ⊥) → place_in self.new.taken self.old.asker ≡ None }
         ensures grows { EachGrows {T = Version} (known_at self.new.taken self.new.reader) (known_at self.old.taken self.old.reader) }
     {
         let Some(place) = self.taken.at(self.asker) else {
@@ -220,7 +220,7 @@ impl<'a, 's, Z: FirstZone, N: ServerName, L: ServiceLog> ConnectionHandler<'a, '
     fn take_up<R: Wait>(
         &mut self,
         rt: &R,
-        hand: UpdateSender<'a>,
+        sender: UpdateSender<'a>,
         request: &[u8],
         out: &mut [u8],
     ) -> Result<Reply<Transfer>, Unmade>
@@ -237,8 +237,8 @@ impl<'a, 's, Z: FirstZone, N: ServerName, L: ServiceLog> ConnectionHandler<'a, '
         let (key, peer) = (self.asker, self.peer);
         tell_signed(rt, self.log, self.from, request);
         let known = Snapshot::of(&self.reader);
-        let hand = if self.taken.make_room(key) {
-            Some(hand)
+        let sender = if self.taken.make_room(key) {
+            Some(sender)
         } else {
             None
         };
@@ -247,7 +247,7 @@ impl<'a, 's, Z: FirstZone, N: ServerName, L: ServiceLog> ConnectionHandler<'a, '
             self.alloc,
             self.server,
             &mut self.reader,
-            hand,
+            sender,
             key,
             peer,
             request,
@@ -314,7 +314,7 @@ impl<'a, 's, Z: FirstZone, N: ServerName, L: ServiceLog> ConnectionHandler<'a, '
     fn reply_update<R: Wait>(
         &mut self,
         rt: &R,
-        hand: UpdateSender<'a>,
+        sender: UpdateSender<'a>,
         request: &[u8],
         out: &mut [u8],
     ) -> Result<Reply<Transfer>, Unmade>
@@ -330,7 +330,7 @@ impl<'a, 's, Z: FirstZone, N: ServerName, L: ServiceLog> ConnectionHandler<'a, '
         match self.reply_taken(rt, request, out) {
             Ok(told) => match told {
                 Some(len) => Ok(Reply::One(len)),
-                None => self.take_up(rt, hand, request, out),
+                None => self.take_up(rt, sender, request, out),
             },
             Err(unmade) => Err(unmade),
         }
@@ -371,7 +371,7 @@ impl<'a, 's, Z: FirstZone, N: ServerName, L: ServiceLog> ConnectionHandler<'a, '
         out: &mut [u8],
     ) -> Result<Reply<Transfer>, Unmade>
         requires update { IsUpdate request.now }
-        requires other { (self.old.hands ≡ false) ⊎ (IsLater self.old.peer request.now → ⊥) → place_in self.old.taken self.old.asker ≡ None }
+        requires other { (self.old.submits ≡ false) ⊎ (IsLater self.old.peer request.now → ⊥) → place_in self.old.taken self.old.asker ≡ None }
         requires room { message_limit ≤ length out.old }
         ensures peer { self.new.peer ≡ self.old.peer }
         ensures asker { self.new.asker ≡ self.old.asker }
@@ -381,7 +381,7 @@ impl<'a, 's, Z: FirstZone, N: ServerName, L: ServiceLog> ConnectionHandler<'a, '
         ensures later { IfErr result (λ unmade. (unmade ≡ WhyUnmade.Later) × IsLater self.old.peer request.now) }
     {
         match self.sender_for(request) {
-            Some(hand) => self.reply_update(rt, hand, request, out),
+            Some(sender) => self.reply_update(rt, sender, request, out),
             None => Ok(Reply::One(self.reply_served(rt, request, out))),
         }
     }

@@ -1,5 +1,5 @@
 -- The verdict of each update of a batch is about versions that are published once the batch is.
-use Rattle.std.proofs.Common.{◌≡◌, ◌≢◌, refl, ℕ, ◌≤◌, List, [], ◌∷◌, ◌++◌, Option, None, Some, inl, inr, sym, ap, ◌∙◌, subst, append-nil, append_assoc, arith}
+use Rattle.std.proofs.Common.{◌≡◌, ◌≢◌, refl, ℕ, ◌≤◌, List, [], ◌∷◌, ◌++◌, Option, None, Some, inl, inr, sym, ap, ◌∙◌, subst, append-nil, append_assoc}
 use Rattle.std.specs.Prelude.{unwrap_or, if◌then◌else◌, Bool}
 use Rattle.std.specs.Option.{option_or, is_some}
 use Rattle.dns_rdata.specs.Record.{Record}
@@ -17,7 +17,7 @@ use Rattle.dns_engine.specs.Chain.{IsPublished}
 use Rattle.dns_engine.specs.Replayed.{IsReplay}
 use Rattle.dns_engine.specs.Told.{Tells}
 use Rattle.dns_engine.proofs.OwnedLemmas.{goes_on}
-use Rattle.dns_engine.proofs.ReplayLemmas.{number_of, replay_next, latest_replay}
+use Rattle.dns_engine.proofs.ReplayLemmas.{number_of}
 use Rattle.update_batches.specs.Verdict.{serials_from, serials_with}
 use Rattle.update_batches.specs.Batch.{newest_of}
 use Rattle.update_batches.specs.Engine.{AreMade}

@@ -2,8 +2,7 @@
 use Rattle.std.proofs.Common.{◌≡◌, refl, ℕ, ◌+◌, ◌≤◌, List, [], ◌∷◌, ◌++◌, inl, inr, sym, ap, ◌∙◌, subst, append_assoc, append-nil, length, suc, arith}
 use Rattle.std.specs.Prelude.{true, take, drop, map, Option, None, Some}
 use Rattle.dns_rdata.specs.Record.{Record}
-use Rattle.dns_rdata.specs.declared.numbers.Rcode.{Rcode}
-use Rattle.dns_rdata.specs.declared.numbers.Rcode.TheVariants.{NoError, ServFail}
+use Rattle.dns_rdata.specs.declared.numbers.Rcode.TheVariants.{NoError}
 use Rattle.dns_message.specs.Octets.{fit}
 use Rattle.dns_message.specs.Request.{reads}
 use Rattle.dns_message.specs.declared.query.Parsed.TheVariants.{Update as SaysUpdate}
@@ -24,7 +23,6 @@ use Rattle.zone_server.proofs.JudgedLemmas.{tells_done, starved_done, made_done}
 use Rattle.update_batches.specs.Done.{first_verdict, IsDone as IsDoneIn, AreDone as AreDoneIn, IsToldIn, IsMadeIn}
 use Rattle.update_batches.specs.declared.queued_update.QueuedUpdate.{QueuedUpdate}
 use Rattle.serve_core.specs.declared.transport.Transport.{Transport}
-use Rattle.serve_core.specs.declared.transport.Transport.TheVariants.{Udp}
 use Rattle.serve_core.specs.Heading.{heading_of_update, coded}
 use Rattle.serve_core.specs.Transport.{limit_of}
 use Rattle.zone_server.proofs.ReplyDoneLemmas.{done_replied}

@@ -48,7 +48,7 @@ use Rattle.zone_server.proofs.KnownLemmas.{loaded_latest}
 use Rattle.zone_server.proofs.AboutLemmas.{latest_known, unmade_about, made_about, known_about, no_older}
 use Rattle.zone_server.proofs.WantedLemmas.{wanted_got}
 use Rattle.zone_server.specs.Updated.{TellsOf, IsJudged, by_engine, in_version, IsToldOf, read, unread, bad_opt, starved as starved_reading}
-use Rattle.zone_server.specs.Replied.{TellsFor, TellsAbout, asks_changes, IsChained, IsReplied, IsUpdate, IsQuery, IsAtOnce, LoadsFor}
+use Rattle.zone_server.specs.Replied.{TellsFor, TellsAbout, asks_changes, IsChained, IsReplied, IsQuery, IsAtOnce, LoadsFor}
 
 no_want : (head : Head) (heard : Parsed) → heard ≡ NoMemory head → heard ≡ IsSilent → ⊥
 no_want head heard wants is = cc

@@ -17,10 +17,9 @@ use Rattle.zone_server.specs.Replied.{IsReplied}
 use Rattle.zone_server.specs.ServeOne.{IsServed}
 use Rattle.zone_server.specs.declared.answer.Now.TheVariants as now
 use Rattle.zone_server.specs.declared.answer.UpdateOutcome.{UpdateOutcome}
-use Rattle.zone_server.specs.declared.serve_one.Served.TheVariants.{Reply, Updated, Transfer, Spent}
+use Rattle.zone_server.specs.declared.served.Served.TheVariants.{Reply, Updated, Transfer, Spent}
 use Rattle.serve_core.specs.Served.{limit_for}
 use Rattle.zone_server.proofs.AboutLemmas.{no_older}
-use Rattle.zone_server.proofs.AnswerLemmas.{permitted_later}
 use Rattle.zone_server.proofs.KnownLemmas.{loaded_latest, loaded_replay}
 use Rattle.zone_server.proofs.ReplyLemmas.{transfer_replied, chained_grows, update_is_no_query, update_is_not_silent}
 
@@ -68,4 +67,8 @@ module _ (first : List Record) (peer : Peer) (request : List ℕ) (before mid af
 
   -- grants are lacking for it
   pub served_few : (out : List ℕ) → HasTooFew first query owned.value mid after → IsServed first peer request before after out Spent
-  served_few out few = ((permitted_later first peer request before mid query owned permits).0, inr (owned.value, mid, permits.loaded, few))
+  served_few out few =
+      let own : Numbered Version = record { number = owned.value.number; value = owned.value } in
+      let replayed = loaded_replay first before mid own permits.loaded in
+      let transfer : IsTransfer first peer request = record { query = query; asked = permits.asked; version = owned.value; replayed = replayed; permitted = permits.permitted } in
+      (transfer, inr (owned.value, mid, permits.loaded, few))

@@ -15,8 +15,8 @@ use Rattle.serve_core.specs.Transfers.{is_permitted, messages_to}
 use Rattle.zone_server.specs.Known.{learned_by, HasLoaded, HasGone, HasTooFew}
 use Rattle.zone_server.specs.Replied.{IsReplied, IsQuery, IsTransfer}
 use Rattle.zone_server.specs.Updated.{IsUpdateTold}
-use Rattle.zone_server.specs.declared.serve_one.Served.{Served}
-use Rattle.zone_server.specs.declared.serve_one.Served.TheVariants.{Reply, Updated, Transfer, Spent}
+use Rattle.zone_server.specs.declared.served.Served.{Served}
+use Rattle.zone_server.specs.declared.served.Served.TheVariants.{Reply, Updated, Transfer, Spent}
 
 -- a reader has loaded a version, and may have learned more since then (own)
 abbrev pub HasSeen : List Record → ReaderState Version → ReaderState Version → Version → Type 0

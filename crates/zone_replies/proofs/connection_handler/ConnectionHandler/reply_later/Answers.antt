@@ -1,6 +1,5 @@
 -- Where none is taken up, what is known is what the reader has learned.
-use Rattle.std.proofs.Common.{[], ◌∷◌, take, subst, sym}
-use Rattle.snapshot_cell.specs.Tokens.{ReaderState}
+use Rattle.std.proofs.Common.{[], ◌∷◌, take}
 use Rattle.zone_replies.proofs.PendingLemmas.{same_grows}
 use Rattle.zone_replies.proofs.PendingRepliedLemmas.{same_replied}
 use Rattle.zone_replies.proofs.connection_handler.ConnectionHandler.reply_later.Goals as goal

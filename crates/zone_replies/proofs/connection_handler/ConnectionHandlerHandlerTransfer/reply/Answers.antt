@@ -1,5 +1,5 @@
 -- What the reader has seen grows, and a reply by what it saw meanwhile is one by what it had seen.
-use Rattle.std.proofs.Common.{◌≡◌, [], ◌∷◌, None, IfErr, take, inl, inr, sym, ap, ◌∙◌, subst, rules}
+use Rattle.std.proofs.Common.{◌≡◌, [], ◌∷◌, None, take, inl, inr, sym, ap, ◌∙◌, subst, rules}
 use Rattle.zone_tree.specs.Version.{Version}
 use Rattle.snapshot_cell.specs.Tokens.{ReaderState}
 use Rattle.tcp_connections.specs.Asked.{EachGrows}
@@ -13,7 +13,7 @@ use Rattle.zone_replies.specs.Going.{transfer_left}
 use Rattle.zone_replies.specs.State.{HandlerState}
 use Rattle.zone_replies.specs.PendingUpdates.{known_at, place_in}
 use Rattle.zone_replies.proofs.PendingLemmas.{known_grows, taken_grow}
-use Rattle.zone_replies.proofs.PendingRepliedLemmas.{step_replied, settled_replied, settled_replies, never_later, query_never_later, update_later, update_unspent, transfer_unlater, spent_left, spent_unanswered}
+use Rattle.zone_replies.proofs.PendingRepliedLemmas.{step_replied, settled_replied, settled_replies, never_later, query_never_later, update_later, update_unspent, transfer_unlater, spent_left, spent_unanswered, permits_moved}
 use Rattle.zone_replies.proofs.connection_handler.ConnectionHandlerHandlerTransfer.reply.Goals as goal
 
 pub invariant_of-self : goal.invariant_of-self
@@ -66,7 +66,7 @@ pub returns-in-Update-clause-reply : goal.returns-in-Update-clause-reply
 returns-in-Update-clause-reply g c =
     let peer : c.self.inside.peer ≡ c.args.self.now.peer = subst (λ (s : HandlerState). s.peer ≡ c.args.self.now.peer) (sym c.self.view_is) c.settle.ensures.peer in
     let asker : c.self.inside.asker ≡ c.args.self.now.asker = subst (λ (s : HandlerState). s.asker ≡ c.args.self.now.asker) (sym c.self.view_is) c.settle.ensures.asker in
-    let mid : HandlerState = record { reader = c.answer_request.new.reader; peer = c.self.inside.peer; asker = c.self.inside.asker; taken = c.self.inside.taken; hands = c.args.self.now.hands } in
+    let mid : HandlerState = record { reader = c.answer_request.new.reader; peer = c.self.inside.peer; asker = c.self.inside.asker; taken = c.self.inside.taken; submits = c.args.self.now.submits } in
     step_replied g.Z.FirstZone.zone transfer_left c.args.request.now c.reply_later.new.out c.args.self.now mid (known_at c.reply_later.new.self.taken c.reply_later.new.self.reader) c.reply_later.result peer asker
     (each_more _ _ _ (subst (λ (s : HandlerState). EachGrows {T = Version} (known_at s.taken s.reader) (known_at c.args.self.now.taken c.args.self.now.reader)) (sym c.self.view_is) c.settle.ensures.grows)
     (known_grows c.self.inside.taken c.self.inside.reader c.answer_request.new.reader (answer_grows g.Z.FirstZone.zone c.self.inside.peer c.args.request.now c.self.inside.reader c.answer_request.new.reader c.answer_request.new.query c.answer_request.new.out c.answer_request.result c.answer_request.ensures.answer))) c.reply_later.ensures.replied
@@ -77,27 +77,27 @@ returns-in-Update-clause-later g c =
     update_later c.self.inside.peer c.args.self.now.peer c.args.request.now c.reply_later.result peer c.reply_later.ensures.later
 
 pub returns-in-Update-clause-spent : goal.returns-in-Update-clause-spent
-returns-in-Update-clause-spent g c = update_unspent c.self.inside.peer c.args.request.now c.reply_later.result c.reply_later.ensures.later
+returns-in-Update-clause-spent g c = update_unspent _ c.self.inside.peer c.args.request.now c.reply_later.result c.reply_later.ensures.later
 
 pub returns-in-Update-clause-unanswered : goal.returns-in-Update-clause-unanswered
-returns-in-Update-clause-unanswered g c = update_unspent c.self.inside.peer c.args.request.now c.reply_later.result c.reply_later.ensures.later
+returns-in-Update-clause-unanswered g c = update_unspent _ c.self.inside.peer c.args.request.now c.reply_later.result c.reply_later.ensures.later
 
 pub begin_transfer-requires : goal.begin_transfer-requires
 begin_transfer-requires g c =
-    let permits = c.in-Transfer.ensures.answer in
-    let latest = starts g.Z.FirstZone.zone c.self.inside.peer c.args.request.now c.self.inside.reader c.answer_request.new.reader c.answer_request.new.reader c.answer_request.new.query c.in-Transfer.strong permits in
+    let permits = permits_moved g.Z.FirstZone.zone c.self.inside.peer c.args.request.now c.self.inside.reader c.answer_request.new.reader c.in-Transfer.strong c.answer_request.new.query c.replace-query.result c.replace-query.ensures.value c.in-Transfer.ensures.answer in
+    let latest = starts g.Z.FirstZone.zone c.self.inside.peer c.args.request.now c.self.inside.reader c.answer_request.new.reader c.answer_request.new.reader c.replace-query.result c.in-Transfer.strong permits in
     (search rules, (latest, (permits.permitted, search rules)))
 
 pub invariant_of-self-in-Transfer : goal.invariant_of-self-in-Transfer
 invariant_of-self-in-Transfer g c =
     taken_grow c.self.inside.taken c.self.inside.reader c.begin_transfer.new.reader
-    (transfer_grows g.Z.FirstZone.zone c.self.inside.peer c.args.request.now c.self.inside.reader c.answer_request.new.reader c.begin_transfer.new.reader c.answer_request.new.query c.in-Transfer.strong c.in-Transfer.ensures.answer (λ (reply : Reply Transfer). messages_of transfer_left reply c.begin_transfer.new.out) c.begin_transfer.result c.begin_transfer.ensures.started c.begin_transfer.ensures.spent) c.self.invariant
+    (transfer_grows g.Z.FirstZone.zone c.self.inside.peer c.args.request.now c.self.inside.reader c.answer_request.new.reader c.begin_transfer.new.reader c.replace-query.result c.in-Transfer.strong (permits_moved g.Z.FirstZone.zone c.self.inside.peer c.args.request.now c.self.inside.reader c.answer_request.new.reader c.in-Transfer.strong c.answer_request.new.query c.replace-query.result c.replace-query.ensures.value c.in-Transfer.ensures.answer) (λ (reply : Reply Transfer). messages_of transfer_left reply c.begin_transfer.new.out) c.begin_transfer.result c.begin_transfer.ensures.started c.begin_transfer.ensures.spent) c.self.invariant
 
 pub returns-in-Transfer-clause-grows : goal.returns-in-Transfer-clause-grows
 returns-in-Transfer-clause-grows g c =
     each_more _ _ _ (subst (λ (s : HandlerState). EachGrows {T = Version} (known_at s.taken s.reader) (known_at c.args.self.now.taken c.args.self.now.reader)) (sym c.self.view_is) c.settle.ensures.grows)
     (known_grows c.self.inside.taken c.self.inside.reader c.begin_transfer.new.reader
-    (transfer_grows g.Z.FirstZone.zone c.self.inside.peer c.args.request.now c.self.inside.reader c.answer_request.new.reader c.begin_transfer.new.reader c.answer_request.new.query c.in-Transfer.strong c.in-Transfer.ensures.answer (λ (reply : Reply Transfer). messages_of transfer_left reply c.begin_transfer.new.out) c.begin_transfer.result c.begin_transfer.ensures.started c.begin_transfer.ensures.spent))
+    (transfer_grows g.Z.FirstZone.zone c.self.inside.peer c.args.request.now c.self.inside.reader c.answer_request.new.reader c.begin_transfer.new.reader c.replace-query.result c.in-Transfer.strong (permits_moved g.Z.FirstZone.zone c.self.inside.peer c.args.request.now c.self.inside.reader c.answer_request.new.reader c.in-Transfer.strong c.answer_request.new.query c.replace-query.result c.replace-query.ensures.value c.in-Transfer.ensures.answer) (λ (reply : Reply Transfer). messages_of transfer_left reply c.begin_transfer.new.out) c.begin_transfer.result c.begin_transfer.ensures.started c.begin_transfer.ensures.spent))
 
 pub returns-in-Transfer-clause-reply : goal.returns-in-Transfer-clause-reply
 returns-in-Transfer-clause-reply g c =
@@ -106,16 +106,16 @@ returns-in-Transfer-clause-reply g c =
     (c.settle.ensures.other (inr (query_never_later c.args.self.now.peer c.args.request.now (c.answer_request.new.query, c.in-Transfer.ensures.answer.asked)))) in
     settled_replies g.Z.FirstZone.zone transfer_left c.args.self.now c.self.inside.peer c.self.inside.taken c.self.inside.reader c.begin_transfer.new.reader c.args.request.now c.begin_transfer.new.out c.begin_transfer.result peer none
     (subst (λ (s : HandlerState). EachGrows {T = Version} (known_at s.taken s.reader) (known_at c.args.self.now.taken c.args.self.now.reader)) (sym c.self.view_is) c.settle.ensures.grows)
-    (transfer_replies g.Z.FirstZone.zone c.self.inside.peer c.args.request.now c.self.inside.reader c.answer_request.new.reader c.begin_transfer.new.reader c.answer_request.new.query c.in-Transfer.strong c.in-Transfer.ensures.answer (λ (reply : Reply Transfer). messages_of transfer_left reply c.begin_transfer.new.out)
+    (transfer_replies g.Z.FirstZone.zone c.self.inside.peer c.args.request.now c.self.inside.reader c.answer_request.new.reader c.begin_transfer.new.reader c.replace-query.result c.in-Transfer.strong (permits_moved g.Z.FirstZone.zone c.self.inside.peer c.args.request.now c.self.inside.reader c.answer_request.new.reader c.in-Transfer.strong c.answer_request.new.query c.replace-query.result c.replace-query.ensures.value c.in-Transfer.ensures.answer) (λ (reply : Reply Transfer). messages_of transfer_left reply c.begin_transfer.new.out)
     c.begin_transfer.result c.begin_transfer.ensures.started)
 
 pub returns-in-Transfer-clause-later : goal.returns-in-Transfer-clause-later
-returns-in-Transfer-clause-later g c = transfer_unlater c.begin_transfer.result c.begin_transfer.ensures.unmade
+returns-in-Transfer-clause-later g c = transfer_unlater _ c.begin_transfer.result c.begin_transfer.ensures.unmade
 
 pub returns-in-Transfer-clause-spent : goal.returns-in-Transfer-clause-spent
-returns-in-Transfer-clause-spent g c = spent_left g.Z.FirstZone.zone c.self.inside.peer c.args.request.now c.begin_transfer.new.reader c.begin_transfer.result (transfer_spent g.Z.FirstZone.zone c.self.inside.peer c.args.request.now c.self.inside.reader c.answer_request.new.reader c.begin_transfer.new.reader c.answer_request.new.query c.in-Transfer.strong c.in-Transfer.ensures.answer c.begin_transfer.result c.begin_transfer.ensures.spent)
+returns-in-Transfer-clause-spent g c = spent_left g.Z.FirstZone.zone c.self.inside.peer c.args.request.now c.begin_transfer.new.reader c.begin_transfer.result (transfer_spent g.Z.FirstZone.zone c.self.inside.peer c.args.request.now c.self.inside.reader c.answer_request.new.reader c.begin_transfer.new.reader c.replace-query.result c.in-Transfer.strong (permits_moved g.Z.FirstZone.zone c.self.inside.peer c.args.request.now c.self.inside.reader c.answer_request.new.reader c.in-Transfer.strong c.answer_request.new.query c.replace-query.result c.replace-query.ensures.value c.in-Transfer.ensures.answer) c.begin_transfer.result c.begin_transfer.ensures.spent)
 
 pub returns-in-Transfer-clause-unanswered : goal.returns-in-Transfer-clause-unanswered
 returns-in-Transfer-clause-unanswered g c =
     let peer : c.self.inside.peer ≡ c.args.self.now.peer = subst (λ (s : HandlerState). s.peer ≡ c.args.self.now.peer) (sym c.self.view_is) c.settle.ensures.peer in
-    spent_unanswered g.Z.FirstZone.zone c.self.inside.peer c.args.self.now.peer c.args.request.now c.args.self.now.reader c.begin_transfer.new.reader c.begin_transfer.result peer (transfer_spent g.Z.FirstZone.zone c.self.inside.peer c.args.request.now c.self.inside.reader c.answer_request.new.reader c.begin_transfer.new.reader c.answer_request.new.query c.in-Transfer.strong c.in-Transfer.ensures.answer c.begin_transfer.result c.begin_transfer.ensures.spent)
+    spent_unanswered g.Z.FirstZone.zone c.self.inside.peer c.args.self.now.peer c.args.request.now c.args.self.now.reader c.begin_transfer.new.reader c.begin_transfer.result peer (transfer_spent g.Z.FirstZone.zone c.self.inside.peer c.args.request.now c.self.inside.reader c.answer_request.new.reader c.begin_transfer.new.reader c.replace-query.result c.in-Transfer.strong (permits_moved g.Z.FirstZone.zone c.self.inside.peer c.args.request.now c.self.inside.reader c.answer_request.new.reader c.in-Transfer.strong c.answer_request.new.query c.replace-query.result c.replace-query.ensures.value c.in-Transfer.ensures.answer) c.begin_transfer.result c.begin_transfer.ensures.spent)

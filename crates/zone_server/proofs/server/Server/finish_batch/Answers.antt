@@ -1,5 +1,5 @@
 -- What is published is what the reader has seen then, and each result holds for it.
-use Rattle.std.proofs.Common.{rules, ◌≡◌, ◌++◌, List, length, ap, ◌∙◌, sym, subst}
+use Rattle.std.proofs.Common.{rules, ◌≡◌, List, length, ap, ◌∙◌, sym, subst}
 use Rattle.zone_tree.specs.Version.{Version}
 use Rattle.snapshot_cell.specs.Tokens.{ReaderState}
 use Rattle.dns_engine.specs.Held.{EngineState, IsLatest}

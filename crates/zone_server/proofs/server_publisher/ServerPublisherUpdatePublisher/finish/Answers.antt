@@ -1,5 +1,5 @@
 -- The versions of a batch are published after the last one, the result of each of its updates holds for them, and each reply is sent.
-use Rattle.std.proofs.Common.{rules, ◌≡◌, ◌≤◌, ◌+◌, ◌++◌, ℕ, List, length, take, map, ap, ◌∙◌, sym, subst, arith}
+use Rattle.std.proofs.Common.{rules, ◌≡◌, ◌≤◌, ◌+◌, ◌++◌, List, length, take, map, ap, ◌∙◌, sym, subst, arith}
 use Rattle.std.specs.Prelude.{vec_len, vec_capacity}
 use Rattle.std.proofs.lemmas.List.{length-take}
 use Rattle.zone_tree.specs.Version.{Version}
@@ -10,7 +10,7 @@ use Rattle.zone_server.specs.declared.outgoing.Outgoing.{Outgoing}
 use Rattle.zone_server.specs.declared.update_result.QueuedResult.{QueuedResult}
 use Rattle.zone_server.specs.Brought.{Brought, brought_after, brought_for, brought_from, all_brought, AreReplies}
 use Rattle.zone_server.specs.Met.{PublisherState}
-use Rattle.zone_server.specs.UpdateResult.{AreResults, queued_results}
+use Rattle.zone_server.specs.UpdateResult.{AreResults}
 use Rattle.zone_server.proofs.PublisherDoneLemmas.{queued_all, queued_replies, brought_all, results_long}
 use Rattle.zone_server.proofs.PublisherMetLemmas.{judged_queued, judged_latest}
 use Rattle.zone_server.proofs.server_publisher.ServerPublisherUpdatePublisher.finish.Goals as goal

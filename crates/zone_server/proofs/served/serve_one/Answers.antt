@@ -2,7 +2,7 @@
 use Rattle.std.proofs.Common.{rules}
 use Rattle.zone_server.proofs.ServeOneLemmas.{served_reply, served_silent, served_update, served_gone, served_transfer, served_few}
 use Rattle.zone_server.proofs.StartedLemmas.{starts}
-use Rattle.zone_server.proofs.serve_one.serve_one.Goals as goal
+use Rattle.zone_server.proofs.served.serve_one.Goals as goal
 
 pub returns-in-Bytes : goal.returns-in-Bytes
 returns-in-Bytes g c = served_reply g.Z.FirstZone.zone c.args.peer c.args.request.now c.args.reader.now c.answer_request.new.reader c.answer_request.new.out c.in-Bytes.len c.requires.later c.in-Bytes.ensures.answer
