@@ -1,5 +1,6 @@
 -- One reader more has its job.
 use Rattle.std.proofs.Common.{rules, ◌≡◌, ◌++◌, append-nil, length, Some, map, sym, ap, ◌∙◌}
+use Rattle.std.proofs.lemmas.List.{take_all}
 use Rattle.std.specs.Vec.Iter.{into_iter_items, drain_items}
 use Rattle.worker_jobs.proofs.EachLemmas.{all_taken}
 use Rattle.worker_jobs.proofs.ListLemmas.{map_taken}
@@ -7,7 +8,8 @@ use Rattle.serve_workers.proofs.server_thread.put_threads.Goals as goal
 
 pub loop-reader-init : goal.loop-reader-init
 loop-reader-init g c =
-    let given : drain_items c.into_iter-reader-iterator.result ≡ c.args.readers.now.items = search rules in record {
+    let given : drain_items c.into_iter-reader-iterator.result ≡ c.args.readers.now.items =
+    ap (λ it. drain_items it) c.into_iter-reader-iterator.ensures.into_iter_gives ∙ c.drain-reader-items.ensures.rest ∙ take_all _ _ (search rules) in record {
       jobs = ap (λ l. map (λ thread. thread.job) l ++ into_iter_items c.into_iter-jobs.result) c.requires.empty ∙ c.into_iter-jobs.ensures.rest;
       readers =
           ap (λ l. map (λ thread. thread.reader) l ++ map (λ reader. Some reader) (drain_items c.into_iter-reader-iterator.result)) c.requires.empty ∙ ap (map (λ reader. Some reader)) given;
