@@ -158,9 +158,16 @@ const CHANGES: Row = Row {
     ..TRANSFER
 };
 
-/// The same, where the first transfer finds too few.
+/// A query, an update, and an incremental transfer of its changes, which finds too few.
 const NO_CHANGES: Row = Row {
-    written: "000c4321a8000000000000000000",
+    input: "\
+002212340100000100000000000003777777076578616d706c6504746573740000010001\
+0032432128000001000000010000076578616d706c6504746573740000060001036e6577c00c0001000100000e100004c000024d\
+0040123400000001000000010000076578616d706c6504746573740000fb0001c00c0006000100000000001600000000000100000000000000000000000000000000",
+    written: "\
+004412348500000100020000000003777777076578616d706c6504746573740000010001\
+c00c0005000100000e10000603776562c010c02e0001000100000e100004c000020a\
+000c4321a8000000000000000000",
     ..CHANGES
 };
 
@@ -192,18 +199,16 @@ update from 192.0.2.7:4711: NOERROR, serial 3 unchanged;",
 };
 
 /// Streams by the number of grants that the server's reader and the connection's reader each have, and whether they go as their rows say.
-/// Without a grant there is no server: its engine takes one for the first version and one for each further version. A query takes one grant. A
-/// transfer takes two: one when its permission is checked, and one when it starts. An incremental transfer of the changes of an update takes a
-/// third, for the version that the update made. Nothing is written of a reply for which there are too few grants (own).
+/// Without a grant there is no server: its engine takes one for the first version and one for each further version. A query takes one grant, and
+/// so does a transfer, which starts in the version in which it is permitted. An incremental transfer of the changes of an update takes a second,
+/// for the version that the update made. Nothing is written of a reply for which there are too few grants (own).
 const BY_GRANTS: &[(u64, Row, Option<bool>)] = &[
     (0, QUERIES, None),
     (1, QUERIES, Some(true)),
-    (2, TRANSFERS, Some(true)),
-    (3, TRANSFERS, Some(true)),
+    (1, TRANSFERS, Some(true)),
     (2, NO_CHANGES, Some(true)),
+    (2, CHANGES, Some(true)),
     (3, CHANGES, Some(true)),
-    (4, CHANGES, Some(true)),
-    (5, CHANGES, Some(true)),
     (3, UPDATES, Some(true)),
 ];
 

@@ -38,6 +38,14 @@ const CHANGES: &str =
 
 const REFUSED: &str = "123480050001000000000000076578616d706c6504746573740000fb0001";
 
+/// Its reply to a peer that may have the zone, after the update: the SOA of serial 2, that of serial 1, from which nothing went, and that of serial 2 with the record
+/// that came (RFC 1995, 4).
+const CHANGED: &str = "\
+123484000001000500000000076578616d706c6504746573740000fb0001c00c0006000100000e100022036e7331c00c0561646d696ec00c\
+0000000200001c2000000384001275000000012cc00c0006000100000e100018c02ac0300000000100001c2000000384001275000000012cc00c\
+0006000100000e100018c02ac0300000000200001c2000000384001275000000012c036e6577c00c0001000100000e100004c000024dc00c0006\
+000100000e100018c02ac0300000000200001c2000000384001275000000012c";
+
 /// A query for an address, and its reply.
 const WEB: &str = "00010100000100000000000003776562076578616d706c6504746573740000010001";
 
@@ -204,7 +212,16 @@ const SPENT: &[Course] = &[
         requests: &[UPDATE, CHANGES, WWW],
         end: DatagramsEnd::Spent,
         faults: 0,
-        sent: &[(0, UPDATED)],
+        sent: &[(0, UPDATED), (1, CHANGED)],
+    }),
+    Course::Datagrams(Row {
+        may: true,
+        most: 9,
+        refused: &[],
+        requests: &[WWW, UPDATE, CHANGES, WWW],
+        end: DatagramsEnd::Spent,
+        faults: 0,
+        sent: &[(0, WWW_REPLY), (1, UPDATED)],
     }),
 ];
 
