@@ -11,6 +11,7 @@ use crate::updates::Updates;
 use sockets::{TcpPlace, Watch};
 use std::alloc::Global;
 use std::io::{self, ErrorKind};
+use std::mem;
 use std::net::{Net, TcpListener};
 use std::sync::Wait;
 use std::time::Clock;
@@ -62,19 +63,30 @@ fn tcp_job<'a, R: Clock + Net + Wait>(
     ensures plan { IfOk result (λ job. job.plan ≡ plan.entry.connections) }
 {
     let count = listeners.len();
-    let mut watch = Watch::new(rt, alloc, rt)?;
-    let places = places_of(alloc, &mut watch, listeners)?;
-    let turns = EventLoop::new(alloc, plan.places, count)?;
+    let mut watch = match Watch::new(rt, alloc, rt) {
+        Ok(watch) => watch,
+        Err(fault) => return Err(fault),
+    };
+    let places = match places_of(alloc, &mut watch, listeners) {
+        Ok(places) => places,
+        Err(fault) => return Err(fault),
+    };
+    let waker = match watch.waker() {
+        Ok(waker) => waker,
+        Err(fault) => return Err(fault),
+    };
+    let turns = match EventLoop::new(alloc, plan.places, count) {
+        Ok(turns) => turns,
+        Err(fault) => return Err(io::Error::from(fault)),
+    };
     let plan = plan.connections;
-    let waker = watch.waker()?;
     let job = ConnectionsJob::new(worker, watch, places, turns, plan, standing, rt, scratch);
-    match told {
-        Some(told) => {
-            told.wake_by(rt, waker);
-            Ok(job.hearing(alloc, told))
-        }
-        None => Ok(job),
-    }
+    let Some(told) = told else {
+        mem::drop(waker);
+        return Ok(job);
+    };
+    told.wake_by(rt, waker);
+    Ok(job.hearing(alloc, told))
 }
 
 /// The job of a thread, which learns of ready connections by `told`, if it has one. An error where its sockets can't be polled, or an allocation fails.
@@ -99,17 +111,24 @@ fn job_of<'a, R: Clock + Net + Wait>(
     match sockets {
         Sockets::Datagrams(socket) => {
             let allowed = plan.connections.allowed;
-            let socket = WorkerSocket::new(alloc, socket, standing)?;
+            let socket = match WorkerSocket::new(alloc, socket, standing) {
+                Ok(socket) => socket,
+                Err(fault) => return Err(fault),
+            };
             let job = DatagramsJob::new(worker, socket, allowed, standing, scratch);
             Ok(SocketJob::Datagrams(job))
         }
         Sockets::Connections(listeners) => {
-            let job = tcp_job(rt, alloc, worker, listeners, plan, standing, told, scratch)?;
-            Ok(SocketJob::Connections(job))
+            match tcp_job(rt, alloc, worker, listeners, plan, standing, told, scratch) {
+                Ok(job) => Ok(SocketJob::Connections(job)),
+                Err(fault) => Err(fault),
+            }
         }
         Sockets::Secondaries(secondaries) => {
-            let job = NotifyJob::new(alloc, worker, secondaries, rt, plan.muster)?;
-            Ok(SocketJob::Secondaries(job))
+            match NotifyJob::new(alloc, worker, secondaries, rt, plan.muster) {
+                Ok(job) => Ok(SocketJob::Secondaries(job)),
+                Err(fault) => Err(io::Error::from(fault)),
+            }
         }
     }
 }

@@ -3,11 +3,13 @@
 use crate::reply_routes::ReplyRoutes;
 use crate::service::ThreadSpec;
 use crate::updates::Updates;
+use dns_engine::{FirstZone, VersionReader};
 use std::alloc::Global;
 use std::io;
 use std::sync::Wait;
 use update_batches::{Most, UpdatePublisher, UpdateStore, UpdateThread};
 use worker_jobs::{MainTask, Shutdown};
+use zone_server::{PublishRight, Server, ServerName, ServerPublisher, ServiceLog};
 
 /// How the update thread judges the updates that the other threads submit.
 #[derive(Drop)]
@@ -49,13 +51,13 @@ impl<'a, S: UpdateStore> Judging<'a, S> {
 /// Judges updates until no thread submits any more, and publishes the versions that they make.
 #[derive(Drop)]
 pub(crate) struct Judge<'a, 'b, P: UpdatePublisher, S: UpdateStore> {
-    pub(crate) job: UpdateThread<'b, P, S>,
-    pub(crate) muster: &'a Shutdown,
+    job: UpdateThread<'b, P, S>,
+    muster: &'a Shutdown,
 }
 
 impl<'a, 'b, P: UpdatePublisher, S: UpdateStore> Judge<'a, 'b, P, S> {
     /// Gives its publisher back. It judges no more updates.
-    pub(crate) fn into_publisher(self) -> P {
+    fn into_publisher(self) -> P {
         let Judge { job, muster: _ } = self;
         let (publisher, _store) = job.into_parts();
         publisher
@@ -68,4 +70,52 @@ impl<'a, 'b, P: UpdatePublisher, S: UpdateStore> MainTask for Judge<'a, 'b, P, S
         self.job.serve(rt);
         self.muster.judged();
     }
+}
+
+/// What publishes in a server, and replies by the routes to its threads.
+type RoutedPublisher<'g, 's, Z, N, L> = ServerPublisher<'g, 's, Z, N, L, ReplyRoutes<'g>>;
+
+/// The update thread's task in a server, with a reader and the right to publish. The reader comes back if an allocation fails.
+pub(crate) fn judge_for<
+    'g,
+    's,
+    R: Wait,
+    Z: FirstZone,
+    N: ServerName,
+    L: ServiceLog,
+    S: UpdateStore,
+>(
+    rt: &R,
+    alloc: Global,
+    server: &'g Server<'s, Z, N>,
+    muster: &'g Shutdown,
+    judging: Judging<'g, S>,
+    reader: VersionReader<N>,
+    right: PublishRight<N>,
+    log: &'g L,
+) -> Result<Judge<'g, 'g, RoutedPublisher<'g, 's, Z, N, L>, S>, VersionReader<N>> {
+    let Judging {
+        updates,
+        bringing,
+        store,
+    } = judging;
+    let publisher = match ServerPublisher::new(rt, alloc, server, reader, right, log, bringing) {
+        Ok(publisher) => publisher,
+        Err(reader) => return Err(reader),
+    };
+    match UpdateThread::new(alloc, publisher, store, updates.queue()) {
+        Ok(job) => Ok(Judge { job, muster }),
+        Err(back) => {
+            let (publisher, _store) = back;
+            Err(publisher.into_parts().0)
+        }
+    }
+}
+
+/// Ends the update thread's task, and gives its reader back.
+pub(crate) fn reader_of<Z: FirstZone, N: ServerName, L: ServiceLog, S: UpdateStore>(
+    judge: Judge<'_, '_, RoutedPublisher<'_, '_, Z, N, L>, S>,
+) -> VersionReader<N> {
+    let (reader, _replying) = judge.into_publisher().into_parts();
+    reader
 }

@@ -8,6 +8,7 @@ mod ending;
 mod jobs;
 mod judge;
 mod reply_routes;
+mod server_thread;
 mod service;
 mod threads;
 mod updates;

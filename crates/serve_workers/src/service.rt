@@ -1,5 +1,5 @@
 //! Serves a zone on sockets, by workers.
-ghost use Rattle.std.specs.Prelude.{◌≡◌, ◌+◌, ◌<◌, ◌≤◌, [], true, false, map, vec_len, vec_capacity, None, Some, MatchOption};
+ghost use Rattle.std.specs.Prelude.{◌≡◌, ◌+◌, ◌<◌, ◌≤◌, [], true, false, vec_len, vec_capacity, None, Some, MatchOption};
 ghost use Rattle.std.specs.List.{All, Any};
 ghost use Rattle.dns_engine.specs.Held.{KEPT};
 ghost use Rattle.dns_engine.specs.Versions.{IsFirst, AreNext};
@@ -9,8 +9,9 @@ ghost use Rattle.serve_workers.specs.Numbers.{end_of, fault_by};
 
 use crate::ending::{end_cell, end_named};
 use crate::jobs::{fault_of, jobs_of};
-use crate::judge::{Judge, Judging, UpdateConfig};
-use crate::threads::{SocketJob, run_threads};
+use crate::judge::{Judging, UpdateConfig, judge_for, reader_of};
+use crate::server_thread::{ServerThread, put_readers, run_threads};
+use crate::threads::SocketJob;
 use crate::updates::Updates;
 use dns_engine::{
     EngineFault, FirstZone, NoEngine, SharedVersion, VersionCell, VersionPublisher, VersionReader,
@@ -21,18 +22,15 @@ use snapshot_cell::{
 };
 use std::alloc::Global;
 use std::marker::Brand;
-use std::mem;
 use std::net::{Net, TcpListener, UdpSocket};
 use std::sync::Wait;
 use std::thread::Threads;
 use std::time::Clock;
 use tcp_loop::Plan as ConnectionPlan;
 use thiserror::Error;
-use update_batches::{Most, UpdateStore, UpdateThread};
-use worker_jobs::{MainTask, NotStarted, Secondaries, Shutdown, WorkLimit};
-use zone_server::{
-    JobEnd, PublishRight, Server, ServerLedgers, ServerName, ServerPublisher, ServiceLog,
-};
+use update_batches::{Most, UpdateStore};
+use worker_jobs::{MainTask, Secondaries, Shutdown, WorkLimit};
+use zone_server::{JobEnd, PublishRight, Server, ServerLedgers, ServerName, ServiceLog};
 
 /// How a zone is served.
 #[derive(Clone, Copy)]
@@ -158,9 +156,18 @@ pub fn serve_zone<
     requires kept { plan.keep ≤ KEPT }
 {
     let threads = duties.len();
-    let updates = updates_for(rt, alloc, handing.most, &duties, plan.places)?;
-    let judging = judging_for(alloc, handing, &duties, &updates)?;
-    let jobs = jobs_of(rt, alloc, duties, plan, &updates)?;
+    let updates = match updates_for(rt, alloc, handing.most, &duties, plan.places) {
+        Ok(updates) => updates,
+        Err(fault) => return Err(fault),
+    };
+    let judging = match judging_for(alloc, handing, &duties, &updates) {
+        Ok(judging) => judging,
+        Err(fault) => return Err(fault),
+    };
+    let jobs = match jobs_of(rt, alloc, duties, plan, &updates) {
+        Ok(jobs) => jobs,
+        Err(fault) => return Err(fault),
+    };
     let parts = match Cell::<SharedVersion, ZoneVersions<Z>>::new(alloc, threads + 2, first) {
         Ok(parts) => parts,
         Err(NewFault::TooManyReaders) => unreachable!(),
@@ -205,12 +212,7 @@ fn serve_with_readers<
         publisher,
         mut readers,
     } = parts;
-    let pairs: Result<Vec<(VersionReader<N>, SocketJob<'_, R>)>, _> = Vec::with_capacity(
-        alloc,
-        jobs.len(),
-    );
-    let back: Result<Vec<VersionReader<N>>, _> = Vec::with_capacity(alloc, readers.len());
-    let (Ok(pairs), Ok(back)) = (pairs, back) else {
+    let Ok(mut named) = Vec::with_capacity(alloc, readers.len()) else {
         end_cell(rt, cell, publisher, readers);
         return Err(ServeFault::NoMemory);
     };
@@ -220,18 +222,21 @@ fn serve_with_readers<
     let Some(reader) = readers.pop() else {
         unreachable!()
     };
-    let (cell, publisher) = (NamedCell::of(cell), NamedPublisher::of(publisher));
-    let (own, reader) = (NamedReader::of(own), NamedReader::of(reader));
-    let pairs = pairs_of(readers, jobs, pairs);
-    let (served, publisher, readers) = serve_with_engine::<R, Z, N, L, S>(
-        rt, alloc, &cell, publisher, own, reader, later, ledgers, pairs, back, plan, judging, log,
+    let own = NamedReader::of(own);
+    let reader = NamedReader::of(reader);
+    name_readers(readers, &mut named);
+    let cell = NamedCell::of(cell);
+    let publisher = NamedPublisher::of(publisher);
+    let (served, publisher) = serve_with_engine::<R, Z, N, L, S>(
+        rt, alloc, &cell, publisher, own, reader, later, ledgers, &mut named, jobs, plan, judging,
+        log,
     );
-    end_named(rt, cell, publisher, readers);
+    end_named(rt, cell, publisher, named);
     served
 }
 
-/// Serves the versions of a cell in which only the first is published, by workers with readers, an engine with its reader `own`, and the update thread with `reader`.
-/// The versions of `later` are to be published after the first. The cell's tokens come back: the publisher, and the readers in `back`, which has room for them.
+/// Serves the versions of a cell in which only the first is published, by jobs with `readers`, an engine with its reader `own`, and the update thread with `reader`.
+/// The versions of `later` are to be published after the first. The cell's tokens come back: the publisher, and all readers in `readers`, which has room for them.
 /// Fails with `Spent` where the versions of `later` can't be published, and else as [`serve_with_updates`] does.
 fn serve_with_engine<
     R: Threads + Wait + Clock + Sync,
@@ -248,25 +253,21 @@ fn serve_with_engine<
     reader: VersionReader<N>,
     later: Vec<SharedVersion>,
     ledgers: ServerLedgers,
-    pairs: Vec<(VersionReader<N>, SocketJob<'_, R>)>,
-    mut back: Vec<VersionReader<N>>,
+    readers: &mut Vec<VersionReader<N>>,
+    jobs: Vec<SocketJob<'_, R>>,
     plan: Plan<'_>,
     judging: Judging<'_, S>,
     log: &L,
-) -> (
-    Result<(), ServeFault>,
-    VersionPublisher<Z, N>,
-    Vec<VersionReader<N>>,
-)
+) -> (Result<(), ServeFault>, VersionPublisher<Z, N>)
     requires first { publisher.number ≡ 0 }
     requires named { AreNamed N.published N.reserved ledgers }
     requires notes { publisher.noted ≡ 0 }
     requires grant { 0 < own.left }
     requires follow { AreNext publisher.value later.items }
     requires kept { plan.keep ≤ KEPT }
-    requires empty { back.items ≡ [] }
-    requires room { vec_len pairs + 1 < vec_capacity back }
-    ensures { vec_len result.2 ≡ vec_len pairs.entry + 2 }
+    requires count { vec_len readers.old ≡ vec_len jobs }
+    requires room { vec_len readers.old + 1 < vec_capacity readers.old }
+    ensures { vec_len readers.new ≡ vec_len readers.old + 2 }
 {
     let count = later.len();
     let (server, right) = match Server::resume(
@@ -282,8 +283,9 @@ fn serve_with_engine<
         ) => {
             // A zone with only its first version never fails so.
             prove!(0 < count);
-            let readers = all_readers(pairs, reader, own, back);
-            return (Err(ServeFault::Spent), publisher, readers);
+            readers.push_reserved(reader);
+            readers.push_reserved(own);
+            return (Err(ServeFault::Spent), publisher);
         }
         Err(
             NoEngine {
@@ -300,17 +302,17 @@ fn serve_with_engine<
         judging,
         reader,
         right,
-        pairs,
-        &mut back,
+        readers,
+        jobs,
         log,
     );
     let (publisher, own) = server.finish();
-    back.push_reserved(own);
-    (served, publisher, back)
+    readers.push_reserved(own);
+    (served, publisher)
 }
 
-/// Serves the versions of a server's cell, by workers with readers, and the update thread with `reader`. The readers are then put into `back`, which has room for them and
-/// for one more. Fails with `NoMemory` where the update thread can't be made, and else as [`serve_on_threads`] does.
+/// Serves the versions of a server's cell, by jobs with `readers`, and the update thread with `reader`. All readers come back in `readers`, which has room for one more.
+/// Fails with `NoMemory` where the update thread can't be made, and else as [`serve_on_threads`] does.
 fn serve_with_updates<
     R: Threads + Wait + Clock + Sync,
     Z: FirstZone + Send + Sync,
@@ -325,47 +327,33 @@ fn serve_with_updates<
     judging: Judging<'_, S>,
     reader: VersionReader<N>,
     right: PublishRight<N>,
-    pairs: Vec<(VersionReader<N>, SocketJob<'_, R>)>,
-    back: &mut Vec<VersionReader<N>>,
+    readers: &mut Vec<VersionReader<N>>,
+    jobs: Vec<SocketJob<'_, R>>,
     log: &L,
 ) -> Result<(), ServeFault>
-    requires room { vec_len pairs + 1 < vec_capacity back.old }
-    requires empty { back.old.items ≡ [] }
-    ensures count { vec_len back.new ≡ vec_len pairs.entry + 1 }
-    ensures room { vec_capacity back.new ≡ vec_capacity back.old }
+    requires count { vec_len readers.old ≡ vec_len jobs }
+    requires room { vec_len readers.old < vec_capacity readers.old }
+    ensures count { vec_len readers.new ≡ vec_len readers.old + 1 }
+    ensures room { vec_capacity readers.new ≡ vec_capacity readers.old }
 {
-    let Judging {
-        updates,
-        bringing,
-        store,
-    } = judging;
-    let publisher = match ServerPublisher::new(rt, alloc, server, reader, right, log, bringing) {
-        Ok(publisher) => publisher,
+    let updates = judging.updates;
+    let judge = match judge_for(rt, alloc, server, muster, judging, reader, right, log) {
+        Ok(judge) => judge,
         Err(reader) => {
-            put_readers(pairs, back);
-            back.push_reserved(reader);
-            return Err(ServeFault::NoMemory);
-        }
-    };
-    let job = match UpdateThread::new(alloc, publisher, store, updates.queue()) {
-        Ok(job) => job,
-        Err((publisher, _)) => {
-            put_readers(pairs, back);
-            back.push_reserved(publisher.into_parts().0);
+            readers.push_reserved(reader);
             return Err(ServeFault::NoMemory);
         }
     };
     muster.judge();
-    let judge = Judge { job, muster };
     let (served, judge) = serve_on_threads(
-        rt, alloc, server, muster, updates, judge, pairs, back, log,
+        rt, alloc, server, muster, updates, judge, readers, jobs, log,
     );
-    back.push_reserved(judge.into_publisher().into_parts().0);
+    readers.push_reserved(reader_of(judge));
     served
 }
 
-/// Serves the versions of a server's cell, by workers with readers, and does the main task meanwhile. The workers submit their updates to `updates`. The readers are then put
-/// into `back`, which has room for them. Fails with `NotStarted` where not all threads could be started, and else with the fault of the first job that failed.
+/// Serves the versions of a server's cell, by jobs with readers, and does the main task meanwhile. The jobs submit their updates to `updates`. The readers come back in
+/// `readers`. Fails with `NotStarted` where not all threads could be started, and else with the fault of the first job that failed.
 fn serve_on_threads<
     R: Threads + Wait + Clock + Sync,
     Z: FirstZone + Send + Sync,
@@ -379,110 +367,59 @@ fn serve_on_threads<
     muster: &Shutdown,
     updates: &Updates,
     meanwhile: M,
-    pairs: Vec<(VersionReader<N>, SocketJob<'_, R>)>,
-    back: &mut Vec<VersionReader<N>>,
+    readers: &mut Vec<VersionReader<N>>,
+    jobs: Vec<SocketJob<'_, R>>,
     log: &L,
 ) -> (Result<(), ServeFault>, M)
-    requires room { vec_len pairs < vec_capacity back.old }
-    requires empty { back.old.items ≡ [] }
-    ensures count { vec_len back.new ≡ vec_len pairs.entry }
-    ensures room { vec_capacity back.new ≡ vec_capacity back.old }
+    requires count { vec_len readers.old ≡ vec_len jobs }
+    requires room { vec_len readers.old < vec_capacity readers.old }
+    ensures count { vec_len readers.new ≡ vec_len readers.old }
+    ensures room { vec_capacity readers.new ≡ vec_capacity readers.old }
 {
-    match run_threads(rt, alloc, server, muster, updates, meanwhile, pairs, log) {
-        Ok(ended) => {
-            let (pairs, beside) = ended;
-            let fault = fault_in(&pairs);
-            put_readers(pairs, back);
-            match fault {
-                Some(fault) => (Err(fault), beside),
-                None => (Ok(()), beside),
-            }
-        }
-        Err(refused) => {
-            let (NotStarted(pairs), beside) = refused;
-            put_readers(pairs, back);
-            (Err(ServeFault::NotStarted), beside)
-        }
+    let Ok(threads) = Vec::with_capacity(alloc, jobs.len()) else {
+        return (Err(ServeFault::NotStarted), meanwhile);
+    };
+    let (started, threads, beside) = run_threads(
+        rt, alloc, server, muster, updates, meanwhile, readers, jobs, threads, log,
+    );
+    let fault = if started {
+        fault_in(&threads)
+    } else {
+        Some(ServeFault::NotStarted)
+    };
+    put_readers(threads, readers);
+    match fault {
+        Some(fault) => (Err(fault), beside),
+        None => (Ok(()), beside),
     }
 }
 
 /// Why the first failed job has failed. None where no job has failed.
-fn fault_in<N: Naming, C: Clock>(
-    pairs: &[(VersionReader<N>, SocketJob<'_, C>)],
+fn fault_in<Z: FirstZone, N: ServerName, L: ServiceLog, C: Clock>(
+    threads: &[ServerThread<'_, '_, Z, N, L, C>],
 ) -> Option<ServeFault>
     ensures { MatchOption result
-        (All (λ pair. fault_by (end_of pair.1) ≡ None) pairs.now)
-        (λ fault. Any (λ pair. fault_by (end_of pair.1) ≡ Some fault) pairs.now) }
+        (All (λ thread. fault_by (end_of thread.job) ≡ None) threads.now)
+        (λ fault. Any (λ thread. fault_by (end_of thread.job) ≡ Some fault) threads.now) }
 {
-    for pair in pairs {
-        if let Some(fault) = pair.1.fault() {
+    for thread in threads {
+        if let Some(fault) = thread.job.fault() {
             return Some(fault);
         }
     }
     None
 }
 
-/// The reader of a pair. Its job is dropped.
-fn reader_of<N: Naming, C: Clock>(pair: (VersionReader<N>, SocketJob<'_, C>)) -> VersionReader<N>
-    ensures { result ≡ pair.entry.0 }
-{
-    let (reader, job) = pair;
-    mem::drop(job);
-    reader
-}
-
-/// Puts the readers of pairs into `back`, which is empty and has room for them.
-fn put_readers<N: Naming, C: Clock>(
-    pairs: Vec<(VersionReader<N>, SocketJob<'_, C>)>,
-    back: &mut Vec<VersionReader<N>>,
-)
-    requires room { vec_len pairs ≤ vec_capacity back.old }
-    requires empty { back.old.items ≡ [] }
-    ensures readers { back.new.items ≡ map (λ pair. pair.0) pairs.entry.items }
-    ensures room { vec_capacity back.new ≡ vec_capacity back.old }
-{
-    for pair in pairs {
-        back.push_reserved(reader_of(pair));
-    }
-}
-
-/// Gives the readers of pairs and two more in `back`, which is empty and has room for them.
-fn all_readers<N: Naming, C: Clock>(
-    pairs: Vec<(VersionReader<N>, SocketJob<'_, C>)>,
-    reader: VersionReader<N>,
-    own: VersionReader<N>,
-    mut back: Vec<VersionReader<N>>,
-) -> Vec<VersionReader<N>>
-    requires empty { back.items ≡ [] }
-    requires room { vec_len pairs + 1 < vec_capacity back }
-    ensures { vec_len result ≡ vec_len pairs.entry + 2 }
-{
-    put_readers(pairs, &mut back);
-    back.push_reserved(reader);
-    back.push_reserved(own);
-    back
-}
-
-/// Gives the readers of a cell, in their order, each paired with its job, in `pairs`, which is empty and has room for them.
-fn pairs_of<'a, N: Naming, C: Clock>(
-    readers: Vec<Reader<SharedVersion>>,
-    jobs: Vec<SocketJob<'a, C>>,
-    mut pairs: Vec<(VersionReader<N>, SocketJob<'a, C>)>,
-) -> Vec<(VersionReader<N>, SocketJob<'a, C>)>
+/// Names the readers of a cell, and puts them into `named`, which is empty and has room for them.
+fn name_readers<N: Naming>(readers: Vec<Reader<SharedVersion>>, named: &mut Vec<VersionReader<N>>)
     requires named { All (λ r. r.cell ≡ N.cell) readers.items }
-    requires count { vec_len readers ≡ vec_len jobs }
-    requires room { vec_len jobs ≤ vec_capacity pairs }
-    requires empty { (pairs.items ≡ []) × (vec_len pairs ≡ 0) }
-    ensures readers { map (λ pair. pair.0) result.items ≡ readers.items }
-    ensures jobs { map (λ pair. pair.1) result.items ≡ jobs.entry.items }
-    ensures count { vec_len result ≡ vec_len jobs.entry }
+    requires room { vec_len readers ≤ vec_capacity named.old }
+    requires empty { named.old.items ≡ [] }
+    ensures readers { named.new.items ≡ readers.items }
+    ensures count { vec_len named.new ≡ vec_len readers }
+    ensures room { vec_capacity named.new ≡ vec_capacity named.old }
 {
-    let mut jobs = jobs.into_iter();
     for reader in readers {
-        let Some(job) = jobs.next() else {
-            unreachable!()
-        };
-        pairs.push_reserved((NamedReader::of(reader), job));
+        named.push_reserved(NamedReader::of(reader));
     }
-    pairs
 }

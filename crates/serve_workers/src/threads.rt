@@ -1,9 +1,7 @@
-//! The threads of a server. Each has a job on sockets, and a handler that answers its requests.
-ghost use Rattle.std.specs.Prelude.{◌≡◌, ◌≤◌, [], All, map, vec_len, vec_capacity, Some, IsSome, IfOk, IfErr};
+//! What the threads of a server do: each has a job on sockets, and answers its requests by a handler.
+ghost use Rattle.std.specs.Prelude.{◌≡◌, Some};
 ghost use Rattle.requests.specs.Served.{BeginsWith};
-ghost use Rattle.worker_jobs.specs.GivenBack.{Each};
 ghost use Rattle.serve_workers.specs.Numbers.{number_of, end_of};
-ghost use Rattle.serve_workers.specs.ThreadTasks.{task_number, task_seen, task_end, pair_of};
 
 use crate::updates::Updates;
 use dns_engine::{FirstZone, VersionReader};
@@ -11,12 +9,8 @@ use serve_core::{Peer, Transport};
 use sockets::{TcpPeer, TcpPlace, Watch};
 use std::alloc::Global;
 use std::sync::Wait;
-use std::thread::Threads;
 use std::time::Clock;
-use worker_jobs::{
-    ConnectionsJob, DatagramsJob, MainTask, NotStarted, NotifyJob, Shutdown, Task, WorkerSocket,
-    do_all, nobody,
-};
+use worker_jobs::{ConnectionsJob, DatagramsJob, NotifyJob, WorkerSocket, nobody};
 use zone_replies::ConnectionHandler;
 use zone_server::{DatagramHandler, Event, JobEnd, Server, ServerName, ServiceLog, UpdateSender};
 
@@ -34,149 +28,101 @@ pub enum SocketJob<'a, C> {
     Secondaries(NotifyJob<'a, C>),
 }
 
-/// A job on a UDP socket, and the handler that answers its requests with a reader.
-#[derive(Drop)]
-struct DatagramsTask<'g, 's, Z: FirstZone, N: ServerName, L> {
-    asked: DatagramHandler<'g, 's, Z, N, L>,
-    job: DatagramsJob<'g, WorkerSocket<'g>>,
+/// Does a job on a UDP socket, with a handler that answers its requests by a reader, and submits updates by a sender. Gives the reader back, and how the job ended.
+fn serve_datagrams<'g, 's, R: Wait, Z: FirstZone, N: ServerName, L: ServiceLog>(
+    rt: &R,
+    alloc: Global,
+    server: &'g Server<'s, Z, N>,
+    log: &'g L,
+    sender: UpdateSender<'g>,
+    reader: VersionReader<N>,
+    job: &mut DatagramsJob<'g, WorkerSocket<'g>>,
+) -> (VersionReader<N>, JobEnd)
+    ensures number { job.new.number ≡ job.old.number }
+    ensures seen { BeginsWith result.0.seen reader.seen }
+    ensures end { job.new.end ≡ Some result.1 }
+{
+    let peer = Peer::over(Transport::Udp, false);
+    let handler = DatagramHandler::new(alloc, server, reader, log, peer, nobody());
+    let mut handler = handler.with_sender(sender);
+    let end = job.serve(rt, &mut handler);
+    (handler.into_reader(), end)
 }
 
-impl<'g, 's, Z: FirstZone, N: ServerName, L: ServiceLog> DatagramsTask<'g, 's, Z, N, L> {
-    /// Does the job, and returns how it ended.
-    fn serve<R: Wait>(&mut self, rt: &R) -> JobEnd
-        ensures number { self.new.job.number ≡ self.old.job.number }
-        ensures seen { BeginsWith self.new.asked.reader.seen self.old.asked.reader.seen }
-        ensures end { self.new.job.end ≡ Some result }
-    {
-        self.job.serve(rt, &mut self.asked)
-    }
+/// Does a job on connections, with a handler that answers their requests by a reader, and submits updates by a sender. Gives the reader back, and how the job ended.
+fn serve_connections<'g, 's, R: Wait, Z: FirstZone, N: ServerName, L: ServiceLog, C: Clock>(
+    rt: &R,
+    alloc: Global,
+    server: &'g Server<'s, Z, N>,
+    log: &'g L,
+    sender: UpdateSender<'g>,
+    reader: VersionReader<N>,
+    job: &mut TcpJob<'g, C>,
+) -> (VersionReader<N>, JobEnd)
+    ensures number { job.new.number ≡ job.old.number }
+    ensures seen { BeginsWith result.0.seen reader.seen }
+    ensures end { job.new.end ≡ Some result.1 }
+{
+    let peer = Peer::over(Transport::Udp, false);
+    let handler = ConnectionHandler::new(alloc, server, reader, log, peer, nobody());
+    let mut handler = handler.with_sender(sender);
+    let end = job.serve(rt, &mut handler, log);
+    (handler.into_reader(), end)
 }
 
-/// A job on connections, and the handler that answers their requests with a reader.
-#[derive(Drop)]
-struct ConnectionsTask<'g, 's, Z: FirstZone, N: ServerName, L, C> {
-    replies: ConnectionHandler<'g, 's, Z, N, L>,
-    job: TcpJob<'g, C>,
+/// Does a job that notifies secondaries, with a handler that loads versions for it by a reader. Gives the reader back, and how the job ended.
+fn serve_secondaries<'g, 's, R: Wait, Z: FirstZone, N: ServerName, L: ServiceLog, C: Clock>(
+    rt: &R,
+    alloc: Global,
+    server: &'g Server<'s, Z, N>,
+    log: &'g L,
+    reader: VersionReader<N>,
+    job: &mut NotifyJob<'g, C>,
+) -> (VersionReader<N>, JobEnd)
+    ensures number { job.new.number ≡ job.old.number }
+    ensures seen { BeginsWith result.0.seen reader.seen }
+    ensures end { job.new.end ≡ Some result.1 }
+{
+    let peer = Peer::over(Transport::Udp, false);
+    let mut handler = DatagramHandler::new(alloc, server, reader, log, peer, nobody());
+    let end = job.serve(rt, &mut handler, log);
+    (handler.into_reader(), end)
 }
 
-impl<'g, 's, Z: FirstZone, N: ServerName, L: ServiceLog, C: Clock> ConnectionsTask<
-    'g,
-    's,
-    Z,
-    N,
-    L,
-    C,
-> {
-    /// Does the job, and returns how it ended.
-    fn serve<R: Wait>(&mut self, rt: &R, log: &L) -> JobEnd
-        ensures number { self.new.job.number ≡ self.old.job.number }
-        ensures seen { BeginsWith self.new.replies.reader.seen self.old.replies.reader.seen }
-        ensures end { self.new.job.end ≡ Some result }
-    {
-        self.job.serve(rt, &mut self.replies, log)
-    }
-}
-
-/// A job that notifies secondaries, and the handler that loads versions for it with a reader.
-#[derive(Drop)]
-struct SecondariesTask<'g, 's, Z: FirstZone, N: ServerName, L, C> {
-    asked: DatagramHandler<'g, 's, Z, N, L>,
-    job: NotifyJob<'g, C>,
-}
-
-impl<'g, 's, Z: FirstZone, N: ServerName, L: ServiceLog, C: Clock> SecondariesTask<
-    'g,
-    's,
-    Z,
-    N,
-    L,
-    C,
-> {
-    /// Does the job, and returns how it ended.
-    fn serve<R: Wait>(&mut self, rt: &R, log: &L) -> JobEnd
-        ensures number { self.new.job.number ≡ self.old.job.number }
-        ensures seen { BeginsWith self.new.asked.reader.seen self.old.asked.reader.seen }
-        ensures end { self.new.job.end ≡ Some result }
-    {
-        self.job.serve(rt, &mut self.asked, log)
-    }
-}
-
-/// The sender by which the thread at a place submits updates. Replies are routed to the thread by its place.
-fn sender_at(updates: &Updates, place: usize) -> UpdateSender<'_> {
-    UpdateSender {
-        queue: updates.queue(),
-        worker: place,
-    }
-}
-
-/// A thread's job, and its handler with a reader.
-#[derive(Drop)]
-enum ThreadTask<'g, 's, Z: FirstZone, N: ServerName, L, C> {
-    /// A job on a UDP socket.
-    Datagrams(DatagramsTask<'g, 's, Z, N, L>),
-    /// A job on TCP listeners.
-    Connections(ConnectionsTask<'g, 's, Z, N, L, C>),
-    /// A job that notifies secondaries.
-    Secondaries(SecondariesTask<'g, 's, Z, N, L, C>),
-}
-
-impl<'g, 's, Z: FirstZone, N: ServerName, L: ServiceLog, C: Clock> ThreadTask<'g, 's, Z, N, L, C> {
-    /// Combines a job and a reader into the task of the thread at a place, which submits its updates to the queue of `updates`. A job that notifies secondaries submits none.
-    fn of(
+impl<'g, C: Clock> SocketJob<'g, C> {
+    /// Does the job, with a handler that answers requests by a reader, and submits updates by a sender. A job that notifies secondaries submits none. Gives the reader back,
+    /// and how the job ended.
+    pub(crate) fn serve<'s, R: Wait, Z: FirstZone, N: ServerName, L: ServiceLog>(
+        &mut self,
+        rt: &R,
         alloc: Global,
         server: &'g Server<'s, Z, N>,
         log: &'g L,
-        updates: &'g Updates,
-        place: usize,
+        sender: UpdateSender<'g>,
         reader: VersionReader<N>,
-        job: SocketJob<'g, C>,
-    ) -> ThreadTask<'g, 's, Z, N, L, C>
-        ensures { pair_of result ≡ (reader, job.entry) }
-    {
-        let peer = Peer::over(Transport::Udp, false);
-        match job {
-            SocketJob::Datagrams(job) => {
-                let asked = DatagramHandler::new(alloc, server, reader, log, peer, nobody());
-                let asked = asked.with_sender(sender_at(updates, place));
-                ThreadTask::Datagrams(DatagramsTask { asked, job })
-            }
-            SocketJob::Connections(job) => {
-                let replies = ConnectionHandler::new(alloc, server, reader, log, peer, nobody());
-                let replies = replies.with_sender(sender_at(updates, place));
-                ThreadTask::Connections(ConnectionsTask { replies, job })
-            }
-            SocketJob::Secondaries(job) => {
-                let asked = DatagramHandler::new(alloc, server, reader, log, peer, nobody());
-                ThreadTask::Secondaries(SecondariesTask { asked, job })
-            }
-        }
-    }
-
-    /// Gives the reader and the job back.
-    fn into_pair(self) -> (VersionReader<N>, SocketJob<'g, C>)
-        ensures { result ≡ pair_of self.entry }
+    ) -> (VersionReader<N>, JobEnd)
+        ensures number { number_of self.new ≡ number_of self.old }
+        ensures seen { BeginsWith result.0.seen reader.seen }
+        ensures end { end_of self.new ≡ Some result.1 }
     {
         match self {
-            ThreadTask::Datagrams(DatagramsTask { asked, job }) => {
-                (asked.into_reader(), SocketJob::Datagrams(job))
+            SocketJob::Datagrams(job) => {
+                serve_datagrams(rt, alloc, server, log, sender, reader, job)
             }
-            ThreadTask::Connections(ConnectionsTask { replies, job }) => {
-                (replies.into_reader(), SocketJob::Connections(job))
+            SocketJob::Connections(job) => {
+                serve_connections(rt, alloc, server, log, sender, reader, job)
             }
-            ThreadTask::Secondaries(SecondariesTask { asked, job }) => {
-                (asked.into_reader(), SocketJob::Secondaries(job))
-            }
+            SocketJob::Secondaries(job) => serve_secondaries(rt, alloc, server, log, reader, job),
         }
     }
 
-    /// The event that is logged when its job has ended so.
-    fn event_of(&self, end: JobEnd) -> Event {
+    /// The event that is logged when the job has ended so.
+    pub(crate) fn event_of(&self, end: JobEnd) -> Event {
         let worker = self.number();
         let transport = match self {
-            ThreadTask::Datagrams(_) => Transport::Udp,
-            ThreadTask::Connections(_) => Transport::Tcp,
-            ThreadTask::Secondaries(_) => return Event::Untold { end },
+            SocketJob::Datagrams(_) => Transport::Udp,
+            SocketJob::Connections(_) => Transport::Tcp,
+            SocketJob::Secondaries(_) => return Event::Untold { end },
         };
         Event::End {
             worker,
@@ -185,170 +131,23 @@ impl<'g, 's, Z: FirstZone, N: ServerName, L: ServiceLog, C: Clock> ThreadTask<'g
         }
     }
 
-    /// Does the job, and returns how it ended.
-    fn serve<R: Wait>(&mut self, rt: &R, log: &L) -> JobEnd
-        ensures number { task_number self.new ≡ task_number self.old }
-        ensures seen { BeginsWith (task_seen self.new) (task_seen self.old) }
-        ensures end { task_end self.new ≡ Some result }
-    {
+    /// Notes that its thread submits no more updates. Nothing is noted for a job that gets no updates.
+    pub(crate) fn leave<R: Wait>(&self, rt: &R, updates: &Updates) {
         match self {
-            ThreadTask::Datagrams(seat) => seat.serve(rt),
-            ThreadTask::Connections(seat) => seat.serve(rt, log),
-            ThreadTask::Secondaries(seat) => seat.serve(rt, log),
+            SocketJob::Datagrams(_) => updates.leave(rt),
+            SocketJob::Connections(_) => updates.leave(rt),
+            SocketJob::Secondaries(_) => {}
         }
     }
 
-    /// Notes that its thread submits no more updates. Nothing is noted for a thread that gets no updates.
-    fn leave<R: Wait>(&self, rt: &R, updates: &Updates) {
-        match self {
-            ThreadTask::Datagrams(_) => updates.leave(rt),
-            ThreadTask::Connections(_) => updates.leave(rt),
-            ThreadTask::Secondaries(_) => {}
-        }
-    }
-
-    /// The number of its job.
+    /// The job's number.
     fn number(&self) -> usize
-        ensures { result ≡ task_number self.now }
+        ensures { result ≡ number_of self.now }
     {
         match self {
-            ThreadTask::Datagrams(seat) => seat.job.number,
-            ThreadTask::Connections(seat) => seat.job.number,
-            ThreadTask::Secondaries(seat) => seat.job.number,
+            SocketJob::Datagrams(job) => job.number,
+            SocketJob::Connections(job) => job.number,
+            SocketJob::Secondaries(job) => job.number,
         }
-    }
-}
-
-/// A thread of a server.
-#[derive(Drop)]
-struct ServerThread<'g, 's, Z: FirstZone, N: ServerName, L, C> {
-    task: ThreadTask<'g, 's, Z, N, L, C>,
-    muster: &'g Shutdown,
-    log: &'g L,
-    updates: &'g Updates,
-}
-
-/// Whether a job ended without a failure.
-fn is_done(end: JobEnd) -> bool {
-    match end {
-        JobEnd::Done(_) => true,
-        JobEnd::Device => false,
-        JobEnd::Spent => false,
-        JobEnd::NoMemory => false,
-    }
-}
-
-impl<
-    'g,
-    's,
-    Z: FirstZone + Send + Sync,
-    N: ServerName + Send + Sync,
-    L: ServiceLog + Sync,
-    C: Clock + Sync,
-> Task for ServerThread<'g, 's, Z, N, L, C> {
-    ghost number = { λ thread. task_number thread.task };
-
-    ghost seen = { λ thread. task_seen thread.task };
-
-    ghost is_done = { λ thread. IsSome (task_end thread.task) };
-
-    // A thread that fails ends the server.
-    fn work<R: Wait>(&mut self, rt: &R) {
-        if self.muster.begin() {
-            self.log.tell(rt, Event::Serving);
-        }
-        let end = self.task.serve(rt, self.log);
-        self.task.leave(rt, self.updates);
-        self.muster.leave();
-        if !is_done(end) {
-            self.muster.end();
-        }
-        self.log.tell(rt, self.task.event_of(end));
-    }
-}
-
-/// Makes a thread of each pair and puts them into `threads`, which is empty and has room for them.
-fn put_threads<'g, 's, Z: FirstZone, N: ServerName, L: ServiceLog, C: Clock>(
-    alloc: Global,
-    server: &'g Server<'s, Z, N>,
-    muster: &'g Shutdown,
-    log: &'g L,
-    updates: &'g Updates,
-    pairs: Vec<(VersionReader<N>, SocketJob<'g, C>)>,
-    threads: &mut Vec<ServerThread<'g, 's, Z, N, L, C>>,
-)
-    requires room { vec_len pairs ≤ vec_capacity threads.old }
-    requires empty { threads.old.items ≡ [] }
-    ensures pairs { map (λ thread. pair_of thread.task) threads.new.items ≡ pairs.entry.items }
-{
-    let mut place = 0usize;
-    for (reader, job) in pairs {
-        let seat = ThreadTask::of(alloc, server, log, updates, place, reader, job);
-        threads.push_reserved(ServerThread {
-            task: seat,
-            muster,
-            log,
-            updates,
-        });
-        place = place.saturating_add(1);
-    }
-}
-
-/// Puts the pairs of threads into `back`, which is empty and has room for them.
-fn put_back<'g, Z: FirstZone, N: ServerName, L: ServiceLog, C: Clock>(
-    done: Vec<ServerThread<'g, '_, Z, N, L, C>>,
-    back: &mut Vec<(VersionReader<N>, SocketJob<'g, C>)>,
-)
-    requires room { vec_len done ≤ vec_capacity back.old }
-    requires empty { back.old.items ≡ [] }
-    ensures pairs { back.new.items ≡ map (λ thread. pair_of thread.task) done.entry.items }
-{
-    for ServerThread { task: seat, .. } in done {
-        back.push_reserved(seat.into_pair());
-    }
-}
-
-/// Does each job on a thread of its own, with a reader, and the main task on this one, and waits for all. Gives the pairs back in their order. Each job has ended, and
-/// what its reader has seen published begins with what it had seen before. No job begins until each has its thread, and the start is logged once all have begun.
-/// [`NotStarted`] where a thread was refused, or where there was no memory to track the threads. Then no job has begun, the main task wasn't done, and the pairs come back
-/// unchanged.
-pub(crate) fn run_threads<
-    'g,
-    's,
-    R: Threads + Wait + Sync,
-    Z: FirstZone + Send + Sync,
-    N: ServerName + Send + Sync,
-    L: ServiceLog + Sync,
-    C: Clock + Sync,
-    M: MainTask,
->(
-    rt: &R,
-    alloc: Global,
-    server: &'g Server<'s, Z, N>,
-    muster: &'g Shutdown,
-    updates: &'g Updates,
-    meanwhile: M,
-    pairs: Vec<(VersionReader<N>, SocketJob<'g, C>)>,
-    log: &'g L,
-) -> Result<(Vec<(VersionReader<N>, SocketJob<'g, C>)>, M), (NotStarted<N, SocketJob<'g, C>>, M)>
-    ensures numbers { IfOk result (λ back. map (λ pair. number_of pair.1) back.0.items ≡ map (λ pair. number_of pair.1) pairs.entry.items) }
-    ensures done { IfOk result (λ back. All (λ pair. IsSome (end_of pair.1)) back.0.items) }
-    ensures seen { IfOk result (λ back. Each (λ given pair. BeginsWith pair.0.seen given.0.seen) pairs.entry.items back.0.items) }
-    ensures none { IfErr result (λ refused. refused.0.0.items ≡ pairs.entry.items) }
-{
-    let count = pairs.len();
-    let Ok(mut threads) = Vec::with_capacity(alloc, count) else {
-        return Err((NotStarted(pairs), meanwhile));
-    };
-    let Ok(mut back) = Vec::with_capacity(alloc, count) else {
-        return Err((NotStarted(pairs), meanwhile));
-    };
-    put_threads(alloc, server, muster, log, updates, pairs, &mut threads);
-    let (started, done, beside) = do_all(rt, alloc, threads, meanwhile);
-    put_back(done, &mut back);
-    if started {
-        Ok((back, beside))
-    } else {
-        Err((NotStarted(back), beside))
     }
 }

@@ -26,14 +26,15 @@ pub(crate) fn answer_in(
     ensures ok { IfOk result (λ answer. answering answer ≡ ask_start (Some version.now.zone) request.now) }
     ensures refused { IfErr result (λ fault. fault ≡ WorldFault.NoMemory) }
 {
-    match parse(alloc, request.as_slice()) {
-        Parsed::Query(query) => answer_query(alloc, version, &query),
-        Parsed::Fault(head, code) => answer_fault(alloc, &Heading::header_alone(head), code),
+    let said = parse(alloc, request.as_slice());
+    match &said {
+        Parsed::Query(query) => answer_query(alloc, version, query),
+        Parsed::Fault(head, code) => answer_fault(alloc, &Heading::header_alone(*head), *code),
         Parsed::BadOpt(head, question, code, dnssec_ok) => {
-            answer_fault(alloc, &Heading::of_bad(head, &question, dnssec_ok), code)
+            answer_fault(alloc, &Heading::of_bad(*head, question, *dnssec_ok), *code)
         }
         Parsed::Silent => Ok(Some(Answer::Silent)),
-        Parsed::Update(_update) => Ok(None),
+        Parsed::Update(_) => Ok(None),
         Parsed::NoMemory(_) => Err(WorldFault::NoMemory),
     }
 }

@@ -12,6 +12,7 @@ use dns_message::{OPCODE_UPDATE, Parsed, Update, parse};
 use dns_rdata::Rcode;
 use serve_core::Heading;
 use std::alloc::Global;
+use std::mem;
 use update_core::{Outcome, apply};
 use zone_tree::Version;
 
@@ -39,11 +40,12 @@ pub(crate) fn judge(
     if version.number() == u64::MAX {
         return Ok(None);
     }
-    match parse(alloc, request.as_slice()) {
-        Parsed::Update(update) => judge_update(alloc, version, &update),
-        Parsed::Fault(head, code) => Ok(judge_fault(Heading::header_alone(head), code)),
+    let said = parse(alloc, request.as_slice());
+    match &said {
+        Parsed::Update(update) => judge_update(alloc, version, update),
+        Parsed::Fault(head, code) => Ok(judge_fault(Heading::header_alone(*head), *code)),
         Parsed::BadOpt(head, question, code, dnssec_ok) => {
-            Ok(judge_fault(Heading::of_bad(head, &question, dnssec_ok), code))
+            Ok(judge_fault(Heading::of_bad(*head, question, *dnssec_ok), *code))
         }
         Parsed::NoMemory(_) => Err(WorldFault::NoMemory),
         Parsed::Silent => Ok(None),
@@ -76,7 +78,16 @@ fn judge_update(
     let code = outcome.code();
     match outcome {
         Outcome::Refused(_) | Outcome::Unchanged => Ok(Some(Judged::Told(heading, code))),
-        Outcome::Next(next) => Ok(Some(Judged::Makes(heading, Published::new(alloc, next)?))),
-        Outcome::NoMemory => Err(WorldFault::NoMemory),
+        Outcome::Next(next) => match Published::new(alloc, next) {
+            Ok(version) => Ok(Some(Judged::Makes(heading, version))),
+            Err(fault) => {
+                mem::drop(heading);
+                Err(fault)
+            }
+        },
+        Outcome::NoMemory => {
+            mem::drop(heading);
+            Err(WorldFault::NoMemory)
+        }
     }
 }

@@ -21,14 +21,14 @@ use crate::phase::{End, Phase, Progress};
 use crate::published::Published;
 use crate::start::Start;
 use crate::step::{Answer, Call, Octets, StepName, WorldReply, WorldStep};
-use crate::words::{FIRST_OWNER, make_step, started_words, take_steps};
+use crate::words::{FIRST_OWNER, first_words, make_step, take_steps};
 use cell_core::WordMachine;
 use dns_rdata::{Rcode, Serial};
 use serve_core::Heading;
 use std::alloc::Global;
 use std::marker::Model;
 use std::mem;
-use zone_tree::{Version, Zone};
+use zone_tree::Zone;
 
 /// The weak owner of the first version's entry.
 const FIRST_WEAK_OWNER: usize = 1;
@@ -68,23 +68,60 @@ impl<'a> Play<'a> {
         ensures refused { IfErr result (λ fault. fault ≡ WorldFault.NoMemory) }
     {
         let window = options.window.min(MOST_ENTRIES);
-        let entries = first_entries(alloc, zone.serial(), window)?;
-        let first = Published::new(alloc, Version::first(zone))?;
-        let machine = started_words(alloc, first, window)?;
-        let mut kept = Vec::new(alloc);
-        let Ok(()) = kept.push(FIRST_OWNER) else {
-            return Err(WorldFault::NoMemory);
-        };
-        Ok(Play {
-            machine,
-            names: Vec::new(alloc),
-            weak_names: Vec::new(alloc),
-            calls: Vec::new(alloc),
-            keep: options.keep,
-            window,
-            kept,
-            entries,
-        })
+        let first = zone.serial();
+        match first_words(alloc, zone, window) {
+            Ok(machine) => Play::in_words(alloc, machine, first, options, window),
+            Err(fault) => Err(fault),
+        }
+    }
+
+    /// The same, given the words, the first version's serial and the window's size.
+    fn in_words(
+        alloc: Global,
+        machine: WordMachine<Published>,
+        serial: Serial,
+        options: Options,
+        window: usize,
+    ) -> Result<Play<'a>, WorldFault>
+        ensures made { IfOk result (λ play. play ≡ record { words = machine; names = []; weak_names = []; calls = []; keep = options.keep; window = window; kept = 0 ∷ []; entries = if nat_lt 0 window then record { number = 0; serial = serial; owner = 1 } ∷ [] else [] }) }
+        ensures refused { IfErr result (λ fault. fault ≡ WorldFault.NoMemory) }
+    {
+        match first_entries(alloc, serial, window) {
+            Ok(entries) => Play::with_entries(alloc, machine, entries, options, window),
+            Err(fault) => {
+                mem::drop(machine);
+                Err(fault)
+            }
+        }
+    }
+
+    /// The same, given the window's entries.
+    fn with_entries(
+        alloc: Global,
+        machine: WordMachine<Published>,
+        entries: Vec<Entry>,
+        options: Options,
+        window: usize,
+    ) -> Result<Play<'a>, WorldFault>
+        ensures made { IfOk result (λ play. play ≡ record { words = machine; names = []; weak_names = []; calls = []; keep = options.keep; window = window; kept = 0 ∷ []; entries = entries.items }) }
+        ensures refused { IfErr result (λ fault. fault ≡ WorldFault.NoMemory) }
+    {
+        match first_kept(alloc) {
+            Ok(kept) => Ok(Play {
+                machine,
+                names: Vec::new(alloc),
+                weak_names: Vec::new(alloc),
+                calls: Vec::new(alloc),
+                keep: options.keep,
+                window,
+                kept,
+                entries,
+            }),
+            Err(fault) => {
+                mem::drop(machine);
+                Err(fault)
+            }
+        }
     }
 
     /// Executes a line, and gives its reply.
@@ -352,6 +389,18 @@ fn put_owner<'a>(
     match put_name(names, name, owner) {
         Ok(()) => Ok(Answer::Owner(Octets::new(octets), number)),
         Err(fault) => Err(fault),
+    }
+}
+
+/// The owners of the versions that are kept at the start.
+fn first_kept(alloc: Global) -> Result<Vec<usize>, WorldFault>
+    ensures ok { IfOk result (λ kept. kept.items ≡ 0 ∷ []) }
+    ensures refused { IfErr result (λ fault. fault ≡ WorldFault.NoMemory) }
+{
+    let mut kept = Vec::new(alloc);
+    match kept.push(FIRST_OWNER) {
+        Ok(()) => Ok(kept),
+        Err(_) => Err(WorldFault::NoMemory),
     }
 }
 

@@ -119,13 +119,14 @@ impl<'a> Sending<'a> {
         ensures ok { IfOk result (λ answer. answer ≡ sent_answer self.entry) }
         ensures refused { IfErr result (λ fault. fault ≡ WorldFault.NoMemory) }
     {
-        match parse(alloc, self.request.as_slice()) {
-            Parsed::Query(query) => self.answer_query(alloc, &query),
+        let said = parse(alloc, self.request.as_slice());
+        match &said {
+            Parsed::Query(query) => self.answer_query(alloc, query),
             Parsed::NoMemory(_) => Err(WorldFault::NoMemory),
             Parsed::Silent => Ok(Answer::Silent),
             Parsed::Fault(_, _) => Ok(Answer::Silent),
             Parsed::BadOpt(_, _, _, _) => Ok(Answer::Silent),
-            Parsed::Update(_update) => Ok(Answer::Silent),
+            Parsed::Update(_) => Ok(Answer::Silent),
         }
     }
 

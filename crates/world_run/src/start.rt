@@ -1,9 +1,9 @@
 //! How a call begins.
-ghost use Rattle.std.specs.Prelude.{◌≡◌, ◌||◌, Some, IfOk, IfErr};
+ghost use Rattle.std.specs.Prelude.{◌≡◌, ◌&&◌, ◌||◌, nat_lt, Some, IfOk, IfErr};
 ghost use Rattle.std.specs.Option.{option_copied, option_and_then};
-ghost use Rattle.cell_core.specs.Words.{found_last};
+ghost use Rattle.cell_core.specs.Words.{found_last, grants};
 ghost use Rattle.world_run.specs.Judgements.{judged as says_judged};
-ghost use Rattle.world_run.specs.World.{answering, ask_start, drop_start, fade_start, is_taken as says_taken, is_taken_weakly as says_taken_weakly, owner_of, start as says_start, publication_start, keeping_for, can_enter as says_can_enter, transfer_start, update_start, version_of, zone_of};
+ghost use Rattle.world_run.specs.World.{answering, ask_start, drop_start, fade_start, is_taken as says_taken, is_taken_weakly as says_taken_weakly, is_held as says_is_held, oldest_kept, owner_of, start as says_start, publication_start, keeping_for, can_enter as says_can_enter, transfer_start, update_start, version_of, zone_of};
 ghost use Rattle.zone_tree.specs.Version.{Version as Numbered, zone_serial};
 ghost use Rattle.world_run.specs.declared.step.Call.TheVariants.{Load, Copy, Weak, Up};
 
@@ -54,19 +54,18 @@ impl<'a> Play<'a> {
         ensures ok { IfOk result (λ how. how ≡ says_start self.now call.now) }
         ensures refused { IfErr result (λ fault. fault ≡ WorldFault.NoMemory) }
     {
-        let how = match call {
-            Call::Load(name) => self.load(name),
-            Call::Drop(name) => self.release(name),
-            Call::Copy(given, name) => self.copy(given, name),
-            Call::Weak(given, name) => self.weaken(given, name),
-            Call::Fade(name) => self.fade(name),
-            Call::Up(weak, name) => self.raise(weak, name),
-            Call::Ask(name, request) => return self.ask(alloc, name, request),
-            Call::Transfer(name, request) => return self.ask_transfer(alloc, name, request),
-            Call::Update(_) if is_barred(&self.calls) => Start::Refused,
-            Call::Update(request) => return self.update(alloc, request),
-        };
-        Ok(how)
+        match call {
+            Call::Load(name) => Ok(self.load(name)),
+            Call::Drop(name) => Ok(self.release(name)),
+            Call::Copy(given, name) => Ok(self.copy(given, name)),
+            Call::Weak(given, name) => Ok(self.weaken(given, name)),
+            Call::Fade(name) => Ok(self.fade(name)),
+            Call::Up(weak, name) => Ok(self.raise(weak, name)),
+            Call::Ask(name, request) => self.ask(alloc, name, request),
+            Call::Transfer(name, request) => self.ask_transfer(alloc, name, request),
+            Call::Update(_) if is_barred(&self.calls) => Ok(Start::Refused),
+            Call::Update(request) => self.update(alloc, request),
+        }
     }
 
     /// How a load begins.
@@ -215,20 +214,27 @@ impl<'a> Play<'a> {
         ensures ok { IfOk result (λ how. how ≡ publication_start self.now heading version) }
         ensures refused { IfErr result (λ fault. fault ≡ WorldFault.NoMemory) }
     {
-        let keeping = match self.keeping(alloc, heading, version.version().serial()) {
-            Ok(keeping) => keeping,
-            Err(fault) => {
-                mem::drop(version);
-                return Err(fault);
-            }
-        };
-        let oldest = keeping.oldest;
-        if !self.machine.has_shares() || !is_held(&self.machine, oldest) || !self.can_enter() {
+        if !self.can_publish() {
+            mem::drop(heading);
             mem::drop(version);
-            mem::drop(keeping);
             return Ok(Start::Refused);
         }
-        Ok(Start::Takes(Phase::Probe(version, keeping)))
+        match self.keeping(alloc, heading, version.version().serial()) {
+            Ok(keeping) => Ok(Start::Takes(Phase::Probe(version, keeping))),
+            Err(fault) => {
+                mem::drop(version);
+                Err(fault)
+            }
+        }
+    }
+
+    /// Whether an update that makes a version is enabled: a share is left, the oldest version that it releases is there, and a weak owner can be made.
+    fn can_publish(&self) -> bool
+        ensures { result ≡ (nat_lt self.now.words.granted grants && says_is_held self.now.words (oldest_kept self.now.keep self.now.kept) && says_can_enter self.now.words self.now.window) }
+    {
+        self.machine.has_shares()
+            && is_held(&self.machine, oldest_of(self.keep, &self.kept))
+            && self.can_enter()
     }
 
     /// What an update does after it has published a version of this serial.

@@ -1,6 +1,10 @@
 //! How a question for a transfer begins (RFC 1995, 2 and 4; RFC 5936, 2.2).
-ghost use Rattle.std.specs.Prelude.{◌≡◌, IfOk, IfErr};
+ghost use Rattle.std.specs.Prelude.{◌≡◌, [], if◌then◌else◌, IfOk, IfErr};
 ghost use Rattle.cell_core.specs.Words.{found_by};
+ghost use Rattle.world_run.specs.Transfers.{sent_answer};
+ghost use Rattle.world_run.specs.declared.phase.Phase.TheVariants.{Seek};
+ghost use Rattle.world_run.specs.declared.sending.Seeking.{Seeking as SeekingRow};
+ghost use Rattle.world_run.specs.declared.start.Start.TheVariants.{Refused, Answers, Takes};
 ghost use Rattle.world_run.specs.World.{none_got as says_none_got, seek_start, transfer_asked, transfer_of};
 
 use crate::calls::is_barred;
@@ -39,6 +43,42 @@ fn none_got<'a>(
     }
 }
 
+/// How a transfer begins that upgrades no entry.
+fn sent_at_once<'a>(alloc: Global, sending: Sending<'a>) -> Result<Start<'a>, WorldFault>
+    ensures ok { IfOk result (λ how. how ≡ Answers (sent_answer sending.entry)) }
+    ensures refused { IfErr result (λ fault. fault ≡ WorldFault.NoMemory) }
+{
+    match sending.answer(alloc) {
+        Ok(answer) => Ok(Start::Answers(answer)),
+        Err(fault) => Err(fault),
+    }
+}
+
+/// How a transfer begins that upgrades the entry with this owner, and then those with the owners that are left, where shares are left for all of them.
+fn first_sought<'a>(
+    alloc: Global,
+    has_shares: bool,
+    owner: usize,
+    sending: Sending<'a>,
+    left: OwnerList,
+) -> Start<'a>
+    ensures { result ≡ (if has_shares then Takes (Seek owner (record { sending = sending.entry; left = left; owners = [] })) else Refused) }
+{
+    if !has_shares {
+        mem::drop(sending);
+        mem::drop(left);
+        return Start::Refused;
+    }
+    Start::Takes(Phase::Seek(
+        owner,
+        Seeking {
+            sending,
+            left,
+            owners: OwnerList::new(alloc),
+        },
+    ))
+}
+
 impl<'a> Play<'a> {
     /// How a request over TCP for a transfer of an owner's version begins.
     ///
@@ -55,15 +95,16 @@ impl<'a> Play<'a> {
         let Some(version) = self.machine.value(owner) else {
             return Ok(Start::Refused);
         };
-        match parse(alloc, request.as_slice()) {
+        let said = parse(alloc, request.as_slice());
+        match &said {
             Parsed::Query(query) => match none_got(alloc, owner, version, request) {
-                Ok(sending) => self.transfer_asked(alloc, sending, &query),
+                Ok(sending) => self.transfer_asked(alloc, sending, query),
                 Err(fault) => Err(fault),
             },
             Parsed::Silent => Ok(Start::Refused),
             Parsed::Fault(_, _) => Ok(Start::Refused),
             Parsed::BadOpt(_, _, _, _) => Ok(Start::Refused),
-            Parsed::Update(_update) => Ok(Start::Refused),
+            Parsed::Update(_) => Ok(Start::Refused),
             Parsed::NoMemory(_) => Err(WorldFault::NoMemory),
         }
     }
@@ -109,24 +150,12 @@ impl<'a> Play<'a> {
     {
         let has_shares = self.machine.has_shares_for(owners.len());
         let mut left = owners;
-        let Some(owner) = left.take_first() else {
-            return match sending.answer(alloc) {
-                Ok(answer) => Ok(Start::Answers(answer)),
-                Err(fault) => Err(fault),
-            };
-        };
-        if !has_shares {
-            mem::drop(sending);
-            return Ok(Start::Refused);
+        match left.take_first() {
+            None => {
+                mem::drop(left);
+                sent_at_once(alloc, sending)
+            }
+            Some(owner) => Ok(first_sought(alloc, has_shares, owner, sending, left)),
         }
-        let owners = OwnerList::new(alloc);
-        Ok(Start::Takes(Phase::Seek(
-            owner,
-            Seeking {
-                sending,
-                left,
-                owners,
-            },
-        )))
     }
 }

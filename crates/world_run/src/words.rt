@@ -1,6 +1,7 @@
 //! The steps of calls on the words of the cell.
 ghost use Rattle.std.specs.Prelude.{◌≡◌, Some, None, IfOk, IfErr, MatchOption};
 ghost use Rattle.cell_core.specs.Made.{made};
+ghost use Rattle.world_run.specs.Numbered.{first_version};
 ghost use Rattle.world_run.specs.Phases.{word_step};
 ghost use Rattle.world_run.specs.World.{loaded_once as says_loaded_once, started_words as says_started_words, most_steps, steps_up_to};
 
@@ -10,6 +11,7 @@ use crate::published::Published;
 use cell_core::{StepFault, WordEvent, WordMachine, WordStep};
 use std::alloc::Global;
 use std::mem;
+use zone_tree::{Version, Zone};
 
 /// The owner of the first version that is kept.
 pub(crate) const FIRST_OWNER: usize = 0;
@@ -64,8 +66,23 @@ pub(crate) fn take_steps<'a>(
     Ok(Progress::On(phase))
 }
 
+/// The words at the start, in which the first version is a zone's.
+pub(crate) fn first_words(
+    alloc: Global,
+    zone: Zone,
+    window: usize,
+) -> Result<WordMachine<Published>, WorldFault>
+    ensures made { IfOk result (λ machine. machine ≡ says_started_words (first_version zone) window) }
+    ensures refused { IfErr result (λ fault. fault ≡ WorldFault.NoMemory) }
+{
+    match Published::new(alloc, Version::first(zone)) {
+        Ok(first) => started_words(alloc, first, window),
+        Err(fault) => Err(fault),
+    }
+}
+
 /// The words at the start: a version is published and loaded once, and has a weak owner where there is a window.
-pub(crate) fn started_words(
+fn started_words(
     alloc: Global,
     first: Published,
     window: usize,

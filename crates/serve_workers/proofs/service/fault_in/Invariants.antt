@@ -3,5 +3,5 @@ use Rattle.std.proofs.Common.{◌≡◌, take, All, None}
 use Rattle.serve_workers.specs.Numbers.{end_of, fault_by}
 use Rattle.serve_workers.proofs.service.fault_in.Given as goal
 
-abbrev pub invariant-loop-pair : goal.invariant-loop-pair
-invariant-loop-pair g l = All (λ pair. fault_by (end_of pair.1) ≡ None) (take l.pair-index l.pairs)
+abbrev pub invariant-loop-thread : goal.invariant-loop-thread
+invariant-loop-thread g l = All (λ thread. fault_by (end_of thread.job) ≡ None) (take l.thread-index l.threads)

@@ -4,8 +4,8 @@ use Rattle.std.proofs.lemmas.List.Elements.{All-same, All-take}
 use Rattle.worker_jobs.proofs.EachLemmas.{all_last}
 use Rattle.serve_workers.proofs.service.serve_with_readers.Goals as goal
 
-pub pairs_of-pairs-requires-clause-named : goal.pairs_of-pairs-requires-clause-named
-pairs_of-pairs-requires-clause-named g c =
+pub name_readers-requires-clause-named : goal.name_readers-requires-clause-named
+name_readers-requires-clause-named g c =
     let behind = All-same (λ r. (r.cell ≡ c.args.parts.cell) × (0 < r.left)) _ _ c.in-Some.ensures.rest (All-take (λ r. (r.cell ≡ c.args.parts.cell) × (0 < r.left)) _ c.args.parts.readers.items c.requires.readers) in
     let rest = All-same (λ r. (r.cell ≡ c.args.parts.cell) × (0 < r.left)) _ _ c.in-Some-pop.ensures.rest (All-take (λ r. (r.cell ≡ c.args.parts.cell) × (0 < r.left)) _ c.pop.new.self.items behind) in
     λ k d below. (rest k d below).0 ∙ c.requires.named

@@ -7,5 +7,5 @@ use Rattle.serve_workers.proofs.service.serve_zone.Goals as goal
 
 pub serve_with_readers-requires-clause-follow : goal.serve_with_readers-requires-clause-follow
 serve_with_readers-requires-clause-follow g c =
-    let first : c.in-Ok.parts.publisher.value ≡ c.args.first = ap (λ (p : PublisherState Version). p.value) c.in-Ok.ensures.publisher in
+    let first : c.in-Ok-new.parts.publisher.value ≡ c.args.first = ap (λ (p : PublisherState Version). p.value) c.in-Ok-new.ensures.publisher in
     λ _ _. subst (λ (v : Version). AreNext v c.args.later.items) (sym first) c.requires.follow

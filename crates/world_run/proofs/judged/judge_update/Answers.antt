@@ -8,8 +8,8 @@ returns-in-Refused-clause-ok c =
     ap (λ heading. Some (Told heading c.code-code.result)) c.of_update-heading.ensures
     ∙ told_by_code c.args.version.now c.args.update.now c.apply-outcome.result c.code-code.result c.apply-outcome.ensures.told c.code-code.ensures c.in-Refused.is
 
-pub returns-in_ok-new-in-Next-clause-ok : goal.returns-in_ok-new-in-Next-clause-ok
-returns-in_ok-new-in-Next-clause-ok c =
-    rw c.in_ok-new-in-Next.ensures.ok
+pub returns-in-Ok-clause-ok : goal.returns-in-Ok-clause-ok
+returns-in-Ok-clause-ok c =
+    rw c.in-Ok.ensures.ok
     (ap (λ heading. Some (Makes heading c.in-Next.next)) c.of_update-heading.ensures
     ∙ told_next c.args.version.now c.in-Next.next c.args.update.now c.apply-outcome.result c.apply-outcome.ensures.told c.in-Next.is)
