@@ -1,5 +1,5 @@
 -- The frame that octets begin with, and what is kept once it is answered.
-use Rattle.std.proofs.Common.{◌≡◌, ◌≢◌, refl, ℕ, zero, suc, ◌+◌, ◌<◌, ◌≤◌, Bool, true, false, List, [], ◌∷◌, ◌++◌, Option, None, Some, sym, ap, ◌∙◌, subst, arith, length, take, drop, get_or, length-append, length-drop, length-take-le, take-append-drop, append_assoc, append-nil, nat_le, if◌then◌else◌}
+use Rattle.std.proofs.Common.{◌≡◌, ◌≢◌, refl, ℕ, zero, suc, ◌+◌, ◌-◌, ◌<◌, ◌≤◌, Bool, true, false, List, [], ◌∷◌, ◌++◌, Option, None, Some, sym, ap, ◌∙◌, subst, arith, length, take, drop, get_or, length-append, length-drop, length-take-le, take-append-drop, append_assoc, append-nil, nat_le, if◌then◌else◌}
 use Rattle.std.proofs.lemmas.List.{drop-drop}
 use Rattle.std.proofs.lemmas.Nat.{be_bytes_2}
 use Rattle.std.proofs.lemmas.Bool.Decides.{nat_tests}
@@ -56,6 +56,14 @@ frame_cases octets message rest true long small found =
 pub frame_taken : (octets message rest : List ℕ) → ((i : ℕ) → get_or octets i 0 < 256) → frame_in octets ≡ Some (message, rest)
     → (octets ≡ frame_of message ++ rest) × (2 + length message ≤ length octets) × (rest ≡ drop (2 + length message) octets)
 frame_taken octets message rest small found = frame_cases octets message rest (nat_le (2 + number_at octets 0) (length octets)) refl small found
+
+-- so they are that frame and what stands behind as many octets as it has
+pub frame_counted : (octets message rest : List ℕ) → ((i : ℕ) → get_or octets i 0 < 256) → frame_in octets ≡ Some (message, rest) → octets ≡ frame_of message ++ drop (length octets - length rest) octets
+frame_counted octets message rest small found =
+    let taken = frame_taken octets message rest small found in
+    let left : length rest ≡ length octets - (2 + length message) = ap (λ l. length l) taken.2 ∙ length-drop (2 + length message) octets in
+    let size : 2 + length message ≡ length octets - length rest = omega (arith, taken.1, left) in
+    taken.0 ∙ ap (λ l. frame_of message ++ l) (taken.2 ∙ ap (λ (n : ℕ). drop n octets) size)
 
 -- a message's frame is ready behind all that is to be written
 pub queued_one : (old : Kept) (ready new : List ℕ) (later : List (List ℕ)) (message : List ℕ) → ready ≡ old.ready → later ≡ old.later → old.later ≡ [] → new ≡ ready ++ frame_of message → new ++ frames_of later ≡ due old ++ frames_of (message ∷ [])

@@ -1,5 +1,5 @@
 -- What was answered still is when a connection goes on, and where it ends.
-use Rattle.std.proofs.Common.{◌≡◌, refl, ℕ, List, [], ◌++◌, Option, None, Some, IfSome, sym, ap, ◌∙◌, subst, append_assoc}
+use Rattle.std.proofs.Common.{◌≡◌, ◌≢◌, refl, ℕ, List, [], ◌++◌, Option, None, Some, IfSome, Result, Ok, Err, IfOk, OnErr, sym, ap, ◌∙◌, subst, append_assoc}
 use Rattle.serve_core.specs.declared.peer.Peer.{Peer}
 use Rattle.dns_message.specs.Frame.{frame_of}
 use Rattle.requests.specs.Octets.{frames_of}
@@ -9,6 +9,8 @@ use Rattle.requests.proofs.TurnLemmas.{grows_more, served_more, known_first}
 use Rattle.requests.specs.declared.stream_end.StreamEnd.{StreamEnd}
 use Rattle.requests.specs.declared.stream_end.StreamEnd.TheVariants.{Clean, Torn, Device, Spent, NoMemory}
 use Rattle.tcp_connections.specs.Kept.{Kept, due, told_by}
+use Rattle.tcp_connections.specs.declared.step.Step.{Step}
+use Rattle.tcp_connections.specs.declared.step.Step.TheVariants.{More, Done, Full, Blocked, Later}
 use Rattle.tcp_connections.specs.Told.{Stays, Writes, EndsTold}
 use Rattle.tcp_connections.specs.Going.{IsHeldUp, Known, Goes, Keeps, PartlyTold, Ends, Stops}
 
@@ -84,6 +86,15 @@ module _ {T : Type 0} (IsReply : Learned T → Learned T → List ℕ → List (
   pub keeps_same : (seen later : Learned T) (k m : Kept) → Grows later seen → m ≡ k → Keeps IsReply seen k later m
   keeps_same seen later k m grows same = λ octets start old known.
       subst (λ (n : Kept). Known IsReply start old later (told_by n octets)) (sym same) (known_seen start seen later old (told_by k octets) grows known)
+
+  -- a request is answered, or nothing changes
+  pub keeps_step : (seen later : Learned T) (k m : Kept) (result : Result Step StreamEnd) → Grows later seen → (result ≡ Ok More → Turn IsReply seen (k.held, due k) later (m.held, due m)) → IfOk result (λ step. step ≢ More → m ≡ k) → OnErr result (m ≡ k) → Keeps IsReply seen k later m
+  keeps_step seen later k m (Ok More) grows made same ended = keeps_turn seen later k m (made refl)
+  keeps_step seen later k m (Ok Done) grows made same ended = keeps_same seen later k m grows (same (λ is. cc))
+  keeps_step seen later k m (Ok Full) grows made same ended = keeps_same seen later k m grows (same (λ is. cc))
+  keeps_step seen later k m (Ok Blocked) grows made same ended = keeps_same seen later k m grows (same (λ is. cc))
+  keeps_step seen later k m (Ok Later) grows made same ended = keeps_same seen later k m grows (same (λ is. cc))
+  keeps_step seen later k m (Err end) grows made same ended = keeps_same seen later k m grows ended
 
   partly : (start seen : Learned T) (o p : List ℕ × List ℕ) (new : Option (List ℕ × List ℕ)) → Known IsReply start (Some o) seen (Some p) → EndsTold Device (Some p) new → PartlyTold IsReply start o seen new
   partly start seen o p new known ends =

@@ -6,9 +6,11 @@ use Rattle.requests.specs.Served.{Learned, Grows}
 use Rattle.tcp_connections.specs.Asked.{EachGrows}
 use Rattle.requests.proofs.TurnLemmas.{grows_more}
 use Rattle.requests.specs.declared.stream_end.StreamEnd.{StreamEnd}
-use Rattle.tcp_connections.specs.Going.{Goes, Stops}
+use Rattle.tcp_connections.specs.Going.{Keeps, Goes, Stops}
+use Rattle.tcp_connections.specs.Kept.{Kept, told_by}
+use Rattle.tcp_connections.specs.Told.{Stays, EndsTold}
 use Rattle.tcp_connections.proofs.ToldLemmas.{writes_itself, writes_more}
-use Rattle.tcp_connections.proofs.GoingLemmas.{goes_seen, goes_more, stops_more}
+use Rattle.tcp_connections.proofs.GoingLemmas.{goes_seen, goes_more, goes_stays, stops_more, stops_told}
 use Rattle.tcp_connections.proofs.BegunLemmas.{begun_more}
 use Rattle.tcp_connections.specs.Links.{Seen, told_of, HasGone, HasEnded, OwnServed}
 
@@ -84,6 +86,17 @@ module _ {T : Type 0} (IsReply : Peer → Learned T → Learned T → List ℕ �
   pub stops_as : (end : StreamEnd) (seen known later : Learned T) (peer mine : Peer) (a b : Option (List ℕ × List ℕ)) → mine ≡ peer → Grows known seen → Stops (IsReply mine) end known a later b → Stops (IsReply peer) end seen a later b
   stops_as end seen known later peer mine a b same grows stops =
       stops_more (IsReply peer) end seen known later a a b (goes_seen (IsReply peer) seen known a grows) (subst (λ (p : Peer). Stops (IsReply p) end known a later b) same stops)
+
+  -- requests of the same peer are answered, and octets are then moved; or the connection ends
+  pub goes_turned : (peer mine : Peer) (key own : ℕ) (seen later : ℕ → Learned T) (k m : Kept) (a b : Option (List ℕ × List ℕ)) → mine ≡ peer → own ≡ key → Keeps (IsReply mine) (seen own) k (later own) m → Stays (told_by m a) b → Goes (IsReply peer) (seen key) (told_by k a) (later key) b
+  goes_turned peer mine key own seen later k m a b same here keeps stays =
+      let kept : Goes (IsReply peer) (seen key) (told_by k a) (later key) (told_by m a) = subst (λ (p : Peer). Goes (IsReply p) (seen key) (told_by k a) (later key) (told_by m a)) same (subst (λ (n : ℕ). Goes (IsReply mine) (seen n) (told_by k a) (later n) (told_by m a)) here (keeps a)) in
+      goes_more (IsReply peer) (seen key) (later key) (later key) (told_by k a) (told_by m a) b kept (goes_stays (IsReply peer) (later key) (told_by m a) b stays)
+
+  pub stops_turned : (end : StreamEnd) (peer mine : Peer) (key own : ℕ) (seen later : ℕ → Learned T) (k m : Kept) (a b : Option (List ℕ × List ℕ)) → mine ≡ peer → own ≡ key → Keeps (IsReply mine) (seen own) k (later own) m → EndsTold end (told_by m a) b → Stops (IsReply peer) end (seen key) (told_by k a) (later key) b
+  stops_turned end peer mine key own seen later k m a b same here keeps ends =
+      let kept : Goes (IsReply peer) (seen key) (told_by k a) (later key) (told_by m a) = subst (λ (p : Peer). Goes (IsReply p) (seen key) (told_by k a) (later key) (told_by m a)) same (subst (λ (n : ℕ). Goes (IsReply mine) (seen n) (told_by k a) (later n) (told_by m a)) here (keeps a)) in
+      stops_told (IsReply peer) end (seen key) (later key) (told_by k a) (told_by m a) b kept ends
 
   module _ {L : Type 0} (seen_as : L → Seen) where
     -- the connection under a key goes on

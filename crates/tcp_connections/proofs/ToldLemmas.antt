@@ -1,10 +1,10 @@
 -- What stays told when octets move, and what an end leaves.
-use Rattle.std.proofs.Common.{◌≡◌, ◌≢◌, refl, ℕ, List, [], ◌++◌, Option, None, Some, take, drop, sym, ap, ◌∙◌, subst, append_assoc, append-nil, take-append-drop}
+use Rattle.std.proofs.Common.{◌≡◌, ◌≢◌, ◌⊎◌, inl, inr, refl, ℕ, List, [], ◌++◌, Option, None, Some, take, drop, sym, ap, ◌∙◌, subst, append_assoc, append-nil, take-append-drop}
 use Rattle.requests.specs.Octets.{Gives, Takes, IsAtEnd, IsTorn, frames_of}
 use Rattle.requests.specs.declared.stream_end.StreamEnd.{StreamEnd}
 use Rattle.requests.specs.declared.stream_end.StreamEnd.TheVariants.{Clean, Torn, Device, Spent, NoMemory}
 use Rattle.tcp_connections.specs.Kept.{Kept, due, told_by, nothing_kept, IsWaiting}
-use Rattle.tcp_connections.specs.Told.{Stays, Writes, EndsTold}
+use Rattle.tcp_connections.specs.Told.{Stays, Writes, EndsTold, EndCounted}
 
 pub stays_itself : (a : Option (List ℕ × List ℕ)) → Stays a a
 stays_itself None = tt
@@ -77,6 +77,15 @@ writes_given (Some o) b xs gives = (gives.0, [], gives.2 ∙ ap (λ l. Some (giv
 pub ends_here : (k : Kept) (a : Option (List ℕ × List ℕ)) → EndsTold Device (told_by k a) a
 ends_here k None = tt
 ends_here k (Some o) = (o.0, o.1, due k, refl, refl)
+
+-- the same where no version is loaded, or there is no memory, and nothing has failed
+pub ends_lacking : (end : StreamEnd) (k : Kept) (a : Option (List ℕ × List ℕ)) → (end ≡ Spent) ⊎ (end ≡ NoMemory) → EndsTold end (told_by k a) a
+ends_lacking end k a (inl is) = subst (λ (e : StreamEnd). EndsTold e (told_by k a) a) (sym is) (ends_here k a)
+ends_lacking end k a (inr is) = subst (λ (e : StreamEnd). EndsTold e (told_by k a) a) (sym is) (ends_here k a)
+
+pub counted_lacking : (end : StreamEnd) (faults : ℕ) → (end ≡ Spent) ⊎ (end ≡ NoMemory) → EndCounted end faults faults
+counted_lacking end faults (inl is) = subst (λ (e : StreamEnd). EndCounted e faults faults) (sym is) refl
+counted_lacking end faults (inr is) = subst (λ (e : StreamEnd). EndCounted e faults faults) (sym is) refl
 
 -- octets that were read are lost
 pub ends_read : (k : Kept) (xs : List ℕ) (a b : Option (List ℕ × List ℕ)) → Gives a b xs → EndsTold Device (told_by k a) b

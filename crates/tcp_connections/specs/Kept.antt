@@ -5,7 +5,7 @@ use Rattle.requests.specs.Octets.{frames_of}
 use Rattle.tcp_connections.specs.declared.waiting.Waiting.{Waiting}
 use Rattle.tcp_connections.specs.declared.waiting.Waiting.TheVariants.{Request, Rest, Answer, Taking}
 use Rattle.tcp_connections.specs.declared.handler.Reply.{Reply}
-use Rattle.tcp_connections.specs.declared.handler.Reply.TheVariants.{Silent, One, Many}
+use Rattle.tcp_connections.specs.declared.handler.Reply.TheVariants.{Silent, One, Many, Later}
 
 -- octets that were read and aren't answered, octets that are to be written, and messages whose frames are to be written after these;
 -- whether messages are being made; how many times the peer has finished something: has sent a whole request that is answered, or taken all
@@ -69,8 +69,10 @@ pub record IsWaiting (kept : Kept) : Type 0 where
 abbrev pub told_by : Kept → Option (List ℕ × List ℕ) → Option (List ℕ × List ℕ)
 told_by kept octets = option_map (λ o. (kept.held ++ o.0, o.1 ++ due kept)) octets
 
--- the messages of a reply: none, the one of so many octets at the start of a buffer, or those that are left of something that makes them
+-- the messages of a reply: none, the one of so many octets at the start of a buffer, or those that are left of something that makes them; none of one that
+-- is made later
 abbrev pub messages_of : {M : Type 0} → (M → List (List ℕ)) → Reply M → List ℕ → List (List ℕ)
 messages_of left Silent out = []
 messages_of left (One len) out = take len out ∷ []
 messages_of left (Many messages) out = left messages
+messages_of left Later out = []

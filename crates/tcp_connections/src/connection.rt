@@ -14,11 +14,12 @@ use crate::blocking::Blocking;
 use crate::handler::{Handler, Messages};
 use crate::limits::Limits;
 use crate::machine::ConnectionState;
-use crate::serve::{Flow, serve_some};
+use crate::serve::serve_some;
+use crate::step::Step;
 use crate::waiting::Waiting;
 use crate::window::Window;
 use peer_groups::PeerGroup;
-use requests::{OpenGate, StreamEnd};
+use requests::StreamEnd;
 use serve_core::Peer;
 use std::alloc::Global;
 use std::net::SocketAddr;
@@ -74,13 +75,6 @@ impl<S: Drop, M: Messages> Connection<S, M> {
                 taken: 0,
             },
         }
-    }
-
-    /// Its stream.
-    pub fn stream(&self) -> &S
-        ensures { result.now ≡ self.now.stream }
-    {
-        &self.stream
     }
 
     /// Whether it is over at a time: its peer has taken as long as it may to finish what is waited for.
@@ -157,7 +151,7 @@ pub(crate) fn serve_connection<R: Wait, S: Blocking + Drop, M: Messages, A: Hand
     now: u64,
     room: &mut [u8],
     out: &mut [u8],
-) -> Result<Flow, StreamEnd>
+) -> Result<Step, StreamEnd>
     requires room { 0 < length room.old }
     requires out { message_limit ≤ length out.old }
     ensures peer { link.new.peer ≡ link.old.peer }
@@ -169,8 +163,8 @@ pub(crate) fn serve_connection<R: Wait, S: Blocking + Drop, M: Messages, A: Hand
     ensures stops { IfErr result (λ end. Stops (A.is_reply link.old.peer) end (A.seen answering.old key) (told_by link.old.conversation (S.octets link.old.stream)) (A.seen answering.new key) (S.octets link.new.stream)) }
     ensures written { Writes (S.octets link.old.stream) (S.octets link.new.stream) }
     ensures begun { link.new.begun ≡ begun_behind link.old.conversation.passed link.new.conversation.passed link.old.begun now }
-    ensures blocked { result ≡ Ok Flow.Blocked → S.would_block link.new.stream }
-    ensures waits { result ≡ Ok Flow.Waits → IsHeldUp (A.is_later link.new.peer) link.new.conversation }
+    ensures blocked { result ≡ Ok Step.Blocked → S.would_block link.new.stream }
+    ensures waits { result ≡ Ok Step.Later → IsHeldUp (A.is_later link.new.peer) link.new.conversation }
 {
     answering.turn_to(link.peer, link.from, key);
     let passed = link.conversation.passed();
@@ -179,7 +173,6 @@ pub(crate) fn serve_connection<R: Wait, S: Blocking + Drop, M: Messages, A: Hand
         answering,
         &mut link.conversation,
         &mut link.stream,
-        &OpenGate,
         room,
         out,
     );

@@ -1,12 +1,14 @@
 //! What answers the requests of connections.
-ghost use Rattle.std.specs.Prelude.{◌≡◌, ℕ, ◌≤◌, List, [], ◌∷◌, length, take, IfOk, IfErr, MatchOption};
+ghost use Rattle.std.specs.Prelude.{◌≡◌, ◌≢◌, ℕ, ◌≤◌, List, [], ◌∷◌, length, take, IfOk, IfErr, OnErr, MatchOption};
 ghost use Rattle.dns_message.specs.Message.{message_limit};
 ghost use Rattle.zone_tree.specs.Version.{Version};
 ghost use Rattle.requests.specs.Served.{Learned};
+ghost use Rattle.requests.specs.declared.stream_end.StreamEnd.{StreamEnd as EndOf};
 ghost use Rattle.serve_core.specs.declared.peer.Peer.{Peer as PeerAsking};
 ghost use Rattle.tcp_connections.specs.Asked.{EachGrows};
 ghost use Rattle.tcp_connections.specs.Kept.{messages_of};
 
+use requests::StreamEnd;
 use serve_core::Peer;
 use std::net::SocketAddr;
 use std::sync::Wait;
@@ -31,13 +33,6 @@ pub enum Reply<M> {
     One(usize),
     /// These messages.
     Many(M),
-}
-
-/// Why there is no reply.
-#[derive(Clone, Copy)]
-pub enum Unmade {
-    /// No version can be loaded.
-    Spent,
     /// It is made later: the request has to be answered again.
     Later,
 }
@@ -74,14 +69,20 @@ pub trait Handler<M: Messages> {
 
     /// Makes the reply to a request: its one message at the start of a buffer, or what makes its messages. A reply that is to be made later
     /// is made by another call with the same request, once the key of its connection is reported; until then each such call says that it is
-    /// to be made later.
-    fn reply<R: Wait>(&mut self, rt: &R, request: &[u8], out: &mut [u8]) -> Result<Reply<M>, Unmade>
+    /// to be made later. The connection ends if no version can be loaded.
+    fn reply<R: Wait>(
+        &mut self,
+        rt: &R,
+        request: &[u8],
+        out: &mut [u8],
+    ) -> Result<Reply<M>, StreamEnd>
         requires { message_limit ≤ length out.old }
         ensures same { peer self.new ≡ peer self.old }
         ensures asker { asker self.new ≡ asker self.old }
         ensures grows { EachGrows (seen self.new) (seen self.old) }
         ensures bound { IfOk result (λ reply. (len : ℕ) → reply ≡ Reply.One len → (len ≤ message_limit) × (len ≤ length out.new)) }
-        ensures reply { IfOk result (λ reply. is_reply (peer self.old) (seen self.old (asker self.old)) (seen self.new (asker self.old)) request.now (messages_of M.left reply out.new)) }
-        ensures later { IfErr result (λ unmade. unmade ≡ Unmade.Later → is_later (peer self.old) request.now) }
-        ensures spent { IfErr result (λ unmade. unmade ≡ Unmade.Spent → spent self.new) };
+        ensures reply { IfOk result (λ reply. reply ≢ Reply.Later → is_reply (peer self.old) (seen self.old (asker self.old)) (seen self.new (asker self.old)) request.now (messages_of M.left reply out.new)) }
+        ensures later { IfOk result (λ reply. reply ≡ Reply.Later → is_later (peer self.old) request.now) }
+        ensures end { IfErr result (λ end. end ≡ EndOf.Spent) }
+        ensures spent { OnErr result (spent self.new) };
 }

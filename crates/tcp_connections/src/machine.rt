@@ -1,34 +1,24 @@
 //! A connection's requests and replies, with no device.
-ghost use Rattle.std.specs.Prelude.{◌≡◌, ◌≢◌, ℕ, ◌+◌, ◌<◌, ◌≤◌, ◌⊎◌, [], ◌∷◌, ◌++◌, length, take, drop, true, false, IsTrue, None, IfSome, IfOk, IfErr, OnOk, OnErr, if◌then◌else◌};
-ghost use Rattle.dns_message.specs.Frame.{frame_of, frame_in};
+ghost use Rattle.std.specs.Prelude.{◌≡◌, ◌≢◌, ℕ, ◌<◌, ◌≤◌, ◌⊎◌, [], ◌∷◌, ◌++◌, length, take, drop, true, false, None, IfSome, IfOk, IfErr, OnOk, OnErr, if◌then◌else◌};
+ghost use Rattle.dns_message.specs.Frame.{frame_in};
 ghost use Rattle.dns_message.specs.Message.{message_limit};
 ghost use Rattle.requests.specs.Octets.{frames_of};
 ghost use Rattle.requests.specs.Turns.{Turn};
+ghost use Rattle.requests.specs.declared.stream_end.StreamEnd.{StreamEnd as EndOf};
 ghost use Rattle.tcp_connections.specs.Asked.{EachGrows, Waits};
 ghost use Rattle.tcp_connections.specs.Kept.{nothing_kept, due, IsFull, IsWaiting, awaited, messages_of, one_passed, passed_behind, taken_behind};
 
-use crate::handler::{Handler, Messages, Reply, Unmade};
-use crate::queue::{LENGTH, Queue};
+use crate::handler::{Handler, Messages, Reply};
+use crate::queue::{Queue, first_frame};
+use crate::step::Step;
 use crate::waiting::Waiting;
-use dns_message::take_frame;
-use requests::Gate;
+use requests::StreamEnd;
 use std::alloc::{AllocError, Global};
 use std::marker::Model;
 use std::sync::Wait;
 
 /// With so many octets to be written no further request is answered, so that a share is as short for long replies (own).
 const MOST_DUE: usize = 16_384;
-
-/// Why a request isn't answered.
-#[derive(Clone, Copy)]
-pub enum Broken {
-    /// Its reply is made later.
-    Later,
-    /// No version could be loaded.
-    Spent,
-    /// There was no memory for its reply.
-    NoMemory,
-}
 
 /// A connection's requests and replies: octets that came and aren't answered, and octets and messages that are to be sent.
 pub struct ConnectionState<M: Messages> {
@@ -121,14 +111,6 @@ impl<M: Messages> ConnectionState<M> {
         self.taken
     }
 
-    /// Whether it waits for octets. Only then is more read: not while a whole request is held, or anything is to be written.
-    pub fn wants(&self) -> bool
-        ensures waits { IsTrue result → IsWaiting self.now }
-        ensures all { self.now.making ≡ false → self.now.ready ≡ [] → frame_in self.now.held ≡ None → IsTrue result }
-    {
-        self.rest.is_none() && self.ready.is_empty() && take_frame(self.held.as_slice()).is_none()
-    }
-
     /// What it waits for.
     #[tactic(auto, using(crate::proofs::PassLemmas::taking_making, crate::proofs::PassLemmas::taking_ready, crate::proofs::PassLemmas::answer_held, crate::proofs::PassLemmas::rest_held, crate::proofs::PassLemmas::request_idle))]
     pub fn awaits(&self) -> Waiting
@@ -143,7 +125,7 @@ impl<M: Messages> ConnectionState<M> {
         if self.held.is_empty() {
             return Waiting::Request;
         }
-        match take_frame(self.held.as_slice()) {
+        match first_frame(self.held.as_slice()) {
             Some(_) => Waiting::Answer,
             None => Waiting::Rest,
         }
@@ -166,6 +148,11 @@ impl<M: Messages> ConnectionState<M> {
         self.rest.is_some() || self.ready.as_slice().len() >= MOST_DUE
     }
 
+    /// Whether a whole request is held that is answered next.
+    pub(crate) fn has_next(&self) -> bool {
+        !self.is_full() && first_frame(self.held.as_slice()).is_some()
+    }
+
     /// Adds a reply after what is to be written. If there is no memory, nothing changes.
     fn queue(&mut self, reply: Reply<M>, out: &[u8]) -> Result<(), AllocError>
         requires none { self.old.later ≡ [] }
@@ -186,54 +173,57 @@ impl<M: Messages> ConnectionState<M> {
                 self.rest = Some(messages);
                 Ok(())
             }
+            Reply::Later => Ok(()),
         }
     }
 
-    /// Answers the first whole request that is held, and adds the reply after what is to be written. The request passes the gate, which is
-    /// left once the reply is made, or is to be made later. Returns false if no whole request is held, or so much is to be written that
-    /// this comes first. In that case, and if the request isn't answered, nothing changes.
+    /// Answers the first whole request that is held, and adds the reply after what is to be written: `More`. If so much is to be written that
+    /// this comes first, it is `Full`, and if no whole request is held, `Done`. The connection ends if no version can be loaded, or there is no
+    /// memory for the reply. Unless the request is answered, nothing changes. It is here alone that the length of a request's frame is read
+    /// before the request is answered (RFC 1035, 4.2.2).
     #[tactic(auto, using(crate::proofs::AskedLemmas::each_itself))]
-    pub fn answer<R: Wait, A: Handler<M>, G: Gate>(
+    pub fn answer<R: Wait, A: Handler<M>>(
         &mut self,
         rt: &R,
         answering: &mut A,
-        gate: &G,
         out: &mut [u8],
-    ) -> Result<bool, Broken>
+    ) -> Result<Step, StreamEnd>
         requires { message_limit ≤ length out.old }
         ensures peer { A.peer answering.new ≡ A.peer answering.old }
         ensures asker { A.asker answering.new ≡ A.asker answering.old }
         ensures grows { EachGrows (A.seen answering.new) (A.seen answering.old) }
-        ensures turn { IfOk result (λ is_made. is_made ≡ true → Turn (A.is_reply (A.peer answering.old)) (A.seen answering.old (A.asker answering.old)) (self.old.held, due self.old) (A.seen answering.new (A.asker answering.old)) (self.new.held, due self.new)) }
-        ensures passed { IfOk result (λ is_made. is_made ≡ true → self.new.passed ≡ one_passed self.old.passed) }
-        ensures taken { IfOk result (λ is_made. self.new.taken ≡ self.old.taken) }
-        ensures none { IfOk result (λ is_made. is_made ≡ false → self.new ≡ self.old) }
-        ensures idle { IfOk result (λ is_made. is_made ≡ false → IsFull self.old ⊎ (frame_in self.old.held ≡ None)) }
-        ensures broken { OnErr result (self.new ≡ self.old) }
-        ensures later { IfErr result (λ broken. broken ≡ Broken.Later → Waits (A.is_later (A.peer answering.old)) self.old.held) }
-        ensures spent { IfErr result (λ broken. broken ≡ Broken.Spent → A.spent answering.new) }
+        ensures turn { result ≡ Ok Step.More → Turn (A.is_reply (A.peer answering.old)) (A.seen answering.old (A.asker answering.old)) (self.old.held, due self.old) (A.seen answering.new (A.asker answering.old)) (self.new.held, due self.new) }
+        ensures passed { result ≡ Ok Step.More → self.new.passed ≡ one_passed self.old.passed }
+        ensures taken { OnOk result (self.new.taken ≡ self.old.taken) }
+        ensures same { IfOk result (λ step. step ≢ Step.More → self.new ≡ self.old) }
+        ensures none { result ≡ Ok Step.Done → frame_in self.old.held ≡ None }
+        ensures full { result ≡ Ok Step.Full → IsFull self.old }
+        ensures later { result ≡ Ok Step.Later → Waits (A.is_later (A.peer answering.old)) self.old.held }
+        ensures going { result ≡ Ok Step.Blocked → ⊥ }
+        ensures ended { OnErr result (self.new ≡ self.old) }
+        ensures end { IfErr result (λ end. (end ≡ EndOf.Spent) ⊎ (end ≡ EndOf.NoMemory)) }
+        ensures spent { IfErr result (λ end. end ≡ EndOf.Spent → A.spent answering.new) }
     {
         if self.is_full() {
-            return Ok(false);
+            return Ok(Step::Full);
         }
-        let Some(request) = first_request(self.held.as_slice()) else {
-            return Ok(false);
+        let Some((request, count)) = first_frame(self.held.as_slice()) else {
+            return Ok(Step::Done);
         };
-        let count = LENGTH + request.len();
-        gate.enter();
-        let made = answering.reply(rt, request, out);
-        gate.leave();
-        let reply = match made {
+        let reply = match answering.reply(rt, request, out) {
             Ok(reply) => reply,
-            Err(unmade) => return Err(broken_by(unmade)),
+            Err(end) => return Err(end),
         };
+        if let Reply::Later = reply {
+            return Ok(Step::Later);
+        }
         match self.queue(reply, out) {
             Ok(()) => {}
-            Err(_) => return Err(Broken::NoMemory),
+            Err(_) => return Err(StreamEnd::NoMemory),
         }
         self.held.advance(count);
         self.passed = self.passed.wrapping_add(1);
-        Ok(true)
+        Ok(Step::More)
     }
 
     /// Writes the next message, if any is left, to the start of a buffer, and returns its number of octets.
@@ -279,17 +269,6 @@ impl<M: Messages> ConnectionState<M> {
     }
 }
 
-/// Why a request isn't answered, by why there is no reply to it.
-fn broken_by(unmade: Unmade) -> Broken
-    ensures later { result ≡ Broken.Later → unmade ≡ Unmade.Later }
-    ensures spent { result ≡ Broken.Spent → unmade ≡ Unmade.Spent }
-{
-    match unmade {
-        Unmade::Spent => Broken::Spent,
-        Unmade::Later => Broken::Later,
-    }
-}
-
 /// How many have passed: one more if all that was ready is taken.
 fn passed_by(is_all: bool, passed: u64) -> u64
     ensures { result ≡ (if is_all then one_passed passed else passed) }
@@ -298,16 +277,4 @@ fn passed_by(is_all: bool, passed: u64) -> u64
         return passed.wrapping_add(1);
     }
     passed
-}
-
-/// The request in the frame at the start of octets; None if they end before the frame does (RFC 1035, 4.2.2).
-fn first_request(octets: &[u8]) -> Option<&[u8]>
-    ensures frame { IfSome result (λ request. octets.now ≡ frame_of request.now ++ drop (2 + length request.now) octets.now) }
-    ensures bound { IfSome result (λ request. 2 + length request.now ≤ length octets.now) }
-    ensures none { result ≡ None → frame_in octets.now ≡ None }
-{
-    match take_frame(octets) {
-        Some((request, _rest)) => Some(request),
-        None => None,
-    }
 }

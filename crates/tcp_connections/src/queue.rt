@@ -1,13 +1,14 @@
 //! Octets that are added at one end and removed at the other.
-ghost use Rattle.std.specs.Prelude.{◌≡◌, ◌+◌, ◌≤◌, [], ◌++◌, length, drop, IsTrue, ◌↔◌, OnOk, OnErr};
-ghost use Rattle.dns_message.specs.Frame.{frame_of};
+ghost use Rattle.std.specs.Prelude.{◌≡◌, ◌+◌, ◌≤◌, [], ◌++◌, length, drop, option_map, IsTrue, ◌↔◌, IfSome, OnOk, OnErr};
+ghost use Rattle.dns_message.specs.Frame.{frame_of, frame_in};
 ghost use Rattle.dns_message.specs.Message.{message_limit};
 
+use dns_message::take_frame;
 use std::alloc::{AllocError, Global};
 use std::marker::Model;
 
 /// The octets of a frame's length (RFC 1035, 4.2.2).
-pub(crate) const LENGTH: usize = 2;
+const LENGTH: usize = 2;
 
 /// Octets in a row, the first to come first. The room of removed octets is kept only while they are at most as many as those that are left.
 pub(crate) struct Queue {
@@ -112,4 +113,15 @@ fn compact(octets: &mut Vec<u8>, at: usize) -> usize
     octets.copy_within(at.., 0);
     octets.truncate(left);
     0
+}
+
+/// The message of the frame that octets begin with, and how many octets that frame has; None if they end before the frame does
+/// (RFC 1035, 4.2.2).
+pub(crate) fn first_frame(octets: &[u8]) -> Option<(&[u8], usize)>
+    ensures found { option_map (λ f. (f.0.now, drop f.1 octets.now)) result ≡ frame_in octets.now }
+    ensures frame { IfSome result (λ f. octets.now ≡ frame_of f.0.now ++ drop f.1 octets.now) }
+    ensures bound { IfSome result (λ f. f.1 ≤ length octets.now) }
+{
+    let (message, rest) = take_frame(octets)?;
+    Some((message, octets.len() - rest.len()))
 }

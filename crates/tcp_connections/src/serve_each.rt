@@ -40,7 +40,7 @@ fn serve_key<R: Wait, S: Blocking + Drop, M: Messages, A: Handler<M>>(
         return false;
     };
     match serve_connection(rt, answering, link, key, now, room, out) {
-        Ok(flow) => !flow.has_stopped(),
+        Ok(step) => !step.has_stopped(),
         Err(end) => {
             links.try_remove(key);
             ends.count(end);

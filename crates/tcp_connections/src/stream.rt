@@ -1,16 +1,48 @@
 //! A stream that is served to its end (RFC 1035, 4.2.2).
-ghost use Rattle.std.specs.Prelude.{◌≡◌, ◌-◌, ◌^◌, ◌<◌, ◌≤◌, length, IfSome};
+ghost use Rattle.std.specs.Prelude.{◌≡◌, ◌⊎◌, ◌-◌, ◌^◌, ◌<◌, ◌≤◌, None, length, IfSome, IfErr};
+ghost use Rattle.dns_message.specs.Frame.{frame_in};
 ghost use Rattle.dns_message.specs.Message.{message_limit};
 ghost use Rattle.requests.specs.Served.{EndsAs};
 ghost use Rattle.requests.specs.declared.stream_end.StreamEnd.{StreamEnd as End};
 ghost use Rattle.tcp_connections.specs.Asked.{EachGrows};
+ghost use Rattle.tcp_connections.specs.Going.{Keeps};
 
 use crate::handler::{Handler, Messages};
 use crate::machine::ConnectionState;
-use crate::serve::serve_some;
+use crate::serve::write_and_read;
+use crate::step::Step;
 use requests::{Counted, Gate, Stream, StreamEnd};
 use std::alloc::Global;
 use std::sync::Wait;
+
+/// Answers the first whole request that is held. It passes the gate, which is left once the reply is made, or is to be made later.
+fn answer_through<R: Wait, M: Messages, A: Handler<M>, G: Gate>(
+    rt: &R,
+    answering: &mut A,
+    conversation: &mut ConnectionState<M>,
+    gate: &G,
+    out: &mut [u8],
+) -> Result<Step, StreamEnd>
+    requires { message_limit ≤ length out.old }
+    ensures peer { A.peer answering.new ≡ A.peer answering.old }
+    ensures asker { A.asker answering.new ≡ A.asker answering.old }
+    ensures grows { EachGrows (A.seen answering.new) (A.seen answering.old) }
+    ensures keeps { Keeps (A.is_reply (A.peer answering.old)) (A.seen answering.old (A.asker answering.old)) conversation.old (A.seen answering.new (A.asker answering.old)) conversation.new }
+    ensures none { result ≡ Ok Step.Done → frame_in conversation.new.held ≡ None }
+    ensures going { result ≡ Ok Step.Blocked → ⊥ }
+    ensures end { IfErr result (λ end. (end ≡ End.Spent) ⊎ (end ≡ End.NoMemory)) }
+    ensures spent { IfErr result (λ end. end ≡ End.Spent → A.spent answering.new) }
+{
+    let is_next = conversation.has_next();
+    if is_next {
+        gate.enter();
+    }
+    let answered = conversation.answer(rt, answering, out);
+    if is_next {
+        gate.leave();
+    }
+    answered
+}
 
 /// Answers the requests of a stream one after another, until it ends. If the stream reports its octets, what is written is the frames of
 /// the replies, in the order of the requests: all of them, with nothing left to be read, if the stream ends by itself; otherwise a prefix
@@ -35,7 +67,11 @@ pub fn serve_stream<R: Wait, M: Messages, A: Handler<M>, S: Stream, G: Gate>(
 {
     let mut conversation: ConnectionState<M> = ConnectionState::new(alloc);
     for _ in rt.forever() {
-        match serve_some(rt, answering, &mut conversation, stream, gate, room, out) {
+        let answered = match answer_through(rt, answering, &mut conversation, gate, out) {
+            Ok(step) => step,
+            Err(end) => return end,
+        };
+        match write_and_read(&mut conversation, stream, answered, room, out) {
             Ok(_) => {}
             Err(end) => return end,
         }

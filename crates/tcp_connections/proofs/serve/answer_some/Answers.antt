@@ -1,6 +1,7 @@
 -- One request behind the other.
-use Rattle.std.proofs.Common.{ℕ, refl, ap, ◌∙◌, subst}
+use Rattle.std.proofs.Common.{ℕ, refl, ap, Ok, ◌∙◌, subst}
 use Rattle.serve_core.specs.declared.peer.Peer.{Peer}
+use Rattle.dns_message.specs.Frame.{frame_in}
 use Rattle.requests.specs.Turns.{Turn}
 use Rattle.tcp_connections.specs.Kept.{Kept, due}
 use Rattle.tcp_connections.proofs.AskedLemmas.{each_itself, each_more, waits_as}
@@ -24,7 +25,7 @@ loop-answered-preserved g c =
     let later = g.A.Handler.seen c.answer.new.answering in
     let k = c.loop-answered.conversation in
     let m = c.answer.new.self in
-    let keyed = subst (λ (n : ℕ). Turn (g.A.Handler.is_reply (g.A.Handler.peer c.loop-answered.answering)) (seen n) (k.held, due k) (later n) (m.held, due m)) so_far.asker (c.in-Ok.ensures.turn c.if-not-is_made.false) in
+    let keyed = subst (λ (n : ℕ). Turn (g.A.Handler.is_reply (g.A.Handler.peer c.loop-answered.answering)) (seen n) (k.held, due k) (later n) (m.held, due m)) so_far.asker (c.in-Ok.ensures.turn (ap (λ s. Ok s) c.in-More.is)) in
     let moved = subst (λ (peer : Peer). Turn (g.A.Handler.is_reply peer) (seen key) (k.held, due k) (later key) (m.held, due m)) so_far.peer keyed in
     record {
       grows = each_more _ _ _ so_far.grows c.in-Ok.ensures.grows;
@@ -33,8 +34,8 @@ loop-answered-preserved g c =
       keeps = keeps_more Reply (g.A.Handler.seen c.args.answering.now key) (seen key) (later key) c.args.conversation.now k m so_far.keeps (keeps_turn Reply (seen key) (later key) k m moved);
     }
 
-pub returns-then-not-is_made-clause-keeps : goal.returns-then-not-is_made-clause-keeps
-returns-then-not-is_made-clause-keeps g c =
+pub returns-in_default-clause-keeps : goal.returns-in_default-clause-keeps
+returns-in_default-clause-keeps g c =
     let so_far = c.loop-answered.invariant in
     let Reply = g.A.Handler.is_reply (g.A.Handler.peer c.args.answering.now) in
     let key = g.A.Handler.asker c.args.answering.now in
@@ -42,10 +43,10 @@ returns-then-not-is_made-clause-keeps g c =
     let later = g.A.Handler.seen c.answer.new.answering key in
     let k = c.loop-answered.conversation in
     let m = c.answer.new.self in
-    keeps_more Reply (g.A.Handler.seen c.args.answering.now key) seen later c.args.conversation.now k m so_far.keeps (keeps_same Reply seen later k m (c.in-Ok.ensures.grows key) (c.in-Ok.ensures.none c.if-not-is_made.true))
+    keeps_more Reply (g.A.Handler.seen c.args.answering.now key) seen later c.args.conversation.now k m so_far.keeps (keeps_same Reply seen later k m (c.in-Ok.ensures.grows key) (c.in-Ok.ensures.same c.in_default.not-More))
 
-pub returns-then-not-is_made-clause-grows : goal.returns-then-not-is_made-clause-grows
-returns-then-not-is_made-clause-grows g c = each_more _ _ _ c.loop-answered.invariant.grows c.in-Ok.ensures.grows
+pub returns-in_default-clause-grows : goal.returns-in_default-clause-grows
+returns-in_default-clause-grows g c = each_more _ _ _ c.loop-answered.invariant.grows c.in-Ok.ensures.grows
 
 pub returns-in-Err-clause-keeps : goal.returns-in-Err-clause-keeps
 returns-in-Err-clause-keeps g c =
@@ -56,12 +57,16 @@ returns-in-Err-clause-keeps g c =
     let later = g.A.Handler.seen c.answer.new.answering key in
     let k = c.loop-answered.conversation in
     let m = c.answer.new.self in
-    keeps_more Reply (g.A.Handler.seen c.args.answering.now key) seen later c.args.conversation.now k m so_far.keeps (keeps_same Reply seen later k m (c.in-Err.ensures.grows key) c.in-Err.ensures.broken)
+    keeps_more Reply (g.A.Handler.seen c.args.answering.now key) seen later c.args.conversation.now k m so_far.keeps (keeps_same Reply seen later k m (c.in-Err.ensures.grows key) c.in-Err.ensures.ended)
 
 pub returns-in-Err-clause-grows : goal.returns-in-Err-clause-grows
 returns-in-Err-clause-grows g c = each_more _ _ _ c.loop-answered.invariant.grows c.in-Err.ensures.grows
 
-pub returns-in-Err-clause-later : goal.returns-in-Err-clause-later
-returns-in-Err-clause-later g c = λ later.
+pub returns-in_default-clause-none : goal.returns-in_default-clause-none
+returns-in_default-clause-none g c = λ is.
+    ap (λ (k : Kept). frame_in k.held) (c.in-Ok.ensures.same c.in_default.not-More) ∙ c.in-Ok.ensures.none is
+
+pub returns-in_default-clause-later : goal.returns-in_default-clause-later
+returns-in_default-clause-later g c = λ is.
     waits_as g.A.Handler.is_later (g.A.Handler.peer c.args.answering.now) (g.A.Handler.peer c.loop-answered.answering) c.loop-answered.conversation.held c.answer.new.self.held c.loop-answered.invariant.peer
-    (ap (λ (k : Kept). k.held) c.in-Err.ensures.broken) (c.in-Err.ensures.later later)
+    (ap (λ (k : Kept). k.held) (c.in-Ok.ensures.same c.in_default.not-More)) (c.in-Ok.ensures.later is)

@@ -17,17 +17,11 @@ loop-written-preserved g c =
       same = c.in-Ok-More.ensures.same ∙ so_far.same;
     }
 
-pub returns-in-Ok-Blocked-clause-stays : goal.returns-in-Ok-Blocked-clause-stays
-returns-in-Ok-Blocked-clause-stays g c = stays_more _ _ _ c.loop-written.invariant.stays c.in-Ok-Blocked.ensures.stays
+pub returns-in-Ok-clause-stays : goal.returns-in-Ok-clause-stays
+returns-in-Ok-clause-stays g c = stays_more _ _ _ c.loop-written.invariant.stays c.in-Ok.ensures.stays
 
-pub returns-in-Ok-Blocked-clause-written : goal.returns-in-Ok-Blocked-clause-written
-returns-in-Ok-Blocked-clause-written g c = writes_more _ _ _ c.loop-written.invariant.written c.in-Ok-Blocked.ensures.written
-
-pub returns-in-Ok-Done-clause-stays : goal.returns-in-Ok-Done-clause-stays
-returns-in-Ok-Done-clause-stays g c = stays_more _ _ _ c.loop-written.invariant.stays c.in-Ok-Done.ensures.stays
-
-pub returns-in-Ok-Done-clause-written : goal.returns-in-Ok-Done-clause-written
-returns-in-Ok-Done-clause-written g c = writes_more _ _ _ c.loop-written.invariant.written c.in-Ok-Done.ensures.written
+pub returns-in-Ok-clause-written : goal.returns-in-Ok-clause-written
+returns-in-Ok-clause-written g c = writes_more _ _ _ c.loop-written.invariant.written c.in-Ok.ensures.written
 
 pub returns-in-Err-clause-ends : goal.returns-in-Err-clause-ends
 returns-in-Err-clause-ends g c = ends_stay c.in-Err.end _ _ _ c.loop-written.invariant.stays c.in-Err.ensures.ends

@@ -1,12 +1,11 @@
 -- One turn behind the other, each by the rights of the peer that asks.
-use Rattle.std.proofs.Common.{ℕ, refl, ◌∙◌, subst}
-use Rattle.serve_core.specs.declared.peer.Peer.{Peer}
+use Rattle.std.proofs.Common.{ℕ, refl, ap, ◌∙◌, subst, Ok}
 use Rattle.tcp_connections.specs.Kept.{told_by}
 use Rattle.tcp_connections.specs.Told.{EndCounted}
-use Rattle.tcp_connections.specs.Going.{Goes, Stops}
-use Rattle.tcp_connections.proofs.AskedLemmas.{each_itself, each_more}
-use Rattle.tcp_connections.proofs.ToldLemmas.{writes_itself, writes_more}
-use Rattle.tcp_connections.proofs.GoingLemmas.{goes_itself, goes_more, stops_more, held_up_as}
+use Rattle.tcp_connections.proofs.AskedLemmas.{each_itself, each_more, waits_as}
+use Rattle.tcp_connections.proofs.ToldLemmas.{writes_itself, writes_more, ends_lacking, counted_lacking}
+use Rattle.tcp_connections.proofs.GoingLemmas.{goes_itself, goes_more, stops_more}
+use Rattle.tcp_connections.proofs.OwnLemmas.{goes_turned, stops_turned}
 use Rattle.tcp_connections.proofs.serve.serve_some.Goals as goal
 
 pub loop-turned-init : goal.loop-turned-init
@@ -22,65 +21,91 @@ loop-turned-init g c = record {
 pub loop-turned-preserved : goal.loop-turned-preserved
 loop-turned-preserved g c =
     let so_far = c.loop-turned.invariant in
-    let Reply = g.A.Handler.is_reply (g.A.Handler.peer c.args.answering.now) in
+    let peer = g.A.Handler.peer c.args.answering.now in
     let key = g.A.Handler.asker c.args.answering.now in
     let seen = g.A.Handler.seen c.loop-turned.answering in
-    let later = g.A.Handler.seen c.turn.new.answering in
-    let b = told_by c.loop-turned.conversation (g.S.Blocking.octets c.loop-turned.stream) in
-    let n = told_by c.turn.new.conversation (g.S.Blocking.octets c.turn.new.stream) in
-    let keyed = subst (λ (k : ℕ). Goes (g.A.Handler.is_reply (g.A.Handler.peer c.loop-turned.answering)) (seen k) b (later k) n) so_far.asker c.in-Ok.ensures.goes in
-    let step = subst (λ (peer : Peer). Goes (g.A.Handler.is_reply peer) (seen key) b (later key) n) so_far.peer keyed in
+    let later = g.A.Handler.seen c.answer_some.new.answering in
+    let o = g.S.Blocking.octets c.loop-turned.stream in
+    let b = told_by c.loop-turned.conversation o in
+    let n = told_by c.write_and_read.new.conversation (g.S.Blocking.octets c.write_and_read.new.stream) in
     record {
-      grows = each_more _ _ _ so_far.grows c.in-Ok.ensures.grows;
-      peer = c.in-Ok.ensures.peer ∙ so_far.peer;
-      asker = c.in-Ok.ensures.asker ∙ so_far.asker;
-      goes = goes_more Reply (g.A.Handler.seen c.args.answering.now key) (seen key) (later key) (told_by c.args.conversation.now (g.S.Blocking.octets c.args.stream.now)) b n so_far.goes step;
-      written = writes_more _ _ _ so_far.written c.in-Ok.ensures.written;
-      same = c.in-Ok.ensures.same ∙ so_far.same;
+      grows = each_more _ _ _ so_far.grows c.answer_some.ensures.grows;
+      peer = c.answer_some.ensures.peer ∙ so_far.peer;
+      asker = c.answer_some.ensures.asker ∙ so_far.asker;
+      goes = goes_more (g.A.Handler.is_reply peer) (g.A.Handler.seen c.args.answering.now key) (seen key) (later key) (told_by c.args.conversation.now (g.S.Blocking.octets c.args.stream.now)) b n so_far.goes
+          (goes_turned g.A.Handler.is_reply peer (g.A.Handler.peer c.loop-turned.answering) key (g.A.Handler.asker c.loop-turned.answering) seen later c.loop-turned.conversation c.answer_some.new.conversation o n so_far.peer so_far.asker c.answer_some.ensures.keeps c.in-Ok-write_and_read.ensures.stays);
+      written = writes_more _ _ _ so_far.written c.in-Ok-write_and_read.ensures.written;
+      same = c.in-Ok-write_and_read.ensures.same ∙ so_far.same;
     }
 
 pub returns-then-has_stopped-clause-goes : goal.returns-then-has_stopped-clause-goes
 returns-then-has_stopped-clause-goes g c =
     let so_far = c.loop-turned.invariant in
-    let Reply = g.A.Handler.is_reply (g.A.Handler.peer c.args.answering.now) in
+    let peer = g.A.Handler.peer c.args.answering.now in
     let key = g.A.Handler.asker c.args.answering.now in
     let seen = g.A.Handler.seen c.loop-turned.answering in
-    let later = g.A.Handler.seen c.turn.new.answering in
-    let b = told_by c.loop-turned.conversation (g.S.Blocking.octets c.loop-turned.stream) in
-    let n = told_by c.turn.new.conversation (g.S.Blocking.octets c.turn.new.stream) in
-    let keyed = subst (λ (k : ℕ). Goes (g.A.Handler.is_reply (g.A.Handler.peer c.loop-turned.answering)) (seen k) b (later k) n) so_far.asker c.in-Ok.ensures.goes in
-    let step = subst (λ (peer : Peer). Goes (g.A.Handler.is_reply peer) (seen key) b (later key) n) so_far.peer keyed in
-    goes_more Reply (g.A.Handler.seen c.args.answering.now key) (seen key) (later key) (told_by c.args.conversation.now (g.S.Blocking.octets c.args.stream.now)) b n so_far.goes step
+    let later = g.A.Handler.seen c.answer_some.new.answering in
+    let o = g.S.Blocking.octets c.loop-turned.stream in
+    let b = told_by c.loop-turned.conversation o in
+    let n = told_by c.write_and_read.new.conversation (g.S.Blocking.octets c.write_and_read.new.stream) in
+    goes_more (g.A.Handler.is_reply peer) (g.A.Handler.seen c.args.answering.now key) (seen key) (later key) (told_by c.args.conversation.now (g.S.Blocking.octets c.args.stream.now)) b n so_far.goes
+    (goes_turned g.A.Handler.is_reply peer (g.A.Handler.peer c.loop-turned.answering) key (g.A.Handler.asker c.loop-turned.answering) seen later c.loop-turned.conversation c.answer_some.new.conversation o n so_far.peer so_far.asker c.answer_some.ensures.keeps c.in-Ok-write_and_read.ensures.stays)
 
 pub returns-then-has_stopped-clause-grows : goal.returns-then-has_stopped-clause-grows
-returns-then-has_stopped-clause-grows g c = each_more _ _ _ c.loop-turned.invariant.grows c.in-Ok.ensures.grows
+returns-then-has_stopped-clause-grows g c = each_more _ _ _ c.loop-turned.invariant.grows c.answer_some.ensures.grows
 
 pub returns-then-has_stopped-clause-written : goal.returns-then-has_stopped-clause-written
-returns-then-has_stopped-clause-written g c = writes_more _ _ _ c.loop-turned.invariant.written c.in-Ok.ensures.written
+returns-then-has_stopped-clause-written g c = writes_more _ _ _ c.loop-turned.invariant.written c.in-Ok-write_and_read.ensures.written
 
 pub returns-then-has_stopped-clause-waits : goal.returns-then-has_stopped-clause-waits
-returns-then-has_stopped-clause-waits g c = λ is.
-    held_up_as g.A.Handler.is_later (g.A.Handler.peer c.args.answering.now) (g.A.Handler.peer c.loop-turned.answering) c.turn.new.conversation c.loop-turned.invariant.peer (c.in-Ok.ensures.waits is)
+returns-then-has_stopped-clause-waits g c = λ is. record {
+  waits = waits_as g.A.Handler.is_later (g.A.Handler.peer c.args.answering.now) (g.A.Handler.peer c.loop-turned.answering) c.answer_some.new.conversation.held c.write_and_read.new.conversation.held c.loop-turned.invariant.peer
+      (c.in-Ok-write_and_read.ensures.held is) (c.in-Ok.ensures.later (ap (λ s. Ok s) (c.in-Ok-write_and_read.ensures.waits is)));
+  ready = c.in-Ok-write_and_read.ensures.ready is;
+  later = c.in-Ok-write_and_read.ensures.later is;
+}
 
 pub returns-in-Err-clause-stops : goal.returns-in-Err-clause-stops
 returns-in-Err-clause-stops g c =
     let so_far = c.loop-turned.invariant in
-    let Reply = g.A.Handler.is_reply (g.A.Handler.peer c.args.answering.now) in
+    let peer = g.A.Handler.peer c.args.answering.now in
     let key = g.A.Handler.asker c.args.answering.now in
     let seen = g.A.Handler.seen c.loop-turned.answering in
-    let later = g.A.Handler.seen c.turn.new.answering in
-    let b = told_by c.loop-turned.conversation (g.S.Blocking.octets c.loop-turned.stream) in
-    let new = g.S.Blocking.octets c.turn.new.stream in
-    let keyed = subst (λ (k : ℕ). Stops (g.A.Handler.is_reply (g.A.Handler.peer c.loop-turned.answering)) c.in-Err.end (seen k) b (later k) new) so_far.asker c.in-Err.ensures.stops in
-    let step = subst (λ (peer : Peer). Stops (g.A.Handler.is_reply peer) c.in-Err.end (seen key) b (later key) new) so_far.peer keyed in
-    stops_more Reply c.in-Err.end (g.A.Handler.seen c.args.answering.now key) (seen key) (later key) (told_by c.args.conversation.now (g.S.Blocking.octets c.args.stream.now)) b new so_far.goes step
+    let later = g.A.Handler.seen c.answer_some.new.answering in
+    let o = g.S.Blocking.octets c.loop-turned.stream in
+    let m = c.answer_some.new.conversation in
+    stops_more (g.A.Handler.is_reply peer) c.in-Err.end (g.A.Handler.seen c.args.answering.now key) (seen key) (later key) (told_by c.args.conversation.now (g.S.Blocking.octets c.args.stream.now)) (told_by c.loop-turned.conversation o) o so_far.goes
+    (stops_turned g.A.Handler.is_reply c.in-Err.end peer (g.A.Handler.peer c.loop-turned.answering) key (g.A.Handler.asker c.loop-turned.answering) seen later c.loop-turned.conversation m o o so_far.peer so_far.asker c.answer_some.ensures.keeps (ends_lacking c.in-Err.end m o c.in-Err.ensures.end))
 
 pub returns-in-Err-clause-grows : goal.returns-in-Err-clause-grows
-returns-in-Err-clause-grows g c = each_more _ _ _ c.loop-turned.invariant.grows c.in-Err.ensures.grows
-
-pub returns-in-Err-clause-written : goal.returns-in-Err-clause-written
-returns-in-Err-clause-written g c = writes_more _ _ _ c.loop-turned.invariant.written c.in-Err.ensures.written
+returns-in-Err-clause-grows g c = each_more _ _ _ c.loop-turned.invariant.grows c.answer_some.ensures.grows
 
 pub returns-in-Err-clause-counted : goal.returns-in-Err-clause-counted
 returns-in-Err-clause-counted g c =
-    subst (λ (faults : ℕ). EndCounted c.in-Err.end faults (g.S.Blocking.faults c.turn.new.stream)) c.loop-turned.invariant.same c.in-Err.ensures.counted
+    subst (λ (faults : ℕ). EndCounted c.in-Err.end faults (g.S.Blocking.faults c.loop-turned.stream)) c.loop-turned.invariant.same (counted_lacking c.in-Err.end (g.S.Blocking.faults c.loop-turned.stream) c.in-Err.ensures.end)
+
+pub returns-in-Err-write_and_read-clause-stops : goal.returns-in-Err-write_and_read-clause-stops
+returns-in-Err-write_and_read-clause-stops g c =
+    let so_far = c.loop-turned.invariant in
+    let peer = g.A.Handler.peer c.args.answering.now in
+    let key = g.A.Handler.asker c.args.answering.now in
+    let seen = g.A.Handler.seen c.loop-turned.answering in
+    let later = g.A.Handler.seen c.answer_some.new.answering in
+    let o = g.S.Blocking.octets c.loop-turned.stream in
+    let new = g.S.Blocking.octets c.write_and_read.new.stream in
+    let end = c.in-Err-write_and_read.end in
+    stops_more (g.A.Handler.is_reply peer) end (g.A.Handler.seen c.args.answering.now key) (seen key) (later key) (told_by c.args.conversation.now (g.S.Blocking.octets c.args.stream.now)) (told_by c.loop-turned.conversation o) new so_far.goes
+    (stops_turned g.A.Handler.is_reply end peer (g.A.Handler.peer c.loop-turned.answering) key (g.A.Handler.asker c.loop-turned.answering) seen later c.loop-turned.conversation c.answer_some.new.conversation o new so_far.peer so_far.asker c.answer_some.ensures.keeps c.in-Err-write_and_read.ensures.ends)
+
+pub returns-in-Err-write_and_read-clause-grows : goal.returns-in-Err-write_and_read-clause-grows
+returns-in-Err-write_and_read-clause-grows g c = each_more _ _ _ c.loop-turned.invariant.grows c.answer_some.ensures.grows
+
+pub returns-in-Err-write_and_read-clause-written : goal.returns-in-Err-write_and_read-clause-written
+returns-in-Err-write_and_read-clause-written g c = writes_more _ _ _ c.loop-turned.invariant.written c.in-Err-write_and_read.ensures.written
+
+pub returns-in-Err-write_and_read-clause-counted : goal.returns-in-Err-write_and_read-clause-counted
+returns-in-Err-write_and_read-clause-counted g c =
+    subst (λ (faults : ℕ). EndCounted c.in-Err-write_and_read.end faults (g.S.Blocking.faults c.write_and_read.new.stream)) c.loop-turned.invariant.same c.in-Err-write_and_read.ensures.counted
+
+pub returns-in-Err-write_and_read-clause-spent : goal.returns-in-Err-write_and_read-clause-spent
+returns-in-Err-write_and_read-clause-spent g c = λ is. absurd (c.in-Err-write_and_read.ensures.unspent is)

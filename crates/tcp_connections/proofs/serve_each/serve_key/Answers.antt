@@ -6,7 +6,7 @@ use Rattle.slab.proofs.SlabLemmas.{Updates-with_value}
 use Rattle.tcp_connections.specs.Links.{seen_of}
 use Rattle.tcp_connections.proofs.BegunLemmas.{begun_once}
 use Rattle.tcp_connections.proofs.LenLemmas.{where_some, len_kept, counted_none, counted_one}
-use Rattle.tcp_connections.proofs.NextLemmas.{stopped_by_flow}
+use Rattle.tcp_connections.proofs.NextLemmas.{stopped_by_step}
 use Rattle.tcp_connections.proofs.OwnLemmas.{own_gone, own_ended}
 use Rattle.tcp_connections.proofs.serve_each.serve_key.Goals as goal
 
@@ -57,4 +57,4 @@ pub returns-in-Ok-clause-stopped : goal.returns-in-Ok-clause-stopped
 returns-in-Ok-clause-stopped g c = λ is.
     let new = c.serve_connection.new.link in
     let here = Updates-with_value c.args.links.now c.args.key new (search rules) in
-    stopped_by_flow g.S.Blocking.would_block g.A.Handler.is_later (get (with_value c.args.links.now c.args.key new) c.args.key) new c.in-Ok.flow here.changed (c.has_stopped.ensures.0 (search rules)) c.in-Ok.ensures.blocked c.in-Ok.ensures.waits
+    stopped_by_step g.S.Blocking.would_block g.A.Handler.is_later (get (with_value c.args.links.now c.args.key new) c.args.key) new c.in-Ok.step here.changed (c.has_stopped.ensures.0 (search rules)) c.in-Ok.ensures.blocked c.in-Ok.ensures.waits

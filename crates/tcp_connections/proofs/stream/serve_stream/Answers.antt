@@ -1,11 +1,10 @@
--- One share behind the other, from the stream's beginning.
-use Rattle.std.proofs.Common.{ℕ, refl, ◌∙◌, subst}
-use Rattle.serve_core.specs.declared.peer.Peer.{Peer}
+-- One request behind the other, from the stream's beginning.
+use Rattle.std.proofs.Common.{refl, ◌∙◌}
 use Rattle.tcp_connections.specs.Kept.{told_by}
-use Rattle.tcp_connections.specs.Going.{Goes, Stops}
 use Rattle.tcp_connections.proofs.AskedLemmas.{each_itself, each_more}
-use Rattle.tcp_connections.proofs.ToldLemmas.{stays_fresh, writes_itself, writes_more}
+use Rattle.tcp_connections.proofs.ToldLemmas.{stays_fresh, writes_itself, writes_more, ends_lacking}
 use Rattle.tcp_connections.proofs.GoingLemmas.{goes_more, goes_stays, stops_more, stream_ends}
+use Rattle.tcp_connections.proofs.OwnLemmas.{goes_turned, stops_turned}
 use Rattle.tcp_connections.proofs.stream.serve_stream.Goals as goal
 
 pub loop-init : goal.loop-init
@@ -24,37 +23,58 @@ loop-init g c =
 pub loop-preserved : goal.loop-preserved
 loop-preserved g c =
     let so_far = c.loop.invariant in
-    let Reply = g.A.Handler.is_reply (g.A.Handler.peer c.args.answering.now) in
+    let peer = g.A.Handler.peer c.args.answering.now in
     let key = g.A.Handler.asker c.args.answering.now in
     let seen = g.A.Handler.seen c.loop.answering in
-    let later = g.A.Handler.seen c.serve_some.new.answering in
-    let b = told_by c.loop.conversation (g.S.Stream.octets c.loop.stream.inner) in
-    let n = told_by c.serve_some.new.conversation (g.S.Stream.octets c.serve_some.new.stream.inner) in
-    let keyed = subst (λ (k : ℕ). Goes (g.A.Handler.is_reply (g.A.Handler.peer c.loop.answering)) (seen k) b (later k) n) so_far.asker c.in-Ok.ensures.goes in
-    let step = subst (λ (peer : Peer). Goes (g.A.Handler.is_reply peer) (seen key) b (later key) n) so_far.peer keyed in
+    let later = g.A.Handler.seen c.answer_through.new.answering in
+    let o = g.S.Stream.octets c.loop.stream.inner in
+    let n = told_by c.write_and_read.new.conversation (g.S.Stream.octets c.write_and_read.new.stream.inner) in
     record {
-      grows = each_more _ _ _ so_far.grows c.in-Ok.ensures.grows;
-      peer = c.in-Ok.ensures.peer ∙ so_far.peer;
-      asker = c.in-Ok.ensures.asker ∙ so_far.asker;
-      goes = goes_more Reply (g.A.Handler.seen c.args.answering.now key) (seen key) (later key) (g.S.Stream.octets c.args.stream.now.inner) b n so_far.goes step;
-      written = writes_more _ _ _ so_far.written c.in-Ok.ensures.written;
-      same = c.in-Ok.ensures.same ∙ so_far.same;
+      grows = each_more _ _ _ so_far.grows c.answer_through.ensures.grows;
+      peer = c.answer_through.ensures.peer ∙ so_far.peer;
+      asker = c.answer_through.ensures.asker ∙ so_far.asker;
+      goes = goes_more (g.A.Handler.is_reply peer) (g.A.Handler.seen c.args.answering.now key) (seen key) (later key) (g.S.Stream.octets c.args.stream.now.inner) (told_by c.loop.conversation o) n so_far.goes
+          (goes_turned g.A.Handler.is_reply peer (g.A.Handler.peer c.loop.answering) key (g.A.Handler.asker c.loop.answering) seen later c.loop.conversation c.answer_through.new.conversation o n so_far.peer so_far.asker c.answer_through.ensures.keeps c.in-Ok-write_and_read.ensures.stays);
+      written = writes_more _ _ _ so_far.written c.in-Ok-write_and_read.ensures.written;
+      same = c.in-Ok-write_and_read.ensures.same ∙ so_far.same;
     }
 
 pub returns-in-Err-clause-served : goal.returns-in-Err-clause-served
 returns-in-Err-clause-served g c =
     let so_far = c.loop.invariant in
-    let Reply = g.A.Handler.is_reply (g.A.Handler.peer c.args.answering.now) in
-    let start = g.A.Handler.seen c.args.answering.now (g.A.Handler.asker c.args.answering.now) in
-    let a = g.S.Stream.octets c.args.stream.now.inner in
+    let peer = g.A.Handler.peer c.args.answering.now in
     let key = g.A.Handler.asker c.args.answering.now in
+    let start = g.A.Handler.seen c.args.answering.now key in
+    let a = g.S.Stream.octets c.args.stream.now.inner in
     let seen = g.A.Handler.seen c.loop.answering in
-    let later = g.A.Handler.seen c.serve_some.new.answering in
-    let b = told_by c.loop.conversation (g.S.Stream.octets c.loop.stream.inner) in
-    let new = g.S.Stream.octets c.serve_some.new.stream.inner in
-    let keyed = subst (λ (k : ℕ). Stops (g.A.Handler.is_reply (g.A.Handler.peer c.loop.answering)) c.in-Err.end (seen k) b (later k) new) so_far.asker c.in-Err.ensures.stops in
-    let step = subst (λ (peer : Peer). Stops (g.A.Handler.is_reply peer) c.in-Err.end (seen key) b (later key) new) so_far.peer keyed in
-    stream_ends Reply c.in-Err.end start (later key) a new (stops_more Reply c.in-Err.end start (seen key) (later key) a b new so_far.goes step) (writes_more _ _ _ so_far.written c.in-Err.ensures.written)
+    let later = g.A.Handler.seen c.answer_through.new.answering in
+    let o = g.S.Stream.octets c.loop.stream.inner in
+    let m = c.answer_through.new.conversation in
+    let end = c.in-Err.end in
+    stream_ends (g.A.Handler.is_reply peer) end start (later key) a o
+    (stops_more (g.A.Handler.is_reply peer) end start (seen key) (later key) a (told_by c.loop.conversation o) o so_far.goes
+    (stops_turned g.A.Handler.is_reply end peer (g.A.Handler.peer c.loop.answering) key (g.A.Handler.asker c.loop.answering) seen later c.loop.conversation m o o so_far.peer so_far.asker c.answer_through.ensures.keeps (ends_lacking end m o c.in-Err.ensures.end)))
+    so_far.written
 
 pub returns-in-Err-clause-grows : goal.returns-in-Err-clause-grows
-returns-in-Err-clause-grows g c = each_more _ _ _ c.loop.invariant.grows c.in-Err.ensures.grows
+returns-in-Err-clause-grows g c = each_more _ _ _ c.loop.invariant.grows c.answer_through.ensures.grows
+
+pub returns-in-Err-write_and_read-clause-served : goal.returns-in-Err-write_and_read-clause-served
+returns-in-Err-write_and_read-clause-served g c =
+    let so_far = c.loop.invariant in
+    let peer = g.A.Handler.peer c.args.answering.now in
+    let key = g.A.Handler.asker c.args.answering.now in
+    let start = g.A.Handler.seen c.args.answering.now key in
+    let a = g.S.Stream.octets c.args.stream.now.inner in
+    let seen = g.A.Handler.seen c.loop.answering in
+    let later = g.A.Handler.seen c.answer_through.new.answering in
+    let o = g.S.Stream.octets c.loop.stream.inner in
+    let new = g.S.Stream.octets c.write_and_read.new.stream.inner in
+    let end = c.in-Err-write_and_read.end in
+    stream_ends (g.A.Handler.is_reply peer) end start (later key) a new
+    (stops_more (g.A.Handler.is_reply peer) end start (seen key) (later key) a (told_by c.loop.conversation o) new so_far.goes
+    (stops_turned g.A.Handler.is_reply end peer (g.A.Handler.peer c.loop.answering) key (g.A.Handler.asker c.loop.answering) seen later c.loop.conversation c.answer_through.new.conversation o new so_far.peer so_far.asker c.answer_through.ensures.keeps c.in-Err-write_and_read.ensures.ends))
+    (writes_more _ _ _ so_far.written c.in-Err-write_and_read.ensures.written)
+
+pub returns-in-Err-write_and_read-clause-grows : goal.returns-in-Err-write_and_read-clause-grows
+returns-in-Err-write_and_read-clause-grows g c = each_more _ _ _ c.loop.invariant.grows c.answer_through.ensures.grows
