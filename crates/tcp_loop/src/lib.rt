@@ -3,18 +3,16 @@
 //! An [`EventLoop`] has the connections of a worker thread. [`EventLoop::poll_once`] waits until something may be ready, accepts new
 //! connections, serves those that may go on by a share each, and, once a second, ends those whose peers take too long. A [`Readiness`] says
 //! what may be ready, which may be wrong, and connections are accepted through [`Arrivals`]. A connection whose request is answered later
-//! goes on once a [`Woken`] reports its key.
+//! goes on once its key is reported.
 #![tactic(auto)]
 
 mod arrivals;
-mod finished;
 mod readiness;
 mod tally;
 mod waiting;
 mod worker;
 
 pub use arrivals::{Arrivals, Refusal, Remote};
-pub use finished::{Finished, Woken};
 pub use readiness::{NotWatched, Readiness};
 pub use tally::Tally;
 pub use worker::{EventLoop, Plan, TurnEnd};

@@ -6,7 +6,7 @@ ghost use Rattle.tcp_connections.specs.Asked.{EachGrows};
 ghost use Rattle.std.specs.Net.Socket.{socket_ip};
 ghost use Rattle.peer_groups.specs.Group.{IsGroupOf};
 ghost use Rattle.slab.specs.Slab.{get, slab_len};
-ghost use Rattle.tcp_loop.specs.Steps.{scarce, nothing_counted, Moves, Sweeps, Serves, GoOn, HasTurned, Turned};
+ghost use Rattle.tcp_loop.specs.Steps.{scarce, nothing_counted, Moves, Sweeps, GoOn, HasTurned};
 
 use crate::arrivals::{Arrivals, Refusal, Remote};
 use crate::readiness::{NotWatched, Readiness};
@@ -117,13 +117,6 @@ impl<S: Blocking + Remote + Drop, M: Messages> EventLoop<S, M> {
         ensures { result ≡ self.now.tally }
     {
         self.tally
-    }
-
-    /// Its connections.
-    pub fn links(&self) -> &Slab<Connection<S, M>>
-        ensures { result.now ≡ self.now.links }
-    {
-        &self.links
     }
 
     /// How long to wait at most: not at all if something could be done at once.
@@ -331,41 +324,6 @@ impl<S: Blocking + Remote + Drop, M: Messages> EventLoop<S, M> {
         Ok(())
     }
 
-    /// Serves the connections whose keys wait, each by a share; those that could go on wait for the next turn.
-    fn serve<R: Wait, A: Handler<M>>(
-        &mut self,
-        rt: &R,
-        answering: &mut A,
-        now: u64,
-        room: &mut [u8],
-        out: &mut [u8],
-    ) -> Result<(), TurnEnd>
-        requires room { 0 < length room.old }
-        requires out { message_limit ≤ length out.old }
-        ensures grows { EachGrows (A.seen answering.new) (A.seen answering.old) }
-        ensures places { self.new.places ≡ self.old.places }
-        ensures few { slab_len self.new.links ≤ slab_len self.old.links }
-        ensures own { Serves S.origin S.octets A.is_reply now (A.seen answering.old) self.old.links (A.seen answering.new) self.new.links }
-        ensures going { OnOk result (GoOn S.would_block A.is_later self.new.links self.new.served.items self.new.next.items) }
-    {
-        self.served.clear();
-        self.waiting.take(&mut self.served);
-        self.next.clear();
-        let served = serve_ready(
-            rt,
-            answering,
-            &mut self.links,
-            &self.served,
-            &mut self.next,
-            &mut self.tally.ends,
-            now,
-            room,
-            out,
-        );
-        self.waiting.put_after(&self.next);
-        served.map_err(|_| TurnEnd::NoMemory)
-    }
-
     /// Ends the connections that are over, once a second.
     fn sweep(&mut self, plan: Plan<'_>, now: u64)
         ensures places { self.new.places ≡ self.old.places }
@@ -411,42 +369,27 @@ impl<S: Blocking + Remote + Drop, M: Messages> EventLoop<S, M> {
         };
         self.mark();
         self.take_all(poll, plan, places, now)?;
-        self.serve(rt, answering, now, room, out)?;
+        self.served.clear();
+        self.waiting.take(&mut self.served);
+        self.next.clear();
+        let served = serve_ready(
+            rt,
+            answering,
+            &mut self.links,
+            &self.served,
+            &mut self.next,
+            &mut self.tally.ends,
+            now,
+            room,
+            out,
+        );
+        self.waiting.put_after(&self.next);
+        match served {
+            Ok(()) => {}
+            Err(_) => return Err(TurnEnd::NoMemory),
+        }
         self.sweep(plan, now);
         Ok(())
-    }
-
-    /// How many connections have given up their places.
-    fn gone(&self) -> u64 {
-        self.tally.ends.total().saturating_add(self.tally.evicted)
-    }
-
-    /// Takes turns until so many connections have given up their places, or no more turns can be taken.
-    pub fn run<R: Wait, P: Readiness<S>, L: Arrivals<Stream = S>, A: Handler<M>>(
-        &mut self,
-        rt: &R,
-        poll: &mut P,
-        plan: Plan<'_>,
-        places: &mut [L],
-        answering: &mut A,
-        most: u64,
-        room: &mut [u8],
-        out: &mut [u8],
-    ) -> Result<(), TurnEnd>
-        requires room { 0 < length room.old }
-        requires out { message_limit ≤ length out.old }
-        ensures grows { EachGrows (A.seen answering.new) (A.seen answering.old) }
-        ensures places { self.new.places ≡ self.old.places }
-        ensures few { slab_len self.old.links ≤ self.old.places → slab_len self.new.links ≤ self.new.places }
-        ensures turned { Turned S.origin S.octets A.is_reply plan.entry.allowed.addresses.now plan.entry.limits (A.seen answering.old) self.old.links (A.seen answering.new) self.new.links }
-    {
-        for _ in rt.forever() {
-            if self.gone() >= most {
-                return Ok(());
-            }
-            self.poll_once(rt, poll, plan, places, answering, room, out)?;
-        }
-        unreachable!()
     }
 }
 
