@@ -49,12 +49,6 @@ LEFT = {
     "store_compaction::RecentUpdates::oldest": "used by tests alone",
     "store_compaction::RecentUpdates::steps": "used by tests alone",
     "store_compaction::StoreWriter::trail": "used by tests alone",
-    "tcp_connections::Connection::stream": "used by tests alone",
-    "tcp_loop::Finished": "used by tests alone",
-    "tcp_loop::Woken": "used by tests alone",
-    "tcp_loop::Woken::new": "used by tests alone",
-    "tcp_loop::EventLoop::links": "used by tests alone",
-    "tcp_loop::EventLoop::run": "used by tests alone",
     "update_batches::UpdateRequest::read": "used by tests alone",
     "zone_server::NoLog": "used by tests alone",
 }

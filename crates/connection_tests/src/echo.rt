@@ -1,10 +1,11 @@
 //! A handler that answers each request by its first octet.
 ghost use Rattle.std.specs.Prelude.{◌≡◌, ◌≤◌, ◌∷◌, ◌++◌, [], List, length, if◌then◌else◌};
 
+use requests::StreamEnd;
 use serve_core::{Peer, Transport};
 use std::net::SocketAddr;
 use std::sync::Wait;
-use tcp_connections::{Handler, Messages, Reply, Unmade};
+use tcp_connections::{Handler, Messages, Reply};
 
 /// The length of the longest message, in octets (RFC 1035, 4.2.2).
 pub(crate) const LARGE: usize = 65_535;
@@ -35,7 +36,7 @@ impl Messages for Both {
 }
 
 /// A handler that echoes each request, with exceptions: there is no reply to a request of no octets, there are two messages for one of two
-/// octets, and there are other replies to one that starts with `?`, `L` or `u`. After `left` requests it returns [`Unmade::Spent`].
+/// octets, and there are other replies to one that starts with `?`, `L` or `u`. After `left` requests it returns [`StreamEnd::Spent`].
 #[derive(Drop)]
 pub(crate) struct Echo {
     peer: Peer,
@@ -119,13 +120,13 @@ impl Handler<Both> for Echo {
         _rt: &R,
         request: &[u8],
         out: &mut [u8],
-    ) -> Result<Reply<Both>, Unmade> {
+    ) -> Result<Reply<Both>, StreamEnd> {
         if self.left == 0 {
-            return Err(Unmade::Spent);
+            return Err(StreamEnd::Spent);
         }
         self.left -= 1;
         if self.puts_off(request) {
-            return Err(Unmade::Later);
+            return Ok(Reply::Later);
         }
         match request.len() {
             0 => Ok(Reply::Silent),

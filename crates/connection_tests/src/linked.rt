@@ -1,12 +1,13 @@
 //! Connections that are served under their keys, at times that the test gives.
 
 use crate::echo::{Both, Echo};
-use crate::pieces::{After, Pieces, address, room_of, written};
+use crate::pieces::{After, Pieces, Tape, address, room_of, written};
 use crate::running::SECOND;
 use peer_groups::PeerGroup;
 use serve_core::{Peer, Transport};
 use slab::Slab;
 use std::alloc::{AllocError, Global};
+use std::rc::Rc;
 use std::sync::Wait;
 use std::test::Fail;
 use tcp_connections::{Connection, Ends, Limits, Room, make_room, serve_ready, sweep};
@@ -16,6 +17,8 @@ use tcp_connections::{Connection, Ends, Limits, Room, make_room, serve_ready, sw
 pub(crate) struct Served {
     alloc: Global,
     pub(crate) links: Slab<Connection<Pieces, Both>>,
+    /// What is written on each of the connections that were added, in their order.
+    pub(crate) tapes: Vec<Tape>,
     pub(crate) ends: Ends,
     echo: Echo,
     /// The keys of connections that could continue after the last share.
@@ -30,6 +33,7 @@ impl Served {
         Ok(Served {
             alloc,
             links: Slab::new(alloc),
+            tapes: Vec::new(alloc),
             ends: Ends::default(),
             echo: Echo::new(u32::MAX),
             next: Vec::new(alloc),
@@ -52,6 +56,7 @@ impl Served {
         now: u64,
     ) -> Result<(), AllocError> {
         let peer = Peer::over(Transport::Tcp, may);
+        self.tapes.push(Rc::clone(&stream.tape)?)?;
         let _key = self.links.insert(Connection::new(
             stream,
             self.alloc,
@@ -359,7 +364,7 @@ fn each_connection_has_the_rights_of_its_peer(rt: HostRuntime) -> Result<(), Fai
     assert_eq!(rt; [ends.clean, ends.device, ends.total()], [1, 1, 2]);
     // The replies under keys 0, 1 and 4.
     let replies = [0, 1, 1, 0, 1, 1, 0, 1, 0, 0, 1, 0, 0, 1, 1, 0, 1, 1];
-    let gone = written(rt.alloc(), &served.links)?;
+    let gone = written(rt.alloc(), &served.tapes)?;
     assert_eq!(rt; gone.as_slice(), replies.as_slice());
     Ok(())
 }

@@ -1,7 +1,7 @@
 //! Lack of memory: the behaviour when each memory allocation fails in turn, as in `refused.sh`.
 
 use crate::linked::Served;
-use crate::pieces::{After, Pieces, repeated, written};
+use crate::pieces::{After, Pieces, open_of, repeated, written};
 use crate::polls::{Comers, Poll};
 use crate::running::{Running, SECOND};
 use crate::streams::end_of;
@@ -43,10 +43,11 @@ fn is_served<R: Wait>(rt: &R, alloc: Global) -> Result<bool, AllocError> {
         ..Pieces::new(alloc, &sent, 1)?
     };
     let end = end_of(rt, alloc, &mut stream, 9)?;
-    if end == StreamEnd::NoMemory && replies.starts_with(&stream.written) {
+    let written = stream.written(alloc)?;
+    if end == StreamEnd::NoMemory && replies.starts_with(&written) {
         return Err(AllocError);
     }
-    Ok(end == StreamEnd::Clean && stream.written.as_slice() == replies.as_slice())
+    Ok(end == StreamEnd::Clean && written.as_slice() == replies.as_slice())
 }
 
 #[test]
@@ -74,7 +75,7 @@ fn are_served<R: Wait>(rt: &R, alloc: Global) -> Result<bool, AllocError> {
     }
     let open = served.links.len();
     let ends = served.ends;
-    let gone = written(alloc, &served.links)?;
+    let gone = written(alloc, &served.tapes)?;
     let is_written = gone == repeated(alloc, &replies(alloc)?, open)?;
     let is_counted = (open == 3 && ends.no_memory == 0) || (open == 2 && ends.no_memory == 1);
     Ok(is_written && is_counted && ends.total() == ends.no_memory)
@@ -103,10 +104,11 @@ fn are_turned_to<R: Wait>(rt: &R, alloc: Global) -> Result<bool, AllocError> {
     if worker.turn(rt, 100).is_err() {
         return Err(AllocError);
     }
-    let open = worker.turns.links().len();
+    let tapes = worker.tapes();
+    let open = open_of(tapes);
     let tally = worker.turns.tally();
     let wanting = tally.no_room.saturating_add(tally.ends.no_memory);
-    let gone = written(alloc, worker.turns.links())?;
+    let gone = written(alloc, tapes)?;
     let is_written = gone == repeated(alloc, &replies(alloc)?, open)?;
     let is_counted = (open == 4 && wanting == 0) || (open == 3 && wanting == 1);
     Ok(is_written && is_counted && tally.begun.saturating_add(tally.no_room) == 4)

@@ -3,11 +3,11 @@
 ghost use Rattle.std.specs.Prelude.{◌≡◌, ◌<◌, ◌-◌, ◌^◌, IfOk, IfSome, vec_len};
 ghost use Rattle.tcp_connections.specs.declared.blocking.Fault.{Fault as FaultOf};
 
-use crate::echo::Both;
-use slab::Slab;
 use std::alloc::{AllocError, Global};
+use std::cell::RefCell;
 use std::net::{Ipv4Addr, SocketAddr, SocketAddrV4};
-use tcp_connections::{Blocking, Connection, Fault};
+use std::rc::Rc;
+use tcp_connections::{Blocking, Fault};
 use tcp_loop::Remote;
 
 /// What follows the octets of a stream.
@@ -20,6 +20,9 @@ pub(crate) enum After {
     /// Nothing yet.
     Nothing,
 }
+
+/// The octets that were written on a stream, which the stream shares with the test until it is closed.
+pub(crate) type Tape = Rc<RefCell<Vec<u8>>>;
 
 /// A stream that reads and writes some octets at a time, and, if it may block, would block before each piece.
 #[derive(Drop)]
@@ -39,7 +42,7 @@ pub(crate) struct Pieces {
     /// The number of octets that it takes before it fails.
     pub(crate) room: usize,
     pub(crate) faults: u64,
-    pub(crate) written: Vec<u8>,
+    pub(crate) tape: Tape,
 }
 
 /// An address in 192.0.2.0/24.
@@ -63,16 +66,58 @@ pub(crate) fn repeated(alloc: Global, octets: &[u8], times: usize) -> Result<Vec
     Ok(all)
 }
 
-/// The octets that were written on connections, in the order of their keys.
-pub(crate) fn written(
-    alloc: Global,
-    links: &Slab<Connection<Pieces, Both>>,
-) -> Result<Vec<u8>, AllocError> {
+/// Whether the stream of a tape is open.
+fn is_open(tape: &Tape) -> bool {
+    Rc::strong_count(tape) > 1
+}
+
+/// How many of the streams of these tapes are open.
+pub(crate) fn open_of(tapes: &[Tape]) -> usize {
+    tapes.iter().filter(|tape| is_open(tape)).count()
+}
+
+/// How many octets are on a tape.
+fn len_of(tape: &Tape) -> usize {
+    match tape.try_borrow() {
+        Ok(octets) => octets.len(),
+        Err(_) => 0,
+    }
+}
+
+/// Appends octets to a tape. False if there is no memory for them.
+fn put_on(tape: &Tape, octets: &[u8]) -> bool {
+    match tape.try_borrow_mut() {
+        Ok(mut all) => all.extend_from_slice(octets).is_ok(),
+        Err(_) => false,
+    }
+}
+
+/// Appends the octets on a tape to others.
+fn put_all(tape: &Tape, all: &mut Vec<u8>) -> Result<(), AllocError> {
+    match tape.try_borrow() {
+        Ok(octets) => all.extend_from_slice(&octets),
+        Err(_) => Err(AllocError),
+    }
+}
+
+/// The octets that were written on the streams of these tapes that are open, in the order of the tapes.
+pub(crate) fn written(alloc: Global, tapes: &[Tape]) -> Result<Vec<u8>, AllocError> {
     let mut all = Vec::new(alloc);
-    for (_key, link) in links.iter() {
-        all.extend_from_slice(&link.stream().written)?;
+    for tape in tapes {
+        if is_open(tape) {
+            put_all(tape, &mut all)?;
+        }
     }
     Ok(all)
+}
+
+/// An empty tape, with memory for a thousand octets.
+fn tape_of(alloc: Global) -> Result<Tape, AllocError> {
+    let octets = Vec::with_capacity(alloc, 1_000)?;
+    match Rc::new(alloc, RefCell::new(octets)) {
+        Ok(tape) => Ok(tape),
+        Err(_) => Err(AllocError),
+    }
 }
 
 /// The maximum number of octets of a piece that starts after `gone` octets: up to the next cut, if there is one.
@@ -102,8 +147,15 @@ impl Pieces {
             after: After::Nothing,
             room: usize::MAX,
             faults: 0,
-            written: Vec::with_capacity(alloc, 1_000)?,
+            tape: tape_of(alloc)?,
         })
+    }
+
+    /// The octets that were written.
+    pub(crate) fn written(&self, alloc: Global) -> Result<Vec<u8>, AllocError> {
+        let mut all = Vec::new(alloc);
+        put_all(&self.tape, &mut all)?;
+        Ok(all)
     }
 
     /// The maximum number of octets of the next piece. None if it would block, as it does every other time if it may block.
@@ -174,9 +226,9 @@ impl Blocking for Pieces {
         let Some(size) = self.next_size() else {
             return Err(Fault::Blocked);
         };
-        let most = size.min(up_to_cut(self.cuts.1, self.written.len()));
+        let most = size.min(up_to_cut(self.cuts.1, len_of(&self.tape)));
         let count = most.min(self.room.min(buf.len()));
-        if count == 0 || self.written.extend_from_slice(&buf[..count]).is_err() {
+        if count == 0 || !put_on(&self.tape, &buf[..count]) {
             return Err(self.fail());
         }
         self.room = self.room.saturating_sub(count);

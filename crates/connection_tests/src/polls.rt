@@ -1,10 +1,12 @@
 //! Simulated polls and listeners.
+ghost use Rattle.std.specs.Prelude.{◌≡◌, IfOk};
 
-use crate::pieces::{After, Pieces, address};
+use crate::pieces::{After, Pieces, Tape, address};
 use std::alloc::{AllocError, Global};
 use std::cell::Cell;
+use std::rc::Rc;
 use tcp_connections::Blocking;
-use tcp_loop::{Arrivals, Finished, NotWatched, Readiness, Refusal};
+use tcp_loop::{Arrivals, NotWatched, Readiness, Refusal};
 
 /// A poll that reports readiness that is not there, and keys that are not in use, and whose time the test gives.
 #[derive(Drop)]
@@ -46,20 +48,11 @@ impl Poll {
         self.told.clear();
         Ok(())
     }
-}
 
-impl<S: Blocking> Readiness<S> for Poll {
-    ghost time = { λ poll. poll.now };
-
-    fn watch(&mut self, _stream: &mut S, key: usize) -> Result<(), NotWatched> {
-        let told = key.saturating_add(self.beside);
-        if !self.watches || self.told.push(told).is_err() {
-            return Err(NotWatched);
-        }
-        Ok(())
-    }
-
-    fn wait(&mut self, most: u64, keys: &mut Vec<usize>) -> Result<u64, NotWatched> {
+    /// Waits: appends the keys that it reports to others, and returns its time.
+    fn pass(&mut self, most: u64, keys: &mut Vec<usize>) -> Result<u64, NotWatched>
+        ensures { IfOk result (λ now. now ≡ self.new.now) }
+    {
         if self.waits == 0 || self.tell(keys).is_err() {
             return Err(NotWatched);
         }
@@ -67,17 +60,53 @@ impl<S: Blocking> Readiness<S> for Poll {
         self.now = self.now.saturating_add(self.step.min(most.max(1)));
         Ok(self.now)
     }
+
+    /// Watches the stream under a key.
+    fn put(&mut self, key: usize) -> Result<(), NotWatched>
+        ensures { self.new.now ≡ self.old.now }
+    {
+        let told = key.saturating_add(self.beside);
+        if !self.watches || self.told.push(told).is_err() {
+            return Err(NotWatched);
+        }
+        Ok(())
+    }
 }
 
-/// Reports the key that the test has put there, once.
+impl<S: Blocking> Readiness<S> for Poll {
+    ghost time = { λ poll. poll.now };
+
+    fn watch(&mut self, _stream: &mut S, key: usize) -> Result<(), NotWatched> {
+        self.put(key)
+    }
+
+    fn wait(&mut self, most: u64, keys: &mut Vec<usize>) -> Result<u64, NotWatched> {
+        self.pass(most, keys)
+    }
+}
+
+/// A poll that also reports the key that the test has put there, once.
 #[derive(Drop)]
-pub(crate) struct Told<'a> {
+pub(crate) struct TellingPoll<'a> {
+    pub(crate) poll: Poll,
     pub(crate) key: &'a Cell<Option<usize>>,
 }
 
-impl Finished for Told<'_> {
-    fn next(&mut self) -> Option<usize> {
-        self.key.take()
+impl<S: Blocking> Readiness<S> for TellingPoll<'_> {
+    ghost time = { λ telling. telling.poll.now };
+
+    fn watch(&mut self, _stream: &mut S, key: usize) -> Result<(), NotWatched> {
+        self.poll.put(key)
+    }
+
+    fn wait(&mut self, most: u64, keys: &mut Vec<usize>) -> Result<u64, NotWatched> {
+        let now = self.poll.pass(most, keys)?;
+        if let Some(key) = self.key.take() {
+            if keys.push(key).is_err() {
+                return Err(NotWatched);
+            }
+        }
+        Ok(now)
     }
 }
 
@@ -100,6 +129,8 @@ pub(crate) struct Comers<'a> {
     pub(crate) is_odd: bool,
     /// The result once all of them have arrived.
     pub(crate) last: Refusal,
+    /// What is written on each of those that have arrived, in their order.
+    pub(crate) tapes: Vec<Tape>,
 }
 
 impl<'a> Comers<'a> {
@@ -117,6 +148,7 @@ impl<'a> Comers<'a> {
             no_room: 0,
             is_odd: false,
             last: Refusal::Blocked,
+            tapes: Vec::new(alloc),
         }
     }
 }
@@ -142,15 +174,21 @@ impl<'a> Arrivals for Comers<'a> {
         } else {
             self.odd
         };
-        match Pieces::new(self.alloc, octets, self.times) {
-            Ok(stream) => Ok(Pieces {
-                from: address(1 + self.count % 2),
-                size: self.size.saturating_add(usize::from(self.count % 3)),
-                may_block: self.may_block,
-                after: self.after,
-                ..stream
-            }),
-            Err(_) => Err(Refusal::Room),
+        let Ok(stream) = Pieces::new(self.alloc, octets, self.times) else {
+            return Err(Refusal::Room);
+        };
+        let Ok(tape) = Rc::clone(&stream.tape) else {
+            return Err(Refusal::Room);
+        };
+        if self.tapes.push(tape).is_err() {
+            return Err(Refusal::Room);
         }
+        Ok(Pieces {
+            from: address(1 + self.count % 2),
+            size: self.size.saturating_add(usize::from(self.count % 3)),
+            may_block: self.may_block,
+            after: self.after,
+            ..stream
+        })
     }
 }

@@ -1,7 +1,8 @@
 //! A worker with the state that its turns need.
 
 use crate::echo::{Both, Echo};
-use crate::pieces::room_of;
+use crate::pieces::{Tape, room_of};
+use crate::polls::Comers;
 use requests::Allowed;
 use std::alloc::{AllocError, Global};
 use std::io::{self, ErrorKind};
@@ -86,19 +87,40 @@ impl<S: Blocking + Remote + Drop, P: Readiness<S> + Drop, L: Arrivals<Stream = S
 
     /// Runs turns until `gone` connections have given up their slots, or no more turns are possible.
     pub(crate) fn run<R: Wait>(&mut self, rt: &R, gone: u64) -> Result<(), TurnEnd> {
-        if self.room.is_empty() || self.out.len() < 65_535 {
-            return Err(TurnEnd::NoMemory);
-        }
         let addresses = may();
-        self.turns.run(
-            rt,
-            &mut self.poll,
-            plan(&addresses),
-            &mut self.places,
-            &mut self.echo,
-            gone,
-            &mut self.room,
-            &mut self.out,
-        )
+        for _ in rt.forever() {
+            if self.gone() >= gone {
+                return Ok(());
+            }
+            if self.room.is_empty() || self.out.len() < 65_535 {
+                return Err(TurnEnd::NoMemory);
+            }
+            self.turns.poll_once(
+                rt,
+                &mut self.poll,
+                plan(&addresses),
+                &mut self.places,
+                &mut self.echo,
+                &mut self.room,
+                &mut self.out,
+            )?;
+        }
+        unreachable!()
+    }
+
+    /// How many connections have given up their slots.
+    fn gone(&self) -> u64 {
+        let tally = self.turns.tally();
+        tally.ends.total().saturating_add(tally.evicted)
+    }
+}
+
+impl<S: Drop, P> Running<S, P, Comers<'_>> {
+    /// What is written on each of the connections that have arrived, in their order.
+    pub(crate) fn tapes(&self) -> &[Tape] {
+        match self.places.first() {
+            Some(comers) => &comers.tapes,
+            None => &[],
+        }
     }
 }

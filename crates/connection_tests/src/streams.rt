@@ -3,7 +3,7 @@ ghost use Rattle.std.specs.Prelude.{◌<◌, ◌≤◌, length};
 
 use crate::echo::Echo;
 use crate::pieces::{After, Pieces, room_of};
-use requests::{OpenGate, StreamEnd};
+use requests::StreamEnd;
 use std::alloc::{AllocError, Global};
 use std::sync::Wait;
 use std::test::Fail;
@@ -24,15 +24,7 @@ fn serve_to_end<R: Wait>(
     let mut echo = Echo::new(requests);
     let mut conversation = ConnectionState::new(alloc);
     for _ in rt.forever() {
-        match serve_some(
-            rt,
-            &mut echo,
-            &mut conversation,
-            stream,
-            &OpenGate,
-            room,
-            out,
-        ) {
+        match serve_some(rt, &mut echo, &mut conversation, stream, room, out) {
             Ok(_) => {}
             Err(end) => return end,
         }
@@ -93,8 +85,9 @@ fn ends_so<R: Wait>(rt: &R, alloc: Global, case: &Case, size: usize) -> Result<b
     };
     let end = end_of(rt, alloc, &mut stream, case.requests)?;
     let replies = REPLIES.get(..case.replied).unwrap_or(&[]);
-    let is_whole = stream.written.len() == replies.len() || end == StreamEnd::Spent;
-    Ok(end == case.end && is_whole && replies.starts_with(&stream.written))
+    let written = stream.written(alloc)?;
+    let is_whole = written.len() == replies.len() || end == StreamEnd::Spent;
+    Ok(end == case.end && is_whole && replies.starts_with(&written))
 }
 
 /// The same, for pieces of each size.
@@ -208,7 +201,7 @@ fn are_echoed<R: Wait>(
         ..Pieces::new(alloc, sent, 1)?
     };
     let end = end_of(rt, alloc, &mut stream, 10_000)?;
-    Ok(end == StreamEnd::Clean && stream.written.as_slice() == sent)
+    Ok(end == StreamEnd::Clean && stream.written(alloc)?.as_slice() == sent)
 }
 
 /// Sizes of pieces: the size, the bound of the pseudorandom number that is added, and the number that it starts with.
@@ -263,7 +256,7 @@ fn is_answered<R: Wait>(
         return Ok(false);
     }
     let end = serve_to_end(rt, alloc, &mut stream, 2, &mut room, out);
-    Ok(end == StreamEnd::Clean && stream.written.as_slice() == FRAMES.as_slice())
+    Ok(end == StreamEnd::Clean && stream.written(alloc)?.as_slice() == FRAMES.as_slice())
 }
 
 #[test]

@@ -1,14 +1,14 @@
 //! A worker's turns over simulated polls.
 
 use crate::echo::Echo;
-use crate::pieces::{After, Pieces, repeated, written};
-use crate::polls::{Comers, Poll, Told};
+use crate::pieces::{After, Pieces, Tape, open_of, repeated, written};
+use crate::polls::{Comers, Poll, TellingPoll};
 use crate::running::{Running, SECOND};
 use std::alloc::{AllocError, Global};
 use std::cell::Cell;
 use std::sync::Wait;
 use std::test::Fail;
-use tcp_loop::{EventLoop, Refusal, TurnEnd, Woken};
+use tcp_loop::{EventLoop, Refusal, TurnEnd};
 
 /// Connections that come to a worker, what its poll reports, and the expected result.
 struct Stage {
@@ -243,6 +243,19 @@ const STAGES: [Stage; 18] = [
     },
 ];
 
+/// The tapes of a worker's connections at the beginning of a stage: those of the stage before, where it goes on with its connections.
+fn tapes_for(alloc: Global, stage: &Stage, before: Option<Comers<'static>>) -> Vec<Tape> {
+    match before {
+        Some(comers) => {
+            if stage.places > 0 {
+                return Vec::new(alloc);
+            }
+            comers.tapes
+        }
+        None => Vec::new(alloc),
+    }
+}
+
 /// Prepares a worker for a stage. Without slots of its own, the stage has the connections of the stage before.
 fn begin(
     alloc: Global,
@@ -261,7 +274,7 @@ fn begin(
         now: worker.poll.now,
         told: Vec::new(alloc),
     };
-    worker.places.clear();
+    let before = worker.places.pop();
     worker.places.push(Comers {
         alloc,
         count: stage.comers,
@@ -274,6 +287,7 @@ fn begin(
         no_room: stage.no_room,
         is_odd: false,
         last: stage.last,
+        tapes: tapes_for(alloc, stage, before),
     })?;
     Ok(())
 }
@@ -289,7 +303,7 @@ fn counts_of(worker: &Running<Pieces, Poll, Comers<'static>>) -> [u64; 8] {
         tally.evicted,
         tally.turned_away,
         tally.no_room,
-        worker.turns.links().len() as u64,
+        open_of(worker.tapes()) as u64,
     ]
 }
 
@@ -301,7 +315,7 @@ fn turns_go_through_stages(rt: HostRuntime) -> Result<(), Fail> {
         begin(alloc, &mut worker, stage)?;
         let end = worker.run(&rt, stage.gone);
         let counts = counts_of(&worker);
-        let gone = written(alloc, worker.turns.links())?;
+        let gone = written(alloc, worker.tapes())?;
         let is_written = gone == repeated(alloc, stage.replies, stage.replied)?;
         assert_eq!(rt;
             (end, worker.poll.waits > 0, counts, is_written),
@@ -349,7 +363,10 @@ fn begin_row(echo: &mut Echo, made: Option<usize>) {
 fn other_connections_go_on(rt: HostRuntime) -> Result<(), Fail> {
     let alloc = rt.alloc();
     let key = Cell::new(None);
-    let poll = Woken::new(Poll::new(alloc, 0), Told { key: &key });
+    let poll = TellingPoll {
+        poll: Poll::new(alloc, 0),
+        key: &key,
+    };
     let comers = Comers {
         even: &UPDATE,
         size: 700,
@@ -361,7 +378,7 @@ fn other_connections_go_on(rt: HostRuntime) -> Result<(), Fail> {
         key.set(told);
         begin_row(&mut worker.echo, made);
         worker.turn(&rt, 9)?;
-        let gone = written(alloc, worker.turns.links())?;
+        let gone = written(alloc, worker.tapes())?;
         let is_written = REPLIES.get(..len) == Some(gone.as_slice());
         assert_eq!(rt;
             (worker.echo.asked, is_written),
