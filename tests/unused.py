@@ -45,18 +45,12 @@ PUBLIC = {
 
 # What the program doesn't use, found and not yet removed. A name that isn't found any more has to go from here.
 LEFT = {
-    "store_compaction::CompactedStore::writer": "used by tests alone",
-    "store_compaction::RecentUpdates::oldest": "used by tests alone",
-    "store_compaction::RecentUpdates::steps": "used by tests alone",
-    "store_compaction::StoreWriter::trail": "used by tests alone",
     "tcp_connections::Connection::stream": "used by tests alone",
     "tcp_loop::Finished": "used by tests alone",
     "tcp_loop::Woken": "used by tests alone",
     "tcp_loop::Woken::new": "used by tests alone",
     "tcp_loop::EventLoop::links": "used by tests alone",
     "tcp_loop::EventLoop::run": "used by tests alone",
-    "update_batches::UpdateRequest::read": "used by tests alone",
-    "zone_server::NoLog": "used by tests alone",
 }
 
 # Laws that docs/PROVED.md doesn't name: statements on definitions, worked examples among them, that nothing calls.
