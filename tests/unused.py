@@ -21,6 +21,7 @@ DEVICES = {"told_disks", "told_streams", "played_zones"}  # in memory, for crate
 # What is there to be called by others than the program, each with why: `crate::Item`, `crate::Type::method`.
 PUBLIC = {
     "cell_core::WordMachine::step": "public call: one step of the cell's words",
+    "counted_handles::Lapsed::freed": "reads what the public call Weak::release gives",
     "counted_handles::Released::buried": "reads what the public call Strong::release gives",
     "dns_engine::Engine::update": "public call: judges an update and publishes what it makes",
     "dns_message::put_frame": "public call: the frame of a message over TCP",
@@ -33,6 +34,7 @@ PUBLIC = {
     "requests::Datagrams::faults": "public call: the sends that failed",
     "requests::Gate": "public trait: what each request passes",
     "requests::serve_udp": "public call: datagrams answered one by one",
+    "shared_tree::Tree::new": "the tree of no pair, with which a sequence of calls of `with` begins",
     "tcp_connections::serve_stream": "public call: a stream served to its end",
     "worker_jobs::Job": "public trait: what a worker's thread does",
     "worker_jobs::run_workers": "public call: jobs done, each on a thread",
@@ -43,23 +45,12 @@ PUBLIC = {
 
 # What the program doesn't use, found and not yet removed. A name that isn't found any more has to go from here.
 LEFT = {
-    "counted_handles::Lapsed::freed": "used by tests alone",
-    "counted_handles::newest": "used by tests alone",
-    "shared_tree::Tree::new": "used by tests alone",
-    "snapshot_cell::Cell::newest": "used by tests alone",
-    "snapshot_cell::NamedCell::newest": "used by tests alone",
-    "store_compaction::CompactedStore::writer": "used by tests alone",
-    "store_compaction::RecentUpdates::oldest": "used by tests alone",
-    "store_compaction::RecentUpdates::steps": "used by tests alone",
-    "store_compaction::StoreWriter::trail": "used by tests alone",
     "tcp_connections::Connection::stream": "used by tests alone",
     "tcp_loop::Finished": "used by tests alone",
     "tcp_loop::Woken": "used by tests alone",
     "tcp_loop::Woken::new": "used by tests alone",
     "tcp_loop::EventLoop::links": "used by tests alone",
     "tcp_loop::EventLoop::run": "used by tests alone",
-    "update_batches::UpdateRequest::read": "used by tests alone",
-    "zone_server::NoLog": "used by tests alone",
 }
 
 # Laws that docs/PROVED.md doesn't name: statements on definitions, worked examples among them, that nothing calls.

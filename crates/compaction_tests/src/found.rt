@@ -1,10 +1,10 @@
 //! What a start recovers from a directory.
+use crate::published::Published;
 use crate::updates::check;
 use master_file::write_zone;
 use std::alloc::{AllocError, Global};
 use std::fs;
 use std::test::Fail;
-use store_compaction::RecentUpdates;
 use store_files::read_store;
 use store_recovery::{RecentVersions, Recovery, recover_zone};
 
@@ -37,40 +37,54 @@ fn text_of_start(alloc: Global, newest: &RecentVersions) -> Result<String, Alloc
     Ok(text)
 }
 
-/// The zones of the versions of recent updates, as text.
-fn text_of_trail(alloc: Global, trail: &RecentUpdates) -> Result<String, AllocError> {
-    let mut text = write_zone(alloc, trail.oldest().get().zone())?;
-    for step in trail.steps() {
-        text.push_str(&write_zone(alloc, step.version().get().zone())?)?;
+/// The zones of the newest published versions, as text.
+fn text_of_published(alloc: Global, published: &Published) -> Result<String, AllocError> {
+    let mut text = String::new(alloc);
+    for version in published.kept() {
+        text.push_str(&write_zone(alloc, version.get().zone())?)?;
     }
+    text.push_str(&write_zone(alloc, published.last.get().zone())?)?;
     Ok(text)
 }
 
-/// Whether a start recovers the versions of recent updates, and none after them.
-pub(crate) fn has_trail(
+/// Whether a start recovers the newest published versions, and none after them.
+pub(crate) fn has_published(
     alloc: Global,
     start: &Recovery,
-    trail: &RecentUpdates,
+    published: &Published,
 ) -> Result<bool, AllocError> {
     let text = text_of_start(alloc, &start.newest)?;
-    Ok(text.ends_with(text_of_trail(alloc, trail)?.as_str()))
+    Ok(text.ends_with(text_of_published(alloc, published)?.as_str()))
 }
 
-/// Fails if a start from a directory is not this one, or does not recover the versions of recent updates.
+/// Fails if a start from a directory is not this one, or does not recover the newest published versions.
 pub(crate) fn expect(
     files: &HostRuntime,
     dir: &str,
-    trail: &RecentUpdates,
+    published: &Published,
     line: &'static str,
 ) -> Result<(), Fail> {
     let start = found_in(files, dir)?;
     let told = line_of(files.alloc(), &start)?;
     check(told.as_str() == line, line)?;
-    check(has_trail(files.alloc(), &start, trail)?, line)
+    check(has_published(files.alloc(), &start, published)?, line)
 }
 
 /// Whether a file with this name is in a directory.
 pub(crate) fn is_there(files: &HostRuntime, dir: &str, name: &str) -> Result<bool, Fail> {
     let path = format!(in files.alloc(); "{dir}/{name}")?;
     Ok(fs::exists(files, path.as_str())?)
+}
+
+/// Whether a directory has the file of a zone text with one of the three numbers after that of the store's: such a text is being written.
+pub(crate) fn is_writing(files: &HostRuntime, dir: &str) -> Result<bool, Fail> {
+    let start = found_in(files, dir)?;
+    for later in 1..4 {
+        let number = start.head.number.saturating_add(later);
+        let name = format!(in files.alloc(); "zone-{number}")?;
+        if is_there(files, dir, name.as_str())? {
+            return Ok(true);
+        }
+    }
+    Ok(false)
 }

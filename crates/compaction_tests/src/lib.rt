@@ -4,6 +4,8 @@
 #[cfg(test)]
 mod found;
 #[cfg(test)]
+mod published;
+#[cfg(test)]
 mod random;
 #[cfg(test)]
 mod slow;

@@ -1,11 +1,10 @@
 //! A store whose text is written slowly, while batches are appended.
-use crate::found::expect;
+use crate::found::{expect, is_writing};
 use crate::texts::{Store, begin_store};
-use crate::updates::{check, updates_of};
+use crate::updates::check;
 use std::fs;
 use std::sync::Wait;
 use std::test::Fail;
-use update_batches::UpdateStore;
 
 /// The directory of the test.
 const DIR: &str = "compaction_tests_slow";
@@ -20,11 +19,10 @@ fn send<R: Wait>(
     line: &'static str,
     writes: bool,
 ) -> Result<(), Fail> {
-    let updates = updates_of(files.alloc(), store.writer().trail(), from, to)?;
-    check(store.append(rt, files.alloc(), &updates).is_ok(), line)?;
+    check(store.append(rt, files.alloc(), from, to)?, line)?;
     store.tend(rt, files.alloc());
-    expect(files, DIR, store.writer().trail(), line)?;
-    check(store.writer().is_compacting() == writes, line)
+    expect(files, DIR, &store.published, line)?;
+    check(is_writing(files, DIR)? == writes, line)
 }
 
 // A text gives no result at three tends, and is waited for at none of them: a batch is appended before each, and a start recovers it. At the

@@ -1,11 +1,10 @@
 //! A store that is compacted between two batches, when it is tended.
-use crate::found::{expect, is_there};
+use crate::found::{expect, is_there, is_writing};
 use crate::texts::{Store, begin_store};
-use crate::updates::{check, updates_of};
+use crate::updates::check;
 use std::fs;
 use std::sync::Wait;
 use std::test::Fail;
-use update_batches::UpdateStore;
 
 /// The directory of the test.
 const DIR: &str = "compaction_tests_tended";
@@ -26,9 +25,7 @@ fn send<R: Wait>(
     line: &'static str,
     writes: bool,
 ) -> Result<(), Fail> {
-    let updates = updates_of(files.alloc(), store.writer().trail(), from, to)?;
-    let kept = store.append(rt, files.alloc(), &updates).is_ok();
-    check(kept, line)?;
+    check(store.append(rt, files.alloc(), from, to)?, line)?;
     tend(rt, files, store, line, writes)
 }
 
@@ -41,8 +38,8 @@ fn tend<R: Wait>(
     writes: bool,
 ) -> Result<(), Fail> {
     store.tend(rt, files.alloc());
-    expect(files, DIR, store.writer().trail(), line)?;
-    check(store.writer().is_compacting() == writes, line)
+    expect(files, DIR, &store.published, line)?;
+    check(is_writing(files, DIR)? == writes, line)
 }
 
 /// Two texts are started, each when the journal has more than 400 octets, and twice as many as after the last compaction. The journal starts
@@ -78,8 +75,7 @@ fn fail_to_lay<R: Wait>(rt: &R, files: &HostRuntime, store: &mut Store) -> Resul
 /// before.
 fn move_away<R: Wait>(rt: &R, files: &HostRuntime, store: &mut Store) -> Result<(), Fail> {
     fs::rename(files, DIR, MOVED)?;
-    let updates = updates_of(files.alloc(), store.writer().trail(), 13, 14)?;
-    let kept = store.append(rt, files.alloc(), &updates).is_ok();
+    let kept = store.append(rt, files.alloc(), 13, 14)?;
     check(!kept, "a batch is kept in a folder that was moved")?;
     store.tend(rt, files.alloc());
     check(!fs::exists(files, DIR)?, "a folder is made in its place")?;

@@ -2,7 +2,8 @@
 ghost use Rattle.std.specs.Prelude.{option_map, IfOk};
 ghost use Rattle.store_compaction.specs.TextWriter.{wanted_of, IsWritten};
 
-use crate::updates::begin;
+use crate::published::Published;
+use crate::updates::{WrittenStore, begin, updates_of};
 use journal::Head;
 use std::alloc::Global;
 use std::io;
@@ -12,6 +13,7 @@ use store_compaction::{
     CompactedStore, CompactionEvent, NextText, Notes, TextWriter, create_next_text, write_next_text,
 };
 use store_files::NewText;
+use update_batches::UpdateStore;
 
 /// A text to be written.
 #[derive(Drop)]
@@ -96,12 +98,39 @@ impl Notes for NoNotes {
     fn note<R: Wait>(&mut self, _rt: &R, _event: CompactionEvent) {}
 }
 
-/// A store that is compacted when its journal has more than 400 octets.
-pub(crate) type Store = CompactedStore<HostRuntime, TextsWhenAsked, NoNotes>;
+/// A store that is compacted when its journal has more than 400 octets, and the versions that it is to have.
+#[derive(Drop)]
+pub(crate) struct Store {
+    compacted: CompactedStore<HostRuntime, TextsWhenAsked, NoNotes>,
+    pub(crate) published: Published,
+}
+
+impl Store {
+    /// Appends the updates with the numbers from `from` up to, but not including, `to` as one batch. Returns whether the batch is stored.
+    pub(crate) fn append<R: Wait>(
+        &mut self,
+        rt: &R,
+        alloc: Global,
+        from: u16,
+        to: u16,
+    ) -> Result<bool, Fail> {
+        let updates = updates_of(alloc, &self.published.last, from, to)?;
+        let kept = self.compacted.append(rt, alloc, &updates).is_ok();
+        if kept {
+            self.published.add(updates)?;
+        }
+        Ok(kept)
+    }
+
+    /// Tends the store.
+    pub(crate) fn tend<R: Wait>(&mut self, rt: &R, alloc: Global) {
+        self.compacted.tend(rt, alloc);
+    }
+}
 
 /// A new store in a directory. Each of its texts gives no result so many times.
 pub(crate) fn begin_store(files: &HostRuntime, dir: &'static str, slow: u8) -> Result<Store, Fail> {
-    let writer = begin(files, dir)?;
+    let WrittenStore { writer, published } = begin(files, dir)?;
     let texts = TextsWhenAsked {
         files: *files,
         dir,
@@ -110,5 +139,9 @@ pub(crate) fn begin_store(files: &HostRuntime, dir: &'static str, slow: u8) -> R
         slow,
     };
     let path = format!(in files.alloc(); "{dir}")?;
-    Ok(CompactedStore::new(*files, path, writer, texts, NoNotes, 400))
+    let compacted = CompactedStore::new(*files, path, writer, texts, NoNotes, 400);
+    Ok(Store {
+        compacted,
+        published,
+    })
 }

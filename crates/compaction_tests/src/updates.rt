@@ -1,7 +1,9 @@
 //! New stores in directories, and updates that are appended to them.
 ghost use Rattle.std.specs.Prelude.{◌≤◌, length, IfOk};
 
+use crate::published::Published;
 use dns_engine::{KEPT, SharedVersion};
+use dns_message::{Parsed, parse};
 use dns_name::Name;
 use journal::{Log, TextSum, write_head};
 use master_file::read_zone;
@@ -14,7 +16,7 @@ use store_compaction::{RecentUpdates, StoreWriter};
 use store_files::{FileDisk, write_pair};
 use store_recovery::begin_store;
 use update_batches::{MOST, QueuedUpdate, ReplyTo, UpdateRequest, VersionUpdate, judge_batch};
-use zone_tree::{Version, Zone};
+use zone_tree::Version;
 
 /// The zone text of a new store, with serial 7.
 const ZONE: &[u8] = b"example. 3600 IN SOA ns.example. host.example. 7 1 1 1 1
@@ -34,26 +36,54 @@ pub(crate) fn check(holds: bool, words: &str) -> Result<(), Fail> {
     }
 }
 
-/// The writer of a new store in a directory, for a zone. Its recent updates keep as many versions as they may.
-fn begin_with(rt: &HostRuntime, dir: &str, zone: Zone) -> Result<StoreWriter<FileDisk>, Fail> {
+/// A store that is written, and the versions that it is to have.
+#[derive(Drop)]
+pub(crate) struct WrittenStore {
+    pub(crate) writer: StoreWriter<FileDisk>,
+    pub(crate) published: Published,
+}
+
+/// The first version of the zone of these tests.
+fn first_version(alloc: Global) -> Result<SharedVersion, Fail> {
+    let zone = read_zone(alloc, ZONE, &Name::root())?;
+    match SharedVersion::new(alloc, Version::first(zone)) {
+        Some(first) => Ok(first),
+        None => Err(Fail::from("no memory for a version")),
+    }
+}
+
+/// The writer of a new store in a directory. Its recent updates keep as many versions as they may.
+fn begin_writer(rt: &HostRuntime, dir: &str) -> Result<StoreWriter<FileDisk>, Fail> {
     let alloc = rt.alloc();
-    let (text, head) = begin_store(alloc, &zone, 0, [7; 16], TextSum::of(ZONE))?;
+    let first = first_version(alloc)?;
+    let (text, head) = begin_store(alloc, first.get().zone(), 0, [7; 16], TextSum::of(ZONE))?;
     let (octets, salt) = write_head(alloc, &head)?;
     let disk = write_pair(rt, alloc, dir, 0, text.as_bytes(), &octets)?;
     let log = Log::resume(disk, &salt, 0, octets.len() as u64)?;
-    let Some(first) = SharedVersion::new(alloc, Version::first(zone)) else {
-        return Err(Fail::from("no memory for a version"));
-    };
     let trail = RecentUpdates::of(alloc, first, KEPT)?;
     Ok(StoreWriter::of(head, log, trail))
 }
 
-/// The writer of a new store in a directory of its own.
-pub(crate) fn begin(rt: &HostRuntime, dir: &str) -> Result<StoreWriter<FileDisk>, Fail> {
+/// A new store in a directory of its own.
+pub(crate) fn begin(rt: &HostRuntime, dir: &str) -> Result<WrittenStore, Fail> {
     let _ = fs::remove_dir_all(rt, dir);
     fs::create_dir(rt, dir)?;
-    let zone = read_zone(rt.alloc(), ZONE, &Name::root())?;
-    begin_with(rt, dir, zone)
+    let published = Published {
+        last: first_version(rt.alloc())?,
+        older: Vec::new(rt.alloc()),
+    };
+    Ok(WrittenStore {
+        writer: begin_writer(rt, dir)?,
+        published,
+    })
+}
+
+/// The update that octets hold, of a peer that may update. None if they hold none, or memory allocation fails.
+fn request_of(alloc: Global, octets: Vec<u8>) -> Option<UpdateRequest> {
+    match parse(alloc, &octets) {
+        Parsed::Update(update) => UpdateRequest::of(update, octets, true),
+        _ => None,
+    }
 }
 
 /// The update that adds the address of a number at a.example: 192.0 followed by the two octets of the number.
@@ -61,7 +91,7 @@ fn update_of(alloc: Global, number: u16) -> Result<QueuedUpdate, Fail> {
     let mut octets = hex::decode(alloc, ADD.as_bytes())?;
     octets.truncate(octets.len().saturating_sub(2));
     octets.extend_from_slice(&number.to_be_bytes())?;
-    let Some(request) = UpdateRequest::read(alloc, octets, true) else {
+    let Some(request) = request_of(alloc, octets) else {
         return Err(Fail::from("an update isn't read"));
     };
     let reply_to = ReplyTo::Datagram {
@@ -80,19 +110,10 @@ fn queued_of(alloc: Global, from: u16, to: u16) -> Result<Vec<QueuedUpdate>, Fai
     Ok(requests)
 }
 
-/// The last version of recent updates.
-fn last_of(trail: &RecentUpdates) -> &SharedVersion {
-    match trail.steps().last() {
-        Some(step) => step.version(),
-        None => trail.oldest(),
-    }
-}
-
-/// The updates that add the addresses of the numbers from `from` up to, but not including, `to`, judged after recent updates. Each makes a
-/// version.
+/// The updates that add the addresses of the numbers from `from` up to, but not including, `to`, judged in a version. Each makes a version.
 pub(crate) fn updates_of(
     alloc: Global,
-    trail: &RecentUpdates,
+    last: &SharedVersion,
     from: u16,
     to: u16,
 ) -> Result<Vec<VersionUpdate>, Fail>
@@ -100,7 +121,7 @@ pub(crate) fn updates_of(
 {
     let requests = queued_of(alloc, from, to)?;
     let mut verdicts = Vec::with_capacity(alloc, requests.len())?;
-    let updates = judge_batch(alloc, last_of(trail), &requests, MOST, &mut verdicts);
+    let updates = judge_batch(alloc, last, &requests, MOST, &mut verdicts);
     check(
         updates.len() == requests.len(),
         "an update makes no version",
@@ -112,10 +133,14 @@ pub(crate) fn updates_of(
 pub(crate) fn send<R: Wait>(
     rt: &R,
     alloc: Global,
-    writer: &mut StoreWriter<FileDisk>,
+    store: &mut WrittenStore,
     from: u16,
     to: u16,
 ) -> Result<bool, Fail> {
-    let updates = updates_of(alloc, writer.trail(), from, to)?;
-    Ok(writer.append(rt, alloc, &updates).is_ok())
+    let updates = updates_of(alloc, &store.published.last, from, to)?;
+    let kept = store.writer.append(rt, alloc, &updates).is_ok();
+    if kept {
+        store.published.add(updates)?;
+    }
+    Ok(kept)
 }

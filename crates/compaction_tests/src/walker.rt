@@ -1,15 +1,15 @@
 //! A store whose compactions come in any order, and whose files cannot always be written.
-use crate::found::{found_in, has_trail};
+use crate::found::{found_in, has_published};
 use crate::random::Random;
-use crate::updates::{begin, check, send};
+use crate::updates::{WrittenStore, begin, check, send};
 use journal::Head;
 use std::fs;
 use std::sync::Wait;
 use std::test::Fail;
 use store_compaction::{
-    NextText, StoreWriter, create_next_text, drop_old_texts, replace_with_next, write_next_text,
+    NextText, create_next_text, drop_old_texts, replace_with_next, write_next_text,
 };
-use store_files::{FileDisk, PairFault};
+use store_files::PairFault;
 
 /// The directory of the test.
 pub(crate) const DIR: &str = "compaction_tests_walk";
@@ -26,7 +26,7 @@ const ASIDE: &str = "compaction_tests_walk/aside";
 /// A store that is written, and its expected state.
 #[derive(Drop)]
 pub(crate) struct Walker {
-    writer: StoreWriter<FileDisk>,
+    store: WrittenStore,
     random: Random,
     /// The number of the next address to add.
     next: u16,
@@ -46,7 +46,7 @@ impl Walker {
     /// A new store.
     pub(crate) fn begin(files: &HostRuntime, seed: u64) -> Result<Walker, Fail> {
         Ok(Walker {
-            writer: begin(files, DIR)?,
+            store: begin(files, DIR)?,
             random: Random(seed),
             next: 1,
             kept: 0,
@@ -71,11 +71,11 @@ impl Walker {
         }
     }
 
-    /// Fails if a start from the directory does not recover the versions of the recent updates, or its last version is not that of the stored
+    /// Fails if a start from the directory does not recover the newest published versions, or its last version is not that of the stored
     /// updates.
     pub(crate) fn expect_all(&self, files: &HostRuntime) -> Result<(), Fail> {
         let start = found_in(files, DIR)?;
-        let all = has_trail(files.alloc(), &start, self.writer.trail())?;
+        let all = has_published(files.alloc(), &start, &self.store.published)?;
         check(all, "versions are lost")?;
         let serial = start.newest.last.serial().0;
         check(serial == self.kept.wrapping_add(7), "updates are lost")
@@ -86,7 +86,7 @@ impl Walker {
         let from = self.next;
         let count = 1 + (self.random.below(3) & 3) as u16;
         self.next = from.saturating_add(count);
-        let kept = send(rt, files.alloc(), &mut self.writer, from, self.next)?;
+        let kept = send(rt, files.alloc(), &mut self.store, from, self.next)?;
         if kept {
             self.kept = self.kept.wrapping_add(u32::from(count));
         }
@@ -95,7 +95,7 @@ impl Walker {
 
     /// Starts a compaction. It replaces the one that is in progress, if any.
     fn begin_text<R: Wait>(&mut self, rt: &R, files: &HostRuntime) -> Result<NextText, Fail> {
-        let Some(next) = self.writer.begin_compaction(rt, files.alloc())? else {
+        let Some(next) = self.store.writer.begin_compaction(rt, files.alloc())? else {
             return Err(Fail::from("no number is left"));
         };
         self.given = self.given.wrapping_add(1);
@@ -108,7 +108,7 @@ impl Walker {
     /// Writes a text that was started, and returns the head of its journal.
     fn write(&self, files: &HostRuntime, next: &NextText) -> Result<Head, Fail> {
         let file = create_next_text(files, files.alloc(), DIR, next)?;
-        let before = self.writer.head();
+        let before = self.store.writer.head();
         Ok(write_next_text(files.alloc(), file, next, before, [9; 16])?)
     }
 
@@ -135,7 +135,7 @@ impl Walker {
         let early = self.begin_text(rt, files)?;
         self.write_text(rt, files)?;
         let head = self.write(files, &early)?;
-        let done = replace_with_next(files, files.alloc(), DIR, &mut self.writer, head)?;
+        let done = replace_with_next(files, files.alloc(), DIR, &mut self.store.writer, head)?;
         check(!done, "a text that is written late has a journal")
     }
 
@@ -156,7 +156,7 @@ impl Walker {
         self.head = None;
         self.under_way = false;
         self.stuck = false;
-        let done = replace_with_next(files, files.alloc(), DIR, &mut self.writer, head)?;
+        let done = replace_with_next(files, files.alloc(), DIR, &mut self.store.writer, head)?;
         check(done, "no journal is in place")
     }
 
@@ -165,7 +165,7 @@ impl Walker {
         let head = self.written(rt, files)?;
         let _ = fs::remove_file(files, NEW_JOURNAL);
         fs::create_dir(files, NEW_JOURNAL)?;
-        let told = replace_with_next(files, files.alloc(), DIR, &mut self.writer, head);
+        let told = replace_with_next(files, files.alloc(), DIR, &mut self.store.writer, head);
         fs::remove_dir(files, NEW_JOURNAL)?;
         check(matches!(told, Err(PairFault::Before(_))), "it is laid")
     }
@@ -178,7 +178,7 @@ impl Walker {
         self.stuck = true;
         fs::rename(files, JOURNAL, ASIDE)?;
         fs::create_dir(files, JOURNAL)?;
-        let told = replace_with_next(files, files.alloc(), DIR, &mut self.writer, head);
+        let told = replace_with_next(files, files.alloc(), DIR, &mut self.store.writer, head);
         fs::remove_dir(files, JOURNAL)?;
         check(matches!(told, Err(PairFault::Unknown(_))), "it is renamed")?;
         self.find_either(files)
@@ -197,7 +197,7 @@ impl Walker {
 
     /// Removes the texts that are not needed. Removes none where there may be one that is not the store's.
     fn drop_old(&mut self, files: &HostRuntime) -> Result<(), Fail> {
-        let done = drop_old_texts(files, DIR, &self.writer)?;
+        let done = drop_old_texts(files, DIR, &self.store.writer)?;
         let settled = !self.under_way && !self.stuck;
         check(done == settled, "texts that are needed")
     }

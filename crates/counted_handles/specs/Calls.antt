@@ -193,15 +193,8 @@ IsNewer {T} p value views =
 abbrev pub IsAtRest : {T : Type 0} → Publishing T → List (View T) → Type 0
 IsAtRest p views = (views ≡ Publishes p ∷ []) × (p.share ≡ None) × (p.left ≡ 0)
 
--- what a load by the publisher gives its caller: an owner of its last version, and the reader has seen all that is published, of which it
--- had seen a beginning (own)
-pub record IsOwnLast {T : Type 0} (p : Publishing T) (r : Reading T) (views reader : List (View T)) (version : Version T) : Type 0 where
-  pub last : IsOld p version
-  pub views_are : views ≡ Publishes (gave_back p) ∷ []
-  pub reader_is : reader ≡ met_by p r.gone (r.left - 1) ∷ []
-  pub begun : Begins r.seen p.published
-
--- what such a look gives its caller: the reader has seen all that is published, of which it had seen a beginning (own)
+-- what a look at W by the publisher with a reader gives its caller: the reader has seen all that is published, of which it had seen a
+-- beginning (own)
 pub record HasMet {T : Type 0} (p : Publishing T) (r : Reading T) (views reader : List (View T)) : Type 0 where
   pub views_are : views ≡ Publishes (gave_back p) ∷ []
   pub reader_is : reader ≡ met_by p r.gone r.left ∷ []

@@ -35,7 +35,7 @@ pub use made::{Made, make};
 pub use names::Names;
 pub use owner::{Strong, load};
 pub use probed::Probed;
-pub use publications::{NoSlot, meet, newest, publish};
+pub use publications::{NoSlot, meet, publish};
 pub use released::{Released, Steps};
 pub use rule::{Room, Rule, Spots};
 pub use unmade::unmake;

@@ -5,9 +5,9 @@ ghost use Rattle.counted_handles.specs.declared.view.Publishing.{Publishing};
 ghost use Rattle.counted_handles.specs.declared.view.Reading.{Reading};
 ghost use Rattle.counted_handles.specs.History.{IsHistory};
 ghost use Rattle.counted_handles.specs.Tells.{IsTaken};
-ghost use Rattle.counted_handles.specs.Calls.{Fits, AreSpots, CanRead, IsPut, CanPublish, IsOld, IsNewer, IsAtRest, IsOwnLast, CanMeet, HasMet, HasNone};
+ghost use Rattle.counted_handles.specs.Calls.{Fits, AreSpots, IsPut, CanPublish, IsOld, IsNewer, IsAtRest, CanMeet, HasMet, HasNone};
 
-use crate::calls::{SPAN, Words, draw_newest, greet, shelve, swap_in, take};
+use crate::calls::{Words, greet, shelve, swap_in, take};
 use crate::names::Names;
 use crate::owner::{Strong, own};
 use crate::plays::{About, Puts};
@@ -80,29 +80,6 @@ pub fn publish<'a, T: Drop, C: Names<T>>(
     let (share, old) = swap_in(words, &mut seat, slot);
     *badge = seat.into_badge();
     Ok(own(words, spots, share, old))
-}
-
-/// An owner of the version that this publisher published last, for a grant of the reader, which has then seen all that is
-/// published. It waits for nobody.
-pub fn newest<'a, T: Drop, C: Names<T>>(
-    words: &'a Words<T, C>,
-    spots: &'a Spots<T>,
-    badge: &mut Badge<View<T>>,
-    reader: &mut Badge<View<T>>,
-) -> Strong<'a, T, C>
-    requires spots { AreSpots words.now.table_id words.now.key spots.now }
-    requires fits { (badge.old.table_id ≡ words.now.table_id) × (badge.old.id ≡ 0) × (reader.old.table_id ≡ words.now.table_id) }
-    requires can { (p : Publishing T) × (r : Reading T) × IsAtRest p badge.old.views × CanRead r reader.old.views × (p.name ≡ words.now.table_id.views_name) }
-    ensures badges { (badge.new.table_id ≡ badge.old.table_id) × (badge.new.id ≡ badge.old.id) × (reader.new.table_id ≡ words.now.table_id) }
-    ensures newest { (p : Publishing T) (r : Reading T) → IsAtRest p badge.old.views → CanRead r reader.old.views → IsOwnLast p r badge.new.views reader.new.views result.version }
-    ensures table { result.table ≡ words.now.table_id }
-{
-    let mut seat = mem::replace(badge, Badge::blank()).into_seat();
-    let guest = mem::replace(reader, Badge::blank()).into_seat();
-    let (found, share, rest) = draw_newest(words, &mut seat, guest);
-    *badge = seat.into_badge();
-    *reader = rest.into_badge();
-    own(words, spots, share, (found / SPAN) as usize)
 }
 
 /// The reader sees all that this publisher has published, of which it had seen a beginning, for no grant: one look at W. It waits

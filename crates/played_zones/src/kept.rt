@@ -1,4 +1,4 @@
-//! The addresses of clients in tests, and a log that keeps its lines.
+//! The addresses of clients in tests, and logs: one that keeps its lines, one that drops them.
 use std::alloc::Global;
 use std::net::{IpAddr, SocketAddr};
 use std::sync::{Mutex, Wait};
@@ -7,6 +7,14 @@ use zone_server::{Event, ServiceLog};
 /// The address of a client: 192.0.2.7, with a port.
 pub fn asker(port: u16) -> SocketAddr {
     SocketAddr::new(IpAddr::from([192, 0, 2, 7]), port)
+}
+
+/// A log that drops all events.
+#[derive(Clone, Copy)]
+pub struct NoLog;
+
+impl ServiceLog for NoLog {
+    fn tell<R: Wait>(&self, _rt: &R, _event: Event) {}
 }
 
 /// A log that keeps the lines of its events, each followed by a semicolon.

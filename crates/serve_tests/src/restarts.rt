@@ -10,7 +10,7 @@ use dns_engine::{
     FirstZone, KEPT, SharedVersion, VersionCell, VersionPublisher, VersionReader, ZoneVersions,
 };
 use dns_rdata::Rcode;
-use played_zones::{NamedParts, last_of, named_parts, octets_of};
+use played_zones::{NamedParts, NoLog, last_of, named_parts, octets_of};
 use requests::OpenGate;
 use snapshot_cell::{Cell, Parts};
 use std::alloc::Global;
@@ -18,7 +18,7 @@ use std::marker::Brand;
 use std::process::Abort;
 use std::sync::Wait;
 use store_recovery::{Recovery, recover_zone};
-use zone_server::{NoLog, Server, ServerLedgers, ServerName};
+use zone_server::{Server, ServerLedgers, ServerName};
 use zone_tree::Version;
 
 /// A zone text, with serial 1.

@@ -2,14 +2,14 @@
 use crate::served::{Course, first_wrong};
 use crate::streams::ALL;
 use dns_engine::{FirstZone, VersionReader};
-use played_zones::{asker, octets_of};
+use played_zones::{NoLog, asker, octets_of};
 use requests::{Allowed, Datagrams, DatagramsEnd, Gate, OpenGate};
 use serve_core::{Peer, Transport};
 use std::alloc::Global;
 use std::net::IpAddr;
 use std::sync::Wait;
 use told_streams::{Datagram, MemoryDatagrams, answer_datagrams};
-use zone_server::{DatagramHandler, NoLog, Server, ServerName, ServiceLog};
+use zone_server::{DatagramHandler, Server, ServerName, ServiceLog};
 
 /// A query for an alias, and its reply: the alias and the address of its target (RFC 1035, 4.1).
 const WWW: &str = "12340100000100000000000003777777076578616d706c6504746573740000010001";

@@ -4,7 +4,7 @@ ghost use Rattle.zone_server.specs.UpdateResult.{IsDone};
 
 use dns_engine::FirstZone;
 use dns_rdata::Rcode;
-use played_zones::asker;
+use played_zones::{asker, request_of};
 use std::alloc::Global;
 use update_batches::{UpdateRequest, Verdict};
 use zone_server::{
@@ -32,7 +32,7 @@ pub(crate) fn update(alloc: Global, number: u8) -> Option<UpdateRequest>
     if let Some(last) = octets.last_mut() {
         *last = number;
     }
-    UpdateRequest::read(alloc, octets, true)
+    request_of(alloc, octets)
 }
 
 /// The destination of a reply on a connection, with a ticket.
@@ -94,7 +94,7 @@ pub(crate) fn queued(alloc: Global, number: u8, reply_to: ReplyTo) -> Option<Que
 /// An update from hexadecimal text, with the destination of its reply.
 fn queued_text(alloc: Global, text: &str, reply_to: ReplyTo) -> Option<QueuedUpdate> {
     let octets = hex::decode(alloc, text.as_bytes()).ok()?;
-    let request = UpdateRequest::read(alloc, octets, true)?;
+    let request = request_of(alloc, octets)?;
     Some(QueuedUpdate { request, reply_to })
 }
 

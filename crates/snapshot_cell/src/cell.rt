@@ -199,33 +199,8 @@ impl<T: Drop, C: Names<T>> Cell<T, C> {
         Ok(counted_handles::load(&self.table.shared, &self.spots, &mut reader.badge))
     }
 
-    /// An owner of the version that its publisher published last. The reader has then seen all that is published, of which it had
-    /// seen a beginning. [`Spent`] where it has no grant left. It waits for nobody.
-    pub fn newest(
-        &self,
-        publisher: &mut Publisher<T, C>,
-        reader: &mut Reader<T>,
-    ) -> Result<Strong<'_, T, C>, Spent>
-        requires { (publisher.old.cell ≡ self.now) × (reader.old.cell ≡ self.now) }
-        ensures table { IfOk result (λ strong. strong.table ≡ self.now) }
-        ensures newest { IfOk result (λ strong. (strong.version ≡ record { number = publisher.old.number; value = publisher.old.value }) × (reader.new ≡ record { cell = self.now; seen = publisher.old.published; left = reader.old.left - 1; gone = reader.old.gone }) × (0 < reader.old.left)) }
-        ensures begun { IfOk result (λ _. Begins reader.old.seen publisher.old.published) }
-        ensures same { publisher.new ≡ publisher.old }
-        ensures spent { IfErr result (λ _. (reader.old.left ≡ 0) × (reader.new ≡ reader.old)) }
-    {
-        if reader.left == 0 {
-            return Err(Spent);
-        }
-        reader.left -= 1;
-        Ok(counted_handles::newest(
-            &self.table.shared,
-            &self.spots,
-            &mut publisher.badge,
-            &mut reader.badge,
-        ))
-    }
-
-    /// The same with a weak owner beside it, which the publisher counts. [`Spent`] where the reader has no grant left, or the publisher can
+    /// An owner of the version that its publisher published last, and a weak owner beside it, which the publisher counts. The reader has then
+    /// seen all that is published, of which it had seen a beginning. [`Spent`] where the reader has no grant left, or the publisher can
     /// give no weak owner more: all is then as it was. It waits for nobody.
     pub fn newest_with_weak(
         &self,

@@ -151,23 +151,6 @@ impl<T: Drop, C: Names<T>, N: Naming> NamedCell<T, C, N> {
         Ok(NamedStrong::of(self.cell.load(&mut reader.reader)?))
     }
 
-    /// As [`Cell::newest`].
-    pub fn newest(
-        &self,
-        publisher: &mut NamedPublisher<T, C, N>,
-        reader: &mut NamedReader<T, N>,
-    ) -> Result<NamedStrong<'_, T, C, N>, Spent>
-        ensures newest { IfOk result (λ strong. (strong ≡ record { number = publisher.old.number; value = publisher.old.value }) × (reader.new ≡ record { cell = reader.old.cell; seen = publisher.old.published; left = reader.old.left - 1; gone = reader.old.gone }) × (0 < reader.old.left)) }
-        ensures begun { IfOk result (λ _. Begins reader.old.seen publisher.old.published) }
-        ensures same { publisher.new ≡ publisher.old }
-        ensures spent { IfErr result (λ _. (reader.old.left ≡ 0) × (reader.new ≡ reader.old)) }
-    {
-        let strong = self
-            .cell
-            .newest(&mut publisher.publisher, &mut reader.reader)?;
-        Ok(NamedStrong::of(strong))
-    }
-
     /// As [`Cell::newest_with_weak`].
     pub fn newest_with_weak(
         &self,

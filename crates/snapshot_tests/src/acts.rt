@@ -9,9 +9,7 @@ use std::alloc::Global;
 pub(crate) enum Act {
     /// The last version is loaded: its number.
     Load,
-    /// The newest version's owner is asked for: its number.
-    Newest,
-    /// The same with a weak owner.
+    /// The newest version's owner is asked for, and a weak owner: its number.
     NewestWithWeak,
     /// The reader sees all that is published: the number of the last version.
     Meet,
@@ -97,13 +95,6 @@ impl<'a, N: Naming> Player<'a, N> {
         self.keep(owner)
     }
 
-    fn newest(&mut self) -> Option<u64> {
-        let teller = &mut self.teller;
-        let cell = teller.cell;
-        let owner = cell.newest(&mut teller.publisher, &mut self.reader).ok()?;
-        self.keep(owner)
-    }
-
     fn newest_with_weak(&mut self) -> Option<u64> {
         let teller = &mut self.teller;
         let cell = teller.cell;
@@ -169,7 +160,6 @@ impl<'a, N: Naming> Player<'a, N> {
     fn act(&mut self, act: Act, at: usize) -> Option<u64> {
         match act {
             Act::Load => self.load(),
-            Act::Newest => self.newest(),
             Act::NewestWithWeak => self.newest_with_weak(),
             Act::Meet => self.meet(),
             Act::Publish => self.publish(),

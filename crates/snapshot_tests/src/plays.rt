@@ -96,7 +96,7 @@ const KEPT: &[Rounds] = &[(
         (Act::Alive, 1, Some(0), 0),
         (Act::Release, 1, None, 0),
         (Act::Load, 0, Some(1), 0),
-        (Act::Newest, 0, Some(1), 0),
+        (Act::NewestWithWeak, 0, Some(1), 0),
         (Act::Alive, 0, Some(0), 0),
         (Act::Alive, 2, Some(1), 0),
         (Act::Alive, 3, Some(1), 0),
@@ -133,7 +133,6 @@ const NO_GRANT: &[Rounds] = &[(
     1,
     &[
         (Act::Load, 0, None, 0),
-        (Act::Newest, 0, None, 0),
         (Act::NewestWithWeak, 0, None, 0),
         (Act::Grants, 0, Some(0), 0),
     ],

@@ -1,7 +1,8 @@
 //! Updates, and the replies to them (RFC 2136, 2 and 3.8). Each is built with Python, and its ID is its number.
+use played_zones::request_of;
 use std::alloc::Global;
 use std::sync::Wait;
-use update_batches::{Put, Queue, QueuedUpdate, ReplyTo, UpdateRequest};
+use update_batches::{Put, Queue, QueuedUpdate, ReplyTo};
 
 /// Update 1 adds an A record of 192.0.2.1 at a.example.
 pub(crate) const ADD_1: &str =
@@ -47,6 +48,6 @@ pub(crate) fn put<R: Wait>(
     reply_to: ReplyTo,
 ) -> Option<Put> {
     let octets = hex::decode(alloc, text.as_bytes()).ok()?;
-    let request = UpdateRequest::read(alloc, octets, true)?;
+    let request = request_of(alloc, octets)?;
     queue.put(rt, QueuedUpdate { request, reply_to }, 1).ok()
 }

@@ -6,7 +6,7 @@ ghost use Rattle.zone_server.specs.Right.{AreNamed};
 
 use crate::frames::{QUERY, REPLY, frame_of};
 use dns_engine::{FirstZone, SharedVersion, VersionReader, ZoneVersions};
-use played_zones::{NamedParts, asker, end, named_parts, parts_of, server_of, zone};
+use played_zones::{NamedParts, NoLog, asker, end, named_parts, parts_of, server_of, zone};
 use requests::{Allowed, Gate, Handler};
 use serve_core::{Peer, Transport};
 use snapshot_cell::Parts;
@@ -19,7 +19,7 @@ use std::thread::{self, Threads};
 use told_streams::{Datagram, MemoryDatagrams, MemoryStream, answer_datagrams, answer_stream};
 use worker_jobs::{Job, run_workers};
 use zone_replies::ConnectionHandler;
-use zone_server::{NoLog, Server, ServerLedgers, ServerName, ServiceLog};
+use zone_server::{Server, ServerLedgers, ServerName, ServiceLog};
 use zone_tree::Zone;
 
 /// The number of iterations after which a call that is held gives up.
