@@ -301,14 +301,14 @@ fn serve_on_workers<
     };
     let telling = WorkLimit::new(u64::MAX);
     let apex = begun.zone().apex();
-    let duties = thread_specs_for(alloc, sockets, secondaries, apex, &progresses, &telling);
-    let Some(duties) = duties else {
+    let specs = thread_specs_for(alloc, sockets, secondaries, apex, &progresses, &telling);
+    let Some(specs) = specs else {
         return Err(ServeFault::NoMemory);
     };
-    serve_with_specs(rt, alloc, serve, begun, duties, log)
+    serve_with_specs(rt, alloc, serve, begun, specs, log)
 }
 
-/// Serves a zone with one thread for each of these duties.
+/// Serves a zone with one thread for each of these specs.
 fn serve_with_specs<
     R: Files<File = File>
         + AllocGlobal
@@ -325,12 +325,12 @@ fn serve_with_specs<
     alloc: Global,
     serve: &Serve<'_>,
     begun: StartedZone,
-    duties: Vec<ThreadSpec<'_>>,
+    specs: Vec<ThreadSpec<'_>>,
     log: &Log,
 ) -> Result<(), ServeFault>
     requires { CanBegin begun }
 {
-    if duties.len() > MAX_THREADS {
+    if specs.len() > MAX_THREADS {
         return Err(ServeFault::NotStarted);
     }
     let dir = match serve.store {
@@ -340,9 +340,9 @@ fn serve_with_specs<
     let Ok(dir) = format!(in alloc; "{dir}") else {
         return Err(ServeFault::NoMemory);
     };
-    let muster = Shutdown::new(duties.len());
+    let shutdown = Shutdown::new(specs.len());
     let plan = Plan {
-        muster: &muster,
+        shutdown: &shutdown,
         keep: serve.keep,
         places: places_for(rt, serve, log),
         connections: ConnectionPlan {
@@ -355,10 +355,10 @@ fn serve_with_specs<
         items: WAITING,
         octets: serve.update_queue,
     };
-    serve_with_store(rt, alloc, most, begun, texts, duties, plan, log)
+    serve_with_store(rt, alloc, most, begun, texts, specs, plan, log)
 }
 
-/// Serves a zone with one thread for each of these duties. At most `most` updates wait, and the store's zone texts are written by `texts`.
+/// Serves a zone with one thread for each of these specs. At most `most` updates wait, and the store's zone texts are written by `texts`.
 fn serve_with_store<
     R: Files<File = File> + AllocGlobal + Net + Threads + Wait + Clock + Copy + Sync + Drop,
     T: TextWriter,
@@ -368,15 +368,15 @@ fn serve_with_store<
     most: Most,
     begun: StartedZone,
     texts: T,
-    duties: Vec<ThreadSpec<'_>>,
+    specs: Vec<ThreadSpec<'_>>,
     plan: Plan<'_>,
     log: &Log,
 ) -> Result<(), ServeFault>
     requires begun { CanBegin begun }
-    requires threads { vec_len duties ≤ 62 }
+    requires threads { vec_len specs ≤ 62 }
     requires kept { plan.keep ≤ KEPT }
 {
-    let Ok(beginning) = begun.prepare(rt, alloc, plan.keep, texts, log) else {
+    let Ok(zone) = begun.prepare(rt, alloc, plan.keep, texts, log) else {
         return Err(ServeFault::NoMemory);
     };
     let ServedZone {
@@ -384,10 +384,10 @@ fn serve_with_store<
         later,
         store,
         lock,
-    } = beginning;
-    let handing = UpdateConfig { most, store };
+    } = zone;
+    let config = UpdateConfig { most, store };
     let served = serve_zone::<R, Brand, Log, ZoneStore<'_, R, T, Log>>(
-        rt, alloc, first, later, duties, plan, handing, log,
+        rt, alloc, first, later, specs, plan, config, log,
     );
     mem::drop(lock);
     served

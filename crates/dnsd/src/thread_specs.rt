@@ -15,13 +15,13 @@ pub fn thread_specs_for<'a>(
     progresses: &'a [WorkLimit],
     telling: &'a WorkLimit,
 ) -> Option<Vec<ThreadSpec<'a>>> {
-    let mut duties = thread_specs_of(alloc, sockets, progresses)?;
+    let mut specs = thread_specs_of(alloc, sockets, progresses)?;
     if !secondaries.is_empty() {
-        let worker = duties.len().saturating_add(1);
+        let worker = specs.len().saturating_add(1);
         let secondaries = Sockets::Secondaries(secondaries.of_zone(apex.copy()));
-        put(&mut duties, worker, telling, secondaries)?;
+        put(&mut specs, worker, telling, secondaries)?;
     }
-    Some(duties)
+    Some(specs)
 }
 
 /// What each thread serves: for each worker, one thread serves its listeners, and one more thread each of its UDP sockets. None if there is not
@@ -31,19 +31,19 @@ fn thread_specs_of<'a>(
     workers: Vec<WorkerSockets>,
     progresses: &'a [WorkLimit],
 ) -> Option<Vec<ThreadSpec<'a>>> {
-    let mut duties = Vec::new(alloc);
+    let mut specs = Vec::new(alloc);
     let mut worker = 0usize;
     for sockets in workers {
         let progress = progresses.get(worker)?;
         worker = worker.saturating_add(1);
-        put_thread_specs(&mut duties, worker, progress, sockets)?;
+        put_thread_specs(&mut specs, worker, progress, sockets)?;
     }
-    Some(duties)
+    Some(specs)
 }
 
 /// Appends what a worker's threads serve.
 fn put_thread_specs<'a>(
-    duties: &mut Vec<ThreadSpec<'a>>,
+    specs: &mut Vec<ThreadSpec<'a>>,
     worker: usize,
     progress: &'a WorkLimit,
     sockets: WorkerSockets,
@@ -52,16 +52,16 @@ fn put_thread_specs<'a>(
         datagrams,
         listeners,
     } = sockets;
-    put(duties, worker, progress, Sockets::Connections(listeners))?;
+    put(specs, worker, progress, Sockets::Connections(listeners))?;
     for socket in datagrams {
-        put(duties, worker, progress, Sockets::Datagrams(socket))?;
+        put(specs, worker, progress, Sockets::Datagrams(socket))?;
     }
     Some(())
 }
 
 /// Appends what one thread serves. None if there is not enough memory.
 fn put<'a>(
-    duties: &mut Vec<ThreadSpec<'a>>,
+    specs: &mut Vec<ThreadSpec<'a>>,
     worker: usize,
     progress: &'a WorkLimit,
     sockets: Sockets,
@@ -71,7 +71,7 @@ fn put<'a>(
         progress,
         sockets,
     };
-    if duties.push(spec).is_err() {
+    if specs.push(spec).is_err() {
         return None;
     }
     Some(())
