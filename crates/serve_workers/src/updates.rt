@@ -58,7 +58,11 @@ impl Updates {
             queue.end(rt);
         }
         let left = AtomicUsize::new(threads);
-        Ok(Updates { queue, left, wake_lists })
+        Ok(Updates {
+            queue,
+            left,
+            wake_lists,
+        })
     }
 
     /// The queue of the updates that wait.

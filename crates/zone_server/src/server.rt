@@ -176,7 +176,12 @@ impl<'a, Z: FirstZone, N: ServerName> Server<'a, Z, N> {
 
     /// Fetches the result at a ticket, if it is there yet, under the lock, and the reader meets everything published. The ticket is then free. It gives the number of the
     /// version published last with it.
-    pub fn fetch<R: Wait>(&self, rt: &R, reader: &mut VersionReader<N>, ticket: usize) -> (u64, Poll)
+    pub fn fetch<R: Wait>(
+        &self,
+        rt: &R,
+        reader: &mut VersionReader<N>,
+        ticket: usize,
+    ) -> (u64, Poll)
         ensures met { MeetsAt Z.zone reader.old reader.new result.0 }
         ensures fetched { IsFetched Z.zone reader.new.seen result.1 }
     {
