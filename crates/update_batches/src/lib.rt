@@ -34,4 +34,4 @@ pub use update_store::UpdateStore;
 pub use update_thread::{BATCH, Ended, UpdateThread};
 pub use verdict::{Serials, Verdict};
 pub use version_update::VersionUpdate;
-pub use waiting::{Most, Put, Waiting};
+pub use waiting::{Most, Put};

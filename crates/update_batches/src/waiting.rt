@@ -1,6 +1,6 @@
 //! What waits.
 ghost use Rattle.std.specs.Prelude.{◌≡◌, ◌==◌, ◌-◌, ◌≤◌, ◌↔◌, ◌++◌, [], ◌∷◌, length, slice_get, vec_len, vec_capacity, IsOk, IfOk, IfErr, OnOk};
-ghost use Rattle.update_batches.specs.Waiting.{nothing, octets_of, HasRoom, items_of, with_first, without_first};
+ghost use Rattle.update_batches.specs.Waiting.{nothing, HasRoom, items_of, with_first, without_first};
 
 use circular_buffer::HeapCircularBuffer;
 use std::alloc::{AllocError, Global};
@@ -15,7 +15,7 @@ pub struct Most {
     pub octets: usize,
 }
 
-/// A receipt that something was put where it waits. Only [`Waiting::put`] makes one, so that what is told to wait was put there.
+/// A receipt for an item that was put into a queue. Outside this crate only [`Queue::put`](crate::Queue::put) gives one.
 #[derive(Drop, PartialEq, Eq)]
 pub struct Put(());
 
@@ -104,14 +104,6 @@ impl<T: Drop> Waiting<T> {
             };
             taken.push_reserved(item);
         }
-    }
-
-    /// How many octets those have together that wait.
-    pub fn octets(&self) -> usize
-        ensures octets { result ≡ octets_of self.now }
-        ensures within { result ≤ self.now.most_octets }
-    {
-        self.octets
     }
 
     /// Whether nothing waits.

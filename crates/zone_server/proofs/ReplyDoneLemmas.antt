@@ -95,12 +95,12 @@ unheard_replied first peer before after engine request out update len met readin
 
 -- SERVFAIL of an update that nobody judged, where the reader has met what is published
 pub refused_at_once : (first : List Record) (peer : Peer) (before after : ReaderState Version) (number : ℕ) (request out : List ℕ) (update : Update) (heading : Heading) (len : ℕ) (outcome : UpdateOutcome) → MeetsAt first before after number → is_update request ≡ true → reads request ≡ SaysUpdate update
-    → heading ≡ heading_of_update update → take len out ≡ fit (coded heading ServFail) (limit_of peer.transport None) → len ≤ limit_of peer.transport None → outcome.code ≡ ServFail
+    → heading ≡ heading_of_update update → take len out ≡ fit (coded heading ServFail) (limit_of peer.transport None) → len ≤ limit_of peer.transport None → outcome.code ≡ ServFail → outcome.serials ≡ None
     → IsRepliedAtOnce first peer request before after out len outcome
-refused_at_once first peer before after number request out update heading len outcome met asks reading same written short failed = record {
+refused_at_once first peer before after number request out update heading len outcome met asks reading same written short failed without = record {
   bound = subst (λ (n : ℕ). len ≤ n) (sym (update_limit peer.transport request asks)) short;
   replied = unheard_replied first peer before after met.0 request out update len met.1 reading (written ∙ ap (λ (h : Heading). fit (coded h ServFail) (limit_of peer.transport None)) same);
-  outcome = (heading, written ∙ ap (λ (c : Rcode). fit (coded heading c) (limit_of peer.transport None)) (sym failed), inr failed);
+  outcome = (heading, written ∙ ap (λ (c : Rcode). fit (coded heading c) (limit_of peer.transport None)) (sym failed), inr (failed, without));
   grows = grows_met before after met.0.held.published met.1.seen met.1.begun;
 }
 

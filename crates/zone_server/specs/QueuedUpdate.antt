@@ -38,10 +38,10 @@ abbrev pub IsBegun : List Record → ReaderState Version → ReaderState Version
 IsBegun first before after begun =
     (engine : EngineState) × HasMet first engine before after × (engine.held.last ≡ begun.last) × (engine.held.last.number ≡ begun.number) × (engine.free ≡ begun.room)
 
--- the outcome of an update that isn't judged is that of its reply: of one that can't be read what that gets, else SERVFAIL (own)
+-- the outcome of an update that isn't judged is that of its reply: of one that can't be read what that gets, else SERVFAIL and no serials (own)
 abbrev pub IsRefusedWith : Peer → List ℕ → List ℕ → UpdateOutcome → Type 0
 IsRefusedWith peer request octets outcome =
-    (heading : Heading) × (octets ≡ fit (coded heading outcome.code) (limit_of peer.transport None)) × (IsToldUnread request heading outcome ⊎ (outcome.code ≡ ServFail))
+    (heading : Heading) × (octets ≡ fit (coded heading outcome.code) (limit_of peer.transport None)) × (IsToldUnread request heading outcome ⊎ ((outcome.code ≡ ServFail) × (outcome.serials ≡ None)))
 
 -- an update gets a reply of so many octets at once, with this outcome, and its reader forgets nothing that it had seen (own)
 pub record IsRepliedAtOnce (first : List Record) (peer : Peer) (request : List ℕ) (before after : ReaderState Version) (out : List ℕ) (len : ℕ) (told : UpdateOutcome) : Type 0 where

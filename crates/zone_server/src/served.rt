@@ -1,4 +1,4 @@
-//! The answer to a request that is answered later than at once: an update by the engine, and a transfer from the versions that it keeps (RFC 2136, 3; RFC 1995, 4; RFC 5936, 2.2).
+//! The answer to a request that is not answered at once: an update by the engine, and a transfer from the versions that it keeps (RFC 2136, 3; RFC 1995, 4; RFC 5936, 2.2).
 ghost use Rattle.std.specs.Prelude.{◌≤◌, ◌⊎◌, length};
 ghost use Rattle.serve_core.specs.Transport.{room_of};
 ghost use Rattle.zone_server.specs.Replied.{IsUpdate, IsTransfer};

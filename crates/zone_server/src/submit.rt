@@ -87,7 +87,7 @@ fn memory_of(asked: &UpdateRequest) -> usize
 fn put_update<R: Wait>(
     rt: &R,
     alloc: Global,
-    hand: UpdateSender<'_>,
+    sender: UpdateSender<'_>,
     update: Update,
     request: &[u8],
     reply_to: ReplyTo,
@@ -96,7 +96,8 @@ fn put_update<R: Wait>(
 {
     let request = asked_of(alloc, update, request)?;
     let octets = memory_of(&request);
-    hand.queue
+    sender
+        .queue
         .put(rt, QueuedUpdate { request, reply_to }, octets)
         .ok()
 }
@@ -107,19 +108,20 @@ fn refuse(heading: &Heading, peer: Peer, out: &mut [u8]) -> (usize, UpdateOutcom
     ensures octets { take result.0 out.new ≡ fit (coded heading.now ServFail) (limit_of peer.transport None) }
     ensures len { result.0 ≤ limit_of peer.transport None }
     ensures code { result.1.code ≡ ServFail }
+    ensures serials { result.1.serials ≡ None }
 {
     let told = UpdateOutcome::code(Rcode::ServFail);
     (write_code(heading, told.code, peer.transport, out), told)
 }
 
 /// Submits an update of a peer that may update, for the connection with this key. It is answered at once, and not judged, with an error if it cannot be read, and with SERVFAIL
-/// if the queue has too many updates or bytes, there is no memory, or there is no queue (no `hand`) (own).
+/// if the queue has too many updates or bytes, there is no memory, or there is no queue (no `sender`) (own).
 pub fn submit_stream<R: Wait, Z: FirstZone, N: ServerName>(
     rt: &R,
     alloc: Global,
     server: &Server<'_, Z, N>,
     reader: &mut VersionReader<N>,
-    hand: Option<UpdateSender<'_>>,
+    sender: Option<UpdateSender<'_>>,
     key: usize,
     peer: Peer,
     request: &[u8],
@@ -137,20 +139,20 @@ pub fn submit_stream<R: Wait, Z: FirstZone, N: ServerName>(
         }
     };
     let heading = Heading::of_update(&update);
-    let Some(hand) = hand else {
+    let Some(sender) = sender else {
         server.meet(rt, reader);
         let (len, told) = refuse(&heading, peer, out);
         return Submitted::Told(len, told);
     };
     let (number, ticket) = server.open(rt, reader);
     if let Some(ticket) = ticket {
-        let worker = hand.worker;
+        let worker = sender.worker;
         let reply_to = ReplyTo::Connection {
             worker,
             key,
             ticket,
         };
-        if let Some(put) = put_update(rt, alloc, hand, update, request, reply_to) {
+        if let Some(put) = put_update(rt, alloc, sender, update, request, reply_to) {
             return Submitted::Waits {
                 ticket,
                 number,
@@ -169,7 +171,7 @@ pub fn submit_datagram<R: Wait, Z: FirstZone, N: ServerName>(
     alloc: Global,
     server: &Server<'_, Z, N>,
     reader: &mut VersionReader<N>,
-    hand: UpdateSender<'_>,
+    sender: UpdateSender<'_>,
     to: SocketAddr,
     peer: Peer,
     request: &[u8],
@@ -188,9 +190,9 @@ pub fn submit_datagram<R: Wait, Z: FirstZone, N: ServerName>(
         }
     };
     let heading = Heading::of_update(&update);
-    let worker = hand.worker;
+    let worker = sender.worker;
     let reply_to = ReplyTo::Datagram { worker, to };
-    if let Some(put) = put_update(rt, alloc, hand, update, request, reply_to) {
+    if let Some(put) = put_update(rt, alloc, sender, update, request, reply_to) {
         return DatagramSubmitted::Waits(put);
     }
     server.meet(rt, reader);

@@ -8,4 +8,4 @@ returns-in-Err g c =
 
 pub returns : goal.returns
 returns g c =
-    refused_at_once g.Z.FirstZone.zone c.args.peer c.args.reader.now c.meet.new.reader c.meet.result c.args.request.now c.refuse-len.new.out c.in-Ok.update c.of_update-heading.result c.refuse-len.result.0 c.refuse-len.result.1 c.meet.ensures c.requires.update c.in-Ok.ensures c.of_update-heading.ensures c.refuse-len.ensures.octets c.refuse-len.ensures.len c.refuse-len.ensures.code
+    refused_at_once g.Z.FirstZone.zone c.args.peer c.args.reader.now c.meet.new.reader c.meet.result c.args.request.now c.refuse-len.new.out c.in-Ok.update c.of_update-heading.result c.refuse-len.result.0 c.refuse-len.result.1 c.meet.ensures c.requires.update c.in-Ok.ensures c.of_update-heading.ensures c.refuse-len.ensures.octets c.refuse-len.ensures.len c.refuse-len.ensures.code c.refuse-len.ensures.serials
