@@ -17,7 +17,7 @@ mod datagram;
 mod logs;
 mod memory_datagrams;
 mod memory_stream;
-mod requests;
+mod updates;
 mod zones;
 
 pub use answer::{answer_datagrams, answer_stream};
@@ -29,5 +29,5 @@ pub use datagram::Datagram;
 pub use logs::{Kept, NoLog, asker};
 pub use memory_datagrams::MemoryDatagrams;
 pub use memory_stream::MemoryStream;
-pub use requests::request_of;
+pub use updates::request_of;
 pub use zones::{SetRow, octets_of, version_of, zone, zone_of};
