@@ -135,10 +135,10 @@ pub(crate) fn served<R: Net + Threads + Wait + Clock + Sync>(
     if threads > 8 {
         return None;
     }
-    let muster = Shutdown::new(threads);
+    let shutdown = Shutdown::new(threads);
     let host = [IpAddr::from(HOST)];
     let plan = Plan {
-        muster: &muster,
+        shutdown: &shutdown,
         keep: 0,
         places: 8,
         connections: ConnectionPlan {
