@@ -40,7 +40,7 @@ end
 
 # the crates of tests whose line in crates.txt names a crate
 tests_of() {
-    sed -nE "s/^(\w+_tests)( [^:]*)?:(.* )?$1( .*)?\$/\1/p" crates.txt
+    sed -nE "s/^(test_\w+)( [^:]*)?:(.* )?$1( .*)?\$/\1/p" crates.txt
 }
 
 # whether the rows of a repository pass over the program that was compiled

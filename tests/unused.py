@@ -16,7 +16,7 @@ import re
 import sys
 
 ROOT = os.path.dirname(os.path.dirname(os.path.abspath(__file__)))
-DEVICES = {"told_disks", "told_streams", "played_zones"}  # in memory, for crates of tests
+DEVICES = {"told_disks", "memory_devices"}  # in memory, for crates of tests
 
 # What is there to be called by others than the program, each with why: `crate::Item`, `crate::Type::method`.
 PUBLIC = {
@@ -45,12 +45,6 @@ PUBLIC = {
 
 # What the program doesn't use, found and not yet removed. A name that isn't found any more has to go from here.
 LEFT = {
-    "store_compaction::CompactedStore::writer": "used by tests alone",
-    "store_compaction::RecentUpdates::oldest": "used by tests alone",
-    "store_compaction::RecentUpdates::steps": "used by tests alone",
-    "store_compaction::StoreWriter::trail": "used by tests alone",
-    "update_batches::UpdateRequest::read": "used by tests alone",
-    "zone_server::NoLog": "used by tests alone",
 }
 
 # Laws that docs/PROVED.md doesn't name: statements on definitions, worked examples among them, that nothing calls.

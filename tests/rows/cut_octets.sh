@@ -34,7 +34,7 @@ run_expected "$zone" answer -
 
 # The transfer of a zone in two messages: an SOA, an NS and four texts in 16,349 octets, and the SOA that closes it in 70, without a question. The
 # first alone has no close. Cut at any octet, a message can't be read, whether it is the first or the second. It is tried here at each octet
-# of the second and at some of the first; `cuts` of change_tests tries each of the first.
+# of the second and at some of the first; `cuts` of test_changes tries each of the first.
 # text LETTER LAST: a text's strings in zone text, fifteen of 255 letters and one of so many; data OCTET LAST: the same in hexadecimal
 text() { for count in {1..15}; do printf '"%s" ' "$(repeat 255 "$1")"; done; repeat "$2" "$1"; }
 data() { for count in {1..15}; do printf 'ff%s' "$(repeat 255 "$1")"; done; printf '%02x%s' "$2" "$(repeat "$2" "$1")"; }

@@ -1,8 +1,8 @@
 //! The sockets for notifying secondaries of each version of the zone (RFC 1996).
 use command_line::{Secondary, source_of};
 use dns_name::Name;
-use serve_workers::{NotifySocket, Secondaries, Sockets, ThreadSpec, WorkLimit};
-use server_log::Level;
+use log_lines::Level;
+use serve_workers::{NotifySocket, Secondaries};
 use std::alloc::Global;
 use std::io::{self, ErrorKind};
 use std::net::{Net, SocketAddr, UdpSocket};
@@ -30,7 +30,10 @@ fn bind_secondaries<R: Net>(
     for secondary in secondaries {
         let address = secondary.address;
         let source = SocketAddr::new(source_of(secondary, listen), 0);
-        let socket = socket_for(rt, source, address).map_err(|fault| Unreached { address, fault })?;
+        let socket = match socket_for(rt, source, address) {
+            Ok(socket) => socket,
+            Err(fault) => return Err(Unreached { address, fault }),
+        };
         if sockets.push(socket).is_err() {
             let fault = io::Error::from(ErrorKind::OutOfMemory);
             return Err(Unreached { address, fault });
@@ -45,7 +48,6 @@ fn socket_for<R: Net>(rt: &R, source: SocketAddr, address: SocketAddr) -> io::Re
 }
 
 /// What is needed to notify secondaries of any zone.
-#[derive(Drop)]
 pub struct SecondarySockets {
     /// A socket for each secondary.
     sockets: Vec<NotifySocket>,
@@ -53,7 +55,22 @@ pub struct SecondarySockets {
     seed: [u8; SEED],
 }
 
+// By hand: a derived drop is proved once more in each crate that lets such a value go.
+impl Drop for SecondarySockets {
+    fn drop(self) {
+        let SecondarySockets {
+            sockets: _,
+            seed: _,
+        } = self;
+    }
+}
+
 impl SecondarySockets {
+    /// Whether there are no secondaries.
+    pub fn is_empty(&self) -> bool {
+        self.sockets.is_empty()
+    }
+
     /// The same for the zone with this apex.
     pub fn of_zone(self, apex: Name) -> Secondaries {
         let SecondarySockets { sockets, seed } = self;
@@ -72,36 +89,30 @@ pub fn secondaries_for<R: Env + AllocGlobal + Net + Eprint + RandomSource>(
     secondaries: &[Secondary],
     listen: &[SocketAddr],
 ) -> io::Result<Option<SecondarySockets>> {
-    let sockets = match bind_secondaries(rt, rt.alloc(), secondaries, listen) {
-        Ok(sockets) => sockets,
-        Err(Unreached { address, fault }) => {
-            let mark = Level::Error.mark_for(rt);
-            eprintln!(rt; "{mark}error: cannot notify secondary {address}: {fault}")?;
-            return Ok(None);
+    match bind_secondaries(rt, rt.alloc(), secondaries, listen) {
+        Ok(sockets) => {
+            let seed = seed_for(rt, &sockets)?;
+            Ok(Some(SecondarySockets { sockets, seed }))
         }
-    };
+        Err(unreached) => {
+            tell_unreached(rt, &unreached)?;
+            Ok(None)
+        }
+    }
+}
+
+/// The seed for the message IDs of NOTIFYs by these sockets: random octets, if there is any socket.
+fn seed_for<R: RandomSource>(rt: &R, sockets: &[NotifySocket]) -> io::Result<[u8; SEED]> {
     let mut seed = [0u8; SEED];
     if !sockets.is_empty() {
         rt.fill_bytes(&mut seed)?;
     }
-    Ok(Some(SecondarySockets { sockets, seed }))
+    Ok(seed)
 }
 
-/// Appends what the thread for secondaries serves, if there are any. None if there is not enough memory.
-pub fn put_secondaries<'a>(
-    duties: &mut Vec<ThreadSpec<'a>>,
-    progress: &'a WorkLimit,
-    secondaries: Secondaries,
-) -> Option<()> {
-    if secondaries.sockets.is_empty() {
-        return Some(());
-    }
-    let worker = duties.len().saturating_add(1);
-    duties
-        .push(ThreadSpec {
-            worker,
-            progress,
-            sockets: Sockets::Secondaries(secondaries),
-        })
-        .ok()
+/// Writes why a secondary cannot be notified to standard error.
+fn tell_unreached<R: Env + AllocGlobal + Eprint>(rt: &R, unreached: &Unreached) -> io::Result<()> {
+    let Unreached { address, fault } = unreached;
+    let mark = Level::Error.mark_for(rt);
+    eprintln!(rt; "{mark}error: cannot notify secondary {address}: {fault}")
 }

@@ -1,37 +1,35 @@
 //! Serving a zone on sockets (RFC 1035, 4.2).
 ghost use Rattle.std.specs.Prelude.{◌≤◌, vec_len};
 ghost use Rattle.transfer_core.specs.declared.kept.TheConstants.{KEPT};
-ghost use Rattle.dnsd.specs.Begun.{CanBegin};
+ghost use Rattle.dnsd_setup.specs.Begun.{CanBegin};
 
-use crate::begin::{ServedZone, StartedStore, StartedZone, ZoneStore, prepare_zone};
-use crate::bound::{Unbound, WorkerSockets, bind_all, keep_datagrams, thread_specs_of};
-use crate::descriptors;
-use crate::kept::start_kept;
-use crate::secondaries::{SecondarySockets, put_secondaries, secondaries_for};
-use crate::zone_file::read_zone_file;
+use crate::secondaries::{SecondarySockets, secondaries_for};
+use crate::thread_specs::{thread_specs_for, work_limits_of};
 use command_line::{MAX_THREADS, Serve, StorePlan, is_routed};
-use commands::{DONE, FAILED, Fault, Source, read_zone_text, tell};
-use master_file::{FileFault, read_zone};
+use commands::{DONE, FAILED};
+use dnsd_setup::{
+    BoundSockets, ServedZone, StartedZone, WorkerSockets, ZoneStore, bind_sockets, descriptors,
+    read_text_for, start_store_for, text_for,
+};
 use notify::large_in;
 use requests::Allowed;
 use serve_workers::{
-    ConnectionPlan, Most, Plan, Secondaries, ServeFault, Shutdown, ThreadSpec, UpdateConfig,
-    WorkLimit, serve_zone,
+    ConnectionPlan, Most, Plan, ServeFault, Shutdown, ThreadSpec, UpdateConfig, WorkLimit,
+    serve_zone,
 };
-use server_log::{Entries, Level, Listening, Log, LogLine, start_entries};
+use server_log::{Entries, Listening, Log, LogLine, start_entries};
 use std::alloc::Global;
 use std::fs::{File, Files};
-use std::io::{self, BufReader, ErrorKind};
 use std::marker::Brand;
-use std::mem;
 use std::net::{Net, SocketAddr, TcpListener, TcpStream};
 use std::random::RandomSource;
 use std::rt::Env;
 use std::sync::Wait;
 use std::thread::Threads;
 use std::time::Clock;
+use std::{io, mem};
 use store_compaction::{TextWriter, ThreadTextWriter};
-use zone_tree::{Zone, ZoneRead};
+use zone_tree::ZoneRead;
 
 /// The maximum number of updates that may wait for the update thread, whatever their size (own).
 const WAITING: usize = 1024;
@@ -82,30 +80,17 @@ fn serve_zone_text<
         + Drop
         + 'static,
 >(rt: &R, serve: &Serve<'_>, text: Vec<u8>) -> io::Result<u8> {
-    let zone = match read_zone(rt.alloc(), text.as_slice(), &serve.origin) {
-        Ok(zone) => zone,
-        Err(fault) => return tell_zone(rt, text.as_slice(), fault),
+    let begun = match read_text_for(rt, serve, text) {
+        Ok(Ok(begun)) => begun,
+        Ok(Err(status)) => return Ok(status),
+        Err(fault) => return Err(fault),
     };
-    mem::drop(text);
-    let Some(bound) = bind(rt, serve)? else {
-        return Ok(FAILED);
+    let bound = match bind(rt, serve) {
+        Ok(Some(bound)) => bound,
+        Ok(None) => return Ok(FAILED),
+        Err(fault) => return Err(fault),
     };
-    serve_on_sockets(rt, serve, StartedZone::Zone(zone), bound)
-}
-
-/// The zone's text. None if its file cannot be read; standard error then has the reason.
-fn text_for<R: Files<File = File> + Env + Eprint + Input + AllocGlobal>(
-    rt: &R,
-    serve: &Serve<'_>,
-) -> io::Result<Option<Vec<u8>>> {
-    let alloc = rt.alloc();
-    match serve.zone {
-        Source::Input => {
-            let text = read_zone_text(alloc, &mut BufReader::new(alloc, rt.reader())?)?;
-            Ok(Some(text))
-        }
-        Source::File(path) => read_zone_file(rt, path),
-    }
+    serve_on_sockets(rt, serve, begun, bound)
 }
 
 /// Serves the zone of a store, or the zone of the text from which the store is created.
@@ -125,45 +110,24 @@ fn serve_store<
         + Drop
         + 'static,
 >(rt: &R, serve: &Serve<'_>, plan: StorePlan<'_>, text: Vec<u8>) -> io::Result<u8> {
-    let Some(bound) = bind(rt, serve)? else {
-        return Ok(FAILED);
+    let bound = match bind(rt, serve) {
+        Ok(Some(bound)) => bound,
+        Ok(None) => return Ok(FAILED),
+        Err(fault) => return Err(fault),
     };
-    let started = match start_kept(rt, plan, serve, text.as_slice())? {
-        Ok(started) => started,
-        Err(status) => return Ok(status),
+    let begun = match start_store_for(rt, serve, plan, text) {
+        Ok(Ok(begun)) => begun,
+        Ok(Err(status)) => return Ok(status),
+        Err(fault) => return Err(fault),
     };
-    mem::drop(text);
-    let kept = StartedStore {
-        dir: format!(in rt.alloc(); "{}", plan.dir)?,
-        journal: plan.journal,
-        started,
-    };
-    serve_on_sockets(rt, serve, StartedZone::Store(kept), bound)
-}
-
-/// Reports on standard error why a zone's text is refused, and returns the program's status.
-fn tell_zone<R: Env + Eprint + AllocGlobal>(
-    rt: &R,
-    text: &[u8],
-    fault: FileFault,
-) -> io::Result<u8> {
-    let alloc = rt.alloc();
-    let mut errors = Vec::new(alloc);
-    let status = tell(alloc, Err(Fault::Zone(fault)), text, &mut errors);
-    rt.eprint(Level::Error.mark_for(rt))?;
-    rt.eprint(String::from_utf8_lossy(alloc, errors.as_slice())?)?;
-    Ok(status)
+    serve_on_sockets(rt, serve, begun, bound)
 }
 
 /// What a server acquires from the system before it has a zone.
 #[derive(Drop)]
 struct Bound {
-    /// The sockets of each worker.
-    workers: Vec<WorkerSockets>,
-    /// The addresses, with the ports that they were given.
-    addresses: Vec<SocketAddr>,
-    /// The size, in octets, of the smallest receive buffer of the UDP sockets.
-    kept: u32,
+    /// The sockets on which it serves.
+    sockets: BoundSockets,
     /// The sockets for secondaries.
     secondaries: SecondarySockets,
     /// The queue of the log's thread.
@@ -186,53 +150,18 @@ fn bind<
         + Drop
         + 'static,
 >(rt: &R, serve: &Serve<'_>) -> io::Result<Option<Bound>> {
-    let listen = serve.listen.as_slice();
-    let (workers, addresses) = match bind_all(rt, rt.alloc(), listen, serve.workers) {
-        Ok(bound) => bound,
-        Err(unbound) => {
-            tell_unbound(rt, &unbound)?;
-            return Ok(None);
-        }
+    let Some(sockets) = bind_sockets(rt, serve)? else {
+        return Ok(None);
     };
-    let kept = keep_datagrams(workers.as_slice(), serve.udp_buffer);
-    let Some(secondaries) = secondaries_for(rt, serve.secondaries.as_slice(), listen)? else {
+    let secondaries = secondaries_for(rt, serve.secondaries.as_slice(), serve.listen.as_slice());
+    let Some(secondaries) = secondaries? else {
         return Ok(None);
     };
     Ok(Some(Bound {
-        workers,
-        addresses,
-        kept,
+        sockets,
         secondaries,
         entries: start_entries(rt)?,
     }))
-}
-
-/// Writes why an address cannot be listened on to standard error.
-fn tell_unbound<R: Env + AllocGlobal + Eprint>(rt: &R, unbound: &Unbound) -> io::Result<()> {
-    let Unbound {
-        listen,
-        transport,
-        fault,
-    } = unbound;
-    let mark = Level::Error.mark_for(rt);
-    match reason_of(fault) {
-        Some(reason) => {
-            eprintln!(rt; "{mark}error: cannot listen on {listen} ({transport}): {reason}")
-        }
-        None => { eprintln!(rt; "{mark}error: cannot listen on {listen} ({transport}): {fault}") }
-    }
-}
-
-/// Why an address cannot be listened on, in an operator's words. None if the text of the I/O error is used.
-fn reason_of(fault: &io::Error) -> Option<&'static str> {
-    match fault.kind() {
-        ErrorKind::AddrInUse => Some("address in use"),
-        ErrorKind::AddrNotAvailable => Some("not an address of this machine"),
-        ErrorKind::PermissionDenied => {
-            Some("a port below 1024 needs root or the capability CAP_NET_BIND_SERVICE")
-        }
-        _ => None,
-    }
 }
 
 /// Serves a zone on sockets that are already bound.
@@ -254,42 +183,41 @@ fn serve_on_sockets<
     requires { CanBegin begun }
 {
     let Bound {
-        workers,
-        addresses,
-        kept,
+        sockets,
         secondaries,
         entries,
     } = bound;
+    let BoundSockets {
+        workers,
+        addresses,
+        kept,
+    } = sockets;
+    let log = Log::new(entries, listening_for(serve, &begun, addresses, kept));
+    warn(rt, serve, &log);
+    warn_of_zone(rt, serve, &begun, &log);
+    let served = serve_on_workers(rt, rt.alloc(), serve, begun, workers, secondaries, &log);
+    let status = status_of(rt, served, &log);
+    log.end(rt);
+    Ok(status)
+}
+
+/// What is logged once all workers have started.
+fn listening_for(
+    serve: &Serve<'_>,
+    begun: &StartedZone,
+    addresses: Vec<SocketAddr>,
+    kept: u32,
+) -> Listening {
     let zone = begun.zone();
-    let listening = Listening {
+    Listening {
         addresses,
         apex: zone.apex().copy(),
         serial: zone.serial(),
-        records: records_of(zone),
+        records: begun.records(),
         loses_updates: serve.store.is_none() && !serve.allowed.is_empty(),
         kept,
         wanted: serve.udp_buffer,
-    };
-    let at_root = zone.apex().is_root() && !serve.has_origin;
-    let large = large_in(zone);
-    let secondaries = secondaries.of_zone(zone.apex().copy());
-    let log = Log::new(entries, listening);
-    warn(rt, serve, &log);
-    if at_root {
-        log.add(rt, LogLine::RootApex);
     }
-    if let Some(large) = large {
-        log.add(rt, LogLine::Large(large));
-    }
-    let status = match serve_on_workers(rt, rt.alloc(), serve, begun, workers, secondaries, &log) {
-        Ok(()) => DONE,
-        Err(fault) => {
-            log.add(rt, LogLine::Fault(fault));
-            FAILED
-        }
-    };
-    log.end(rt);
-    Ok(status)
 }
 
 /// Logs warnings of what may differ from what the operator expects.
@@ -301,6 +229,28 @@ fn warn<R: Wait>(rt: &R, serve: &Serve<'_>, log: &Log) {
     }
     if is_routed(serve.secondaries.as_slice(), serve.listen.as_slice()) {
         log.add(rt, LogLine::Routed);
+    }
+}
+
+/// Logs warnings of a zone whose apex is the root, if no origin was given, and of one that stock secondaries would not accept.
+fn warn_of_zone<R: Wait>(rt: &R, serve: &Serve<'_>, begun: &StartedZone, log: &Log) {
+    let zone = begun.zone();
+    if zone.apex().is_root() && !serve.has_origin {
+        log.add(rt, LogLine::RootApex);
+    }
+    if let Some(large) = large_in(zone) {
+        log.add(rt, LogLine::Large(large));
+    }
+}
+
+/// The program's status once a zone is no longer served. The log gets the reason, if there is one.
+fn status_of<R: Wait>(rt: &R, served: Result<(), ServeFault>, log: &Log) -> u8 {
+    match served {
+        Ok(()) => DONE,
+        Err(fault) => {
+            log.add(rt, LogLine::Fault(fault));
+            FAILED
+        }
     }
 }
 
@@ -341,7 +291,7 @@ fn serve_on_workers<
     serve: &Serve<'_>,
     begun: StartedZone,
     sockets: Vec<WorkerSockets>,
-    secondaries: Secondaries,
+    secondaries: SecondarySockets,
     log: &Log,
 ) -> Result<(), ServeFault>
     requires { CanBegin begun }
@@ -350,28 +300,15 @@ fn serve_on_workers<
         return Err(ServeFault::NoMemory);
     };
     let telling = WorkLimit::new(u64::MAX);
-    let duties = thread_specs_for(alloc, sockets, secondaries, progresses.as_slice(), &telling);
-    let Some(duties) = duties else {
+    let apex = begun.zone().apex();
+    let specs = thread_specs_for(alloc, sockets, secondaries, apex, &progresses, &telling);
+    let Some(specs) = specs else {
         return Err(ServeFault::NoMemory);
     };
-    serve_with_specs(rt, alloc, serve, begun, duties, log)
+    serve_with_specs(rt, alloc, serve, begun, specs, log)
 }
 
-/// What each thread serves: each worker's listeners, each of its UDP sockets, and, in one more thread, the secondaries. None if there is not enough
-/// memory.
-fn thread_specs_for<'a>(
-    alloc: Global,
-    sockets: Vec<WorkerSockets>,
-    secondaries: Secondaries,
-    progresses: &'a [WorkLimit],
-    telling: &'a WorkLimit,
-) -> Option<Vec<ThreadSpec<'a>>> {
-    let mut duties = thread_specs_of(alloc, sockets, progresses)?;
-    put_secondaries(&mut duties, telling, secondaries)?;
-    Some(duties)
-}
-
-/// Serves a zone with one thread for each of these duties.
+/// Serves a zone with one thread for each of these specs.
 fn serve_with_specs<
     R: Files<File = File>
         + AllocGlobal
@@ -388,21 +325,24 @@ fn serve_with_specs<
     alloc: Global,
     serve: &Serve<'_>,
     begun: StartedZone,
-    duties: Vec<ThreadSpec<'_>>,
+    specs: Vec<ThreadSpec<'_>>,
     log: &Log,
 ) -> Result<(), ServeFault>
     requires { CanBegin begun }
 {
-    if duties.len() > MAX_THREADS {
+    if specs.len() > MAX_THREADS {
         return Err(ServeFault::NotStarted);
     }
-    let dir = serve.store.map_or("", |plan| plan.dir);
+    let dir = match serve.store {
+        Some(plan) => plan.dir,
+        None => "",
+    };
     let Ok(dir) = format!(in alloc; "{dir}") else {
         return Err(ServeFault::NoMemory);
     };
-    let muster = Shutdown::new(duties.len());
+    let shutdown = Shutdown::new(specs.len());
     let plan = Plan {
-        muster: &muster,
+        shutdown: &shutdown,
         keep: serve.keep,
         places: places_for(rt, serve, log),
         connections: ConnectionPlan {
@@ -415,19 +355,10 @@ fn serve_with_specs<
         items: WAITING,
         octets: serve.update_queue,
     };
-    serve_with_store(rt, alloc, most, begun, texts, duties, plan, log)
+    serve_with_store(rt, alloc, most, begun, texts, specs, plan, log)
 }
 
-/// The work limits of the workers, each of which exits after `most` datagrams and connections. None if there is not enough memory.
-fn work_limits_of(alloc: Global, workers: usize, most: u64) -> Option<Vec<WorkLimit>> {
-    let mut progresses = Vec::new(alloc);
-    for _ in 0..workers {
-        progresses.push(WorkLimit::new(most)).ok()?;
-    }
-    Some(progresses)
-}
-
-/// Serves a zone with one thread for each of these duties. At most `most` updates wait, and the store's zone texts are written by `texts`.
+/// Serves a zone with one thread for each of these specs. At most `most` updates wait, and the store's zone texts are written by `texts`.
 fn serve_with_store<
     R: Files<File = File> + AllocGlobal + Net + Threads + Wait + Clock + Copy + Sync + Drop,
     T: TextWriter,
@@ -437,15 +368,15 @@ fn serve_with_store<
     most: Most,
     begun: StartedZone,
     texts: T,
-    duties: Vec<ThreadSpec<'_>>,
+    specs: Vec<ThreadSpec<'_>>,
     plan: Plan<'_>,
     log: &Log,
 ) -> Result<(), ServeFault>
     requires begun { CanBegin begun }
-    requires threads { vec_len duties ≤ 62 }
+    requires threads { vec_len specs ≤ 62 }
     requires kept { plan.keep ≤ KEPT }
 {
-    let Ok(beginning) = prepare_zone(rt, alloc, plan.keep, begun, texts, log) else {
+    let Ok(zone) = begun.prepare(rt, alloc, plan.keep, texts, log) else {
         return Err(ServeFault::NoMemory);
     };
     let ServedZone {
@@ -453,20 +384,11 @@ fn serve_with_store<
         later,
         store,
         lock,
-    } = beginning;
-    let handing = UpdateConfig { most, store };
-    let served = serve_zone::<R, Brand, Log, ZoneStore<'_, R, T>>(
-        rt, alloc, first, later, duties, plan, handing, log,
+    } = zone;
+    let config = UpdateConfig { most, store };
+    let served = serve_zone::<R, Brand, Log, ZoneStore<'_, R, T, Log>>(
+        rt, alloc, first, later, specs, plan, config, log,
     );
     mem::drop(lock);
     served
-}
-
-/// The number of records in a zone.
-fn records_of(zone: &Zone) -> usize {
-    let mut records = 0usize;
-    for set in zone.walk() {
-        records = records.saturating_add(set.data().len());
-    }
-    records
 }

@@ -55,8 +55,8 @@ fn tcp_job<'a, R: Clock + Net + Wait>(
     worker: usize,
     listeners: Vec<TcpListener>,
     plan: Plan<'a>,
-    standing: StopFlag<'a>,
-    told: Option<&'a WakeList>,
+    stop: StopFlag<'a>,
+    wakes: Option<&'a WakeList>,
     scratch: Scratch,
 ) -> io::Result<TcpJob<'a, R>>
     ensures number { IfOk result (λ job. job.number ≡ worker) }
@@ -75,57 +75,57 @@ fn tcp_job<'a, R: Clock + Net + Wait>(
         Ok(waker) => waker,
         Err(fault) => return Err(fault),
     };
-    let turns = match EventLoop::new(alloc, plan.places, count) {
-        Ok(turns) => turns,
+    let event_loop = match EventLoop::new(alloc, plan.places, count) {
+        Ok(event_loop) => event_loop,
         Err(fault) => return Err(io::Error::from(fault)),
     };
     let plan = plan.connections;
-    let job = ConnectionsJob::new(worker, watch, places, turns, plan, standing, rt, scratch);
-    let Some(told) = told else {
+    let job = ConnectionsJob::new(worker, watch, places, event_loop, plan, stop, rt, scratch);
+    let Some(wakes) = wakes else {
         mem::drop(waker);
         return Ok(job);
     };
-    told.wake_by(rt, waker);
-    Ok(job.hearing(alloc, told))
+    wakes.wake_by(rt, waker);
+    Ok(job.hearing(alloc, wakes))
 }
 
-/// The job of a thread, which learns of ready connections by `told`, if it has one. An error where its sockets can't be polled, or an allocation fails.
+/// The job of a thread, which learns of ready connections by `wakes`, if it has one. An error where its sockets can't be polled, or an allocation fails.
 fn job_of<'a, R: Clock + Net + Wait>(
     rt: &'a R,
     alloc: Global,
-    duty: ThreadSpec<'a>,
+    spec: ThreadSpec<'a>,
     plan: Plan<'a>,
-    told: Option<&'a WakeList>,
+    wakes: Option<&'a WakeList>,
     scratch: Scratch,
 ) -> io::Result<SocketJob<'a, R>>
-    ensures number { IfOk result (λ job. number_of job ≡ duty.entry.worker) }
-    ensures kind { IfOk result (λ job. takes_datagrams job ≡ are_datagrams duty.entry.sockets) }
+    ensures number { IfOk result (λ job. number_of job ≡ spec.entry.worker) }
+    ensures kind { IfOk result (λ job. takes_datagrams job ≡ are_datagrams spec.entry.sockets) }
     ensures rights { IfOk result (λ job. HasRights plan.entry.connections.allowed.addresses.now job) }
 {
     let ThreadSpec {
         worker,
         progress,
         sockets,
-    } = duty;
-    let standing = StopFlag::new(plan.muster, progress);
+    } = spec;
+    let stop = StopFlag::new(plan.shutdown, progress);
     match sockets {
         Sockets::Datagrams(socket) => {
             let allowed = plan.connections.allowed;
-            let socket = match WorkerSocket::new(alloc, socket, standing) {
+            let socket = match WorkerSocket::new(alloc, socket, stop) {
                 Ok(socket) => socket,
                 Err(fault) => return Err(fault),
             };
-            let job = DatagramsJob::new(worker, socket, allowed, standing, scratch);
+            let job = DatagramsJob::new(worker, socket, allowed, stop, scratch);
             Ok(SocketJob::Datagrams(job))
         }
         Sockets::Connections(listeners) => {
-            match tcp_job(rt, alloc, worker, listeners, plan, standing, told, scratch) {
+            match tcp_job(rt, alloc, worker, listeners, plan, stop, wakes, scratch) {
                 Ok(job) => Ok(SocketJob::Connections(job)),
                 Err(fault) => Err(fault),
             }
         }
         Sockets::Secondaries(secondaries) => {
-            match NotifyJob::new(alloc, worker, secondaries, rt, plan.muster) {
+            match NotifyJob::new(alloc, worker, secondaries, rt, plan.shutdown) {
                 Ok(job) => Ok(SocketJob::Secondaries(job)),
                 Err(fault) => Err(io::Error::from(fault)),
             }
@@ -149,25 +149,25 @@ pub(crate) fn fault_of(fault: &io::Error) -> ServeFault
 pub(crate) fn jobs_of<'a, R: Clock + Net + Wait>(
     rt: &'a R,
     alloc: Global,
-    duties: Vec<ThreadSpec<'a>>,
+    specs: Vec<ThreadSpec<'a>>,
     plan: Plan<'a>,
     updates: &'a Updates,
 ) -> Result<Vec<SocketJob<'a, R>>, ServeFault>
-    ensures numbers { IfOk result (λ jobs. map (λ job. number_of job) jobs.items ≡ map (λ duty. duty.worker) duties.entry.items) }
-    ensures kinds { IfOk result (λ jobs. map (λ job. takes_datagrams job) jobs.items ≡ map (λ duty. are_datagrams duty.sockets) duties.entry.items) }
+    ensures numbers { IfOk result (λ jobs. map (λ job. number_of job) jobs.items ≡ map (λ spec. spec.worker) specs.entry.items) }
+    ensures kinds { IfOk result (λ jobs. map (λ job. takes_datagrams job) jobs.items ≡ map (λ spec. are_datagrams spec.sockets) specs.entry.items) }
     ensures rights { IfOk result (λ jobs. All (λ job. HasRights plan.entry.connections.allowed.addresses.now job) jobs.items) }
-    ensures count { IfOk result (λ jobs. vec_len jobs ≡ vec_len duties.entry) }
+    ensures count { IfOk result (λ jobs. vec_len jobs ≡ vec_len specs.entry) }
     ensures refused { IfErr result (λ fault. (fault ≡ Fault.NoMemory) ⊎ (fault ≡ Fault.Device)) }
 {
-    let Ok(mut jobs) = Vec::with_capacity(alloc, duties.len()) else {
+    let Ok(mut jobs) = Vec::with_capacity(alloc, specs.len()) else {
         return Err(ServeFault::NoMemory);
     };
     let mut place = 0usize;
-    for duty in duties {
+    for spec in specs {
         let Ok(scratch) = Scratch::new(alloc) else {
             return Err(ServeFault::NoMemory);
         };
-        let job = match job_of(rt, alloc, duty, plan, updates.told_at(place), scratch) {
+        let job = match job_of(rt, alloc, spec, plan, updates.wake_list_at(place), scratch) {
             Ok(job) => job,
             Err(fault) => return Err(fault_of(&fault)),
         };

@@ -35,14 +35,14 @@ impl<'a, S: UpdateStore> Judging<'a, S> {
     /// What is needed to judge the updates that the threads of these specs submit. An error where a socket can't be shared, or an allocation fails.
     pub(crate) fn new(
         alloc: Global,
-        handing: UpdateConfig<S>,
-        duties: &[ThreadSpec<'_>],
+        config: UpdateConfig<S>,
+        specs: &[ThreadSpec<'_>],
         updates: &'a Updates,
     ) -> io::Result<Judging<'a, S>> {
-        let UpdateConfig { store, .. } = handing;
+        let UpdateConfig { store, .. } = config;
         Ok(Judging {
             updates,
-            bringing: ReplyRoutes::new(alloc, duties, updates)?,
+            bringing: ReplyRoutes::new(alloc, specs, updates)?,
             store,
         })
     }
@@ -52,13 +52,13 @@ impl<'a, S: UpdateStore> Judging<'a, S> {
 #[derive(Drop)]
 pub(crate) struct Judge<'a, 'b, P: UpdatePublisher, S: UpdateStore> {
     job: UpdateThread<'b, P, S>,
-    muster: &'a Shutdown,
+    shutdown: &'a Shutdown,
 }
 
 impl<'a, 'b, P: UpdatePublisher, S: UpdateStore> Judge<'a, 'b, P, S> {
     /// Gives its publisher back. It judges no more updates.
     fn into_publisher(self) -> P {
-        let Judge { job, muster: _ } = self;
+        let Judge { job, shutdown: _ } = self;
         let (publisher, _store) = job.into_parts();
         publisher
     }
@@ -68,7 +68,7 @@ impl<'a, 'b, P: UpdatePublisher, S: UpdateStore> MainTask for Judge<'a, 'b, P, S
     // Secondaries are notified of versions until this has ended too.
     fn meanwhile<R: Wait>(&mut self, rt: &R) {
         self.job.serve(rt);
-        self.muster.judged();
+        self.shutdown.judged();
     }
 }
 
@@ -88,7 +88,7 @@ pub(crate) fn judge_for<
     rt: &R,
     alloc: Global,
     server: &'g Server<'s, Z, N>,
-    muster: &'g Shutdown,
+    shutdown: &'g Shutdown,
     judging: Judging<'g, S>,
     reader: VersionReader<N>,
     right: PublishRight<N>,
@@ -104,7 +104,7 @@ pub(crate) fn judge_for<
         Err(reader) => return Err(reader),
     };
     match UpdateThread::new(alloc, publisher, store, updates.queue()) {
-        Ok(job) => Ok(Judge { job, muster }),
+        Ok(job) => Ok(Judge { job, shutdown }),
         Err(back) => {
             let (publisher, _store) = back;
             Err(publisher.into_parts().0)

@@ -28,10 +28,10 @@ pub(crate) struct ReplyRoutes<'a> {
 }
 
 /// How replies get to the thread of a spec at a place. An error where its socket can't be shared.
-fn path_to<'a>(duty: &ThreadSpec<'_>, updates: &'a Updates, place: usize) -> io::Result<Path<'a>> {
-    match &duty.sockets {
+fn path_to<'a>(spec: &ThreadSpec<'_>, updates: &'a Updates, place: usize) -> io::Result<Path<'a>> {
+    match &spec.sockets {
         Sockets::Datagrams(socket) => Ok(Path::Socket(socket.try_clone()?)),
-        Sockets::Connections(_) => match updates.told_at(place) {
+        Sockets::Connections(_) => match updates.wake_list_at(place) {
             Some(keys) => Ok(Path::Keys(keys)),
             None => Ok(Path::Nowhere),
         },
@@ -43,13 +43,13 @@ impl<'a> ReplyRoutes<'a> {
     /// Makes the routes to the threads of these specs, which submit their updates to `updates`. An error where a socket can't be shared, or an allocation fails.
     pub(crate) fn new(
         alloc: Global,
-        duties: &[ThreadSpec<'_>],
+        specs: &[ThreadSpec<'_>],
         updates: &'a Updates,
     ) -> io::Result<ReplyRoutes<'a>> {
         let mut paths = Vec::new(alloc);
         let mut place = 0usize;
-        for duty in duties {
-            let path = path_to(duty, updates, place)?;
+        for spec in specs {
+            let path = path_to(spec, updates, place)?;
             paths.push(path)?;
             place = place.saturating_add(1);
         }

@@ -26,7 +26,7 @@ pub(crate) struct ServerThread<'g, 's, Z: FirstZone, N: ServerName, L, C> {
     place: usize,
     alloc: Global,
     server: &'g Server<'s, Z, N>,
-    muster: &'g Shutdown,
+    shutdown: &'g Shutdown,
     log: &'g L,
     updates: &'g Updates,
     ghost has_reader: { is_some reader ≡ true },
@@ -78,7 +78,7 @@ impl<
 
     // A thread that fails ends the server.
     fn work<R: Wait>(&mut self, rt: &R) {
-        if self.muster.begin() {
+        if self.shutdown.begin() {
             self.log.tell(rt, Event::Serving);
         }
         let Some(reader) = self.reader.take() else {
@@ -90,9 +90,9 @@ impl<
             .serve(rt, self.alloc, self.server, self.log, sender, reader);
         self.reader = Some(reader);
         self.job.leave(rt, self.updates);
-        self.muster.leave();
+        self.shutdown.leave();
         if !is_done(end) {
-            self.muster.end();
+            self.shutdown.end();
         }
         self.log.tell(rt, self.job.event_of(end));
     }
@@ -102,7 +102,7 @@ impl<
 fn put_threads<'g, 's, Z: FirstZone, N: ServerName, L: ServiceLog, C: Clock>(
     alloc: Global,
     server: &'g Server<'s, Z, N>,
-    muster: &'g Shutdown,
+    shutdown: &'g Shutdown,
     log: &'g L,
     updates: &'g Updates,
     readers: &mut Vec<VersionReader<N>>,
@@ -129,7 +129,7 @@ fn put_threads<'g, 's, Z: FirstZone, N: ServerName, L: ServiceLog, C: Clock>(
             place,
             alloc,
             server,
-            muster,
+            shutdown,
             log,
             updates,
         });
@@ -170,9 +170,9 @@ pub(crate) fn run_threads<
     rt: &R,
     alloc: Global,
     server: &'g Server<'s, Z, N>,
-    muster: &'g Shutdown,
+    shutdown: &'g Shutdown,
     updates: &'g Updates,
-    meanwhile: M,
+    main_task: M,
     readers: &mut Vec<VersionReader<N>>,
     jobs: Vec<SocketJob<'g, C>>,
     mut threads: Vec<ServerThread<'g, 's, Z, N, L, C>>,
@@ -192,12 +192,12 @@ pub(crate) fn run_threads<
     put_threads(
         alloc,
         server,
-        muster,
+        shutdown,
         log,
         updates,
         readers,
         jobs,
         &mut threads,
     );
-    do_all(rt, alloc, threads, meanwhile)
+    do_all(rt, alloc, threads, main_task)
 }

@@ -36,7 +36,7 @@ use zone_server::{JobEnd, PublishRight, Server, ServerLedgers, ServerName, Servi
 #[derive(Clone, Copy)]
 pub struct Plan<'a> {
     /// The state of the server's shutdown, which all threads share.
-    pub muster: &'a Shutdown,
+    pub shutdown: &'a Shutdown,
     /// How many versions older than the last are kept. At most `dns_engine::KEPT`.
     pub keep: usize,
     /// How many connections a worker may have open at most.
@@ -109,10 +109,10 @@ fn updates_for<R: Wait>(
     rt: &R,
     alloc: Global,
     most: Most,
-    duties: &[ThreadSpec<'_>],
+    specs: &[ThreadSpec<'_>],
     places: usize,
 ) -> Result<Updates, ServeFault> {
-    match Updates::of(rt, alloc, most, duties, places) {
+    match Updates::of(rt, alloc, most, specs, places) {
         Ok(updates) => Ok(updates),
         Err(_) => Err(ServeFault::NoMemory),
     }
@@ -121,11 +121,11 @@ fn updates_for<R: Wait>(
 /// What is needed to judge the updates that the threads of these specs submit. Fails where a socket can't be shared, or an allocation fails.
 fn judging_for<'a, S: UpdateStore>(
     alloc: Global,
-    handing: UpdateConfig<S>,
-    duties: &[ThreadSpec<'_>],
+    config: UpdateConfig<S>,
+    specs: &[ThreadSpec<'_>],
     updates: &'a Updates,
 ) -> Result<Judging<'a, S>, ServeFault> {
-    match Judging::new(alloc, handing, duties, updates) {
+    match Judging::new(alloc, config, specs, updates) {
         Ok(judging) => Ok(judging),
         Err(fault) => Err(fault_of(&fault)),
     }
@@ -145,26 +145,26 @@ pub fn serve_zone<
     alloc: Global,
     first: SharedVersion,
     later: Vec<SharedVersion>,
-    duties: Vec<ThreadSpec<'_>>,
+    specs: Vec<ThreadSpec<'_>>,
     plan: Plan<'_>,
-    handing: UpdateConfig<S>,
+    config: UpdateConfig<S>,
     log: &L,
 ) -> Result<(), ServeFault>
     requires first { IsFirst Z.zone first }
     requires follow { AreNext first later.items }
-    requires threads { vec_len duties + 2 ≤ READERS }
+    requires threads { vec_len specs + 2 ≤ READERS }
     requires kept { plan.keep ≤ KEPT }
 {
-    let threads = duties.len();
-    let updates = match updates_for(rt, alloc, handing.most, &duties, plan.places) {
+    let threads = specs.len();
+    let updates = match updates_for(rt, alloc, config.most, &specs, plan.places) {
         Ok(updates) => updates,
         Err(fault) => return Err(fault),
     };
-    let judging = match judging_for(alloc, handing, &duties, &updates) {
+    let judging = match judging_for(alloc, config, &specs, &updates) {
         Ok(judging) => judging,
         Err(fault) => return Err(fault),
     };
-    let jobs = match jobs_of(rt, alloc, duties, plan, &updates) {
+    let jobs = match jobs_of(rt, alloc, specs, plan, &updates) {
         Ok(jobs) => jobs,
         Err(fault) => return Err(fault),
     };
@@ -298,7 +298,7 @@ fn serve_with_engine<
         rt,
         alloc,
         &server,
-        plan.muster,
+        plan.shutdown,
         judging,
         reader,
         right,
@@ -323,7 +323,7 @@ fn serve_with_updates<
     rt: &R,
     alloc: Global,
     server: &Server<'_, Z, N>,
-    muster: &Shutdown,
+    shutdown: &Shutdown,
     judging: Judging<'_, S>,
     reader: VersionReader<N>,
     right: PublishRight<N>,
@@ -337,16 +337,16 @@ fn serve_with_updates<
     ensures room { vec_capacity readers.new ≡ vec_capacity readers.old }
 {
     let updates = judging.updates;
-    let judge = match judge_for(rt, alloc, server, muster, judging, reader, right, log) {
+    let judge = match judge_for(rt, alloc, server, shutdown, judging, reader, right, log) {
         Ok(judge) => judge,
         Err(reader) => {
             readers.push_reserved(reader);
             return Err(ServeFault::NoMemory);
         }
     };
-    muster.judge();
+    shutdown.judge();
     let (served, judge) = serve_on_threads(
-        rt, alloc, server, muster, updates, judge, readers, jobs, log,
+        rt, alloc, server, shutdown, updates, judge, readers, jobs, log,
     );
     readers.push_reserved(reader_of(judge));
     served
@@ -364,9 +364,9 @@ fn serve_on_threads<
     rt: &R,
     alloc: Global,
     server: &Server<'_, Z, N>,
-    muster: &Shutdown,
+    shutdown: &Shutdown,
     updates: &Updates,
-    meanwhile: M,
+    main_task: M,
     readers: &mut Vec<VersionReader<N>>,
     jobs: Vec<SocketJob<'_, R>>,
     log: &L,
@@ -377,10 +377,10 @@ fn serve_on_threads<
     ensures room { vec_capacity readers.new ≡ vec_capacity readers.old }
 {
     let Ok(threads) = Vec::with_capacity(alloc, jobs.len()) else {
-        return (Err(ServeFault::NotStarted), meanwhile);
+        return (Err(ServeFault::NotStarted), main_task);
     };
     let (started, threads, beside) = run_threads(
-        rt, alloc, server, muster, updates, meanwhile, readers, jobs, threads, log,
+        rt, alloc, server, shutdown, updates, main_task, readers, jobs, threads, log,
     );
     let fault = if started {
         fault_in(&threads)

@@ -14,12 +14,12 @@ pub(crate) struct Updates {
     queue: Queue<QueuedUpdate>,
     /// How many threads may still submit updates.
     left: AtomicUsize,
-    told: Vec<WakeList>,
+    wake_lists: Vec<WakeList>,
 }
 
 /// How many connections the thread of a spec may have, where a worker may have `places`.
-fn most_of(duty: &ThreadSpec<'_>, places: usize) -> usize {
-    match duty.sockets {
+fn most_of(spec: &ThreadSpec<'_>, places: usize) -> usize {
+    match spec.sockets {
         Sockets::Connections(_) => places,
         Sockets::Datagrams(_) => 0,
         Sockets::Secondaries(_) => 0,
@@ -27,8 +27,8 @@ fn most_of(duty: &ThreadSpec<'_>, places: usize) -> usize {
 }
 
 /// Whether the thread of a spec may get updates.
-fn takes_updates(duty: &ThreadSpec<'_>) -> bool {
-    match duty.sockets {
+fn takes_updates(spec: &ThreadSpec<'_>) -> bool {
+    match spec.sockets {
         Sockets::Connections(_) => true,
         Sockets::Datagrams(_) => true,
         Sockets::Secondaries(_) => false,
@@ -42,15 +42,15 @@ impl Updates {
         rt: &R,
         alloc: Global,
         most: Most,
-        duties: &[ThreadSpec<'_>],
+        specs: &[ThreadSpec<'_>],
         places: usize,
     ) -> Result<Updates, AllocError> {
         let queue = Queue::new(alloc, most)?;
-        let mut told = Vec::new(alloc);
+        let mut wake_lists = Vec::new(alloc);
         let mut threads = 0usize;
-        for duty in duties {
-            told.push(WakeList::new(alloc, most_of(duty, places))?)?;
-            if takes_updates(duty) {
+        for spec in specs {
+            wake_lists.push(WakeList::new(alloc, most_of(spec, places))?)?;
+            if takes_updates(spec) {
                 threads = threads.saturating_add(1);
             }
         }
@@ -58,7 +58,11 @@ impl Updates {
             queue.end(rt);
         }
         let left = AtomicUsize::new(threads);
-        Ok(Updates { queue, left, told })
+        Ok(Updates {
+            queue,
+            left,
+            wake_lists,
+        })
     }
 
     /// The queue of the updates that wait.
@@ -67,8 +71,8 @@ impl Updates {
     }
 
     /// The list of ready connections of the thread at a place, if there is such a thread.
-    pub(crate) fn told_at(&self, place: usize) -> Option<&WakeList> {
-        self.told.get(place)
+    pub(crate) fn wake_list_at(&self, place: usize) -> Option<&WakeList> {
+        self.wake_lists.get(place)
     }
 
     /// One of the threads submits no more updates. Once none does, this ends the queue, after the updates that wait in it.

@@ -1,80 +1,40 @@
-//! The severity of lines on standard error, in journald's form (sd-daemon(3)).
-use std::env;
-use std::rt::Env;
+//! The levels of events.
+use log_lines::Level;
 use store_compaction::CompactionEvent;
 use store_server::StoreEvent;
 use zone_server::{Event, JobEnd};
 
-/// The severity of a line.
-#[derive(Clone, Copy, Debug, PartialEq, Eq)]
-pub enum Level {
-    /// The zone is not served, or updates cannot be written.
-    Error,
-    /// Something may differ from what the operator expects.
-    Warning,
-    /// The server starts or stops, or something works again.
-    Notice,
-    /// Normal operation.
-    Info,
-}
-
-impl Level {
-    /// The prefix of a line of this level: its number if journald reads the line, and else nothing.
-    pub fn mark(self, in_journal: bool) -> &'static str {
-        if !in_journal {
-            return "";
-        }
-        match self {
-            Level::Error => "<3>",
-            Level::Warning => "<4>",
-            Level::Notice => "<5>",
-            Level::Info => "<6>",
-        }
-    }
-
-    /// The prefix of a line of this level on standard error.
-    pub fn mark_for<R: Env + AllocGlobal>(self, rt: &R) -> &'static str {
-        self.mark(is_in_journal(rt))
-    }
-
-    /// The level of an event of the service.
-    pub fn of_event(event: &Event) -> Level {
-        match event {
-            Event::Update { .. } => Level::Info,
-            Event::End { end, .. } | Event::Untold { end } => Level::of_end(end),
-            Event::Serving | Event::Again { .. } => Level::Notice,
-            Event::Lost { .. }
-            | Event::Silent { .. }
-            | Event::Refused { .. }
-            | Event::Signed { .. }
-            | Event::Large(_) => Level::Warning,
-        }
-    }
-
-    /// The level of a thread's end.
-    fn of_end(end: &JobEnd) -> Level {
-        match end {
-            JobEnd::Done(_) => Level::Notice,
-            JobEnd::Device | JobEnd::Spent | JobEnd::NoMemory => Level::Error,
-        }
-    }
-
-    /// The level of an event of the store.
-    pub fn of_store(event: &StoreEvent) -> Level {
-        match event {
-            StoreEvent::Failing(_) | StoreEvent::Compaction(CompactionEvent::Unknown(_)) => {
-                Level::Error
-            }
-            StoreEvent::Kept => Level::Notice,
-            StoreEvent::Compaction(CompactionEvent::Begun(_) | CompactionEvent::Replaced(_)) => {
-                Level::Info
-            }
-            StoreEvent::Compaction(_) => Level::Warning,
-        }
+/// The level of an event of the service.
+pub(crate) fn level_of_event(event: &Event) -> Level {
+    match event {
+        Event::Update { .. } => Level::Info,
+        Event::End { end, .. } | Event::Untold { end } => level_of_end(end),
+        Event::Serving | Event::Again { .. } => Level::Notice,
+        Event::Lost { .. }
+        | Event::Silent { .. }
+        | Event::Refused { .. }
+        | Event::Signed { .. }
+        | Event::Large(_) => Level::Warning,
     }
 }
 
-/// Whether standard error goes to journald (systemd.exec(5)).
-pub fn is_in_journal<R: Env + AllocGlobal>(rt: &R) -> bool {
-    env::var(rt, "JOURNAL_STREAM").is_ok()
+/// The level of a thread's end.
+fn level_of_end(end: &JobEnd) -> Level {
+    match end {
+        JobEnd::Done(_) => Level::Notice,
+        JobEnd::Device | JobEnd::Spent | JobEnd::NoMemory => Level::Error,
+    }
+}
+
+/// The level of an event of the store.
+pub(crate) fn level_of_store(event: &StoreEvent) -> Level {
+    match event {
+        StoreEvent::Failing(_) | StoreEvent::Compaction(CompactionEvent::Unknown(_)) =>
+            Level::Error,
+        StoreEvent::Kept => Level::Notice,
+        StoreEvent::Compaction(CompactionEvent::Begun(_) | CompactionEvent::Replaced(_)) => {
+            Level::Info
+        }
+        StoreEvent::Compaction(_) => Level::Warning,
+    }
 }

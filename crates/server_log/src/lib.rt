@@ -7,7 +7,6 @@ mod log;
 mod peer_lines;
 mod writer;
 
-pub use levels::{Level, is_in_journal};
 pub use lines::{LogLine, ROOT_APEX};
 pub use log::{Listening, Log};
 pub use writer::{Entries, Entry, start_entries};

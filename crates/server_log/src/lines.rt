@@ -1,7 +1,8 @@
 //! The lines in the log of a running server.
-use crate::levels::Level;
+use crate::levels::{level_of_event, level_of_store};
 use dns_name::Name;
 use dns_rdata::Serial;
+use log_lines::Level;
 use notify::Large;
 use serve_workers::ServeFault;
 use std::fmt::{self, Display, Formatter};
@@ -100,8 +101,8 @@ impl LogLine {
             | LogLine::RootApex
             | LogLine::Large(_)
             | LogLine::NoStore => Level::Warning,
-            LogLine::Event(event) => Level::of_event(event),
-            LogLine::Store(event) => Level::of_store(event),
+            LogLine::Event(event) => level_of_event(event),
+            LogLine::Store(event) => level_of_store(event),
             LogLine::Fault(_) => Level::Error,
         }
     }

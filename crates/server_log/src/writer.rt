@@ -1,10 +1,9 @@
 //! The thread that writes the log to standard error and notifies a service manager.
-use crate::levels::{Level, is_in_journal};
 use crate::lines::LogLine;
 use crate::peer_lines::{PeerLine, PeerLines};
 use dns_name::Name;
 use dns_rdata::Serial;
-use log_lines::{LogQueue, Sink, Told};
+use log_lines::{Level, LogQueue, Sink, Told, is_in_journal};
 use sockets::ServiceManager;
 use std::alloc::{AllocError, Global};
 use std::net::Net;

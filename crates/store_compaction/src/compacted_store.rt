@@ -96,13 +96,6 @@ impl<R: Files<File = File> + Alloc + Clone + Drop, T: TextWriter, N: Notes + Dro
         }
     }
 
-    /// The store's writer.
-    pub fn writer(&self) -> &StoreWriter<FileDisk>
-        ensures { result.now ≡ self.now.writer }
-    {
-        &self.writer
-    }
-
     /// Why nothing may be appended to the journal although its log is not stuck: the store's directory was moved or removed, or has another journal, so a start would not find
     /// this one. None if a start would find it, or if the log is stuck.
     fn misplaced(&self, alloc: Global) -> Option<io::Error> {

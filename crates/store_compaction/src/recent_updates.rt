@@ -89,20 +89,6 @@ impl RecentUpdates {
         }
     }
 
-    /// The oldest version.
-    pub fn oldest(&self) -> &SharedVersion
-        ensures { result.now ≡ self.now.oldest }
-    {
-        &self.oldest
-    }
-
-    /// The steps after the oldest version, oldest first.
-    pub fn steps(&self) -> &[VersionUpdate]
-        ensures { result.now ≡ self.now.steps }
-    {
-        &self.steps
-    }
-
     /// Starts a compaction. Returns the oldest version, which is written as the next zone text with this number, and what is kept for the journal of that text, which at first is
     /// the batch of the updates after that version. Allocates memory. If there is none, the recent updates are unchanged and a compaction can be started later.
     pub fn mark<R: Wait>(

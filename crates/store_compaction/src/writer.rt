@@ -233,13 +233,6 @@ impl<D: Disk> StoreWriter<D> {
         &self.log
     }
 
-    /// The store's recent updates.
-    pub fn trail(&self) -> &RecentUpdates
-        ensures { result.now ≡ trail_of self.now }
-    {
-        &self.trail
-    }
-
     /// Whether a compaction is under way.
     pub fn is_compacting(&self) -> bool
         ensures { IsTrue result ↔ (under_way_of self.now ≢ None) }

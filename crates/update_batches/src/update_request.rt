@@ -1,10 +1,9 @@
 //! An update that is asked for (RFC 2136, 2).
-ghost use Rattle.std.specs.Prelude.{◌≡◌, ◌<◌, ◌≤◌, ◌^◌, length, IfSome, MatchOption};
+ghost use Rattle.std.specs.Prelude.{◌≡◌, ◌<◌, ◌≤◌, ◌^◌, length, MatchOption};
 ghost use Rattle.dns_message.specs.Request.{reads};
 ghost use Rattle.dns_message.specs.declared.query.Parsed.TheVariants.{Update as Says};
 
-use dns_message::{Parsed, Update, parse};
-use std::alloc::Global;
+use dns_message::Update;
 
 /// How many octets an update has at most, as it was received: what two octets count (RFC 1035, 4.2.2).
 const MOST: usize = 65_535;
@@ -33,18 +32,6 @@ impl Drop for UpdateRequest {
 }
 
 impl UpdateRequest {
-    /// The update that octets say, sent by a peer that may update, or may not. None where they say none, are more than 65,535, or memory is
-    /// wanted to read them.
-    pub fn read(alloc: Global, octets: Vec<u8>, may: bool) -> Option<UpdateRequest>
-        ensures octets { IfSome result (λ asked. asked.octets ≡ octets) }
-        ensures may { IfSome result (λ asked. asked.may ≡ may) }
-    {
-        match parse(alloc, &octets) {
-            Parsed::Update(update) => UpdateRequest::of(update, octets, may),
-            _ => None,
-        }
-    }
-
     /// An update that was read of these octets, sent by a peer that may update, or may not. None where they are more than 65,535.
     pub fn of(update: Update, octets: Vec<u8>, may: bool) -> Option<UpdateRequest>
         requires { reads octets.items ≡ Says update }

@@ -12,7 +12,7 @@ use Rattle.zone_server.proofs.StateSendLemmas as state
 use Rattle.zone_server.specs.declared.right.ServerName as names
 use Rattle.dns_engine.specs.declared.versions.FirstZone.{Ghosts}
 use Rattle.update_batches.proofs.queue.Queue.TheSendSync as queue
-use Rattle.zone_server.specs.contracts.submit.UpdateSender as hand
+use Rattle.zone_server.specs.contracts.submit.UpdateSender as sender
 use Rattle.update_batches.specs.contracts.queued_update.QueuedUpdate as waiting
 use Rattle.zone_server.specs.contracts.server.Server as server
 
@@ -25,5 +25,5 @@ server_sync a T N g n s =
 queued_send : IsSend waiting.the_row
 queued_send = search (crossing.crosses, sendable) depth 60 fits 20000
 
-pub sender_send : (a : NamedLft) → IsSend (hand.the_row a)
+pub sender_send : (a : NamedLft) → IsSend (sender.the_row a)
 sender_send a = search (queue.the_sync, queued_send, crossing.crosses, sendable) depth 60 fits 20000

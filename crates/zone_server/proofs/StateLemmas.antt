@@ -53,40 +53,40 @@ module _ (first : List Record) (published more : List Version) (history : IsHist
     own = is.own;
   }
 
-  ticket_grows : (seat : Ticket) → IsTicketDone first published seat → IsTicketDone first (published ++ more) seat
+  ticket_grows : (ticket : Ticket) → IsTicketDone first published ticket → IsTicketDone first (published ++ more) ticket
   ticket_grows (Free next) is = tt
   ticket_grows Pending is = tt
   ticket_grows Abandoned is = tt
   ticket_grows (Ready done) is = done_grows done is
 
   -- and at each ticket
-  pub tickets_grow : (seats : List Ticket) → All (IsTicketDone first published) seats → All (IsTicketDone first (published ++ more)) seats
-  tickets_grow seats all = All-weaker (IsTicketDone first published) (IsTicketDone first (published ++ more)) ticket_grows seats all
+  pub tickets_grow : (tickets : List Ticket) → All (IsTicketDone first published) tickets → All (IsTicketDone first (published ++ more)) tickets
+  tickets_grow tickets all = All-weaker (IsTicketDone first published) (IsTicketDone first (published ++ more)) ticket_grows tickets all
 
 -- what an engine has published stays so
-tickets_on : (first : List Record) (old new : EngineState) (more : List Version) (seats : List Ticket) → new.held.published ≡ old.held.published ++ more → IsLatest first new.held.published new.held.last
-    → All (IsTicketDone first old.held.published) seats → All (IsTicketDone first new.held.published) seats
-tickets_on first old new more seats same latest all =
+tickets_on : (first : List Record) (old new : EngineState) (more : List Version) (tickets : List Ticket) → new.held.published ≡ old.held.published ++ more → IsLatest first new.held.published new.held.last
+    → All (IsTicketDone first old.held.published) tickets → All (IsTicketDone first new.held.published) tickets
+tickets_on first old new more tickets same latest all =
     let history : IsHistory (IsFirst first) IsNext (old.held.published ++ more) = subst (λ (l : List Version). IsHistory (IsFirst first) IsNext l) same latest.history in
-    subst (λ (l : List Version). All (IsTicketDone first l) seats) (sym same) (tickets_grow first old.held.published more history seats all)
+    subst (λ (l : List Version). All (IsTicketDone first l) tickets) (sym same) (tickets_grow first old.held.published more history tickets all)
 
 -- an engine that stays as it was
-pub tickets_same : (first : List Record) (old new : EngineState) (seats : List Ticket) → new ≡ old → All (IsTicketDone first old.held.published) seats → All (IsTicketDone first new.held.published) seats
-tickets_same first old new seats same all = subst (λ (s : EngineState). All (IsTicketDone first s.held.published) seats) (sym same) all
+pub tickets_same : (first : List Record) (old new : EngineState) (tickets : List Ticket) → new ≡ old → All (IsTicketDone first old.held.published) tickets → All (IsTicketDone first new.held.published) tickets
+tickets_same first old new tickets same all = subst (λ (s : EngineState). All (IsTicketDone first s.held.published) tickets) (sym same) all
 
 -- an engine that has published one version more
-pub tickets_with : (first : List Record) (old new : EngineState) (version : Version) (seats : List Ticket) → new ≡ state_with old version → IsLatest first new.held.published new.held.last
-    → All (IsTicketDone first old.held.published) seats → All (IsTicketDone first new.held.published) seats
-tickets_with first old new version seats same latest all = tickets_on first old new (version ∷ []) seats (ap (λ (s : EngineState). s.held.published) same) latest all
+pub tickets_with : (first : List Record) (old new : EngineState) (version : Version) (tickets : List Ticket) → new ≡ state_with old version → IsLatest first new.held.published new.held.last
+    → All (IsTicketDone first old.held.published) tickets → All (IsTicketDone first new.held.published) tickets
+tickets_with first old new version tickets same latest all = tickets_on first old new (version ∷ []) tickets (ap (λ (s : EngineState). s.held.published) same) latest all
 
 -- an engine that was handed an update
-pub tickets_updated : (first : List Record) (old new : EngineState) (update : Update) (may : Bool) (code : Rcode) (seats : List Ticket) → IsTold old update may code new → IsLatest first new.held.published new.held.last
-    → All (IsTicketDone first old.held.published) seats → All (IsTicketDone first new.held.published) seats
-tickets_updated first old new update may code seats (made next taken makes noerror grant same) latest all = tickets_with first old new next seats same latest all
-tickets_updated first old new update may code seats (refused coded same) latest all = tickets_same first old new seats same all
-tickets_updated first old new update may code seats (unchanged taken acts noerror same) latest all = tickets_same first old new seats same all
-tickets_updated first old new update may code seats (full last servfail same) latest all = tickets_same first old new seats same all
-tickets_updated first old new update may code seats (starved taken servfail same) latest all = tickets_same first old new seats same all
+pub tickets_updated : (first : List Record) (old new : EngineState) (update : Update) (may : Bool) (code : Rcode) (tickets : List Ticket) → IsTold old update may code new → IsLatest first new.held.published new.held.last
+    → All (IsTicketDone first old.held.published) tickets → All (IsTicketDone first new.held.published) tickets
+tickets_updated first old new update may code tickets (made next taken makes noerror grant same) latest all = tickets_with first old new next tickets same latest all
+tickets_updated first old new update may code tickets (refused coded same) latest all = tickets_same first old new tickets same all
+tickets_updated first old new update may code tickets (unchanged taken acts noerror same) latest all = tickets_same first old new tickets same all
+tickets_updated first old new update may code tickets (full last servfail same) latest all = tickets_same first old new tickets same all
+tickets_updated first old new update may code tickets (starved taken servfail same) latest all = tickets_same first old new tickets same all
 
 module _ (first : List Record) (published : List Version) where
   freed : (old : List Ticket) (at : ℕ) (new : List Ticket) → IsFreed old at new → All (IsTicketDone first published) old → All (IsTicketDone first published) new
@@ -95,15 +95,15 @@ module _ (first : List Record) (published : List Version) where
   stays : (old new : List Ticket) → new ≡ old → All (IsTicketDone first published) old → All (IsTicketDone first published) new
   stays old new is all = subst (All (IsTicketDone first published)) (sym is) all
 
-  puts : (old : List Ticket) (at : ℕ) (seat : Ticket) (new : List Ticket) → IsTicketDone first published seat → new ≡ slice_set old at seat → All (IsTicketDone first published) old → All (IsTicketDone first published) new
-  puts old at seat new done is all = subst (All (IsTicketDone first published)) (sym is) (All-set (IsTicketDone first published) old at seat done all)
+  puts : (old : List Ticket) (at : ℕ) (ticket : Ticket) (new : List Ticket) → IsTicketDone first published ticket → new ≡ slice_set old at ticket → All (IsTicketDone first published) old → All (IsTicketDone first published) new
+  puts old at ticket new done is all = subst (All (IsTicketDone first published)) (sym is) (All-set (IsTicketDone first published) old at ticket done all)
 
   pub opened : (old : List Ticket) (at : Option ℕ) (new : List Ticket) → IsOpened old at new → All (IsTicketDone first published) old → All (IsTicketDone first published) new
   opened old None new is all = stays old new is all
   opened old (Some at) new (inl is) all = puts old at Pending new tt is.2 all
   opened old (Some at) new (inr is) all = subst (All (IsTicketDone first published)) (sym is.1) (All-push (IsTicketDone first published) old Pending all tt)
 
-  pub fetched : (seat : Option Ticket) (old : List Ticket) (at : ℕ) (result : Poll) (new : List Ticket) → FetchesOf seat old at result new → All (IsTicketDone first published) old → All (IsTicketDone first published) new
+  pub fetched : (ticket : Option Ticket) (old : List Ticket) (at : ℕ) (result : Poll) (new : List Ticket) → FetchesOf ticket old at result new → All (IsTicketDone first published) old → All (IsTicketDone first published) new
   fetched (Some (Ready done)) old at result new is all = freed old at new is.1 all
   fetched (Some Pending) old at result new is all = stays old new is.1 all
   fetched (Some Abandoned) old at result new is all = stays old new is.1 all
@@ -111,10 +111,10 @@ module _ (first : List Record) (published : List Version) where
   fetched None old at result new is all = stays old new is.1 all
 
   -- what is at a ticket is so
-  at_ticket : (seats : List Ticket) (at : ℕ) (seat : Ticket) → slice_get seats at ≡ Some seat → All (IsTicketDone first published) seats → IsTicketDone first published seat
-  at_ticket seats at seat here all = subst (IsTicketDone first published) (get_or_from_slice_get seats at seat seat here) (all at seat (slice_get_within seats at seat here))
+  at_ticket : (tickets : List Ticket) (at : ℕ) (ticket : Ticket) → slice_get tickets at ≡ Some ticket → All (IsTicketDone first published) tickets → IsTicketDone first published ticket
+  at_ticket tickets at ticket here all = subst (IsTicketDone first published) (get_or_from_slice_get tickets at ticket ticket here) (all at ticket (slice_get_within tickets at ticket here))
 
-  pub fetched_told : (seat : Option Ticket) (old : List Ticket) (at : ℕ) (result : Poll) (new : List Ticket) → slice_get old at ≡ seat → FetchesOf seat old at result new → All (IsTicketDone first published) old
+  pub fetched_told : (ticket : Option Ticket) (old : List Ticket) (at : ℕ) (result : Poll) (new : List Ticket) → slice_get old at ≡ ticket → FetchesOf ticket old at result new → All (IsTicketDone first published) old
       → IsFetched first published result
   fetched_told (Some (Ready done)) old at result new here is all = subst (IsFetched first published) (sym is.0) (at_ticket old at (Ready done) here all)
   fetched_told (Some Pending) old at result new here is all = subst (IsFetched first published) (sym is.0) tt
@@ -122,21 +122,21 @@ module _ (first : List Record) (published : List Version) where
   fetched_told (Some (Free next)) old at result new here is all = subst (IsFetched first published) (sym is.0) tt
   fetched_told None old at result new here is all = subst (IsFetched first published) (sym is.0) tt
 
-  pub left : (seat : Option Ticket) (old : List Ticket) (at : ℕ) (new : List Ticket) → LeavesOf seat old at new → All (IsTicketDone first published) old → All (IsTicketDone first published) new
+  pub left : (ticket : Option Ticket) (old : List Ticket) (at : ℕ) (new : List Ticket) → LeavesOf ticket old at new → All (IsTicketDone first published) old → All (IsTicketDone first published) new
   left (Some (Ready done)) old at new is all = freed old at new is all
   left (Some Pending) old at new is all = puts old at Abandoned new tt is all
   left (Some Abandoned) old at new is all = stays old new is all
   left (Some (Free next)) old at new is all = stays old new is all
   left None old at new is all = stays old new is all
 
-  pub closed : (seat : Option Ticket) (old : List Ticket) (at : ℕ) (new : List Ticket) → ClosesOf seat old at new → All (IsTicketDone first published) old → All (IsTicketDone first published) new
+  pub closed : (ticket : Option Ticket) (old : List Ticket) (at : ℕ) (new : List Ticket) → ClosesOf ticket old at new → All (IsTicketDone first published) old → All (IsTicketDone first published) new
   closed (Some (Ready done)) old at new is all = stays old new is all
   closed (Some Pending) old at new is all = freed old at new is all
   closed (Some Abandoned) old at new is all = stays old new is all
   closed (Some (Free next)) old at new is all = stays old new is all
   closed None old at new is all = stays old new is all
 
-  pub told_at : (seat : Option Ticket) (old : List Ticket) (at : ℕ) (done : UpdateResult) (new : List Ticket) → TellsOf seat old at done new → IsDone first published done → All (IsTicketDone first published) old
+  pub told_at : (ticket : Option Ticket) (old : List Ticket) (at : ℕ) (done : UpdateResult) (new : List Ticket) → TellsOf ticket old at done new → IsDone first published done → All (IsTicketDone first published) old
       → All (IsTicketDone first published) new
   told_at (Some (Ready other)) old at done new is so all = stays old new is all
   told_at (Some Pending) old at done new is so all = puts old at (Ready done) new so is all

@@ -12,17 +12,17 @@ use Rattle.snapshot_cell.specs.declared.named.Naming as naming
 use Rattle.std.proofs.Crossing as crossing
 use Rattle.std.proofs.sync.ledger.Book.TheSendSync as book
 use Rattle.std.proofs.sync.ledger.Share.TheSendSync as share
-use Rattle.zone_server.specs.contracts.server_state.ServerState as desk
+use Rattle.zone_server.specs.contracts.server_state.ServerState as state
 use Rattle.zone_server.specs.contracts.server_state.ServerState.TheInside as inside
 use Rattle.zone_server.specs.contracts.right.PublishRight as right
-use Rattle.zone_server.specs.contracts.pending_replies.PendingReplies as seats
+use Rattle.zone_server.specs.contracts.pending_replies.PendingReplies as tickets
 use Rattle.zone_server.specs.declared.right.ServerName as names
 
 -- what a ticket has, step by step: one search for all of it breaks off
 pub raw_send : IsSend raw.the_row
 raw_send = search (array_vec.the_send, crossing.crosses, sendable) depth 60 fits 20000
 
-replies_send : IsSend (seats.the_field).row
+replies_send : IsSend (tickets.the_field).row
 replies_send = search (raw_send, array_vec.the_send, crossing.crosses, sendable) depth 60 fits 20000
 
 pub right_send : (N : RattleType) (n : naming.Ghosts N.Denot) (s : names.Ghosts N.Denot) → IsSend (right.the_row N s n)
@@ -35,5 +35,5 @@ module _ (a : NamedLft) (T : RattleType) (g : Ghosts T.Denot) (N : RattleType) (
       (struct_send (shape (inside.the_type a T N n g s))
       (search (engine.shared_send, engine.shared_sync, cell.crosses, crossing.crosses, sendable) depth 60 fits 20000, (engine.engine_send a T g N n, (replies_send, (book.the_send _ _, (book.the_send _ _, (search (right_send, sendable) depth 60 fits 20000, tt)))))))
 
-  pub state_send : IsSend (desk.the_row a T N n g s)
+  pub state_send : IsSend (state.the_row a T N n g s)
   state_send = search (inside_send, sendable) depth 60 fits 20000

@@ -41,7 +41,7 @@ pub struct DatagramHandler<'a, 's, Z: FirstZone, N: ServerName, L> {
     query: Query,
     names: NameWriter,
     /// The queue for updates, unless the engine answers them.
-    hand: Option<UpdateSender<'a>>,
+    sender: Option<UpdateSender<'a>>,
 }
 
 impl<'a, 's, Z: FirstZone, N: ServerName, L: ServiceLog> DatagramHandler<'a, 's, Z, N, L> {
@@ -66,19 +66,19 @@ impl<'a, 's, Z: FirstZone, N: ServerName, L: ServiceLog> DatagramHandler<'a, 's,
             from,
             query: Query::blank(),
             names: NameWriter::new(),
-            hand: None,
+            sender: None,
         }
     }
 
     /// The same handler, which submits the updates of peers that may update to the update thread. That thread sends the replies.
-    pub fn with_sender(self, hand: UpdateSender<'a>) -> DatagramHandler<'a, 's, Z, N, L>
+    pub fn with_sender(self, sender: UpdateSender<'a>) -> DatagramHandler<'a, 's, Z, N, L>
         ensures reader { result.reader ≡ self.entry.reader }
         ensures peer { result.peer ≡ self.entry.peer }
-        ensures hand { result.hand ≡ Some hand.entry }
+        ensures sender { result.sender ≡ Some sender.entry }
     {
-        let mut handing = self;
-        handing.hand = Some(hand);
-        handing
+        let mut handler = self;
+        handler.sender = Some(sender);
+        handler
     }
 
     /// Ends the handler and gives its reader.
@@ -93,7 +93,7 @@ impl<'a, 's, Z: FirstZone, N: ServerName, L: ServiceLog> DatagramHandler<'a, 's,
     fn submit_datagram<R: Wait>(
         &mut self,
         rt: &R,
-        hand: UpdateSender<'a>,
+        sender: UpdateSender<'a>,
         peer: Peer,
         request: &[u8],
         out: &mut [u8],
@@ -112,7 +112,7 @@ impl<'a, 's, Z: FirstZone, N: ServerName, L: ServiceLog> DatagramHandler<'a, 's,
             self.alloc,
             self.server,
             &mut self.reader,
-            hand,
+            sender,
             from,
             peer,
             request,
@@ -144,9 +144,9 @@ impl<'a, 's, Z: FirstZone, N: ServerName, L: ServiceLog> DatagramHandler<'a, 's,
         ensures bound { IfSome result (λ n. (n ≤ message_limit) × (n ≤ length out.new)) }
         ensures replied { IsAnswered Z.zone peer (learned_by self.old.reader) (learned_by self.new.reader) request.now (messages_in result out.new) }
     {
-        if let Some(hand) = self.hand {
+        if let Some(sender) = self.sender {
             if peer.may_update {
-                return self.submit_datagram(rt, hand, peer, request, out);
+                return self.submit_datagram(rt, sender, peer, request, out);
             }
         }
         let (len, told) = serve_update(

@@ -43,7 +43,7 @@ pub use served::{Served, serve_one};
 pub use server::Server;
 pub use server_publisher::ServerPublisher;
 pub use server_state::{BatchStart, ServerState};
-pub use service_log::{Event, JobEnd, Losses, NoLog, ServiceLog, Wanted};
+pub use service_log::{Event, JobEnd, Losses, ServiceLog, Wanted};
 pub use submit::{
     DatagramSubmitted, Submitted, UpdateSender, submit_datagram, submit_stream, write_done,
 };

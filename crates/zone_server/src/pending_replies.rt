@@ -66,8 +66,8 @@ impl PendingReplies {
         ensures { IsOpened self.old.tickets.items result self.new.tickets.items }
     {
         let at = self.free?;
-        let seat = self.tickets.get(at)?;
-        let Ticket::Free(next) = seat else {
+        let ticket = self.tickets.get(at)?;
+        let Ticket::Free(next) = ticket else {
             return None;
         };
         self.free = *next;
@@ -81,19 +81,19 @@ impl PendingReplies {
         ensures had { slice_get self.old.tickets.items at ≡ Some result }
         ensures freed { IsFreed self.old.tickets.items at self.new.tickets.items }
     {
-        let seat = mem::replace(&mut self.tickets[at], Ticket::Free(self.free));
+        let ticket = mem::replace(&mut self.tickets[at], Ticket::Free(self.free));
         self.free = Some(at);
-        seat
+        ticket
     }
 
     /// The result at a ticket, if it is there yet. The ticket is then free.
     pub fn fetch(&mut self, at: usize) -> Poll
         ensures { FetchesOf (slice_get self.old.tickets.items at) self.old.tickets.items at result self.new.tickets.items }
     {
-        let Some(seat) = self.tickets.get(at) else {
+        let Some(ticket) = self.tickets.get(at) else {
             return Poll::Unknown;
         };
-        match seat {
+        match ticket {
             Ticket::Ready(_) => {}
             Ticket::Pending => return Poll::Pending,
             Ticket::Abandoned => return Poll::Unknown,
@@ -109,10 +109,10 @@ impl PendingReplies {
     pub fn leave(&mut self, at: usize)
         ensures { LeavesOf (slice_get self.old.tickets.items at) self.old.tickets.items at self.new.tickets.items }
     {
-        let Some(seat) = self.tickets.get(at) else {
+        let Some(ticket) = self.tickets.get(at) else {
             return;
         };
-        match seat {
+        match ticket {
             Ticket::Pending => self.tickets[at] = Ticket::Abandoned,
             Ticket::Ready(_) => {
                 self.put_free(at);
@@ -126,10 +126,10 @@ impl PendingReplies {
     pub fn close(&mut self, at: usize)
         ensures { ClosesOf (slice_get self.old.tickets.items at) self.old.tickets.items at self.new.tickets.items }
     {
-        let Some(seat) = self.tickets.get(at) else {
+        let Some(ticket) = self.tickets.get(at) else {
             return;
         };
-        match seat {
+        match ticket {
             Ticket::Pending => {
                 self.put_free(at);
             }
@@ -143,10 +143,10 @@ impl PendingReplies {
     pub fn tell(&mut self, at: usize, done: UpdateResult)
         ensures { TellsOf (slice_get self.old.tickets.items at) self.old.tickets.items at done self.new.tickets.items }
     {
-        let Some(seat) = self.tickets.get(at) else {
+        let Some(ticket) = self.tickets.get(at) else {
             return;
         };
-        match seat {
+        match ticket {
             Ticket::Pending => self.tickets[at] = Ticket::Ready(done),
             Ticket::Abandoned => {
                 self.put_free(at);

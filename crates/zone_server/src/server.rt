@@ -33,28 +33,28 @@ use update_batches::{Serials, VersionUpdate};
 /// A cell of versions, with the engine that publishes in it behind a lock, and the results of updates that wait for their replies. Queries take no lock.
 pub struct Server<'a, Z: FirstZone, N: ServerName> {
     cell: &'a VersionCell<Z, N>,
-    desk: Mutex<ServerState<'a, Z, N>>,
+    state: Mutex<ServerState<'a, Z, N>>,
 }
 
 // By hand: a derived drop is proved once more in each crate that lets such a value go.
 impl<'a, Z: FirstZone, N: ServerName> Drop for Server<'a, Z, N> {
     fn drop(self) {
-        let Server { cell: _, desk: _ } = self;
+        let Server { cell: _, state: _ } = self;
     }
 }
 
 /// The serial of an engine's last version, after the reader has met everything published.
 fn meet_last<Z: FirstZone, N: ServerName>(
-    desk: &mut ServerState<'_, Z, N>,
+    state: &mut ServerState<'_, Z, N>,
     reader: &mut VersionReader<N>,
 ) -> Serial
-    ensures serial { result.0 ≡ zone_serial desk.old.held.last.zone }
-    ensures met { HasMet Z.zone desk.old reader.old reader.new }
-    ensures same { desk.new ≡ desk.old }
+    ensures serial { result.0 ≡ zone_serial state.old.held.last.zone }
+    ensures met { HasMet Z.zone state.old reader.old reader.new }
+    ensures same { state.new ≡ state.old }
 {
-    let _ = desk.number();
-    desk.meet(reader);
-    desk.serial()
+    let _ = state.number();
+    state.meet(reader);
+    state.serial()
 }
 
 impl<'a, Z: FirstZone, N: ServerName> Server<'a, Z, N> {
@@ -77,11 +77,11 @@ impl<'a, Z: FirstZone, N: ServerName> Server<'a, Z, N> {
         ensures given_back { IfErr result (λ refused. (refused.publisher ≡ publisher) × (refused.reader ≡ reader)) }
     {
         let engine = Engine::new(cell, publisher, reader, keep)?;
-        let (mut desk, right) = ServerState::of(alloc, cell, engine, ledgers);
-        desk.keep(right);
+        let (mut state, right) = ServerState::of(alloc, cell, engine, ledgers);
+        state.keep(right);
         Ok(Server {
             cell,
-            desk: Mutex::new(desk),
+            state: Mutex::new(state),
         })
     }
 
@@ -106,10 +106,10 @@ impl<'a, Z: FirstZone, N: ServerName> Server<'a, Z, N> {
         ensures given_back { IfErr result (λ refused. refused.publisher.published ≡ publisher.published) }
     {
         let engine = Engine::resume(cell, publisher, reader, keep, later)?;
-        let (desk, right) = ServerState::of(alloc, cell, engine, ledgers);
+        let (state, right) = ServerState::of(alloc, cell, engine, ledgers);
         let server = Server {
             cell,
-            desk: Mutex::new(desk),
+            state: Mutex::new(state),
         };
         Ok((server, right))
     }
@@ -132,10 +132,10 @@ impl<'a, Z: FirstZone, N: ServerName> Server<'a, Z, N> {
     ) -> (Rcode, Serials)
         ensures { IsUpdated Z.zone update.now may reader.old reader.new result.0 result.1 }
     {
-        let mut desk = self.desk.lock(rt);
-        let before = meet_last(&mut desk, reader);
-        let code = desk.update(alloc, update, may);
-        let after = meet_last(&mut desk, reader);
+        let mut state = self.state.lock(rt);
+        let before = meet_last(&mut state, reader);
+        let code = state.update(alloc, update, may);
+        let after = meet_last(&mut state, reader);
         (code, Serials { before, after })
     }
 
@@ -149,18 +149,18 @@ impl<'a, Z: FirstZone, N: ServerName> Server<'a, Z, N> {
     ) -> ToldChain<'a, Z, N>
         ensures { MeetsAndAsks Z.zone from.0 upto reader.old reader.new result }
     {
-        let mut desk = self.desk.lock(rt);
-        meet_last(&mut desk, reader);
-        desk.chain(from, upto, reader)
+        let mut state = self.state.lock(rt);
+        meet_last(&mut state, reader);
+        state.chain(from, upto, reader)
     }
 
     /// Lets a reader meet everything published, under the lock, and gives the number of the version published last.
     pub fn meet<R: Wait>(&self, rt: &R, reader: &mut VersionReader<N>) -> u64
         ensures { MeetsAt Z.zone reader.old reader.new result }
     {
-        let mut desk = self.desk.lock(rt);
-        meet_last(&mut desk, reader);
-        desk.number()
+        let mut state = self.state.lock(rt);
+        meet_last(&mut state, reader);
+        state.number()
     }
 
     /// Opens a ticket for an update that is to wait for its reply, under the lock, and the reader meets everything published. It gives the number of the version published
@@ -168,32 +168,37 @@ impl<'a, Z: FirstZone, N: ServerName> Server<'a, Z, N> {
     pub fn open<R: Wait>(&self, rt: &R, reader: &mut VersionReader<N>) -> (u64, Option<usize>)
         ensures { MeetsAt Z.zone reader.old reader.new result.0 }
     {
-        let mut desk = self.desk.lock(rt);
-        meet_last(&mut desk, reader);
-        let number = desk.number();
-        (number, desk.open())
+        let mut state = self.state.lock(rt);
+        meet_last(&mut state, reader);
+        let number = state.number();
+        (number, state.open())
     }
 
     /// Fetches the result at a ticket, if it is there yet, under the lock, and the reader meets everything published. The ticket is then free. It gives the number of the
     /// version published last with it.
-    pub fn fetch<R: Wait>(&self, rt: &R, reader: &mut VersionReader<N>, seat: usize) -> (u64, Poll)
+    pub fn fetch<R: Wait>(
+        &self,
+        rt: &R,
+        reader: &mut VersionReader<N>,
+        ticket: usize,
+    ) -> (u64, Poll)
         ensures met { MeetsAt Z.zone reader.old reader.new result.0 }
         ensures fetched { IsFetched Z.zone reader.new.seen result.1 }
     {
-        let mut desk = self.desk.lock(rt);
-        meet_last(&mut desk, reader);
-        let number = desk.number();
-        (number, desk.fetch(seat))
+        let mut state = self.state.lock(rt);
+        meet_last(&mut state, reader);
+        let number = state.number();
+        (number, state.fetch(ticket))
     }
 
     /// Abandons a ticket: a result that is still to come is dropped.
-    pub fn leave<R: Wait>(&self, rt: &R, seat: usize) {
-        self.desk.lock(rt).leave(seat);
+    pub fn leave<R: Wait>(&self, rt: &R, ticket: usize) {
+        self.state.lock(rt).leave(ticket);
     }
 
     /// Frees a ticket that is to get no result.
-    pub fn close<R: Wait>(&self, rt: &R, seat: usize) {
-        self.desk.lock(rt).close(seat);
+    pub fn close<R: Wait>(&self, rt: &R, ticket: usize) {
+        self.state.lock(rt).close(ticket);
     }
 
     /// Lets the reader of the holder of the right to publish see everything published, under the lock, and gives the number of the version published last.
@@ -208,9 +213,9 @@ impl<'a, Z: FirstZone, N: ServerName> Server<'a, Z, N> {
         ensures all { right.old.published.amount ≡ length reader.old.seen → reader.new ≡ reader.old }
         ensures right { (right.new.published.amount ≡ right.old.published.amount) × (right.new.reserved.amount ≡ right.old.reserved.amount) }
     {
-        let mut desk = self.desk.lock(rt);
-        desk.audit(reader, right);
-        desk.number()
+        let mut state = self.state.lock(rt);
+        state.audit(reader, right);
+        state.number()
     }
 
     /// Begins a batch of updates, under the lock, for the holder of the right to publish, whose reader has seen everything published. It gives the version in which they are to
@@ -227,7 +232,7 @@ impl<'a, Z: FirstZone, N: ServerName> Server<'a, Z, N> {
         ensures reserved { right.new.reserved.amount ≡ result.room }
         ensures counted { right.new.published.amount ≡ right.old.published.amount }
     {
-        self.desk.lock(rt).begin_batch(rt, reader, right)
+        self.state.lock(rt).begin_batch(rt, reader, right)
     }
 
     /// Finishes a batch, under the lock, for the holder of the right to publish, whose reader then sees its versions: publishes them, which must be reserved, and puts the results at
@@ -256,10 +261,10 @@ impl<'a, Z: FirstZone, N: ServerName> Server<'a, Z, N> {
         ensures none { results.new.items ≡ [] }
         ensures results_room { vec_capacity results.new ≡ vec_capacity results.old }
     {
-        let mut desk = self.desk.lock(rt);
-        desk.publish_batch(reader, right, updates);
-        desk.put_results(results, outgoing);
-        desk.number()
+        let mut state = self.state.lock(rt);
+        state.publish_batch(reader, right, updates);
+        state.put_results(results, outgoing);
+        state.number()
     }
 
     /// Ends the server. Its engine's history and owners are dropped, and its publisher and its reader come back, with everything that was published.
@@ -268,9 +273,9 @@ impl<'a, Z: FirstZone, N: ServerName> Server<'a, Z, N> {
         ensures number { result.0.number ≡ result.0.value.number }
         ensures seen { result.1.seen ≡ result.0.published }
     {
-        let Server { cell: _, desk } = self;
-        let desk = desk.into_inner();
-        let _ = desk.number();
-        desk.into_engine().finish()
+        let Server { cell: _, state } = self;
+        let state = state.into_inner();
+        let _ = state.number();
+        state.into_engine().finish()
     }
 }

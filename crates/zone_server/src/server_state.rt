@@ -99,11 +99,11 @@ impl<'a, Z: FirstZone, N: ServerName> ServerState<'a, Z, N> {
         ledgers: ServerLedgers,
     ) -> (ServerState<'a, Z, N>, PublishRight<N>)
         requires { AreNamed N.published N.reserved ledgers }
-        ensures desk { result.0 ≡ engine.entry }
+        ensures state { result.0 ≡ engine.entry }
         ensures right { result.1.published.amount ≡ length engine.entry.held.published }
     {
         learn_latest(&engine);
-        let seats = PendingReplies::new(alloc);
+        let tickets = PendingReplies::new(alloc);
         let ServerLedgers {
             published: first,
             reserved: second,
@@ -113,10 +113,10 @@ impl<'a, Z: FirstZone, N: ServerName> ServerState<'a, Z, N> {
         // The first version has number 0.
         published.add(&mut mine, engine.number());
         published.add(&mut mine, 1);
-        let desk = ServerState {
+        let state = ServerState {
             cell,
             engine,
-            replies: seats,
+            replies: tickets,
             published,
             reserved,
             right: None,
@@ -126,7 +126,7 @@ impl<'a, Z: FirstZone, N: ServerName> ServerState<'a, Z, N> {
             reserved: rest,
             room: 0,
         };
-        (desk, right)
+        (state, right)
     }
 
     /// Stores the right to publish, so that [`ServerState::update`] can publish.
@@ -256,25 +256,25 @@ impl<'a, Z: FirstZone, N: ServerName> ServerState<'a, Z, N> {
     }
 
     /// The result at a ticket, if it is there yet. The ticket is then free.
-    pub fn fetch(&mut self, seat: usize) -> Poll
+    pub fn fetch(&mut self, ticket: usize) -> Poll
         ensures told { IsFetched Z.zone self.old.held.published result }
         ensures same { self.new ≡ self.old }
     {
-        self.replies.fetch(seat)
+        self.replies.fetch(ticket)
     }
 
     /// Abandons a ticket: a result that is still to come is dropped.
-    pub fn leave(&mut self, seat: usize)
+    pub fn leave(&mut self, ticket: usize)
         ensures { self.new ≡ self.old }
     {
-        self.replies.leave(seat);
+        self.replies.leave(ticket);
     }
 
     /// Frees a ticket that is to get no result.
-    pub fn close(&mut self, seat: usize)
+    pub fn close(&mut self, ticket: usize)
         ensures { self.new ≡ self.old }
     {
-        self.replies.close(seat);
+        self.replies.close(ticket);
     }
 
     /// Puts the results at their tickets, if their replies are pending. Results of updates that came by datagram, and receipts for the others, are added to `outgoing`, which has room

@@ -14,14 +14,6 @@ pub trait ServiceLog {
     fn tell<R: Wait>(&self, rt: &R, event: Event);
 }
 
-/// A log that drops all events.
-#[derive(Clone, Copy)]
-pub struct NoLog;
-
-impl ServiceLog for NoLog {
-    fn tell<R: Wait>(&self, _rt: &R, _event: Event) {}
-}
-
 /// An event of a running server. Its text is one line.
 #[derive(Drop)]
 pub enum Event {

@@ -10,4 +10,4 @@ through held (version ∷ later) = through (held_with held version) later ∙ ap
 
 pub returns-clause-right : goal.returns-clause-right
 returns-clause-right g c =
-    c.of-desk.ensures.right ∙ (ap (λ (h : Held). length h.published) c.in_ok-engine.ensures.held ∙ ap length (through _ c.args.later.items))
+    c.of-state.ensures.right ∙ (ap (λ (h : Held). length h.published) c.in_ok-engine.ensures.held ∙ ap length (through _ c.args.later.items))

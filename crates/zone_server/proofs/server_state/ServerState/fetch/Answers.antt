@@ -8,11 +8,11 @@ use Rattle.zone_server.proofs.server_state.ServerState.fetch.Goals as goal
 
 pub invariant_of-self : goal.invariant_of-self
 invariant_of-self g c =
-    let seats = c.self.inside.replies.tickets.items in
-    (fetched g.Z.FirstZone.zone c.self.inside.engine.held.published (slice_get seats c.args.seat) seats c.args.seat c.fetch.result c.fetch.new.self.tickets.items c.fetch.ensures c.self.invariant.0, c.self.invariant.1)
+    let tickets = c.self.inside.replies.tickets.items in
+    (fetched g.Z.FirstZone.zone c.self.inside.engine.held.published (slice_get tickets c.args.ticket) tickets c.args.ticket c.fetch.result c.fetch.new.self.tickets.items c.fetch.ensures c.self.invariant.0, c.self.invariant.1)
 
 pub returns-clause-told : goal.returns-clause-told
 returns-clause-told g c =
-    let seats = c.self.inside.replies.tickets.items in
+    let tickets = c.self.inside.replies.tickets.items in
     subst (λ (s : EngineState). IsFetched g.Z.FirstZone.zone s.held.published c.fetch.result) c.self.view_is
-    (fetched_told g.Z.FirstZone.zone c.self.inside.engine.held.published (slice_get seats c.args.seat) seats c.args.seat c.fetch.result c.fetch.new.self.tickets.items refl c.fetch.ensures c.self.invariant.0)
+    (fetched_told g.Z.FirstZone.zone c.self.inside.engine.held.published (slice_get tickets c.args.ticket) tickets c.args.ticket c.fetch.result c.fetch.new.self.tickets.items refl c.fetch.ensures c.self.invariant.0)

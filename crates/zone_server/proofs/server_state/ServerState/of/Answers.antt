@@ -6,11 +6,11 @@ use Rattle.zone_server.specs.UpdateResult.{IsTicketDone}
 use Rattle.zone_server.proofs.StateLemmas.{latest_length}
 use Rattle.zone_server.proofs.server_state.ServerState.of.Goals as goal
 
-pub invariant_of-desk : goal.invariant_of-desk
-invariant_of-desk g c =
+pub invariant_of-state : goal.invariant_of-state
+invariant_of-state g c =
     let held = c.args.engine.held in
     let long : length held.published ≡ held.last.number + 1 = latest_length g.Z.FirstZone.zone held.published held.last c.learn_latest.ensures.latest in (
-      subst (All (IsTicketDone g.Z.FirstZone.zone held.published)) (sym c.new-seats.ensures) (All-nil (IsTicketDone g.Z.FirstZone.zone held.published)),
+      subst (All (IsTicketDone g.Z.FirstZone.zone held.published)) (sym c.new-tickets.ensures) (All-nil (IsTicketDone g.Z.FirstZone.zone held.published)),
       record {
         published_is = omega (arith, long, c.open-published.ensures.total, c.add.ensures.total, c.add-2.ensures.total, c.number.ensures.number);
         reserved_fit = omega (arith, c.open-reserved.ensures.total);
@@ -21,4 +21,4 @@ pub returns : goal.returns
 returns g c =
     let held = c.args.engine.held in
     let long : length held.published ≡ held.last.number + 1 = latest_length g.Z.FirstZone.zone held.published held.last c.learn_latest.ensures.latest in
-    record { desk = refl; right = omega (arith, long, c.open-published.ensures.amount, c.add.ensures.amount, c.add-2.ensures.amount, c.number.ensures.number) }
+    record { state = refl; right = omega (arith, long, c.open-published.ensures.amount, c.add.ensures.amount, c.add-2.ensures.amount, c.number.ensures.number) }

@@ -1,0 +1,89 @@
+//! What each thread of a server serves.
+use crate::secondaries::SecondarySockets;
+use dns_name::Name;
+use dnsd_setup::WorkerSockets;
+use serve_workers::{Sockets, ThreadSpec, WorkLimit};
+use std::alloc::Global;
+
+/// What each thread serves: each worker's listeners, each of its UDP sockets, and, in one more thread, the secondaries of the zone with this apex. None
+/// if there is not enough memory.
+pub fn thread_specs_for<'a>(
+    alloc: Global,
+    sockets: Vec<WorkerSockets>,
+    secondaries: SecondarySockets,
+    apex: &Name,
+    progresses: &'a [WorkLimit],
+    telling: &'a WorkLimit,
+) -> Option<Vec<ThreadSpec<'a>>> {
+    let mut specs = thread_specs_of(alloc, sockets, progresses)?;
+    if !secondaries.is_empty() {
+        let worker = specs.len().saturating_add(1);
+        let secondaries = Sockets::Secondaries(secondaries.of_zone(apex.copy()));
+        put(&mut specs, worker, telling, secondaries)?;
+    }
+    Some(specs)
+}
+
+/// What each thread serves: for each worker, one thread serves its listeners, and one more thread each of its UDP sockets. None if there is not
+/// enough memory, or fewer limits than workers.
+fn thread_specs_of<'a>(
+    alloc: Global,
+    workers: Vec<WorkerSockets>,
+    progresses: &'a [WorkLimit],
+) -> Option<Vec<ThreadSpec<'a>>> {
+    let mut specs = Vec::new(alloc);
+    let mut worker = 0usize;
+    for sockets in workers {
+        let progress = progresses.get(worker)?;
+        worker = worker.saturating_add(1);
+        put_thread_specs(&mut specs, worker, progress, sockets)?;
+    }
+    Some(specs)
+}
+
+/// Appends what a worker's threads serve.
+fn put_thread_specs<'a>(
+    specs: &mut Vec<ThreadSpec<'a>>,
+    worker: usize,
+    progress: &'a WorkLimit,
+    sockets: WorkerSockets,
+) -> Option<()> {
+    let WorkerSockets {
+        datagrams,
+        listeners,
+    } = sockets;
+    put(specs, worker, progress, Sockets::Connections(listeners))?;
+    for socket in datagrams {
+        put(specs, worker, progress, Sockets::Datagrams(socket))?;
+    }
+    Some(())
+}
+
+/// Appends what one thread serves. None if there is not enough memory.
+fn put<'a>(
+    specs: &mut Vec<ThreadSpec<'a>>,
+    worker: usize,
+    progress: &'a WorkLimit,
+    sockets: Sockets,
+) -> Option<()> {
+    let spec = ThreadSpec {
+        worker,
+        progress,
+        sockets,
+    };
+    if specs.push(spec).is_err() {
+        return None;
+    }
+    Some(())
+}
+
+/// The work limits of the workers, each of which exits after `most` datagrams and connections. None if there is not enough memory.
+pub fn work_limits_of(alloc: Global, workers: usize, most: u64) -> Option<Vec<WorkLimit>> {
+    let mut progresses = Vec::new(alloc);
+    for _ in 0..workers {
+        if progresses.push(WorkLimit::new(most)).is_err() {
+            return None;
+        }
+    }
+    Some(progresses)
+}

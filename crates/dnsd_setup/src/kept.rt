@@ -1,0 +1,159 @@
+//! Starting a server whose updates survive a restart.
+ghost use Rattle.std.specs.Prelude.{IfOk};
+ghost use Rattle.dnsd_setup.specs.Begun.{CanBegin};
+ghost use Rattle.store_server.specs.Resumed.{IsGiven};
+
+use crate::begin::{StartedStore, StartedZone};
+use crate::zone_file::tell_zone;
+use command_line::{Serve, StorePlan};
+use commands::{FAILED, REFUSED};
+use log_lines::Level;
+use std::fs::{File, Files};
+use std::io;
+use std::random::RandomSource;
+use std::rt::Env;
+use store_server::{Given, Refusal, Served, Started, start_store};
+use stored_zone::ToldFault;
+
+/// The number of secret octets at the start of a new journal.
+const SALT: usize = 16;
+
+/// Locks the store in a directory, opens it, or creates it from a zone's text, and returns what the server starts with. If that is not the store
+/// that was created from this text, a line on standard error says so. If nothing can be served, returns the program's status, and standard error has
+/// the reason.
+#[tactic(auto, using(crate::proofs::GivenLemmas::given))]
+pub fn start_store_for<
+    R: Files<File = File> + Env + Eprint + AllocGlobal + Alloc + RandomSource + Clone + Drop,
+>(
+    rt: &R,
+    serve: &Serve<'_>,
+    plan: StorePlan<'_>,
+    text: Vec<u8>,
+) -> io::Result<Result<StartedZone, u8>>
+    ensures { IfOk result (λ r. IfOk r CanBegin) }
+{
+    let mut random = [0u8; SALT];
+    rt.fill_bytes(&mut random)?;
+    let given = Given {
+        text: text.as_slice(),
+        origin: &serve.origin,
+        taken: plan.taken,
+    };
+    match start_store(rt, rt.alloc(), plan.dir, given, random) {
+        Ok(started) => Ok(Ok(started_in(rt, plan, started)?)),
+        Err(refusal) => Ok(Err(tell_refusal(rt, plan.dir, text.as_slice(), refusal)?)),
+    }
+}
+
+/// What a server starts with that has started from a store. Standard error has what is to be said of it.
+fn started_in<R: Env + Eprint + AllocGlobal>(
+    rt: &R,
+    plan: StorePlan<'_>,
+    started: Started,
+) -> io::Result<StartedZone>
+    requires { IsGiven started.store }
+    ensures { IfOk result CanBegin }
+{
+    tell_started(rt, plan.dir, &started)?;
+    let dir = format!(in rt.alloc(); "{}", plan.dir)?;
+    Ok(StartedZone::Store(StartedStore {
+        dir,
+        journal: plan.journal,
+        started,
+    }))
+}
+
+/// Reports on standard error which of the two is served, and whether the end of the journal was cut off.
+fn tell_started<R: Env + AllocGlobal + Eprint>(
+    rt: &R,
+    dir: &str,
+    started: &Started,
+) -> io::Result<()> {
+    tell_served(rt, dir, &started.served)?;
+    match &started.torn {
+        Some(torn) => {
+            let mark = Level::Warning.mark_for(rt);
+            eprintln!(rt;
+                "{mark}the journal of '{dir}' ended in an incomplete batch: it was cut off, and is kept as '{torn}'"
+            )
+        }
+        None => Ok(()),
+    }
+}
+
+/// Reports on standard error which of the two is served, unless that is the store that was created from the zone's text.
+fn tell_served<R: Env + AllocGlobal + Eprint>(
+    rt: &R,
+    dir: &str,
+    served: &Served,
+) -> io::Result<()> {
+    let (notice, warning) = (Level::Notice.mark_for(rt), Level::Warning.mark_for(rt));
+    match served {
+        Served::Begun => eprintln!(rt; "{notice}created the store '{dir}' from ZONE"),
+        Served::Same => Ok(()),
+        Served::Store => eprintln!(rt; "{notice}serving the store '{dir}'; ignoring ZONE"),
+        Served::StoreThoughOther(serial) => {
+            let serial = serial.0;
+            eprintln!(rt;
+                "{warning}serving the store '{dir}'; ignoring ZONE: it has changed, but its serial {serial} is not newer"
+            )
+        }
+        Served::Zone(kept) => eprintln!(rt;
+            "{warning}serving ZONE; created the store '{dir}' again from it; the old store is kept as '{kept}'"
+        ),
+    }
+}
+
+/// Reports on standard error why nothing is served, and returns the program's status.
+fn tell_refusal<R: Env + AllocGlobal + Eprint>(
+    rt: &R,
+    dir: &str,
+    text: &[u8],
+    refusal: Refusal,
+) -> io::Result<u8> {
+    let mark = Level::Error.mark_for(rt);
+    let status = status_of(&refusal);
+    let told = match refusal {
+        Refusal::Text(fault) => return tell_zone(rt, text, fault),
+        Refusal::Held => eprintln!(rt; "{mark}error: the store '{dir}' is held by another server"),
+        Refusal::NoJournal(number) => eprintln!(rt;
+            "{mark}error: the store '{dir}' has the zone text '{dir}/zone-{number}', and no journal, which had the updates since: put the journal back, or move the zone texts out of the directory to begin from the zone's text"
+        ),
+        Refusal::NoText(number) => eprintln!(rt;
+            "{mark}error: the journal of '{dir}' belongs to '{dir}/zone-{number}', which isn't there"
+        ),
+        Refusal::NoStart(fault) => {
+            let told = ToldFault { dir, fault };
+            eprintln!(rt; "{mark}error: {told}")
+        }
+        Refusal::Newer { has, given } => {
+            let (has, given) = (has.0, given.0);
+            eprintln!(rt;
+                "{mark}error: the zone's text is another one than the store '{dir}' was begun from, and has the serial {given}, greater than the store's {has}: --take store serves the store, --take zone the text, and keeps the store before beside it"
+            )
+        }
+        Refusal::NotNewer { has, given } => {
+            let (has, given) = (has.0, given.0);
+            eprintln!(rt;
+                "{mark}error: --take zone needs a serial greater than the store's: the zone's text has {given}, the store '{dir}' has {has}: raise the text's serial, or serve the store by --take store"
+            )
+        }
+        Refusal::OtherApex { has, given } => eprintln!(rt;
+            "{mark}error: the zone's text has the apex {given}, and the store '{dir}' the apex {has}: give --origin {has}, if that zone is meant, or else --store a new directory"
+        ),
+        Refusal::NoMemory => eprintln!(rt; "{mark}error: out of memory"),
+        Refusal::Device(fault) => {
+            eprintln!(rt; "{mark}error: the store '{dir}' can't be read or written: {fault}")
+        }
+    };
+    told?;
+    Ok(status)
+}
+
+/// The status with which the program exits if nothing can be served.
+fn status_of(refusal: &Refusal) -> u8 {
+    match refusal {
+        Refusal::NoMemory | Refusal::Device(_) => FAILED,
+        _ => REFUSED,
+    }
+}

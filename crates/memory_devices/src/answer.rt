@@ -1,0 +1,60 @@
+//! Answering the requests of streams and datagrams held in memory.
+ghost use Rattle.std.specs.Prelude.{◌<◌, ◌≤◌, length, Some};
+ghost use Rattle.dns_message.specs.Message.{message_limit};
+ghost use Rattle.requests.specs.Served.{EndsAs, Grows};
+ghost use Rattle.requests.specs.Exchanged.{EndsBy};
+ghost use Rattle.tcp_connections.specs.Asked.{EachGrows};
+ghost use Rattle.memory_devices.specs.MemoryStream.{told as tape_told};
+ghost use Rattle.memory_devices.specs.MemoryDatagrams.{told as tray_told};
+
+use crate::memory_datagrams::MemoryDatagrams;
+use crate::memory_stream::MemoryStream;
+use requests::{Allowed, Counted, DatagramsEnd, Gate, Handler, StreamEnd, serve_udp};
+use std::alloc::Global;
+use std::sync::Wait;
+use tcp_connections::{Messages, serve_stream};
+
+/// Answers the requests of a stream held in memory one after another until the stream ends. Returns how it ended, and the stream. What is
+/// written after the octets already there is the frames of the replies, in the order of the requests: all of them, with nothing left to be
+/// read, if the stream ends cleanly; otherwise a prefix of them (RFC 1035, 4.2.2). Nothing that was known is forgotten.
+pub fn answer_stream<R: Wait, M: Messages, A: tcp_connections::Handler<M>, G: Gate>(
+    rt: &R,
+    alloc: Global,
+    answering: &mut A,
+    tape: MemoryStream,
+    gate: &G,
+    room: &mut [u8],
+    out: &mut [u8],
+) -> (StreamEnd, MemoryStream)
+    requires room { 0 < length room.old }
+    requires out { message_limit ≤ length out.old }
+    ensures ends { EndsAs (A.is_reply (A.peer answering.old)) result.0 (A.seen answering.old (A.asker answering.old)) (tape_told tape) (A.seen answering.new (A.asker answering.old)) (Some (tape_told result.1)) }
+    ensures grows { EachGrows (A.seen answering.new) (A.seen answering.old) }
+{
+    let mut stream = Counted::new(tape);
+    let end = serve_stream(rt, alloc, answering, &mut stream, gate, room, out);
+    (end, stream.inner)
+}
+
+/// Answers at most `most` datagrams held in memory, one after another. Returns how that ended, and the datagrams. The replies are sent in the
+/// order of the requests, each to the client that sent the request, which may update and transfer according to its own address. Replies whose
+/// send fails are left out, and are counted (RFC 1035, 4.2.1). Nothing that was known is forgotten.
+pub fn answer_datagrams<R: Wait, A: Handler, G: Gate>(
+    rt: &R,
+    answering: &mut A,
+    tray: MemoryDatagrams,
+    allowed: Allowed<'_>,
+    most: u64,
+    gate: &G,
+    request: &mut [u8],
+    out: &mut [u8],
+) -> (DatagramsEnd, MemoryDatagrams)
+    requires request_room { message_limit ≤ length request.old }
+    requires reply_room { message_limit ≤ length out.old }
+    ensures ends { EndsBy A.is_reply allowed.entry.addresses.now result.0 (A.seen answering.old) (tray_told tray) tray.faults most (A.seen answering.new) (Some (tray_told result.1)) result.1.faults }
+    ensures grows { Grows (A.seen answering.new) (A.seen answering.old) }
+{
+    let mut tray = tray;
+    let end = serve_udp(rt, answering, &mut tray, allowed, most, gate, request, out);
+    (end, tray)
+}

@@ -1,0 +1,45 @@
+//! The addresses of clients in tests, and logs: one that keeps its lines, one that drops them.
+use std::alloc::Global;
+use std::net::{IpAddr, SocketAddr};
+use std::sync::{Mutex, Wait};
+use zone_server::{Event, ServiceLog};
+
+/// The address of a client: 192.0.2.7, with a port.
+pub fn asker(port: u16) -> SocketAddr {
+    SocketAddr::new(IpAddr::from([192, 0, 2, 7]), port)
+}
+
+/// A log that drops all events.
+#[derive(Clone, Copy)]
+pub struct NoLog;
+
+impl ServiceLog for NoLog {
+    fn tell<R: Wait>(&self, _rt: &R, _event: Event) {}
+}
+
+/// A log that keeps the lines of its events, each followed by a semicolon.
+#[derive(Drop)]
+pub struct Kept {
+    lines: Mutex<String>,
+}
+
+impl ServiceLog for Kept {
+    fn tell<R: Wait>(&self, rt: &R, event: Event) {
+        let mut lines = self.lines.lock(rt);
+        let _ = write!(lines, "{event};");
+    }
+}
+
+impl Kept {
+    /// An empty log.
+    pub fn new(alloc: Global) -> Kept {
+        Kept {
+            lines: Mutex::new(String::new(alloc)),
+        }
+    }
+
+    /// Whether the log's lines are exactly these.
+    pub fn has<R: Wait>(&self, rt: &R, lines: &str) -> bool {
+        self.lines.lock(rt).as_str() == lines
+    }
+}
