@@ -44,8 +44,7 @@ PUBLIC = {
 }
 
 # What the program doesn't use, found and not yet removed. A name that isn't found any more has to go from here.
-LEFT = {
-}
+LEFT = {}
 
 # Laws that docs/PROVED.md doesn't name: statements on definitions, worked examples among them, that nothing calls.
 LAWS = {
