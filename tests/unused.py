@@ -43,9 +43,6 @@ PUBLIC = {
     "zone_server::serve_one": "public call: an update or a transfer answered",
 }
 
-# What the program doesn't use, found and not yet removed. A name that isn't found any more has to go from here.
-LEFT = {}
-
 # Laws that docs/PROVED.md doesn't name: statements on definitions, worked examples among them, that nothing calls.
 LAWS = {
     "cell_core": "only_grows owners_keep_their_value owned_is_not_buried last_is_not_buried buried_was_published "
@@ -465,10 +462,9 @@ def main():
         print(*[f"{item.key()}  {item.path}:{item.lines[0] + 1}" for item in found if not item.public], sep="\n")
     found = {item.key(): item for item in found if item.public}
     known = {item.key() for item in program.items}
-    left = {*LEFT, *[f"{crate}::{name}" for crate, names in LAWS.items() for name in names.split()]}
+    left = {f"{crate}::{name}" for crate, names in LAWS.items() for name in names.split()}
     faults = [f"{key}  {item.path}:{item.lines[0] + 1}" for key, item in found.items() if key not in left]
     faults += [f"{key} is in the list of this script, and isn't there" for key in [*PUBLIC, *sorted(left)] if key not in known]
-    faults += [f"{key} is in the list of this script, and is used" for key in LEFT if key in known and key not in found]
     for fault in faults:
         print(fault, file=sys.stderr)
     return 1 if faults else 0
