@@ -1,5 +1,5 @@
 -- What is told of updates that are taken up is their reply, by what was known when they were.
-use Rattle.std.proofs.Common.{◌≡◌, inl, inr, ℕ, true, false, List, [], ◌∷◌, length, Option, None, Some, Result, Ok, Err, IfOk, IfErr, OnErr, sym, ap, ◌∙◌, subst, arith}
+use Rattle.std.proofs.Common.{◌≡◌, ◌≢◌, inl, inr, ℕ, true, false, List, [], ◌∷◌, length, Option, None, Some, Result, Ok, Err, IfOk, OnErr, sym, ap, ◌∙◌, subst, arith}
 use Rattle.std.specs.Prelude.{◌++◌, take, replicate}
 use Rattle.dns_rdata.specs.Record.{Record}
 use Rattle.dns_message.specs.Request.{is_update, reads}
@@ -12,8 +12,7 @@ use Rattle.requests.specs.Served.{Learned, Grows}
 use Rattle.tcp_connections.specs.Asked.{EachGrows}
 use Rattle.tcp_connections.specs.Kept.{messages_of}
 use Rattle.tcp_connections.specs.declared.handler.Reply.{Reply}
-use Rattle.tcp_connections.specs.declared.handler.Unmade.{Unmade}
-use Rattle.tcp_connections.specs.declared.handler.Unmade.TheVariants.{Spent, Later}
+use Rattle.tcp_connections.specs.declared.handler.Reply.TheVariants.{Later}
 use Rattle.zone_server.specs.declared.update_result.UpdateResult.{UpdateResult}
 use Rattle.zone_server.specs.UpdateResult.{IsDone}
 use Rattle.zone_server.specs.Known.{learned_by}
@@ -95,14 +94,13 @@ made_replied first peer taken made count before after key request messages is no
     (none_replied first peer taken before after key request messages none replied))
 
 -- a reply by what was known between two steps is one by what was known before both
-pub step_replied : {M E : Type 0} (first : List Record) (left : M → List (List ℕ)) (request out : List ℕ) (old mid : HandlerState) (later : ℕ → Learned Version) (result : Result (Reply M) E) → mid.peer ≡ old.peer → mid.asker ≡ old.asker
-    → EachGrows {T = Version} (known_at mid.taken mid.reader) (known_at old.taken old.reader) → IfOk result (λ reply. IsReplied first mid.peer (known_at mid.taken mid.reader mid.asker) (later mid.asker) request (messages_of left reply out))
-    → IfOk result (λ reply. IsReplied first old.peer (known_at old.taken old.reader old.asker) (later old.asker) request (messages_of left reply out))
-step_replied first left request out old mid later (Ok reply) peer asker grown replied =
+pub step_replied : {M : Type 0} (first : List Record) (left : M → List (List ℕ)) (request out : List ℕ) (old mid : HandlerState) (later : ℕ → Learned Version) (reply : Reply M) → mid.peer ≡ old.peer → mid.asker ≡ old.asker
+    → EachGrows {T = Version} (known_at mid.taken mid.reader) (known_at old.taken old.reader) → (reply ≢ Later → IsReplied first mid.peer (known_at mid.taken mid.reader mid.asker) (later mid.asker) request (messages_of left reply out))
+    → reply ≢ Later → IsReplied first old.peer (known_at old.taken old.reader old.asker) (later old.asker) request (messages_of left reply out)
+step_replied first left request out old mid later reply peer asker grown replied = λ made.
     still_replied first old.peer (known_at old.taken old.reader old.asker) (known_at mid.taken mid.reader old.asker) (later old.asker) request (messages_of left reply out) (grown old.asker)
     (subst (λ (k : ℕ). IsReplied first old.peer (known_at mid.taken mid.reader k) (later k) request (messages_of left reply out)) asker
-    (subst (λ (p : Peer). IsReplied first p (known_at mid.taken mid.reader mid.asker) (later mid.asker) request (messages_of left reply out)) peer replied))
-step_replied first left request out old mid later (Err e) peer asker grown replied = tt
+    (subst (λ (p : Peer). IsReplied first p (known_at mid.taken mid.reader mid.asker) (later mid.asker) request (messages_of left reply out)) peer (replied made)))
 
 -- a reply at once, to a request of whose connection none is taken up any more
 pub settled_replied : (first : List Record) (old : HandlerState) (peer : Peer) (taken : List (Option PendingState)) (before after : ReaderState Version) (request : List ℕ) (messages : List (List ℕ)) → peer ≡ old.peer → place_in taken old.asker ≡ None
@@ -115,8 +113,8 @@ settled_replied first old peer taken before after request messages is none grown
 -- the same of a transfer that is started
 pub settled_replies : {M E : Type 0} (first : List Record) (left : M → List (List ℕ)) (old : HandlerState) (peer : Peer) (taken : List (Option PendingState)) (before after : ReaderState Version) (request out : List ℕ) (result : Result (Reply M) E) → peer ≡ old.peer → place_in taken old.asker ≡ None
     → EachGrows {T = Version} (known_at taken before) (known_at old.taken old.reader) → IfOk result (λ reply. IsReplied first peer (learned_by before) (learned_by after) request (messages_of left reply out))
-    → IfOk result (λ reply. IsReplied first old.peer (known_at old.taken old.reader old.asker) (known_at taken after old.asker) request (messages_of left reply out))
-settled_replies first left old peer taken before after request out (Ok reply) is none grown replied = settled_replied first old peer taken before after request (messages_of left reply out) is none grown replied
+    → IfOk result (λ reply. reply ≢ Later → IsReplied first old.peer (known_at old.taken old.reader old.asker) (known_at taken after old.asker) request (messages_of left reply out))
+settled_replies first left old peer taken before after request out (Ok reply) is none grown replied = λ _. settled_replied first old peer taken before after request (messages_of left reply out) is none grown replied
 settled_replies first left old peer taken before after request out (Err e) is none grown replied = tt
 
 -- a request that isn't an update is answered at once
@@ -126,38 +124,25 @@ never_later peer request other later = none (later.0)
     none : is_update request ≡ true → ⊥
     none asks = cc
 
-apart : Later ≡ Spent → ⊥
-apart same = cc
-
 -- a query isn't answered later
 pub query_never_later : (peer : Peer) (request : List ℕ) → IsQuery request → IsLater peer request → ⊥
 query_never_later peer request query later = update_is_no_query request later.0 query
 
--- an update that gets no reply yet gets it later
-pub update_later : {T : Type 0} (peer same : Peer) (request : List ℕ) (result : Result T Unmade) → peer ≡ same → IfErr result (λ unmade. (unmade ≡ Later) × IsLater peer request) → IfErr result (λ unmade. unmade ≡ Later → IsLater same request)
-update_later peer same request (Ok x) is later = tt
-update_later peer same request (Err unmade) is later = λ e. subst (λ (p : Peer). IsLater p request) is later.1
-
--- and it needs no grant
-pub update_unspent : {T : Type 0} (P : Type 0) (peer : Peer) (request : List ℕ) (result : Result T Unmade) → IfErr result (λ unmade. (unmade ≡ Later) × IsLater peer request) → IfErr result (λ unmade. unmade ≡ Spent → P)
-update_unspent P peer request (Ok x) later = tt
-update_unspent P peer request (Err unmade) later = λ e. absurd (apart (sym later.0 ∙ e))
-
 -- a transfer isn't answered later
-pub transfer_unlater : {T : Type 0} (P : Type 0) (result : Result T Unmade) → IfErr result (λ unmade. unmade ≡ Spent) → IfErr result (λ unmade. unmade ≡ Later → P)
-transfer_unlater P (Ok x) spent = tt
-transfer_unlater P (Err unmade) spent = λ e. absurd (apart (sym e ∙ spent))
+pub transfer_unlater : {M E : Type 0} (P : Type 0) (result : Result (Reply M) E) → IfOk result (λ reply. reply ≢ Later) → IfOk result (λ reply. reply ≡ Later → P)
+transfer_unlater P (Ok reply) made = λ later. absurd (made later)
+transfer_unlater P (Err e) made = tt
 
 -- if grants are lacking for it, none is left
-pub spent_left : {T : Type 0} (first : List Record) (peer : Peer) (request : List ℕ) (after : ReaderState Version) (result : Result T Unmade) → OnErr result (IsTransfer first peer request × (after.left ≡ 0)) → IfErr result (λ unmade. unmade ≡ Spent → after.left ≡ 0)
+pub spent_left : {T E : Type 0} (first : List Record) (peer : Peer) (request : List ℕ) (after : ReaderState Version) (result : Result T E) → OnErr result (IsTransfer first peer request × (after.left ≡ 0)) → OnErr result (after.left ≡ 0)
 spent_left first peer request after (Ok x) spent = tt
-spent_left first peer request after (Err unmade) spent = λ e. spent.1
+spent_left first peer request after (Err e) spent = spent.1
 
 -- and it gets no answer
-pub spent_unanswered : {T : Type 0} (first : List Record) (peer same : Peer) (request : List ℕ) (before after : ReaderState Version) (result : Result T Unmade) → peer ≡ same → OnErr result (IsTransfer first peer request × (after.left ≡ 0))
-    → IfErr result (λ unmade. unmade ≡ Spent → HasNoAnswer first same request before after)
+pub spent_unanswered : {T E : Type 0} (first : List Record) (peer same : Peer) (request : List ℕ) (before after : ReaderState Version) (result : Result T E) → peer ≡ same → OnErr result (IsTransfer first peer request × (after.left ≡ 0))
+    → OnErr result (HasNoAnswer first same request before after)
 spent_unanswered first peer same request before after (Ok x) is spent = tt
-spent_unanswered first peer same request before after (Err unmade) is spent = λ e. inr (subst (λ (p : Peer). IsTransfer first p request × (after.left ≡ 0)) is spent)
+spent_unanswered first peer same request before after (Err e) is spent = inr (subst (λ (p : Peer). IsTransfer first p request × (after.left ≡ 0)) is spent)
 
 -- a transfer is permitted by the query that was moved out, as by the one that was read
 pub permits_moved : (first : List Record) (peer : Peer) (request : List ℕ) (before after : ReaderState Version) (owned : _) (read moved : QueryAsked) → moved ≡ read → PermitsTransfer first peer request before after read owned

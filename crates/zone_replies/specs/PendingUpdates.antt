@@ -1,8 +1,7 @@
 -- Updates submitted on connections, which are still pending (RFC 2136, 3; own).
-use Rattle.std.specs.Prelude.{◌≡◌, ◌⊎◌, ◌<◌, ◌≤◌, ◌+◌, ℕ, true, List, [], ◌∷◌, length, take, Option, None, Some}
+use Rattle.std.specs.Prelude.{◌≡◌, ◌⊎◌, ◌<◌, ◌≤◌, ◌+◌, ℕ, true, List, length, Option, None, Some}
 use Rattle.std.specs.List.{All, slice_get}
 use Rattle.dns_message.specs.Request.{is_update}
-use Rattle.dns_message.specs.Message.{message_limit}
 use Rattle.dns_rdata.specs.Record.{Record}
 use Rattle.dns_rdata.specs.declared.numbers.Rcode.TheVariants.{ServFail}
 use Rattle.dns_message.specs.Octets.{fit}
@@ -15,7 +14,6 @@ use Rattle.serve_core.specs.Transport.{limit_of}
 use Rattle.zone_server.specs.declared.update_result.UpdateResult.{UpdateResult}
 use Rattle.zone_server.specs.declared.answer.UpdateOutcome.{UpdateOutcome}
 use Rattle.zone_server.specs.Known.{learned_by}
-use Rattle.zone_server.specs.Replied.{IsReplied}
 use Rattle.zone_replies.specs.State.{PendingState}
 use Rattle.zone_replies.specs.declared.pending_updates.Place.{Place}
 
@@ -69,9 +67,3 @@ abbrev pub IsWritten : Peer → Place → UpdateResult → List ℕ → Type 0
 IsWritten peer place done octets =
     ((place.number ≤ done.least) × (octets ≡ fit (coded (heading_of_update done.asked.update) done.code) (limit_of peer.transport None)))
     ⊎ ((done.least < place.number) × (octets ≡ fit (coded (heading_of_update done.asked.update) ServFail) (limit_of peer.transport None)))
-
--- what a pending update gets: its reply, of this length at the front of a buffer, or nothing, and then no update is pending on its connection
-abbrev pub IsToldOnce : List Record → Peer → Learned Version → Learned Version → List ℕ → List ℕ → Option Place → Option ℕ → Type 0
-IsToldOnce first peer known later request out place (Some len) =
-    (len ≤ message_limit) × (len ≤ length out) × IsReplied first peer known later request (take len out ∷ [])
-IsToldOnce first peer known later request out place None = place ≡ None

@@ -1,5 +1,5 @@
 //! The handler of the requests of connections, on top of a server.
-ghost use Rattle.std.specs.Prelude.{◌≡◌, ◌≤◌, ◌⊎◌, ℕ, true, false, [], ◌∷◌, None, length, take, IfOk, IfErr, OnErr, MatchOption};
+ghost use Rattle.std.specs.Prelude.{◌≡◌, ◌≢◌, ◌≤◌, ◌⊎◌, ℕ, true, false, [], ◌∷◌, None, length, take, IfSome, IfOk, IfErr, OnErr, MatchOption};
 ghost use Rattle.dns_message.specs.Message.{message_limit};
 ghost use Rattle.zone_tree.specs.Version.{Version};
 ghost use Rattle.serve_core.specs.Transfers.{is_permitted, messages_to};
@@ -8,19 +8,20 @@ ghost use Rattle.dns_engine.specs.Chain.{changes_by};
 ghost use Rattle.tcp_connections.specs.Asked.{EachGrows};
 ghost use Rattle.tcp_connections.specs.Kept.{messages_of};
 ghost use Rattle.tcp_connections.specs.declared.handler.Reply.{Reply as ReplyOf};
-ghost use Rattle.tcp_connections.specs.declared.handler.Unmade.{Unmade as WhyUnmade};
+ghost use Rattle.requests.specs.declared.stream_end.StreamEnd.{StreamEnd as EndOf};
 ghost use Rattle.zone_server.specs.Replied.{IsReplied, IsUpdate, HasNoAnswer};
 ghost use Rattle.zone_server.specs.Answer.{IsStarted};
 ghost use Rattle.dns_engine.specs.Held.{IsLatest};
 ghost use Rattle.zone_replies.specs.Going.{transfer_left};
 ghost use Rattle.requests.specs.Served.{Grows};
 ghost use Rattle.zone_server.specs.Known.{learned_by, HasTooFew};
-ghost use Rattle.zone_replies.specs.PendingUpdates.{known_at, place_in, IsLater, IsWritten, IsToldOnce};
+ghost use Rattle.zone_replies.specs.PendingUpdates.{known_at, place_in, IsLater, IsWritten};
 
 use crate::pending_updates::{PendingUpdate, PendingUpdates, Place, told_at};
 use crate::transfer::Transfer;
 use dns_engine::{FirstZone, SharedVersion, VersionChain, VersionOwner, VersionReader};
 use dns_message::{Query, is_update};
+use requests::StreamEnd;
 use serve_core::{Peer, Transport};
 use std::alloc::Global;
 use std::marker::Model;
@@ -28,7 +29,7 @@ use std::mem;
 use std::net::SocketAddr;
 use std::snapshot::Snapshot;
 use std::sync::Wait;
-use tcp_connections::{Handler, Reply, Unmade};
+use tcp_connections::{Handler, Reply};
 use wire_names::NameWriter;
 use zone_server::{
     Answer, Poll, Server, ServerName, ServiceLog, Submitted, UpdateResult, UpdateSender,
@@ -78,6 +79,7 @@ fn reply_transfer(
 ) -> Reply<Transfer>
     requires permitted { is_permitted version.zone peer query ≡ true }
     requires room { message_limit ≤ length out.old }
+    ensures made { result ≢ ReplyOf.Later }
     ensures bound { (len : ℕ) → result ≡ ReplyOf.One len → (len ≤ message_limit) × (len ≤ length out.new) }
     ensures messages { messages_of transfer_left result out.new ≡ messages_to version.zone (changes_by (soa_of version.zone) chain) peer query }
 {
@@ -100,18 +102,19 @@ fn begin_transfer<R: Wait, Z: FirstZone, N: ServerName>(
     query: Query,
     peer: Peer,
     out: &mut [u8],
-) -> Result<Reply<Transfer>, Unmade>
+) -> Result<Reply<Transfer>, StreamEnd>
     requires latest { IsLatest Z.zone reader.old.seen strong.value × (strong.value.number ≡ strong.number) }
     requires permitted { is_permitted strong.value.zone peer query ≡ true }
     requires room { message_limit ≤ length out.old }
+    ensures made { IfOk result (λ reply. reply ≢ ReplyOf.Later) }
     ensures bound { IfOk result (λ reply. (len : ℕ) → reply ≡ ReplyOf.One len → (len ≤ message_limit) × (len ≤ length out.new)) }
     ensures started { IfOk result (λ reply. IsStarted Z.zone peer query strong.entry.value reader.old reader.new (messages_of transfer_left reply out.new)) }
-    ensures unmade { IfErr result (λ unmade. unmade ≡ WhyUnmade.Spent) }
+    ensures end { IfErr result (λ end. end ≡ EndOf.Spent) }
     ensures spent { OnErr result (HasTooFew Z.zone query strong.entry.value reader.old reader.new) }
 {
     match start_transfer(rt, server, reader, strong, &query) {
         Ok((version, chain)) => Ok(reply_transfer(version, chain, query, peer, out)),
-        Err(_) => Err(Unmade::Spent),
+        Err(_) => Err(StreamEnd::Spent),
     }
 }
 
@@ -223,16 +226,15 @@ impl<'a, 's, Z: FirstZone, N: ServerName, L: ServiceLog> ConnectionHandler<'a, '
         sender: UpdateSender<'a>,
         request: &[u8],
         out: &mut [u8],
-    ) -> Result<Reply<Transfer>, Unmade>
+    ) -> Reply<Transfer>
         requires later { IsLater self.old.peer request.now }
         requires none { place_in self.old.taken self.old.asker ≡ None }
         requires room { message_limit ≤ length out.old }
         ensures peer { self.new.peer ≡ self.old.peer }
         ensures asker { self.new.asker ≡ self.old.asker }
         ensures grows { EachGrows {T = Version} (known_at self.new.taken self.new.reader) (known_at self.old.taken self.old.reader) }
-        ensures bound { IfOk result (λ reply. (len : ℕ) → reply ≡ ReplyOf.One len → (len ≤ message_limit) × (len ≤ length out.new)) }
-        ensures replied { IfOk result (λ reply. IsReplied Z.zone self.old.peer (known_at self.old.taken self.old.reader self.old.asker) (known_at self.new.taken self.new.reader self.old.asker) request.now (messages_of transfer_left reply out.new)) }
-        ensures unspent { IfErr result (λ unmade. unmade ≡ WhyUnmade.Later) }
+        ensures bound { (len : ℕ) → result ≡ ReplyOf.One len → (len ≤ message_limit) × (len ≤ length out.new) }
+        ensures replied { result ≢ ReplyOf.Later → IsReplied Z.zone self.old.peer (known_at self.old.taken self.old.reader self.old.asker) (known_at self.new.taken self.new.reader self.old.asker) request.now (messages_of transfer_left result out.new) }
     {
         let (key, peer) = (self.asker, self.peer);
         tell_signed(rt, self.log, self.from, request);
@@ -255,7 +257,7 @@ impl<'a, 's, Z: FirstZone, N: ServerName, L: ServiceLog> ConnectionHandler<'a, '
         ) {
             Submitted::Told(len, told) => {
                 tell_update(rt, self.log, peer, self.from, told);
-                Ok(Reply::One(len))
+                Reply::One(len)
             }
             Submitted::Waits {
                 ticket,
@@ -272,68 +274,43 @@ impl<'a, 's, Z: FirstZone, N: ServerName, L: ServiceLog> ConnectionHandler<'a, '
                         known,
                     },
                 );
-                Err(Unmade::Later)
+                Reply::Later
             }
         }
     }
 
-    /// Writes the reply to the pending update under the current connection's key at the front of `out`, and gives its length in octets. `Later` while
-    /// it is still pending. None where no update is pending, or its ticket has no result for this request. Then none is pending.
+    /// The reply to the pending update under the current connection's key: written at the front of `out`, or `Later` while the update is still
+    /// pending. None where no update is pending, or its ticket has no result for this request. Then none is pending.
     fn reply_taken<R: Wait>(
         &mut self,
         rt: &R,
         request: &[u8],
         out: &mut [u8],
-    ) -> Result<Option<usize>, Unmade>
+    ) -> Option<Reply<Transfer>>
         requires later { IsLater self.old.peer request.now }
         requires room { message_limit ≤ length out.old }
         ensures peer { self.new.peer ≡ self.old.peer }
         ensures asker { self.new.asker ≡ self.old.asker }
         ensures grows { EachGrows {T = Version} (known_at self.new.taken self.new.reader) (known_at self.old.taken self.old.reader) }
-        ensures replied { IfOk result (λ told. IsToldOnce Z.zone self.old.peer (known_at self.old.taken self.old.reader self.old.asker) (known_at self.new.taken self.new.reader self.old.asker) request.now out.new (place_in self.new.taken self.old.asker) told) }
-        ensures unspent { IfErr result (λ unmade. unmade ≡ WhyUnmade.Later) }
+        ensures none { result ≡ None → place_in self.new.taken self.old.asker ≡ None }
+        ensures bound { IfSome result (λ reply. (len : ℕ) → reply ≡ ReplyOf.One len → (len ≤ message_limit) × (len ≤ length out.new)) }
+        ensures replied { IfSome result (λ reply. reply ≢ ReplyOf.Later → IsReplied Z.zone self.old.peer (known_at self.old.taken self.old.reader self.old.asker) (known_at self.new.taken self.new.reader self.old.asker) request.now (messages_of transfer_left reply out.new)) }
     {
         let Some(place) = self.taken.at(self.asker) else {
-            return Ok(None);
+            return None;
         };
         let (_, fetched) = self.server.fetch(rt, &mut self.reader, place.ticket);
         if let Poll::Pending = fetched {
-            return Err(Unmade::Later);
+            return Some(Reply::Later);
         }
         self.taken.remove(self.asker);
         let Poll::Ready(done) = fetched else {
-            return Ok(None);
+            return None;
         };
         if done.asked.may() && done.asked.octets() == request {
-            return Ok(Some(self.reply_done(rt, place, done, out)));
+            return Some(Reply::One(self.reply_done(rt, place, done, out)));
         }
-        Ok(None)
-    }
-
-    /// The reply to an update of a peer that may update, once it is ready. Submits the update where none is pending. `Later` while it is pending.
-    fn reply_update<R: Wait>(
-        &mut self,
-        rt: &R,
-        sender: UpdateSender<'a>,
-        request: &[u8],
-        out: &mut [u8],
-    ) -> Result<Reply<Transfer>, Unmade>
-        requires later { IsLater self.old.peer request.now }
-        requires room { message_limit ≤ length out.old }
-        ensures peer { self.new.peer ≡ self.old.peer }
-        ensures asker { self.new.asker ≡ self.old.asker }
-        ensures grows { EachGrows {T = Version} (known_at self.new.taken self.new.reader) (known_at self.old.taken self.old.reader) }
-        ensures bound { IfOk result (λ reply. (len : ℕ) → reply ≡ ReplyOf.One len → (len ≤ message_limit) × (len ≤ length out.new)) }
-        ensures replied { IfOk result (λ reply. IsReplied Z.zone self.old.peer (known_at self.old.taken self.old.reader self.old.asker) (known_at self.new.taken self.new.reader self.old.asker) request.now (messages_of transfer_left reply out.new)) }
-        ensures unspent { IfErr result (λ unmade. unmade ≡ WhyUnmade.Later) }
-    {
-        match self.reply_taken(rt, request, out) {
-            Ok(told) => match told {
-                Some(len) => Ok(Reply::One(len)),
-                None => self.take_up(rt, sender, request, out),
-            },
-            Err(unmade) => Err(unmade),
-        }
+        None
     }
 
     /// Writes the reply of the engine to an update at the front of `out`, and logs it. Gives its length in octets.
@@ -363,26 +340,25 @@ impl<'a, 's, Z: FirstZone, N: ServerName, L: ServiceLog> ConnectionHandler<'a, '
         len
     }
 
-    /// The reply to an update. `Later` only for an update of a peer that may update.
-    fn reply_later<R: Wait>(
-        &mut self,
-        rt: &R,
-        request: &[u8],
-        out: &mut [u8],
-    ) -> Result<Reply<Transfer>, Unmade>
+    /// The reply to an update: of the engine, where it isn't one to submit; otherwise once it is ready, and the update is submitted where none is
+    /// pending. `Later` while it is pending, and so only for an update of a peer that may update.
+    fn reply_update<R: Wait>(&mut self, rt: &R, request: &[u8], out: &mut [u8]) -> Reply<Transfer>
         requires update { IsUpdate request.now }
         requires other { (self.old.submits ≡ false) ⊎ (IsLater self.old.peer request.now → ⊥) → place_in self.old.taken self.old.asker ≡ None }
         requires room { message_limit ≤ length out.old }
         ensures peer { self.new.peer ≡ self.old.peer }
         ensures asker { self.new.asker ≡ self.old.asker }
         ensures grows { EachGrows {T = Version} (known_at self.new.taken self.new.reader) (known_at self.old.taken self.old.reader) }
-        ensures bound { IfOk result (λ reply. (len : ℕ) → reply ≡ ReplyOf.One len → (len ≤ message_limit) × (len ≤ length out.new)) }
-        ensures replied { IfOk result (λ reply. IsReplied Z.zone self.old.peer (known_at self.old.taken self.old.reader self.old.asker) (known_at self.new.taken self.new.reader self.old.asker) request.now (messages_of transfer_left reply out.new)) }
-        ensures later { IfErr result (λ unmade. (unmade ≡ WhyUnmade.Later) × IsLater self.old.peer request.now) }
+        ensures bound { (len : ℕ) → result ≡ ReplyOf.One len → (len ≤ message_limit) × (len ≤ length out.new) }
+        ensures replied { result ≢ ReplyOf.Later → IsReplied Z.zone self.old.peer (known_at self.old.taken self.old.reader self.old.asker) (known_at self.new.taken self.new.reader self.old.asker) request.now (messages_of transfer_left result out.new) }
+        ensures later { result ≡ ReplyOf.Later → IsLater self.old.peer request.now }
     {
-        match self.sender_for(request) {
-            Some(sender) => self.reply_update(rt, sender, request, out),
-            None => Ok(Reply::One(self.reply_served(rt, request, out))),
+        let Some(sender) = self.sender_for(request) else {
+            return Reply::One(self.reply_served(rt, request, out));
+        };
+        match self.reply_taken(rt, request, out) {
+            Some(reply) => reply,
+            None => self.take_up(rt, sender, request, out),
         }
     }
 }
@@ -415,17 +391,18 @@ impl<'a, 's, Z: FirstZone, N: ServerName, L: ServiceLog> Handler<Transfer>
         rt: &R,
         request: &[u8],
         out: &mut [u8],
-    ) -> Result<Reply<Transfer>, Unmade>
+    ) -> Result<Reply<Transfer>, StreamEnd>
         requires { message_limit ≤ length out.old }
         ensures same { self.new.peer ≡ self.old.peer }
         ensures asker { self.new.asker ≡ self.old.asker }
         ensures grows { EachGrows {T = Version} (known_at self.new.taken self.new.reader) (known_at self.old.taken self.old.reader) }
         ensures bound { IfOk result (λ reply. (len : ℕ) → reply ≡ ReplyOf.One len → (len ≤ message_limit) × (len ≤ length out.new)) }
-        ensures reply { IfOk result (λ reply. IsReplied Z.zone self.old.peer (known_at self.old.taken self.old.reader self.old.asker) (known_at self.new.taken self.new.reader self.old.asker) request.now (messages_of transfer_left reply out.new)) }
-        ensures later { IfErr result (λ unmade. unmade ≡ WhyUnmade.Later → IsLater self.old.peer request.now) }
-        ensures spent { IfErr result (λ unmade. unmade ≡ WhyUnmade.Spent → self.new.reader.left ≡ 0) }
+        ensures reply { IfOk result (λ reply. reply ≢ ReplyOf.Later → IsReplied Z.zone self.old.peer (known_at self.old.taken self.old.reader self.old.asker) (known_at self.new.taken self.new.reader self.old.asker) request.now (messages_of transfer_left reply out.new)) }
+        ensures later { IfOk result (λ reply. reply ≡ ReplyOf.Later → IsLater self.old.peer request.now) }
+        ensures end { IfErr result (λ end. end ≡ EndOf.Spent) }
+        ensures spent { OnErr result (self.new.reader.left ≡ 0) }
         // A request that can't be read as a query gets its reply, whether a version can be loaded or not.
-        ensures unanswered { IfErr result (λ unmade. unmade ≡ WhyUnmade.Spent → HasNoAnswer Z.zone self.old.peer request.now self.old.reader self.new.reader) }
+        ensures unanswered { OnErr result (HasNoAnswer Z.zone self.old.peer request.now self.old.reader self.new.reader) }
     {
         self.settle(rt, request);
         let cell = self.server.cell();
@@ -443,14 +420,14 @@ impl<'a, 's, Z: FirstZone, N: ServerName, L: ServiceLog> Handler<Transfer>
                 Ok(Reply::One(len))
             }
             Answer::Silent => Ok(Reply::Silent),
-            Answer::Update => self.reply_later(rt, request, out),
+            Answer::Update => Ok(self.reply_update(rt, request, out)),
             Answer::Transfer(strong) => {
                 tell_signed(rt, self.log, self.from, request);
                 let query = mem::replace(&mut self.query, Query::blank());
                 let (server, peer) = (self.server, self.peer);
                 begin_transfer(rt, server, &mut self.reader, strong, query, peer, out)
             }
-            Answer::Spent => Err(Unmade::Spent),
+            Answer::Spent => Err(StreamEnd::Spent),
         }
     }
 }

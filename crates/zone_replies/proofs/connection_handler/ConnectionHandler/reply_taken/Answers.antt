@@ -1,6 +1,10 @@
 -- What is told at a ticket is the reply by what was known when the update was taken up.
-use Rattle.std.proofs.Common.{◌≡◌, true, [], ◌∷◌, None, Some, take, sym, ap, ◌∙◌, subst}
+use Rattle.std.proofs.Common.{◌≡◌, ◌≤◌, ℕ, true, [], ◌∷◌, Option, None, Some, length, take, sym, ap, ◌∙◌, subst}
 use Rattle.std.proofs.lemmas.Slice.Eq.{bytes_eq-Decides}
+use Rattle.dns_message.specs.Message.{message_limit}
+use Rattle.tcp_connections.specs.declared.handler.Reply.{Reply}
+use Rattle.tcp_connections.specs.declared.handler.Reply.TheVariants.{One}
+use Rattle.zone_replies.specs.declared.transfer.Transfer.{Transfer}
 use Rattle.zone_tree.specs.Version.{Version}
 use Rattle.requests.specs.Served.{Learned}
 use Rattle.tcp_connections.specs.Asked.{EachGrows}
@@ -12,6 +16,12 @@ use Rattle.zone_replies.specs.PendingUpdates.{known_at, place_in}
 use Rattle.zone_replies.proofs.PendingLemmas.{known_grows, gone_all, gone_grows, gone_none, none_known}
 use Rattle.zone_replies.proofs.PendingRepliedLemmas.{meets_grows, taken_replied}
 use Rattle.zone_replies.proofs.connection_handler.ConnectionHandler.reply_taken.Goals as goal
+
+apart : (len : ℕ) → ◌≡◌ {A = Option (Reply Transfer)} (Some (One len)) None → ⊥
+apart len is = cc
+
+same_len : (len same : ℕ) → ◌≡◌ {A = Reply Transfer} (One len) (One same) → len ≡ same
+same_len len same is = cc
 
 pub returns-in-Pending-clause-grows : goal.returns-in-Pending-clause-grows
 returns-in-Pending-clause-grows g c =
@@ -43,8 +53,9 @@ returns-in_default-fetched-2 g c =
       grows =
           subst (λ (s : HandlerState). EachGrows {T = Version} (known_at c.remove.new.self c.fetch-fetched.new.reader) (known_at s.taken s.reader)) c.self.view_is
           (gone_grows c.self.inside.taken c.self.inside.reader c.fetch-fetched.new.reader c.self.inside.asker grown c.remove.new.self c.remove.ensures c.self.invariant);
-      replied = subst (λ (s : HandlerState). place_in c.remove.new.self s.asker ≡ None) c.self.view_is (gone_none c.self.inside.taken c.self.inside.reader c.fetch-fetched.new.reader c.self.inside.asker grown c.remove.new.self c.remove.ensures);
-      unspent = tt;
+      none = λ _. subst (λ (s : HandlerState). place_in c.remove.new.self s.asker ≡ None) c.self.view_is (gone_none c.self.inside.taken c.self.inside.reader c.fetch-fetched.new.reader c.self.inside.asker grown c.remove.new.self c.remove.ensures);
+      bound = tt;
+      replied = tt;
     }
 
 pub returns : goal.returns
@@ -56,8 +67,9 @@ returns g c =
       grows =
           subst (λ (s : HandlerState). EachGrows {T = Version} (known_at c.remove.new.self c.fetch-fetched.new.reader) (known_at s.taken s.reader)) c.self.view_is
           (gone_grows c.self.inside.taken c.self.inside.reader c.fetch-fetched.new.reader c.self.inside.asker grown c.remove.new.self c.remove.ensures c.self.invariant);
-      replied = subst (λ (s : HandlerState). place_in c.remove.new.self s.asker ≡ None) c.self.view_is (gone_none c.self.inside.taken c.self.inside.reader c.fetch-fetched.new.reader c.self.inside.asker grown c.remove.new.self c.remove.ensures);
-      unspent = tt;
+      none = λ _. subst (λ (s : HandlerState). place_in c.remove.new.self s.asker ≡ None) c.self.view_is (gone_none c.self.inside.taken c.self.inside.reader c.fetch-fetched.new.reader c.self.inside.asker grown c.remove.new.self c.remove.ensures);
+      bound = tt;
+      replied = tt;
     }
 
 pub returns-then-eq : goal.returns-then-eq
@@ -77,12 +89,10 @@ returns-then-eq g c =
       grows =
           subst (λ (s : HandlerState). EachGrows {T = Version} (known_at c.remove.new.self c.fetch-fetched.new.reader) (known_at s.taken s.reader)) c.self.view_is
           (gone_grows c.self.inside.taken c.self.inside.reader c.fetch-fetched.new.reader c.self.inside.asker grown c.remove.new.self c.remove.ensures c.self.invariant);
-      replied = (
-        c.reply_done.ensures.bound.0,
-        c.reply_done.ensures.bound.1,
-        subst (λ (s : HandlerState). IsReplied first s.peer (known_at s.taken s.reader s.asker) (known_at c.remove.new.self c.fetch-fetched.new.reader s.asker) c.args.request.now (take c.reply_done.result c.reply_done.new.out ∷ [])) c.self.view_is
-            (subst (λ (l : Learned Version). IsReplied first c.self.inside.peer (known_at c.self.inside.taken c.self.inside.reader c.self.inside.asker) l c.args.request.now (take c.reply_done.result c.reply_done.new.out ∷ []))
-            (sym (none_known c.remove.new.self c.fetch-fetched.new.reader c.self.inside.asker none)) replied),
-      );
-      unspent = tt;
+      none = λ is. absurd (apart c.reply_done.result is);
+      bound = λ len is. subst (λ (n : ℕ). (n ≤ message_limit) × (n ≤ length c.reply_done.new.out)) (same_len c.reply_done.result len is) c.reply_done.ensures.bound;
+      replied = λ _.
+          subst (λ (s : HandlerState). IsReplied first s.peer (known_at s.taken s.reader s.asker) (known_at c.remove.new.self c.fetch-fetched.new.reader s.asker) c.args.request.now (take c.reply_done.result c.reply_done.new.out ∷ [])) c.self.view_is
+          (subst (λ (l : Learned Version). IsReplied first c.self.inside.peer (known_at c.self.inside.taken c.self.inside.reader c.self.inside.asker) l c.args.request.now (take c.reply_done.result c.reply_done.new.out ∷ []))
+          (sym (none_known c.remove.new.self c.fetch-fetched.new.reader c.self.inside.asker none)) replied);
     }

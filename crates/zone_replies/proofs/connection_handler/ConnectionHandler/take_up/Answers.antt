@@ -29,7 +29,7 @@ returns-in-Told-clause-grows g c =
     (made_grows c.self.inside.taken c.self.inside.reader c.submit_stream.new.reader c.self.inside.asker c.in-Told.ensures.grows c.make_room.new.self room.0 room.1)
 
 pub returns-in-Told-clause-replied : goal.returns-in-Told-clause-replied
-returns-in-Told-clause-replied g c =
+returns-in-Told-clause-replied g c = λ _.
     let room = c.make_room.ensures.none in
     let none : place_in c.self.inside.taken c.self.inside.asker ≡ None = subst (λ (s : HandlerState). place_in s.taken s.asker ≡ None) (sym c.self.view_is) c.requires.none in
     subst (λ (s : HandlerState). IsReplied g.Z.FirstZone.zone s.peer (known_at s.taken s.reader s.asker) (known_at c.make_room.new.self c.submit_stream.new.reader s.asker) c.args.request.now (take c.in-Told.len c.submit_stream.new.out ∷ [])) c.self.view_is

@@ -2,6 +2,7 @@
 use Rattle.std.proofs.Common.{◌≡◌, [], ◌∷◌, None, take, inl, inr, sym, ap, ◌∙◌, subst, rules}
 use Rattle.zone_tree.specs.Version.{Version}
 use Rattle.snapshot_cell.specs.Tokens.{ReaderState}
+use Rattle.serve_core.specs.declared.peer.Peer.{Peer}
 use Rattle.tcp_connections.specs.Asked.{EachGrows}
 use Rattle.tcp_connections.proofs.AskedLemmas.{each_more}
 use Rattle.tcp_connections.specs.Kept.{messages_of}
@@ -11,9 +12,9 @@ use Rattle.zone_server.proofs.AnswerLemmas.{answer_grows}
 use Rattle.zone_server.proofs.StartedLemmas.{starts, transfer_replies, transfer_grows, transfer_spent}
 use Rattle.zone_replies.specs.Going.{transfer_left}
 use Rattle.zone_replies.specs.State.{HandlerState}
-use Rattle.zone_replies.specs.PendingUpdates.{known_at, place_in}
+use Rattle.zone_replies.specs.PendingUpdates.{known_at, place_in, IsLater}
 use Rattle.zone_replies.proofs.PendingLemmas.{known_grows, taken_grow}
-use Rattle.zone_replies.proofs.PendingRepliedLemmas.{step_replied, settled_replied, settled_replies, never_later, query_never_later, update_later, update_unspent, transfer_unlater, spent_left, spent_unanswered, permits_moved}
+use Rattle.zone_replies.proofs.PendingRepliedLemmas.{step_replied, settled_replied, settled_replies, never_later, query_never_later, transfer_unlater, spent_left, spent_unanswered, permits_moved}
 use Rattle.zone_replies.proofs.connection_handler.ConnectionHandlerHandlerTransfer.reply.Goals as goal
 
 pub invariant_of-self : goal.invariant_of-self
@@ -42,7 +43,7 @@ returns-in-Spent-clause-grows g c =
     (known_grows c.self.inside.taken c.self.inside.reader c.answer_request.new.reader (answer_grows g.Z.FirstZone.zone c.self.inside.peer c.args.request.now c.self.inside.reader c.answer_request.new.reader c.answer_request.new.query c.answer_request.new.out c.answer_request.result c.answer_request.ensures.answer))
 
 pub returns-in-Bytes-clause-reply : goal.returns-in-Bytes-clause-reply
-returns-in-Bytes-clause-reply g c =
+returns-in-Bytes-clause-reply g c = λ _.
     let peer : c.self.inside.peer ≡ c.args.self.now.peer = subst (λ (s : HandlerState). s.peer ≡ c.args.self.now.peer) (sym c.self.view_is) c.settle.ensures.peer in
     let none : place_in c.self.inside.taken c.args.self.now.asker ≡ None = subst (λ (s : HandlerState). place_in s.taken c.args.self.now.asker ≡ None) (sym c.self.view_is)
     (c.settle.ensures.other (inr (never_later c.args.self.now.peer c.args.request.now c.in-Bytes.ensures.answer.2.other))) in
@@ -50,37 +51,31 @@ returns-in-Bytes-clause-reply g c =
     (subst (λ (s : HandlerState). EachGrows {T = Version} (known_at s.taken s.reader) (known_at c.args.self.now.taken c.args.self.now.reader)) (sym c.self.view_is) c.settle.ensures.grows) c.in-Bytes.ensures.answer.1
 
 pub returns-in-Spent-clause-spent : goal.returns-in-Spent-clause-spent
-returns-in-Spent-clause-spent g c = λ _. ap (λ (r : ReaderState Version). r.left) c.in-Spent.ensures.answer.1.1 ∙ c.in-Spent.ensures.answer.1.0
+returns-in-Spent-clause-spent g c = ap (λ (r : ReaderState Version). r.left) c.in-Spent.ensures.answer.1.1 ∙ c.in-Spent.ensures.answer.1.0
 
 pub returns-in-Spent-clause-unanswered : goal.returns-in-Spent-clause-unanswered
 returns-in-Spent-clause-unanswered g c =
     let reader : c.self.inside.reader ≡ c.args.self.now.reader = subst (λ (s : HandlerState). s.reader ≡ c.args.self.now.reader) (sym c.self.view_is) c.settle.ensures.reader in
-    λ _. inl (c.in-Spent.ensures.answer.0, subst (λ (r : ReaderState Version). r.left ≡ 0) reader c.in-Spent.ensures.answer.1.0)
+    inl (c.in-Spent.ensures.answer.0, subst (λ (r : ReaderState Version). r.left ≡ 0) reader c.in-Spent.ensures.answer.1.0)
 
 pub returns-in-Update-clause-grows : goal.returns-in-Update-clause-grows
 returns-in-Update-clause-grows g c =
     each_more _ _ _ (each_more _ _ _ (subst (λ (s : HandlerState). EachGrows {T = Version} (known_at s.taken s.reader) (known_at c.args.self.now.taken c.args.self.now.reader)) (sym c.self.view_is) c.settle.ensures.grows)
-    (known_grows c.self.inside.taken c.self.inside.reader c.answer_request.new.reader (answer_grows g.Z.FirstZone.zone c.self.inside.peer c.args.request.now c.self.inside.reader c.answer_request.new.reader c.answer_request.new.query c.answer_request.new.out c.answer_request.result c.answer_request.ensures.answer))) c.reply_later.ensures.grows
+    (known_grows c.self.inside.taken c.self.inside.reader c.answer_request.new.reader (answer_grows g.Z.FirstZone.zone c.self.inside.peer c.args.request.now c.self.inside.reader c.answer_request.new.reader c.answer_request.new.query c.answer_request.new.out c.answer_request.result c.answer_request.ensures.answer))) c.reply_update.ensures.grows
 
 pub returns-in-Update-clause-reply : goal.returns-in-Update-clause-reply
 returns-in-Update-clause-reply g c =
     let peer : c.self.inside.peer ≡ c.args.self.now.peer = subst (λ (s : HandlerState). s.peer ≡ c.args.self.now.peer) (sym c.self.view_is) c.settle.ensures.peer in
     let asker : c.self.inside.asker ≡ c.args.self.now.asker = subst (λ (s : HandlerState). s.asker ≡ c.args.self.now.asker) (sym c.self.view_is) c.settle.ensures.asker in
     let mid : HandlerState = record { reader = c.answer_request.new.reader; peer = c.self.inside.peer; asker = c.self.inside.asker; taken = c.self.inside.taken; submits = c.args.self.now.submits } in
-    step_replied g.Z.FirstZone.zone transfer_left c.args.request.now c.reply_later.new.out c.args.self.now mid (known_at c.reply_later.new.self.taken c.reply_later.new.self.reader) c.reply_later.result peer asker
+    step_replied g.Z.FirstZone.zone transfer_left c.args.request.now c.reply_update.new.out c.args.self.now mid (known_at c.reply_update.new.self.taken c.reply_update.new.self.reader) c.reply_update.result peer asker
     (each_more _ _ _ (subst (λ (s : HandlerState). EachGrows {T = Version} (known_at s.taken s.reader) (known_at c.args.self.now.taken c.args.self.now.reader)) (sym c.self.view_is) c.settle.ensures.grows)
-    (known_grows c.self.inside.taken c.self.inside.reader c.answer_request.new.reader (answer_grows g.Z.FirstZone.zone c.self.inside.peer c.args.request.now c.self.inside.reader c.answer_request.new.reader c.answer_request.new.query c.answer_request.new.out c.answer_request.result c.answer_request.ensures.answer))) c.reply_later.ensures.replied
+    (known_grows c.self.inside.taken c.self.inside.reader c.answer_request.new.reader (answer_grows g.Z.FirstZone.zone c.self.inside.peer c.args.request.now c.self.inside.reader c.answer_request.new.reader c.answer_request.new.query c.answer_request.new.out c.answer_request.result c.answer_request.ensures.answer))) c.reply_update.ensures.replied
 
 pub returns-in-Update-clause-later : goal.returns-in-Update-clause-later
-returns-in-Update-clause-later g c =
+returns-in-Update-clause-later g c = λ later.
     let peer : c.self.inside.peer ≡ c.args.self.now.peer = subst (λ (s : HandlerState). s.peer ≡ c.args.self.now.peer) (sym c.self.view_is) c.settle.ensures.peer in
-    update_later c.self.inside.peer c.args.self.now.peer c.args.request.now c.reply_later.result peer c.reply_later.ensures.later
-
-pub returns-in-Update-clause-spent : goal.returns-in-Update-clause-spent
-returns-in-Update-clause-spent g c = update_unspent _ c.self.inside.peer c.args.request.now c.reply_later.result c.reply_later.ensures.later
-
-pub returns-in-Update-clause-unanswered : goal.returns-in-Update-clause-unanswered
-returns-in-Update-clause-unanswered g c = update_unspent _ c.self.inside.peer c.args.request.now c.reply_later.result c.reply_later.ensures.later
+    subst (λ (p : Peer). IsLater p c.args.request.now) peer (c.reply_update.ensures.later later)
 
 pub begin_transfer-requires : goal.begin_transfer-requires
 begin_transfer-requires g c =
@@ -110,7 +105,7 @@ returns-in-Transfer-clause-reply g c =
     c.begin_transfer.result c.begin_transfer.ensures.started)
 
 pub returns-in-Transfer-clause-later : goal.returns-in-Transfer-clause-later
-returns-in-Transfer-clause-later g c = transfer_unlater _ c.begin_transfer.result c.begin_transfer.ensures.unmade
+returns-in-Transfer-clause-later g c = transfer_unlater _ c.begin_transfer.result c.begin_transfer.ensures.made
 
 pub returns-in-Transfer-clause-spent : goal.returns-in-Transfer-clause-spent
 returns-in-Transfer-clause-spent g c = spent_left g.Z.FirstZone.zone c.self.inside.peer c.args.request.now c.begin_transfer.new.reader c.begin_transfer.result (transfer_spent g.Z.FirstZone.zone c.self.inside.peer c.args.request.now c.self.inside.reader c.answer_request.new.reader c.begin_transfer.new.reader c.replace-query.result c.in-Transfer.strong (permits_moved g.Z.FirstZone.zone c.self.inside.peer c.args.request.now c.self.inside.reader c.answer_request.new.reader c.in-Transfer.strong c.answer_request.new.query c.replace-query.result c.replace-query.ensures.value c.in-Transfer.ensures.answer) c.begin_transfer.result c.begin_transfer.ensures.spent)
