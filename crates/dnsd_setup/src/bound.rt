@@ -59,12 +59,14 @@ pub fn bind_sockets<R: Env + Eprint + AllocGlobal + Net>(
     }
 }
 
-/// That an address cannot be listened on.
-fn unbound(listen: SocketAddr, transport: &'static str, fault: io::Error) -> Unbound {
-    Unbound {
-        listen,
-        transport,
-        fault,
+impl Unbound {
+    /// That an address cannot be listened on.
+    fn new(listen: SocketAddr, transport: &'static str, fault: io::Error) -> Unbound {
+        Unbound {
+            listen,
+            transport,
+            fault,
+        }
     }
 }
 
@@ -76,15 +78,15 @@ fn bind_both<R: Net>(
 ) -> Result<(TcpListener, UdpSocket, SocketAddr), Unbound> {
     let listener = match bind_listener(rt, listen, turn) {
         Ok(listener) => listener,
-        Err(fault) => return Err(unbound(listen, "TCP", fault)),
+        Err(fault) => return Err(Unbound::new(listen, "TCP", fault)),
     };
     let address = match listener.local_addr() {
         Ok(address) => address,
-        Err(fault) => return Err(unbound(listen, "TCP", fault)),
+        Err(fault) => return Err(Unbound::new(listen, "TCP", fault)),
     };
     match bind_datagrams(rt, address, turn) {
         Ok(datagrams) => Ok((listener, datagrams, address)),
-        Err(fault) => Err(unbound(listen, "UDP", fault)),
+        Err(fault) => Err(Unbound::new(listen, "UDP", fault)),
     }
 }
 
@@ -102,7 +104,7 @@ fn bind_first<R: Net>(
     for address in listen {
         let bound = bind_into(&mut sockets, rt, *address, Turn::First)?;
         if let Err(fault) = addresses.push(bound) {
-            return Err(unbound(*address, "TCP", io::Error::from(fault)));
+            return Err(Unbound::new(*address, "TCP", io::Error::from(fault)));
         }
     }
     Ok((sockets, addresses))
@@ -141,7 +143,7 @@ fn bind_into<R: Net>(
 
 /// The fault for lack of memory.
 fn no_memory(listen: SocketAddr) -> Unbound {
-    unbound(listen, "TCP", io::Error::from(ErrorKind::OutOfMemory))
+    Unbound::new(listen, "TCP", io::Error::from(ErrorKind::OutOfMemory))
 }
 
 /// Binds the sockets of all workers, at least one, and returns them with the addresses and the ports that they were given. If another program has a
