@@ -5,7 +5,7 @@ use memory_devices::{Kept, Play, Played, asker, is_played, octets_of, server_of,
 use serve_core::{Peer, Transport};
 use std::alloc::Global;
 use std::sync::Wait;
-use tcp_connections::{Handler, Reply, Unmade};
+use tcp_connections::{Handler, Reply};
 use update_batches::{Most, Queue};
 use zone_replies::ConnectionHandler;
 use zone_server::{QueuedUpdate, ReplyTo, Server, ServerLedgers, ServerName, UpdateSender};
@@ -44,7 +44,7 @@ fn is_later<R: Wait, Z: FirstZone, N: ServerName>(
     replies.turn_to(updater(), asker(port), key);
     match replies.reply(rt, request, &mut out) {
         Ok(Reply::One(_)) => Some(false),
-        Err(Unmade::Later) => Some(true),
+        Ok(Reply::Later) => Some(true),
         _ => None,
     }
 }

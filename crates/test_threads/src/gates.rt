@@ -77,6 +77,7 @@ impl<G: Gate> Gate for Entrance<'_, G> {
 struct BothJob<'g, 's, Z: FirstZone, N: ServerName> {
     number: u16,
     alloc: Global,
+    gate: &'g HoldingGate,
     server: &'g Server<'s, Z, N>,
     reader: Option<VersionReader<N>>,
     tape: Option<MemoryStream>,
@@ -91,13 +92,8 @@ impl<'g, 's, Z: FirstZone + Send + Sync, N: ServerName + Send + Sync> Job
 
     // For the stream, the gate is left after the reply is written.
     #[tactic(auto, using(requests::proofs::TurnLemmas::grows_itself))]
-    fn run<R: Wait, A: Handler, G: Gate, L: ServiceLog>(
-        &mut self,
-        rt: &R,
-        answering: &mut A,
-        gate: &G,
-        _log: &L,
-    ) {
+    fn run<R: Wait, A: Handler, L: ServiceLog>(&mut self, rt: &R, answering: &mut A, _log: &L) {
+        let gate = self.gate;
         let Some(reader) = self.reader.take() else {
             return;
         };
@@ -179,6 +175,7 @@ fn datagrams_of(alloc: Global, frame: &[u8]) -> Option<MemoryDatagrams> {
 fn pairs_of<'g, 's, Z: FirstZone, N: ServerName>(
     alloc: Global,
     server: &'g Server<'s, Z, N>,
+    gate: &'g HoldingGate,
     mut readers: Vec<VersionReader<N>>,
 ) -> Option<Vec<(VersionReader<N>, BothJob<'g, 's, Z, N>)>> {
     let mut pairs = Vec::new(alloc);
@@ -190,6 +187,7 @@ fn pairs_of<'g, 's, Z: FirstZone, N: ServerName>(
         let job = BothJob {
             number,
             alloc,
+            gate,
             server,
             reader,
             tape,
@@ -237,13 +235,13 @@ fn serve<R: Wait + Threads + Sync + Abort, Z: FirstZone + Send + Sync, N: Server
     server: &Server<'_, Z, N>,
     readers: Vec<VersionReader<N>>,
 ) -> Vec<VersionReader<N>> {
-    let pairs = pairs_of(alloc, server, readers).expect(rt, "memory");
     let gate = HoldingGate {
         entered: AtomicU64::new(0),
         left: AtomicU64::new(0),
         gave_up: AtomicU64::new(0),
     };
-    let Ok(pairs) = run_workers(rt, alloc, server, pairs, &gate, &NoLog) else {
+    let pairs = pairs_of(alloc, server, &gate, readers).expect(rt, "memory");
+    let Ok(pairs) = run_workers(rt, alloc, server, pairs, &NoLog) else {
         panic!(rt; "a thread is refused");
     };
     let is_well = gate.gave_up.load(Ordering::SeqCst) == 0;

@@ -3,7 +3,7 @@
 ghost use Rattle.std.specs.Prelude.{None, ⊤, [], ◌-◌, ◌^◌};
 
 use memory_devices::{Kept, asker};
-use requests::Allowed;
+use requests::{Allowed, StreamEnd};
 use serve_core::{Peer, Transport};
 use std::alloc::Global;
 use std::io;
@@ -11,7 +11,7 @@ use std::net::SocketAddr;
 use std::sync::Wait;
 use std::sync::atomic::{AtomicU64, Ordering};
 use std::time::{Clock, Duration};
-use tcp_connections::{Blocking, Fault, Handler, Limits, Reply, Unmade};
+use tcp_connections::{Blocking, Fault, Handler, Limits, Reply};
 use tcp_loop::{Arrivals, EventLoop, NotWatched, Plan, Readiness, Refusal, Remote};
 use worker_jobs::{ConnectionsJob, Scratch, Shutdown, StopFlag, WakeList, WorkLimit};
 use zone_replies::Transfer;
@@ -178,12 +178,12 @@ impl Handler<Transfer> for Putting<'_> {
         rt: &R,
         _request: &[u8],
         _out: &mut [u8],
-    ) -> Result<Reply<Transfer>, Unmade> {
+    ) -> Result<Reply<Transfer>, StreamEnd> {
         self.asked = self.asked.saturating_add(1);
         if self.tells && self.asked == 1 {
             self.told.tell(rt, self.asker);
         }
-        Err(Unmade::Later)
+        Ok(Reply::Later)
     }
 }
 

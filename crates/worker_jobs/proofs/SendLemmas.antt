@@ -72,7 +72,7 @@ datagram_handler_send a b T N L g n s hears =
     struct_send (shape (asked.the_type a b T N L n g s))
     (shr_send _ _ _ (server_sync b T N g n s), (search (cell.crosses, crossing.crosses, sendable) depth 60 fits 20000, (search (crossing.crosses, sendable) depth 60 fits 20000, (search (global.the_field_send, sendable) depth 60 fits 20000, (search (crossing.crosses, sendable) depth 60 fits 20000, (search (crossing.crosses, sendable) depth 60 fits 20000, (search (query_send, sendable) depth 60 fits 20000, (search (names_send, sendable) depth 60 fits 20000, (search (sender_send, option.the_field_send, option.the_send, crossing.crosses, sendable) depth 60 fits 20000, tt)))))))))
 
-pub worker_send : (a b : NamedLft) (T N J G L : RattleType) (g : Ghosts T.Denot) (n : naming.Ghosts N.Denot) (s : server_names.Ghosts N.Denot) → IsSend J → IsSync G → IsSync L → IsSend (worker.the_row a b T N J G L n g s)
-worker_send a b T N J G L g n s sends shares hears =
-    recorded_send (worker.the_field a b T N J G L n g s).row _ _ (worker.the_type a b T N J G L n g s).to_one
-    (struct_send (shape (worker.the_type a b T N J G L n g s)) (datagram_handler_send a b T N L g n s hears, (sends, (search (crossing.crosses, sendable) depth 60 fits 20000, (search (crossing.crosses, sendable) depth 60 fits 20000, tt)))))
+pub worker_send : (a b : NamedLft) (T N J L : RattleType) (g : Ghosts T.Denot) (n : naming.Ghosts N.Denot) (s : server_names.Ghosts N.Denot) → IsSend J → IsSync L → IsSend (worker.the_row a b T N J L n g s)
+worker_send a b T N J L g n s sends hears =
+    recorded_send (worker.the_field a b T N J L n g s).row _ _ (worker.the_type a b T N J L n g s).to_one
+    (struct_send (shape (worker.the_type a b T N J L n g s)) (datagram_handler_send a b T N L g n s hears, (sends, (search (crossing.crosses, sendable) depth 60 fits 20000, tt))))

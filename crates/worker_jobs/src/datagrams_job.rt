@@ -7,7 +7,7 @@ ghost use Rattle.worker_jobs.specs.Ended.{EndsSo, JobEndsBy};
 use crate::progress::StopFlag;
 use crate::scratch::Scratch;
 use crate::udp_job::UdpJob;
-use requests::{Allowed, Datagrams, Handler, OpenGate};
+use requests::{Allowed, Datagrams, Handler};
 use std::sync::Wait;
 use zone_server::JobEnd;
 
@@ -85,7 +85,7 @@ impl<'a, D: Datagrams> DatagramsJob<'a, D> {
         ensures end { self.new.end ≡ Some result }
         ensures number { self.new.number ≡ self.old.number }
     {
-        let served = self.job.serve(rt, answering, &OpenGate);
+        let served = self.job.serve(rt, answering);
         let end = end_of(served, self.standing);
         self.end = Some(end);
         end

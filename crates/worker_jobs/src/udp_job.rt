@@ -7,7 +7,7 @@ ghost use Rattle.worker_jobs.specs.Ended.{job_end, JobEndsBy};
 use crate::scratch::Scratch;
 use crate::workers::Job;
 use crossbeam_utils::CachePadded;
-use requests::{Allowed, Datagrams, DatagramsEnd, Gate, Handler, serve_udp};
+use requests::{Allowed, Datagrams, DatagramsEnd, Handler, OpenGate, serve_udp};
 use serve_core::Transport;
 use std::sync::Wait;
 use zone_server::{Event, JobEnd, ServiceLog};
@@ -79,12 +79,7 @@ impl<'a, D: Datagrams> UdpJob<'a, D> {
 
     /// Answers the job's number of datagrams as they come, and gives how that ended. It answers fewer where one can't be received, or no
     /// version can be loaded. Each peer may update and transfer by its own address (RFC 1035, 4.2.1).
-    pub fn serve<R: Wait, A: Handler, G: Gate>(
-        &mut self,
-        rt: &R,
-        answering: &mut A,
-        gate: &G,
-    ) -> JobEnd
+    pub fn serve<R: Wait, A: Handler>(&mut self, rt: &R, answering: &mut A) -> JobEnd
         ensures served { IfSome (D.datagrams self.old.datagrams) (λ o. JobEndsBy A.is_reply self.old.allowed.addresses.now result (A.seen answering.old) o (D.failed self.old.datagrams) self.old.most (A.seen answering.new) (D.datagrams self.new.datagrams) (D.failed self.new.datagrams)) }
         ensures grows { Grows (A.seen answering.new) (A.seen answering.old) }
         ensures end { self.new.end ≡ Some result }
@@ -97,7 +92,7 @@ impl<'a, D: Datagrams> UdpJob<'a, D> {
             &mut self.datagrams,
             self.allowed,
             self.most,
-            gate,
+            &OpenGate,
             request,
             reply,
         );
@@ -112,19 +107,13 @@ impl<D: Datagrams + Send + Drop> Job for UdpJob<'_, D> {
 
     ghost is_done = { λ job. IsSome job.end };
 
-    fn run<R: Wait, A: Handler, G: Gate, L: ServiceLog>(
-        &mut self,
-        rt: &R,
-        answering: &mut A,
-        gate: &G,
-        log: &L,
-    )
+    fn run<R: Wait, A: Handler, L: ServiceLog>(&mut self, rt: &R, answering: &mut A, log: &L)
         ensures served { IfSome (D.datagrams self.old.datagrams) (λ o. (end : EndOfJob) × (self.new.end ≡ Some end) × JobEndsBy A.is_reply self.old.allowed.addresses.now end (A.seen answering.old) o (D.failed self.old.datagrams) self.old.most (A.seen answering.new) (D.datagrams self.new.datagrams) (D.failed self.new.datagrams)) }
         ensures grows { Grows (A.seen answering.new) (A.seen answering.old) }
         ensures number { self.new.number ≡ self.old.number }
         ensures done { IsSome self.new.end }
     {
-        let end = self.serve(rt, answering, gate);
+        let end = self.serve(rt, answering);
         let (worker, transport) = (self.number, Transport::Udp);
         log.tell(
             rt,

@@ -21,22 +21,6 @@ impl<'a> Drop for WakeSource<'a> {
     }
 }
 
-impl WakeSource<'_> {
-    /// Takes the woken keys from the list.
-    fn take_woken<R: Wait>(&mut self, rt: &R) {
-        for _ in rt.forever() {
-            // A key for which there is no memory stays in the list.
-            if self.woken.try_reserve(1).is_err() {
-                return;
-            }
-            let Some(key) = self.list.take(rt) else {
-                return;
-            };
-            let _ = self.woken.push(key);
-        }
-    }
-}
-
 /// Waits until a stream may be ready, or another thread wakes a connection, whose key is then reported as ready.
 pub(crate) struct WakingPoll<'a, P> {
     poll: P,
@@ -65,8 +49,18 @@ impl<'a, P> WakingPoll<'a, P> {
 
     /// Takes the woken keys from the list.
     pub(crate) fn take_woken<R: Wait>(&mut self, rt: &R) {
-        if let Some(wakes) = &mut self.wakes {
-            wakes.take_woken(rt);
+        let Some(wakes) = &mut self.wakes else {
+            return;
+        };
+        for _ in rt.forever() {
+            // A key for which there is no memory stays in the list.
+            if wakes.woken.try_reserve(1).is_err() {
+                return;
+            }
+            let Some(key) = wakes.list.take(rt) else {
+                return;
+            };
+            let _ = wakes.woken.push(key);
         }
     }
 

@@ -5,7 +5,7 @@ ghost use Rattle.requests.specs.Served.{BeginsWith, Grows};
 ghost use Rattle.worker_jobs.specs.GivenBack.{Each, IsReturned};
 
 use dns_engine::{FirstZone, VersionReader};
-use requests::{Gate, Handler};
+use requests::Handler;
 use serve_core::{Peer, Transport};
 use snapshot_cell::Naming;
 use std::alloc::Global;
@@ -23,14 +23,8 @@ pub trait Job: Send + Drop {
     /// What holds of a job that has been done.
     ghost is_done: { Self → Type 0 };
 
-    /// Does the job, with a handler that answers each peer that it is turned to. Each request passes the gate. Logs how the job ends.
-    fn run<R: Wait, A: Handler, G: Gate, L: ServiceLog>(
-        &mut self,
-        rt: &R,
-        answering: &mut A,
-        gate: &G,
-        log: &L,
-    )
+    /// Does the job, with a handler that answers each peer that it is turned to. Logs how the job ends.
+    fn run<R: Wait, A: Handler, L: ServiceLog>(&mut self, rt: &R, answering: &mut A, log: &L)
         ensures number { number self.new ≡ number self.old }
         ensures done { is_done self.new }
         ensures grows { Grows (A.seen answering.new) (A.seen answering.old) };
@@ -77,12 +71,11 @@ pub fn nobody() -> SocketAddr {
     SocketAddr::V4(SocketAddrV4::new(Ipv4Addr::new(0, 0, 0, 0), 0))
 }
 
-/// A job with its handler, which has a reader, and with its gate and log.
+/// A job with its handler, which has a reader, and with its log.
 #[derive(Drop)]
-struct Worker<'g, 's, Z: FirstZone, N: ServerName, J, G, L> {
+struct Worker<'g, 's, Z: FirstZone, N: ServerName, J, L> {
     asked: DatagramHandler<'g, 's, Z, N, L>,
     job: J,
-    gate: &'g G,
     log: &'g L,
 }
 
@@ -92,9 +85,8 @@ impl<
     Z: FirstZone + Send + Sync,
     N: ServerName + Send + Sync,
     J: Job,
-    G: Gate + Sync,
     L: ServiceLog + Sync,
-> Task for Worker<'g, 's, Z, N, J, G, L> {
+> Task for Worker<'g, 's, Z, N, J, L> {
     ghost number = { λ worker. J.number worker.job };
 
     ghost seen = { λ worker. worker.asked.reader.seen };
@@ -102,7 +94,7 @@ impl<
     ghost is_done = { λ worker. J.is_done worker.job };
 
     fn work<R: Wait>(&mut self, rt: &R) {
-        self.job.run(rt, &mut self.asked, self.gate, self.log);
+        self.job.run(rt, &mut self.asked, self.log);
     }
 }
 
@@ -308,13 +300,12 @@ pub fn do_all<R: Threads + Wait + Sync, W: Task, M: MainTask>(
 }
 
 /// Makes a worker of each pair, and appends it to `works`, which has room for them.
-fn put_workers<'g, 's, Z: FirstZone, N: ServerName, J: Drop, G, L: ServiceLog>(
+fn put_workers<'g, 's, Z: FirstZone, N: ServerName, J: Drop, L: ServiceLog>(
     alloc: Global,
     server: &'g Server<'s, Z, N>,
-    gate: &'g G,
     log: &'g L,
     pairs: Vec<(VersionReader<N>, J)>,
-    works: &mut Vec<Worker<'g, 's, Z, N, J, G, L>>,
+    works: &mut Vec<Worker<'g, 's, Z, N, J, L>>,
 )
     requires room { vec_len pairs ≤ vec_capacity works.old }
     requires empty { works.old.items ≡ [] }
@@ -325,15 +316,14 @@ fn put_workers<'g, 's, Z: FirstZone, N: ServerName, J: Drop, G, L: ServiceLog>(
         works.push_reserved(Worker {
             asked: DatagramHandler::new(alloc, server, reader, log, peer, nobody()),
             job,
-            gate,
             log,
         });
     }
 }
 
 /// Makes a pair of each worker, and appends it to `back`, which has room for them.
-fn put_pairs<Z: FirstZone, N: ServerName, J: Drop, G, L: ServiceLog>(
-    done: Vec<Worker<'_, '_, Z, N, J, G, L>>,
+fn put_pairs<Z: FirstZone, N: ServerName, J: Drop, L: ServiceLog>(
+    done: Vec<Worker<'_, '_, Z, N, J, L>>,
     back: &mut Vec<(VersionReader<N>, J)>,
 )
     requires room { vec_len done ≤ vec_capacity back.old }
@@ -356,14 +346,12 @@ pub fn run_workers<
     Z: FirstZone + Send + Sync,
     N: ServerName + Send + Sync,
     J: Job,
-    G: Gate + Sync,
     L: ServiceLog + Sync,
 >(
     rt: &R,
     alloc: Global,
     server: &'g Server<'s, Z, N>,
     pairs: Vec<(VersionReader<N>, J)>,
-    gate: &'g G,
     log: &'g L,
 ) -> Result<Vec<(VersionReader<N>, J)>, NotStarted<N, J>>
     ensures numbers { IfOk result (λ back. map (λ pair. J.number pair.1) back.items ≡ map (λ pair. J.number pair.1) pairs.items) }
@@ -378,7 +366,7 @@ pub fn run_workers<
     let Ok(mut back) = Vec::with_capacity(alloc, count) else {
         return Err(NotStarted(pairs));
     };
-    put_workers(alloc, server, gate, log, pairs, &mut works);
+    put_workers(alloc, server, log, pairs, &mut works);
     let (started, done, _) = do_all(rt, alloc, works, NoMainTask);
     put_pairs(done, &mut back);
     if started {

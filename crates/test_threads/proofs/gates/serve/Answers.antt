@@ -20,7 +20,7 @@ job_send : (a b : NamedLft) (T N : RattleType) (g : Ghosts T.Denot) (n : naming.
 job_send a b T N g n s =
     recorded_send (job.the_field a b T N n g s).row _ _ (job.the_type a b T N n g s).to_one
     (struct_send (shape (job.the_type a b T N n g s))
-    (search (crossing.crosses, sendable) depth 60 fits 20000, (search (global.the_field_send, sendable) depth 60 fits 20000, (shr_send _ _ _ (server_sync b T N g n s), (search (option.the_field_send, option.the_send, cell.crosses, crossing.crosses, sendable) depth 60 fits 20000, (search (option.the_field_send, option.the_send, crossing.crosses, sendable) depth 60 fits 20000, (search (option.the_field_send, option.the_send, crossing.crosses, sendable) depth 60 fits 20000, tt)))))))
+    (search (crossing.crosses, sendable) depth 60 fits 20000, (search (global.the_field_send, sendable) depth 60 fits 20000, (search (crossing.crosses, sendable) depth 60 fits 20000, (shr_send _ _ _ (server_sync b T N g n s), (search (option.the_field_send, option.the_send, cell.crosses, crossing.crosses, sendable) depth 60 fits 20000, (search (option.the_field_send, option.the_send, crossing.crosses, sendable) depth 60 fits 20000, (search (option.the_field_send, option.the_send, crossing.crosses, sendable) depth 60 fits 20000, tt))))))))
 
 pub run_workers-requires-send-J : goal.run_workers-requires-send-J
 run_workers-requires-send-J g c κs within = param_send _ _ (arg_send _ no _ (job_send _ _ (param 1 g.row.Z) (param 2 g.row.N) g.Z.FirstZone g.N.Naming g.N.ServerName))

@@ -10,8 +10,8 @@ pub do_all-started-requires-send-W : goal.do_all-started-requires-send-W
 do_all-started-requires-send-W g c κs within =
     param_send _ _
     (arg_send _ no _
-    (worker_send _ _ (param 1 g.row.Z) (param 2 g.row.N) (param 3 g.row.J) (param 4 g.row.G) (param 5 g.row.L) g.Z.FirstZone g.N.Naming g.N.ServerName
-    (search (c.type_bounds.send-J, sendable)) (search (c.type_bounds.sync-G, sendable)) (search (c.type_bounds.sync-L, sendable))))
+    (worker_send _ _ (param 1 g.row.Z) (param 2 g.row.N) (param 3 g.row.J) (param 4 g.row.L) g.Z.FirstZone g.N.Naming g.N.ServerName
+    (search (c.type_bounds.send-J, sendable)) (search (c.type_bounds.sync-L, sendable))))
 
 pub returns-then-started-clause-numbers : goal.returns-then-started-clause-numbers
 returns-then-started-clause-numbers g c = numbers_along _ _ _ _ _ _ c.put_pairs.ensures.pairs c.do_all-started.ensures.numbers c.put_workers.ensures.pairs
