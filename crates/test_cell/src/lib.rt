@@ -18,14 +18,16 @@ mod crew;
 #[cfg(test)]
 mod ends;
 #[cfg(test)]
+mod histories;
+#[cfg(test)]
 mod jobs;
 #[cfg(test)]
 mod named;
 #[cfg(test)]
 mod plays;
 #[cfg(test)]
-mod rows;
-#[cfg(test)]
 mod scripts;
+#[cfg(test)]
+mod slots;
 #[cfg(test)]
 mod word_machines;
