@@ -1,5 +1,5 @@
 //! New stores in directories, and updates that are appended to them.
-ghost use Rattle.std.specs.Prelude.{◌≤◌, length, IfOk};
+ghost use Rattle.std.specs.Prelude.{◌≡◌, ◌≤◌, true, length, IfOk, IfSome};
 
 use crate::journals::{ADD_A, ZONE};
 use crate::published::Published;
@@ -72,7 +72,9 @@ pub(crate) fn begin(rt: &HostRuntime, dir: &str) -> Result<WrittenStore, Fail> {
 }
 
 /// The update that octets hold, of a peer that may update. None if they hold none, or memory allocation fails.
-fn request_of(alloc: Global, octets: Vec<u8>) -> Option<UpdateRequest> {
+fn request_of(alloc: Global, octets: Vec<u8>) -> Option<UpdateRequest>
+    ensures { IfSome result (λ request. request.may ≡ true) }
+{
     match parse(alloc, &octets) {
         Parsed::Update(update) => UpdateRequest::of(update, octets, true),
         _ => None,
