@@ -2,9 +2,8 @@
 ghost use Rattle.std.specs.Prelude.{◌≡◌, ◌++◌, ◌↔◌, ⊥, false, flat_map, string_bytes, codes, IfOk, OnOk};
 ghost use Rattle.std.specs.Result.{IsErrOf};
 ghost use Rattle.dns_name.specs.Name.{is_same};
-ghost use Rattle.dns_rdata.specs.Record.{Record};
 ghost use Rattle.zone_tree.specs.Sets.{records_in};
-ghost use Rattle.zone_tree.specs.Zone.{apex_of};
+ghost use Rattle.zone_tree.specs.Zone.{apex_of, soa_of};
 ghost use Rattle.change_command.specs.ChangeText.{signed_line, change_text};
 
 use dns_name::Name;
@@ -31,7 +30,10 @@ pub fn write_change(alloc: Global, old: &Zone, next: &Zone) -> Result<String, Ch
 }
 
 /// Puts the lines of a change at the end of a text.
-fn put_change(text: &mut String, old: &Zone, change: &ZoneChange) -> Result<(), AllocError> {
+fn put_change(text: &mut String, old: &Zone, change: &ZoneChange) -> Result<(), AllocError>
+    ensures { OnOk result (string_bytes text.new ≡ string_bytes text.old
+        ++ (flat_map (signed_line (codes "- ")) (soa_of old.now ++ change.now.delta.deletions) ++ flat_map (signed_line (codes "+ ")) (change.now.soa ++ change.now.delta.additions))) }
+{
     put_set(text, "- ", old.soa())?;
     put_sets(text, "- ", change.delta.deletions())?;
     put_set(text, "+ ", &change.soa)?;

@@ -77,6 +77,30 @@ module _ (d : Changes) (old next : List Record) (h : IsZone old) (k : IsZone nex
   pub same_soa : pointwise is_same_record old (here old next) ≡ true → at_serial (zone_serial old) (soa_of next) ≡ soa_of old
   same_soa e = sym (soa_at (zone_serial old) next) ∙ ap soa_of (sym (one_from e))
 
+  -- by what a test tells of what goes and comes
+  pub same_by : (b : Bool) → (b ≡ true → (d.deletions ≡ []) × (d.additions ≡ [])) → (b ≡ false → d.deletions ≡ [] → d.additions ≡ [] → ⊥) → at_serial (zone_serial old) (soa_of next) ≡ soa_of old → b ≡ pointwise is_same_record old (here old next)
+  same_by true f g soa = let none = f refl in sym (same_from none.0 none.1 soa)
+  same_by false f g soa = sym (by_false (pointwise is_same_record old (here old next)) (λ e. g refl (no_deletions e) (no_additions e)))
+
+  pub other_soa : (at_serial (zone_serial old) (soa_of next) ≡ soa_of old → ⊥) → false ≡ pointwise is_same_record old (here old next)
+  other_soa f = sym (by_false (pointwise is_same_record old (here old next)) (λ e. f (same_soa e)))
+
+-- what changes to a zone, and its SOA; the zone has other records
+abbrev pub IsChange : Changes → List Record → List Record → List Record → Type 0
+IsChange d soa old aim = AreChanges d old aim × (soa ≡ soa_of aim) × (pointwise is_same_record old aim ≡ false)
+
+apart_from : (old aim : List Record) → IsZone old → IsZone aim → (aim ≡ old → ⊥) → pointwise is_same_record old aim ≡ false
+apart_from old aim h k f = by_false (pointwise is_same_record old aim) (λ e. f (sym (pointwise_one old aim (plain old h).lawful (plain aim k).lawful e)))
+
+pub change_less : (d : Changes) (soa old next : List Record) → IsZone old → IsZone next → serial_less (zone_serial old) (zone_serial next) ≡ true → AreChanges d old next → soa ≡ soa_of next → IsChange d soa old (aimed old next)
+change_less d soa old next h k e is are = subst (IsChange d soa old) (sym (aimed_less old next e)) (is, are, apart_from old next h k (another old next e))
+
+pub change_after : (d : Changes) (soa old next : List Record) → IsZone old → IsZone next → serial_less (zone_serial old) (zone_serial next) ≡ false → pointwise is_same_record old (at_serial (zone_serial old) next) ≡ false → AreChanges d old next
+    → soa ≡ at_serial (serial_next (zone_serial old)) (soa_of next) → IsChange d soa old (aimed old next)
+change_after d soa old next h k e f is are =
+    subst (IsChange d soa old) (sym (aimed_after old next e f))
+    (changes_at (serial_next (zone_serial old)) d old next is, are ∙ sym (soa_at (serial_next (zone_serial old)) next), apart_from old (after old next) h (serial_zone (serial_next (zone_serial old)) next k).is (another_after old next h k))
+
 -- sets that have no record are none
 pub no_sets : (sets : List (List Record)) → All IsRRset sets → records_in sets ≡ [] → length sets ≡ 0
 no_sets sets h e = by sets (recursion_from_All IsRRset sets h) e

@@ -75,17 +75,20 @@ module _ (zone : List Record) (h : IsZone zone) where
     stands : prerequisites zone (standing soa ∷ []) ≡ None
     stands = rw (alone, met) refl
 
-  pub taken : (rs : List RawRecord) → AllByRecursion (Passes zone) rs → verdict zone (update_from zone rs) true ≡ None
-  taken rs passes =
+  pub taken_by : (rs : List RawRecord) → prescan zone rs ≡ None → verdict zone (update_from zone rs) true ≡ None
+  taken_by rs passed =
       let own = one_of (soa_of zone) h.rules.one_soa in
       let condition : prerequisites zone (map standing (soa_of zone)) ≡ None = ap (λ ss. prerequisites zone (map standing ss)) own.1 ∙ stands own.0 own.1 in
-      (λ i. option_or (option_or (section i) (condition i)) (option_or None (all_pass zone rs passes i)))
+      (λ i. option_or (option_or (section i) (condition i)) (option_or None (passed i)))
+
+  pub taken : (rs : List RawRecord) → AllByRecursion (Passes zone) rs → verdict zone (update_from zone rs) true ≡ None
+  taken rs passes = taken_by rs (all_pass zone rs passes)
 
 -- a zone that a change is to lead to
-record IsAim (old next : List Record) : Type 0 where
-  is : IsZone next
-  apex : apex_of old ≡ apex_of next
-  way : (pointwise is_same_record old next ≡ true) ⊎ ((serial_less (zone_serial old) (zone_serial next) ≡ true) × HasRoom old next)
+pub record IsAim (old next : List Record) : Type 0 where
+  pub is : IsZone next
+  pub apex : apex_of old ≡ apex_of next
+  pub way : (pointwise is_same_record old next ≡ true) ⊎ ((serial_less (zone_serial old) (zone_serial next) ≡ true) × HasRoom old next)
 
 -- the NS at an apex stay where the serial is another
 servers_at : (n : ℕ) (o : Name) (zs : List Record) → rrset_of (at_serial n zs) o type_NS ≡ rrset_of zs o type_NS
@@ -110,7 +113,7 @@ pub servers_same : (n : ℕ) (zone : List Record) → IsZone zone → servers_of
 servers_same n zone h = ap (λ o. rrset_of (at_serial n zone) o type_NS) (serial_zone n zone h).apex ∙ servers_at n (apex_of zone) zone
 
 module _ (old next : List Record) (c : CanChange old next) where
-  aims : IsAim old (aimed old next)
+  pub aims : IsAim old (aimed old next)
   aims =
       by_test (IsAim old) (serial_less (zone_serial old) (zone_serial next)) next (if pointwise is_same_record old (at_serial (zone_serial old) next) then old else at_serial (serial_next (zone_serial old)) next)
       (λ e. record { is = c.next_zone; apex = c.apex; way = inr (e, c.room) })

@@ -8,3 +8,5 @@ pub mod ApartLemmas
 pub mod ChangeLemmas
 pub mod UpdateLemmas
 pub mod RecordsLemmas
+pub mod ServerLemmas
+pub mod FirstLemmas

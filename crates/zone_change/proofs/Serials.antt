@@ -1,5 +1,5 @@
 -- What two zones have that the other hasn't doesn't depend on their serials.
-use Rattle.std.proofs.Common.{◌≡◌, ◌≢◌, refl, sym, ap, ◌∙◌, subst, ℕ, Bool, true, false, ◌&&◌, not, ◌==◌, cond, List, [], ◌∷◌, map, filter, true≢false, inl, inr, eqb-true}
+use Rattle.std.proofs.Common.{◌≡◌, ◌≢◌, refl, sym, ap, ◌∙◌, subst, ℕ, Bool, true, false, ◌&&◌, ◌||◌, not, ◌==◌, cond, List, [], ◌∷◌, map, filter, true≢false, inl, inr, eqb-true}
 use Rattle.std.specs.List.{list_any, AllByRecursion}
 use Rattle.dns_rdata.specs.Numbers.{type_SOA}
 use Rattle.dns_rdata.specs.Data.{with_serial}
@@ -49,7 +49,12 @@ soa_at n (z ∷ zs) = by (z.rtype == type_SOA) refl (soa_at n zs)
   where
     by : (b : Bool) → (z.rtype == type_SOA) ≡ b → soa_of (at_serial n zs) ≡ at_serial n (soa_of zs)
         → cond ((cond b (record z { rdata = with_serial n z.rdata }) z).rtype == type_SOA) (cond b (record z { rdata = with_serial n z.rdata }) z ∷ soa_of (at_serial n zs)) (soa_of (at_serial n zs)) ≡ at_serial n (cond (z.rtype == type_SOA) (z ∷ soa_of zs) (soa_of zs))
-    by true e rest = rw e (ap (λ l. record z { rdata = with_serial n z.rdata } ∷ l) rest)
+    by true e rest =
+        let own : Record = record z { rdata = with_serial n z.rdata } in
+        (λ i. cond (e i) (own ∷ soa_of (at_serial n zs)) (soa_of (at_serial n zs)))
+        ∙ ap (λ l. own ∷ l) rest
+        ∙ (λ i. cond (sym e i) own z ∷ at_serial n (soa_of zs))
+        ∙ ap (at_serial n) (λ i. cond (sym e i) (z ∷ soa_of zs) (soa_of zs))
     by false e rest = rw e rest
 
 -- zones of which neither has what the other hasn't, SOA included, are one

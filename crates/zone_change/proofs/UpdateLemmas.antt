@@ -1,10 +1,11 @@
 -- The NS that two zones share, and the zone that one of them leaves.
-use Rattle.std.proofs.Common.{◌≡◌, refl, sym, ap, ◌∙◌, subst, ℕ, Bool, true, false, ◌&&◌, ◌||◌, not, ◌==◌, cond, List, [], ◌∷◌, ◌++◌, map, filter, All, true≢false, if◌then◌else◌, Option, None, Some, unwrap_or, bytes_eq}
+use Rattle.std.proofs.Common.{◌≡◌, refl, sym, ap, ◌∙◌, subst, ℕ, Bool, true, false, ◌&&◌, ◌||◌, not, ◌==◌, cond, List, [], ◌∷◌, ◌++◌, map, filter, flat_map, length, get_or, arith, All, true≢false, if◌then◌else◌, Option, None, Some, unwrap_or, bytes_eq}
 use Rattle.std.specs.Option.{IfSome, option_map, option_or, is_some}
 use Rattle.std.specs.List.{list_any, AllByRecursion}
 use Rattle.std.specs.Ordering.{is_eq}
 use Rattle.std.specs.Cmp.{first_so}
 use Rattle.std.specs.Cmp.Lexicographic.{pointwise}
+use Rattle.std.proofs.lemmas.List.{map-append}
 use Rattle.std.proofs.lemmas.Map.Views.{any-filter_same}
 use Rattle.dns_name.specs.Name.{Name, is_same}
 use Rattle.dns_name.specs.Order.{is_same_equiv}
@@ -16,11 +17,12 @@ use Rattle.dns_rdata.specs.SerialOrder.{serial_less, serial_next}
 use Rattle.zone_tree.specs.Zone.{IsZone, is_of, rrset_of, apex_of}
 use Rattle.zone_tree.specs.Change.{is_same_record, left_out}
 use Rattle.zone_tree.specs.Patch.{is_among}
+use Rattle.zone_tree.specs.Sets.{records_in}
 use Rattle.zone_tree.specs.Version.{zone_serial}
 use Rattle.update_core.specs.Act.{at_serial, completed, effects, act}
 use Rattle.update_core.proofs.ListLemmas.{by_test}
 use Rattle.update_core.proofs.EffectKeeps.{IsNext}
-use Rattle.zone_change.specs.Change.{as_sent, servers_of, AreBeside}
+use Rattle.zone_change.specs.Change.{as_sent, standing, servers_of, AreBeside}
 use Rattle.zone_change.proofs.Lists.{both, same_owner, same_type, each_from, in_kept}
 use Rattle.zone_change.proofs.Steps.{plain}
 use Rattle.zone_change.proofs.Law.{pointwise_one}
@@ -72,10 +74,23 @@ pub no_effects : (old : List Record) (o : Option (List Record)) → option_map (
 no_effects old None e = refl
 no_effects old (Some mid) e = cc
 
+-- the condition of an update, of the SOA
+pub one_standing : (set : List Record) (owner : Name) (rtype ttl : ℕ) (ds : List Data) (d : Data) → set ≡ records_with owner rtype ttl ds → length set ≡ 1 → d ≡ get_or ds 0 d
+    → record { owner = owner; rtype = rtype; class = 1; ttl = 0; octets = d.octets } ∷ [] ≡ map standing set
+one_standing set owner rtype ttl [] d is one first = absurd (omega (arith, ap length is, one))
+one_standing set owner rtype ttl (e ∷ []) d is one first =
+    (λ i. let own : RawRecord = record { owner = owner; rtype = rtype; class = 1; ttl = 0; octets = (first i).octets } in own ∷ []) ∙ sym (ap (map standing) is)
+one_standing set owner rtype ttl (e ∷ f ∷ ds) d is one first = absurd (omega (arith, ap length is, one))
+
 -- data as they are sent, of one owner, type, class and TTL
 abbrev pub sent_all : Name → ℕ → ℕ → ℕ → List Data → List RawRecord
 sent_all owner rtype class ttl [] = []
 sent_all owner rtype class ttl (d ∷ ds) = record { owner = owner; rtype = rtype; class = class; ttl = ttl; octets = d.octets } ∷ sent_all owner rtype class ttl ds
+
+-- the records of sets, as they are sent
+pub map_sets : (f : Record → RawRecord) (sets : List (List Record)) → flat_map (map f) sets ≡ map f (records_in sets)
+map_sets f [] = refl
+map_sets f (set ∷ sets) = ap (λ l. map f set ++ l) (map_sets f sets) ∙ sym (map-append f set (records_in sets))
 
 pub sent_records : (owner : Name) (rtype class ttl : ℕ) (ds : List Data) → sent_all owner rtype class (if class == class_IN then ttl else 0) ds ≡ map (as_sent class) (records_with owner rtype ttl ds)
 sent_records owner rtype class ttl [] = refl

@@ -1,5 +1,5 @@
 //! What changes between two zones of one apex.
-ghost use Rattle.std.specs.Prelude.{◌≡◌, ◌≢◌, ◌↔◌, false, IfOk, MatchOption};
+ghost use Rattle.std.specs.Prelude.{◌≡◌, ◌↔◌, false, true, [], IfOk, MatchOption};
 ghost use Rattle.std.specs.Result.{IsErrOf};
 ghost use Rattle.dns_name.specs.Name.{is_same};
 ghost use Rattle.zone_tree.specs.Zone.{IsZone, soa_of, apex_of};
@@ -35,23 +35,56 @@ pub fn change_between(
     next: &Zone,
 ) -> Result<Option<ZoneChange>, ChangeFault>
     ensures change { IfOk result (λ found. MatchOption found (aimed old.now next.now ≡ old.now)
-        (λ change. AreChanges change.delta old.now (aimed old.now next.now) × (change.soa ≡ soa_of (aimed old.now next.now)) × (aimed old.now next.now ≢ old.now))) }
+        (λ change. AreChanges change.delta old.now (aimed old.now next.now) × (change.soa ≡ soa_of (aimed old.now next.now)) × (pointwise is_same_record old.now (aimed old.now next.now) ≡ false))) }
+    ensures zones { IfOk result (λ found. IsZone old.now × IsZone next.now × (apex_of old.now ≡ apex_of next.now)) }
     ensures other { IsErrOf result ChangeFault.OtherApex ↔ (is_same (apex_of old.now) (apex_of next.now) ≡ false) }
     ensures room { IsErrOf result ChangeFault.NoRoom → ⊥ }
+    ensures long { IsErrOf result ChangeFault.TooLong → ⊥ }
 {
-    if *old.apex() != *next.apex() {
+    if !have_one_apex(old, next) {
         return Err(ChangeFault::OtherApex);
     }
     let delta = delta_between(alloc, old, next)?;
-    if old.serial().less(next.serial()) {
-        let soa = next.soa().copy(alloc)?;
-        return Ok(Some(ZoneChange { delta, soa }));
+    match soa_to(alloc, old, next, &delta)? {
+        Some(soa) => Ok(Some(ZoneChange { delta, soa })),
+        None => Ok(None),
     }
-    if is_same_but_serial(alloc, old, next, &delta)? {
+}
+
+/// The SOA that a change brings, by what changed from one zone to another; None where they differ in nothing but a serial that isn't
+/// greater.
+fn soa_to(
+    alloc: Global,
+    old: &Zone,
+    next: &Zone,
+    delta: &Delta,
+) -> Result<Option<RRset>, AllocError>
+    requires { AreChanges delta.now old.now next.now }
+    ensures { IfOk result (λ found. MatchOption found (aimed old.now next.now ≡ old.now)
+        (λ soa. AreChanges delta.now old.now (aimed old.now next.now) × (soa ≡ soa_of (aimed old.now next.now)) × (pointwise is_same_record old.now (aimed old.now next.now) ≡ false))) }
+{
+    let serial = old.serial();
+    let own = next.soa();
+    // Both are zones.
+    let _soa = old.soa();
+    if serial.less(next.serial()) {
+        let soa = own.copy(alloc)?;
+        return Ok(Some(soa));
+    }
+    if is_same_but_serial(alloc, old, next, delta)? {
         return Ok(None);
     }
-    let soa = soa_at(alloc, next, old.serial().next())?;
-    Ok(Some(ZoneChange { delta, soa }))
+    let soa = soa_at(alloc, next, serial.next())?;
+    Ok(Some(soa))
+}
+
+/// Whether two zones have one apex.
+fn have_one_apex(old: &Zone, next: &Zone) -> bool
+    ensures same { result ≡ is_same (apex_of old.now) (apex_of next.now) }
+    ensures one { result ≡ true → apex_of old.now ≡ apex_of next.now }
+    ensures zones { IsZone old.now × IsZone next.now }
+{
+    old.soa().stored_owner() == next.soa().stored_owner()
 }
 
 /// What changed from one zone to another. `AllocError` where a growth was refused.
@@ -71,11 +104,20 @@ fn is_same_but_serial(
     requires { AreChanges delta.now old.now next.now }
     ensures { IfOk result (λ is. is ≡ pointwise is_same_record old.now (at_serial (zone_serial old.now) next.now)) }
 {
-    if !delta.deletions().is_empty() || !delta.additions().is_empty() {
+    let own = old.soa();
+    let soa = soa_at(alloc, next, old.serial())?;
+    if !soa.is_same(own) {
         return Ok(false);
     }
-    let soa = soa_at(alloc, next, old.serial())?;
-    Ok(soa.is_same(old.soa()))
+    Ok(has_none(delta))
+}
+
+/// Whether nothing goes and nothing comes.
+fn has_none(delta: &Delta) -> bool
+    ensures none { result ≡ true → (delta.now.deletions ≡ []) × (delta.now.additions ≡ []) }
+    ensures some { result ≡ false → delta.now.deletions ≡ [] → delta.now.additions ≡ [] → ⊥ }
+{
+    delta.deletions().is_empty() && delta.additions().is_empty()
 }
 
 /// The set of a zone's SOA with another serial.

@@ -1,5 +1,5 @@
 //! The octets of an update.
-ghost use Rattle.std.specs.Prelude.{◌≡◌, ◌⊎◌, ◌<◌, ◌≤◌, ◌++◌, length, flat_map, IfOk, OnOk};
+ghost use Rattle.std.specs.Prelude.{◌≡◌, ◌<◌, ◌≤◌, ◌++◌, length, flat_map, IfOk, OnOk};
 ghost use Rattle.std.specs.Result.{IsErrOf};
 ghost use Rattle.zone_change.specs.Message.{most_octets, owner_octets, record_octets, zone_octets, head_octets, message_octets};
 
@@ -23,32 +23,33 @@ pub fn message_of(alloc: Global, update: &Update) -> Result<Vec<u8>, ChangeFault
     ensures other { IsErrOf result ChangeFault.OtherApex → ⊥ }
     ensures room { IsErrOf result ChangeFault.NoRoom → ⊥ }
 {
-    let prerequisites = update.prerequisites.as_slice();
-    let updates = update.updates.as_slice();
-    let mut message = head_of(alloc, prerequisites.len(), updates.len())?;
-    put_zone(&mut message, &update.zone)?;
-    put_records(&mut message, &update.zone.name, prerequisites)?;
-    put_records(&mut message, &update.zone.name, updates)?;
+    let message = octets_of(alloc, update)?;
     if message.len() > MAX_MESSAGE {
         return Err(ChangeFault::TooLong);
     }
     Ok(message)
 }
 
-/// The header, with these counts of prerequisites and of updates.
-fn head_of(alloc: Global, prerequisites: usize, updates: usize) -> Result<Vec<u8>, ChangeFault>
-    ensures head { IfOk result (λ head. head.items ≡ head_octets prerequisites updates) }
-    ensures long { IsErrOf result ChangeFault.TooLong → (most_octets < prerequisites) ⊎ (most_octets < updates) }
+/// The octets of an update, as many as they are.
+fn octets_of(alloc: Global, update: &Update) -> Result<Vec<u8>, AllocError>
+    ensures { IfOk result (λ message. message.items ≡ message_octets update.now) }
 {
-    let Ok(first) = u16::try_from(prerequisites) else {
-        return Err(ChangeFault::TooLong);
-    };
-    let Ok(second) = u16::try_from(updates) else {
-        return Err(ChangeFault::TooLong);
-    };
+    let prerequisites = update.prerequisites.as_slice();
+    let updates = update.updates.as_slice();
+    let mut message = head_of(alloc, prerequisites.len(), updates.len())?;
+    put_zone(&mut message, &update.zone)?;
+    put_records(&mut message, &update.zone.name, prerequisites)?;
+    put_records(&mut message, &update.zone.name, updates)?;
+    Ok(message)
+}
+
+/// The header, with these counts of prerequisites and of updates, the last 16 bits of each: a message of more is too long.
+fn head_of(alloc: Global, prerequisites: usize, updates: usize) -> Result<Vec<u8>, AllocError>
+    ensures { IfOk result (λ head. head.items ≡ head_octets prerequisites updates) }
+{
     let mut head = b"\0\0\x28\0\0\x01".to_vec(alloc)?;
-    head.extend_from_slice(&first.to_be_bytes())?;
-    head.extend_from_slice(&second.to_be_bytes())?;
+    head.extend_from_slice(&(prerequisites as u16).to_be_bytes())?;
+    head.extend_from_slice(&(updates as u16).to_be_bytes())?;
     head.extend_from_slice(b"\0\0")?;
     Ok(head)
 }
@@ -62,10 +63,9 @@ fn put_zone(to: &mut Vec<u8>, zone: &ZoneEntry) -> Result<(), AllocError>
     to.extend_from_slice(&zone.class.0.to_be_bytes())
 }
 
-/// Puts records at the end of a message. `TooLong` where the data of one have more octets than a message.
-fn put_records(to: &mut Vec<u8>, zone: &Name, raws: &[RawRecord]) -> Result<(), ChangeFault>
-    ensures octets { OnOk result (to.new.items ≡ to.old.items ++ flat_map (record_octets zone.now) raws.now) }
-    ensures long { IsErrOf result ChangeFault.TooLong → most_octets < length (flat_map (record_octets zone.now) raws.now) }
+/// Puts records at the end of a message.
+fn put_records(to: &mut Vec<u8>, zone: &Name, raws: &[RawRecord]) -> Result<(), AllocError>
+    ensures { OnOk result (to.new.items ≡ to.old.items ++ flat_map (record_octets zone.now) raws.now) }
 {
     for raw in raws {
         put_record(to, zone, raw)?;
@@ -73,21 +73,17 @@ fn put_records(to: &mut Vec<u8>, zone: &Name, raws: &[RawRecord]) -> Result<(), 
     Ok(())
 }
 
-/// Puts a record at the end of a message.
-fn put_record(to: &mut Vec<u8>, zone: &Name, raw: &RawRecord) -> Result<(), ChangeFault>
-    ensures octets { OnOk result (to.new.items ≡ to.old.items ++ record_octets zone.now raw.now) }
-    ensures long { IsErrOf result ChangeFault.TooLong → most_octets < length raw.now.octets }
+/// Puts a record at the end of a message, with the last 16 bits of its data's length: a message with longer data is too long.
+fn put_record(to: &mut Vec<u8>, zone: &Name, raw: &RawRecord) -> Result<(), AllocError>
+    ensures { OnOk result (to.new.items ≡ to.old.items ++ record_octets zone.now raw.now) }
 {
-    let Ok(len) = u16::try_from(raw.octets.len()) else {
-        return Err(ChangeFault::TooLong);
-    };
+    let len = raw.octets.len() as u16;
     put_owner(to, zone, &raw.owner)?;
     to.extend_from_slice(&raw.rtype.0.to_be_bytes())?;
     to.extend_from_slice(&raw.class.0.to_be_bytes())?;
     to.extend_from_slice(&raw.ttl.to_be_bytes())?;
     to.extend_from_slice(&len.to_be_bytes())?;
-    to.extend_from_slice(&raw.octets)?;
-    Ok(())
+    to.extend_from_slice(&raw.octets)
 }
 
 /// Puts an owner at the end of a message: its labels before the zone's name, and a pointer to that (RFC 1035, 4.1.4).

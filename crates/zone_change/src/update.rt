@@ -1,15 +1,19 @@
 //! The update that takes one zone to another.
-ghost use Rattle.std.specs.Prelude.{◌≡◌, ◌≢◌, ◌↔◌, false, true, ◌++◌, map, take, All, bytes_eq, unwrap_or, None, IfOk, OnOk, IfSome, IsNone, MatchOption};
+ghost use Rattle.std.specs.Prelude.{◌≡◌, ◌↔◌, false, true, ◌++◌, [], ◌∷◌, map, take, All, bytes_eq, ◌==◌, if◌then◌else◌, unwrap_or, None, IfOk, OnOk, IfSome, IsNone, MatchOption};
 ghost use Rattle.std.specs.List.{list_any};
+ghost use Rattle.std.specs.Cmp.Lexicographic.{pointwise};
 ghost use Rattle.std.specs.Result.{IsErrOf};
 ghost use Rattle.dns_name.specs.Name.{is_same};
-ghost use Rattle.dns_rdata.specs.Record.{owner_of, rtype_of};
+ghost use Rattle.dns_rdata.specs.Numbers.{class_IN};
+ghost use Rattle.dns_rdata.specs.Record.{owner_of, rtype_of, ttl_of};
 ghost use Rattle.zone_tree.specs.Zone.{IsZone, soa_of, apex_of};
+ghost use Rattle.zone_tree.specs.Change.{is_same_record};
 ghost use Rattle.zone_tree.specs.Patch.{is_among};
+ghost use Rattle.zone_tree.specs.Sets.{records_in};
 ghost use Rattle.zone_tree.specs.Version.{AreChanges};
-ghost use Rattle.update_core.specs.Verdict.{verdict};
+ghost use Rattle.update_core.specs.Verdict.{prescan};
 ghost use Rattle.update_core.specs.Act.{effects, IsSent};
-ghost use Rattle.zone_change.specs.Change.{aimed, put_in, taken_out, as_sent, servers_of, change_records, update_from, change_to, AreBeside, HasRoom};
+ghost use Rattle.zone_change.specs.Change.{aimed, put_in, taken_out, standing, as_sent, servers_of, change_records, update_from, change_to, AreBeside, HasRoom};
 
 use crate::change::{ZoneChange, change_between, delta_between};
 use crate::fault::ChangeFault;
@@ -29,6 +33,7 @@ pub fn change_to(alloc: Global, old: &Zone, next: &Zone) -> Result<Option<Update
     ensures update { IfOk result (λ found. MatchOption found (aimed old.now next.now ≡ old.now) (λ update. update ≡ change_to old.now next.now)) }
     ensures other { IsErrOf result ChangeFault.OtherApex ↔ (is_same (apex_of old.now) (apex_of next.now) ≡ false) }
     ensures room { IsErrOf result ChangeFault.NoRoom → HasRoom old.now next.now → ⊥ }
+    ensures long { IsErrOf result ChangeFault.TooLong → ⊥ }
 {
     let Some(change) = change_between(alloc, old, next)? else {
         return Ok(None);
@@ -42,10 +47,8 @@ pub fn change_to(alloc: Global, old: &Zone, next: &Zone) -> Result<Option<Update
 fn update_from(alloc: Global, old: &Zone, updates: Vec<RawRecord>) -> Result<Update, AllocError>
     ensures { IfOk result (λ update. update ≡ update_from old.now updates.items) }
 {
+    let condition = condition_of(alloc, old)?;
     let mut prerequisites = Vec::new(alloc);
-    let soa = old.soa();
-    let class = Class::IN;
-    let condition = sent(alloc, soa, &soa.data()[0], class, 0)?;
     prerequisites.push(condition)?;
     Ok(Update {
         head: Head {
@@ -57,11 +60,20 @@ fn update_from(alloc: Global, old: &Zone, updates: Vec<RawRecord>) -> Result<Upd
         zone: ZoneEntry {
             name: old.apex().copy(),
             rtype: RType::SOA,
-            class,
+            class: Class::IN,
         },
         prerequisites: RawRecords::new(prerequisites),
         updates: RawRecords::new(updates),
     })
+}
+
+/// The condition that a zone's SOA stays (RFC 2136, 2.4.2).
+fn condition_of(alloc: Global, old: &Zone) -> Result<RawRecord, AllocError>
+    ensures { IfOk result (λ raw. raw ∷ [] ≡ map standing (soa_of old.now)) }
+{
+    let soa = old.soa();
+    let raw = sent(alloc, soa, &soa.data()[0], Class::IN, 0)?;
+    Ok(raw)
 }
 
 /// A record of a set as it is sent.
@@ -91,24 +103,25 @@ fn records_to(
     next: &Zone,
     change: &ZoneChange,
 ) -> Result<Vec<RawRecord>, ChangeFault>
+    requires zones { IsZone old.now × IsZone next.now }
     requires apex { apex_of old.now ≡ apex_of next.now }
     requires delta { AreChanges change.now.delta old.now (aimed old.now next.now) }
     requires soa { change.now.soa ≡ soa_of (aimed old.now next.now) }
-    requires apart { aimed old.now next.now ≢ old.now }
+    requires apart { pointwise is_same_record old.now (aimed old.now next.now) ≡ false }
     ensures records { IfOk result (λ raws. raws.items ≡ change_records old.now (aimed old.now next.now)) }
     ensures other { IsErrOf result ChangeFault.OtherApex → ⊥ }
     ensures room { IsErrOf result ChangeFault.NoRoom → HasRoom old.now next.now → ⊥ }
+    ensures long { IsErrOf result ChangeFault.TooLong → ⊥ }
 {
     let mut raws = Vec::new(alloc);
-    match servers_apart(old, next) {
-        Some(servers) => {
-            let between = with_first(alloc, old, servers)?;
-            put_first(alloc, &mut raws, servers)?;
-            let delta = delta_between(alloc, between.zone(), next)?;
-            put_steps(alloc, &mut raws, &delta, &change.soa)?;
-        }
-        None => put_steps(alloc, &mut raws, &change.delta, &change.soa)?,
-    }
+    let Some(servers) = servers_apart(old, next) else {
+        put_steps(alloc, &mut raws, &change.delta, &change.soa)?;
+        return Ok(raws);
+    };
+    let between = with_first(alloc, old, servers)?;
+    let delta = delta_between(alloc, between.zone(), next)?;
+    put_first(alloc, &mut raws, servers)?;
+    put_steps(alloc, &mut raws, &delta, &change.soa)?;
     Ok(raws)
 }
 
@@ -118,11 +131,18 @@ fn servers_apart<'a>(old: &Zone, next: &'a Zone) -> Option<&'a RRset>
     ensures none { IsNone result ↔ (list_any (is_among old.now) (servers_of next.now) ≡ true) }
     ensures set { IfSome result (λ set. set.now ≡ servers_of next.now) }
 {
-    let servers = servers_of(next);
-    if share_one(servers_of(old), servers) {
+    if have_one_server(old, next) {
         return None;
     }
-    Some(servers)
+    Some(servers_of(next))
+}
+
+/// Whether two zones share an NS at the apex, with its TTL.
+fn have_one_server(old: &Zone, next: &Zone) -> bool
+    requires { apex_of old.now ≡ apex_of next.now }
+    ensures { result ≡ list_any (is_among old.now) (servers_of next.now) }
+{
+    share_one(servers_of(old), servers_of(next))
 }
 
 /// The NS at a zone's apex.
@@ -137,17 +157,20 @@ fn servers_of(zone: &Zone) -> &RRset
     }
 }
 
-/// Whether two sets of one owner and type share a record: their TTL, and some data.
+/// Whether two sets of one owner and type share a record: some data, and their TTL.
 fn share_one(own: &RRset, other: &RRset) -> bool
-    requires owner { owner_of own.now ≡ owner_of other.now }
+    requires owner { is_same (owner_of own.now) (owner_of other.now) ≡ true }
     requires rtype { rtype_of own.now ≡ rtype_of other.now }
     ensures { result ≡ list_any (is_among own.now) other.now }
 {
-    own.ttl() == other.ttl()
-        && other
-            .data()
-            .iter()
-            .any(|rdata| has_octets(own.data(), rdata.octets()))
+    have_one_datum(own.data(), other.data()) && other.ttl() == own.ttl()
+}
+
+/// Whether one of the data has the octets of one of the others.
+fn have_one_datum(own: &[RData], others: &[RData]) -> bool
+    ensures { result ≡ list_any (λ e. list_any (λ d. bytes_eq e.octets d.octets) own.now) others.now }
+{
+    others.iter().any(|other| has_octets(own, other.octets()))
 }
 
 /// Whether one of the data has these octets.
@@ -159,16 +182,18 @@ fn has_octets(all: &[RData], octets: &[u8]) -> bool
 
 /// A zone with the first record of a set of NS, and the serial after its own (RFC 2136, 3.4.2.2). `NoRoom` where a limit is passed.
 fn with_first(alloc: Global, old: &Zone, servers: &RRset) -> Result<Version, ChangeFault>
-    requires taken { verdict old.now (update_from old.now (map put_in (take 1 servers.now))) true ≡ None }
+    requires zone { IsZone old.now }
+    requires passed { prescan old.now (map put_in (take 1 servers.now)) ≡ None }
     requires sent { All IsSent (map put_in (take 1 servers.now)) }
     ensures left { IfOk result (λ version. AreBeside version.zone (unwrap_or (effects old.now (map put_in (take 1 servers.now))) old.now)) }
     ensures other { IsErrOf result ChangeFault.OtherApex → ⊥ }
     ensures room { IsErrOf result ChangeFault.NoRoom → effects old.now (map put_in (take 1 servers.now)) ≡ None }
+    ensures long { IsErrOf result ChangeFault.TooLong → ⊥ }
 {
-    let mut raws = Vec::new(alloc);
-    put_first(alloc, &mut raws, servers)?;
+    let mut first = Vec::new(alloc);
+    put_first(alloc, &mut first, servers)?;
     let version = Version::first(same_zone(alloc, old)?);
-    let update = update_from(alloc, old, raws)?;
+    let update = update_from(alloc, old, first)?;
     match apply(alloc, &version, &update, true) {
         Outcome::Next(next) => Ok(next),
         Outcome::Unchanged => Ok(version),
@@ -207,12 +232,22 @@ fn put_steps(
 ) -> Result<(), AllocError>
     ensures { OnOk result (raws.new.items ≡ raws.old.items ++ (map taken_out delta.now.deletions ++ (map put_in soa.now ++ map put_in delta.now.additions))) }
 {
-    for set in delta.deletions() {
-        put_all(alloc, raws, set, Class::NONE)?;
-    }
+    put_sets(alloc, raws, delta.deletions(), Class::NONE)?;
     put_all(alloc, raws, soa, Class::IN)?;
-    for set in delta.additions() {
-        put_all(alloc, raws, set, Class::IN)?;
+    put_sets(alloc, raws, delta.additions(), Class::IN)
+}
+
+/// Adds the records of sets to those of an update, in this class.
+fn put_sets(
+    alloc: Global,
+    raws: &mut Vec<RawRecord>,
+    sets: &[RRset],
+    class: Class,
+) -> Result<(), AllocError>
+    ensures { OnOk result (raws.new.items ≡ raws.old.items ++ map (as_sent class.0) (records_in sets.now)) }
+{
+    for set in sets {
+        put_all(alloc, raws, set, class)?;
     }
     Ok(())
 }
@@ -227,9 +262,16 @@ fn put_all(
 ) -> Result<(), AllocError>
     ensures { OnOk result (raws.new.items ≡ raws.old.items ++ map (as_sent class.0) set.now) }
 {
-    let ttl = if class == Class::IN { set.ttl().0 } else { 0 };
+    let ttl = ttl_sent(set, class);
     for rdata in set.data() {
         raws.push(sent(alloc, set, rdata, class, ttl)?)?;
     }
     Ok(())
+}
+
+/// The TTL with which a set's records are sent: 0 where they are deleted (RFC 2136, 2.5.4).
+fn ttl_sent(set: &RRset, class: Class) -> u32
+    ensures { result ≡ if class.0 == class_IN then ttl_of set.now else 0 }
+{
+    if class == Class::IN { set.ttl().0 } else { 0 }
 }
