@@ -21,11 +21,13 @@ pub fn write_change(alloc: Global, old: &Zone, next: &Zone) -> Result<String, Ch
     ensures text { IfOk result (λ text. string_bytes text ≡ change_text old.now next.now) }
     ensures other { IsErrOf result ChangeFault.OtherApex ↔ (is_same (apex_of old.now) (apex_of next.now) ≡ false) }
     ensures room { IsErrOf result ChangeFault.NoRoom → ⊥ }
+    ensures long { IsErrOf result ChangeFault.TooLong → ⊥ }
 {
+    let Some(change) = change_between(alloc, old, next)? else {
+        return Ok(String::new(alloc));
+    };
     let mut text = String::new(alloc);
-    if let Some(change) = change_between(alloc, old, next)? {
-        put_change(&mut text, old, &change)?;
-    }
+    put_change(&mut text, old, &change)?;
     Ok(text)
 }
 

@@ -1,6 +1,7 @@
 -- What an NS that comes first makes of a zone, by what becomes of the update that adds it.
-use Rattle.std.proofs.Common.{◌≡◌, refl, sym, ap, ◌∙◌, subst, Bool, true, false, cond, if◌then◌else◌, List, [], ◌∷◌, ◌++◌, map, take, All, true≢false, inl, inr, ◌⊎◌, Option, None, Some, unwrap_or}
+use Rattle.std.proofs.Common.{◌≡◌, refl, sym, ap, ◌∙◌, subst, Bool, true, false, cond, if◌then◌else◌, List, [], ◌∷◌, ◌++◌, map, take, All, true≢false, inl, inr, ◌⊎◌, Option, None, Some, Err, unwrap_or}
 use Rattle.std.specs.Option.{IfSome, option_map, option_or, option_and_then, is_some}
+use Rattle.std.specs.Result.{IsErrOf}
 use Rattle.std.specs.List.{list_any}
 use Rattle.std.specs.Cmp.Lexicographic.{pointwise}
 use Rattle.dns_rdata.specs.Record.{Record}
@@ -43,14 +44,18 @@ module _ (old : List Record) (rs : List RawRecord) (h : IsZone old) (passed : pr
       (ap (λ v. option_or v (if is_some (act old (update_from old rs)) then None else Some ServFail)) (sym (taken_by old h rs passed))
       ∙ ap (λ v. option_or (verdict old v true) (if is_some (act old v) then None else Some ServFail)) (sym is) ∙ told)
 
+-- a fault in place of one value is that in place of another
+pub err_again : {X Y E : Type 0} (f g : E) → IsErrOf {T = X} (Err f) g → IsErrOf {T = Y} (Err f) g
+err_again f g e = let is : f ≡ g = cc in ap Err is
+
 -- records without effect have none before others
 none_first : (zone : List Record) (rs ss : List RawRecord) → effects zone rs ≡ None → effects zone (rs ++ ss) ≡ None
 none_first zone [] ss e = cc
-none_first zone (r ∷ rs) ss e = by (effect zone r) e
+none_first zone (r ∷ rs) ss e = by (effect zone r) e (λ z. none_first z rs ss)
   where
-    by : (o : Option (List Record)) → option_and_then (λ z. effects z rs) o ≡ None → option_and_then (λ z. effects z (rs ++ ss)) o ≡ None
-    by None f = refl
-    by (Some z) f = none_first z rs ss f
+    by : (o : Option (List Record)) → option_and_then (λ z. effects z rs) o ≡ None → ((z : List Record) → effects z rs ≡ None → effects z (rs ++ ss) ≡ None) → option_and_then (λ z. effects z (rs ++ ss)) o ≡ None
+    by None f more = refl
+    by (Some z) f more = more z f
 
 no_lead : (rs ss : List RawRecord) (old aim : List Record) → effects old rs ≡ None → effects old (rs ++ ss) ≡ Some aim → ⊥
 no_lead rs ss old aim none some = absurd (apart (sym (none_first old rs ss none) ∙ some))
@@ -89,7 +94,7 @@ module _ (old next : List Record) (h : IsZone old) (k : IsZone next) (apex : ape
   -- and where there is room it has an effect
   pub has_effect : HasRoom old next → effects old (map put_in (take 1 (servers_of next))) ≡ None → ⊥
   has_effect room none =
-      let can = record { old_zone = h; next_zone = k; apex = apex; room = room } in
+      let can : CanChange old next = record { old_zone = h; next_zone = k; apex = apex; room = room } in
       let first : first_server old (aimed old next) ≡ take 1 (servers_of next) =
       ap (λ ns. if list_any (is_among old) ns then [] else take 1 ns) (like old next h k differ).servers ∙ ap (λ b. if b then [] else take 1 (servers_of next)) e in
       no_lead (map put_in (first_server old (aimed old next))) (steps (with_first old (aimed old next)) (aimed old next)) old (aimed old next)

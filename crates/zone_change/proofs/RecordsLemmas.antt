@@ -1,5 +1,6 @@
 -- The records of the update, by what goes and comes and by whether the zones share an NS.
-use Rattle.std.proofs.Common.{◌≡◌, refl, sym, ap, ◌∙◌, subst, ℕ, ◌<◌, Bool, true, false, true≢false, cond, if◌then◌else◌, List, [], ◌∷◌, ◌++◌, map, take, unwrap_or, lit<}
+use Rattle.std.proofs.Common.{◌≡◌, refl, sym, ap, ◌∙◌, subst, ℕ, ◌<◌, Bool, true, false, true≢false, cond, if◌then◌else◌, List, [], ◌∷◌, ◌++◌, map, take, unwrap_or, lit<, None}
+use Rattle.dns_name.specs.Name.{Name}
 use Rattle.dns_rdata.specs.Raw.{RawRecord}
 use Rattle.std.proofs.Math.Bridge.{le_prop}
 use Rattle.std.specs.List.{list_any}
@@ -7,19 +8,30 @@ use Rattle.std.specs.Cmp.Lexicographic.{pointwise}
 use Rattle.dns_rdata.specs.Record.{Record}
 use Rattle.dns_rdata.specs.SerialOrder.{serial_less, serial_next}
 use Rattle.dns_message.specs.declared.query.Head.{Head}
-use Rattle.zone_tree.specs.Zone.{IsZone, soa_of}
+use Rattle.zone_tree.specs.Zone.{IsZone, soa_of, apex_of}
 use Rattle.zone_tree.specs.Change.{is_same_record, left_out}
 use Rattle.zone_tree.specs.Patch.{is_among}
 use Rattle.zone_tree.specs.Version.{zone_serial, Changes, AreChanges}
 use Rattle.update_core.specs.Act.{at_serial, effects}
 use Rattle.update_core.proofs.ListLemmas.{by_test}
-use Rattle.zone_change.specs.Change.{aimed, put_in, taken_out, steps, servers_of, first_server, with_first, change_records, change_head, AreBeside}
+use Rattle.zone_change.specs.Change.{aimed, put_in, taken_out, standing, update_from, steps, servers_of, first_server, with_first, change_records, change_head, AreBeside}
 use Rattle.zone_change.proofs.Law.{pointwise_itself, servers_same}
 use Rattle.zone_change.proofs.Serials.{out_of_serial, serial_left_out}
 
 -- a header of these parts is the header of the definition
 pub same_head : (h : 5 < 16) → record { id = 0; opcode = 5; rd = false; four_bits = h } ≡ change_head
 same_head h = ap (λ (k : 5 < 16). record { id = 0; opcode = 5; rd = false; four_bits = k }) (le_prop h (lit< tt))
+
+-- an update of these parts is the one of the definition
+pub same_update : (old : List Record) (rs : List RawRecord) (h : 5 < 16) (name : Name) (ps us : List RawRecord) → name ≡ apex_of old → ps ≡ map standing (soa_of old) → us ≡ rs
+    → record { head = record { id = 0; opcode = 5; rd = false; four_bits = h }; edns = None; zone = record { name = name; rtype = record { 0 = 6 }; class = record { 0 = 1 } }; prerequisites = ps; updates = us } ≡ update_from old rs
+same_update old rs h name ps us is stands are = λ i. record {
+  head = same_head h i;
+  edns = None;
+  zone = record { name = is i; rtype = record { 0 = 6 }; class = record { 0 = 1 } };
+  prerequisites = stands i;
+  updates = are i;
+}
 
 -- what goes, the SOA and what comes, of changes
 abbrev pub steps_of : Changes → List Record → List RawRecord

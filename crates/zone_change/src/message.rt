@@ -1,5 +1,6 @@
 //! The octets of an update.
 ghost use Rattle.std.specs.Prelude.{◌≡◌, ◌<◌, ◌≤◌, ◌++◌, length, flat_map, IfOk, OnOk};
+ghost use Rattle.std.specs.Int.{w16, to_be_bytes};
 ghost use Rattle.std.specs.Result.{IsErrOf};
 ghost use Rattle.zone_change.specs.Message.{most_octets, owner_octets, record_octets, zone_octets, head_octets, message_octets};
 
@@ -48,10 +49,17 @@ fn head_of(alloc: Global, prerequisites: usize, updates: usize) -> Result<Vec<u8
     ensures { IfOk result (λ head. head.items ≡ head_octets prerequisites updates) }
 {
     let mut head = b"\0\0\x28\0\0\x01".to_vec(alloc)?;
-    head.extend_from_slice(&(prerequisites as u16).to_be_bytes())?;
-    head.extend_from_slice(&(updates as u16).to_be_bytes())?;
+    head.extend_from_slice(&two_octets(prerequisites))?;
+    head.extend_from_slice(&two_octets(updates))?;
     head.extend_from_slice(b"\0\0")?;
     Ok(head)
+}
+
+/// The last 16 bits of a number, high octet first.
+fn two_octets(number: usize) -> [u8; 2]
+    ensures { result ≡ to_be_bytes w16 number }
+{
+    [(number / 256 % 256) as u8, (number % 256) as u8]
 }
 
 /// Puts the zone section at the end of a message.
@@ -77,12 +85,11 @@ fn put_records(to: &mut Vec<u8>, zone: &Name, raws: &[RawRecord]) -> Result<(), 
 fn put_record(to: &mut Vec<u8>, zone: &Name, raw: &RawRecord) -> Result<(), AllocError>
     ensures { OnOk result (to.new.items ≡ to.old.items ++ record_octets zone.now raw.now) }
 {
-    let len = raw.octets.len() as u16;
     put_owner(to, zone, &raw.owner)?;
     to.extend_from_slice(&raw.rtype.0.to_be_bytes())?;
     to.extend_from_slice(&raw.class.0.to_be_bytes())?;
     to.extend_from_slice(&raw.ttl.to_be_bytes())?;
-    to.extend_from_slice(&len.to_be_bytes())?;
+    to.extend_from_slice(&two_octets(raw.octets.len()))?;
     to.extend_from_slice(&raw.octets)
 }
 

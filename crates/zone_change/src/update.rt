@@ -30,7 +30,8 @@ use zone_tree::{Delta, Version, Zone, ZoneFault, ZoneRead, edit};
 /// It costs a walk over both zones, side by side. `OtherApex` where the zones have different apexes, `NoRoom` where they share no NS at
 /// the apex and none can come before the others go (RFC 2136, 3.4.2.4), `NoMemory` where a growth was refused.
 pub fn change_to(alloc: Global, old: &Zone, next: &Zone) -> Result<Option<Update>, ChangeFault>
-    ensures update { IfOk result (λ found. MatchOption found (aimed old.now next.now ≡ old.now) (λ update. update ≡ change_to old.now next.now)) }
+    ensures update { IfOk result (λ found. MatchOption found (aimed old.now next.now ≡ old.now)
+        (λ update. (update ≡ change_to old.now next.now) × (pointwise is_same_record old.now (aimed old.now next.now) ≡ false))) }
     ensures other { IsErrOf result ChangeFault.OtherApex ↔ (is_same (apex_of old.now) (apex_of next.now) ≡ false) }
     ensures room { IsErrOf result ChangeFault.NoRoom → HasRoom old.now next.now → ⊥ }
     ensures long { IsErrOf result ChangeFault.TooLong → ⊥ }
