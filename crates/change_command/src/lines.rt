@@ -39,7 +39,8 @@ fn put_change(text: &mut String, old: &Zone, change: &ZoneChange) -> Result<(), 
     put_set(text, "- ", old.soa())?;
     put_sets(text, "- ", change.delta.deletions())?;
     put_set(text, "+ ", &change.soa)?;
-    put_sets(text, "+ ", change.delta.additions())
+    put_sets(text, "+ ", change.delta.additions())?;
+    Ok(())
 }
 
 /// Puts the lines of the records of sets at the end of a text, each after a sign.

@@ -1,5 +1,5 @@
 -- The NS that two zones have at their apex, and whether they share one.
-use Rattle.std.proofs.Common.{◌≡◌, ◌≢◌, refl, sym, ap, ◌∙◌, subst, ℕ, Bool, true, false, true≢false, ◌&&◌, ◌||◌, ◌==◌, List, [], ◌∷◌, inl, inr, eqb-true, bytes_eq}
+use Rattle.std.proofs.Common.{◌≡◌, ◌≢◌, refl, sym, ap, ◌∙◌, subst, ℕ, Bool, true, false, ◌&&◌, ◌||◌, ◌==◌, List, [], ◌∷◌, inl, inr, eqb-true, bytes_eq}
 use Rattle.std.specs.List.{list_any}
 use Rattle.std.specs.Ordering.{nat_cmp, is_eq}
 use Rattle.std.specs.Cmp.Lexicographic.{slice_cmp}
@@ -16,7 +16,7 @@ use Rattle.zone_tree.specs.Change.{is_same_record}
 use Rattle.zone_tree.specs.Patch.{is_among}
 use Rattle.zone_tree.proofs.NameOrder.{tie_from_same}
 use Rattle.zone_change.specs.Change.{servers_of}
-use Rattle.zone_change.proofs.Lists.{IsIn, both, in_kept, equal_numbers, by_false}
+use Rattle.zone_change.proofs.Lists.{IsIn, both, in_kept}
 use Rattle.zone_change.proofs.Steps.{turned}
 use Rattle.zone_change.proofs.First.{some_of}
 
@@ -49,13 +49,6 @@ spread false true true = refl
 spread false true false = refl
 spread false false true = refl
 spread false false false = refl
-
-pub eq_swap : (m n : ℕ) → (m == n) ≡ (n == m)
-eq_swap m n = by (m == n) refl
-  where
-    by : (b : Bool) → (m == n) ≡ b → b ≡ (n == m)
-    by true e = sym (equal_numbers n m (sym (eqb-true m n e)))
-    by false e = sym (by_false (n == m) (λ f. true≢false (sym (equal_numbers m n (sym (eqb-true n m f))) ∙ e)))
 
 -- records of two sets of one owner and type are the same where their TTLs and data are
 module _ (o p : Name) (t u l m : ℕ) (tie : is_same o p ≡ true) (types : t ≡ u) where
