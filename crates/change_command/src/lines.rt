@@ -1,5 +1,5 @@
 //! The records that go and come, one per line.
-ghost use Rattle.std.specs.Prelude.{◌≡◌, ◌++◌, ◌↔◌, ⊥, false, flat_map, string_bytes, codes, IfOk, OnOk};
+ghost use Rattle.std.specs.Prelude.{◌≡◌, ◌++◌, ◌↔◌, false, flat_map, string_bytes, codes, IfOk, OnOk};
 ghost use Rattle.std.specs.Result.{IsErrOf};
 ghost use Rattle.dns_name.specs.Name.{is_same};
 ghost use Rattle.zone_tree.specs.Sets.{records_in};
@@ -45,7 +45,7 @@ fn put_change(text: &mut String, old: &Zone, change: &ZoneChange) -> Result<(), 
 
 /// Puts the lines of the records of sets at the end of a text, each after a sign.
 fn put_sets(text: &mut String, sign: &str, sets: &[RRset]) -> Result<(), AllocError>
-    ensures { OnOk result (string_bytes text.new ≡ string_bytes text.old ++ flat_map (signed_line (string_bytes sign.now)) (records_in sets.now)) }
+    ensures { OnOk result (string_bytes text.new ≡ string_bytes text.old ++ flat_map (signed_line sign.now) (records_in sets.now)) }
 {
     for set in sets {
         put_set(text, sign, set)?;
@@ -55,7 +55,7 @@ fn put_sets(text: &mut String, sign: &str, sets: &[RRset]) -> Result<(), AllocEr
 
 /// Puts the lines of a set's records at the end of a text, each after a sign.
 fn put_set(text: &mut String, sign: &str, set: &RRset) -> Result<(), AllocError>
-    ensures { OnOk result (string_bytes text.new ≡ string_bytes text.old ++ flat_map (signed_line (string_bytes sign.now)) set.now) }
+    ensures { OnOk result (string_bytes text.new ≡ string_bytes text.old ++ flat_map (signed_line sign.now) set.now) }
 {
     let owner = set.owner();
     let ttl = set.ttl();
@@ -74,7 +74,7 @@ fn put_record(
     rdata: &RData,
 ) -> Result<(), AllocError>
     ensures { OnOk result (string_bytes text.new ≡ string_bytes text.old
-        ++ signed_line (string_bytes sign.now) (record { owner = owner.now; rtype = rdata.now.rtype; ttl = ttl.0; rdata = rdata.now.octets })) }
+        ++ signed_line sign.now (record { owner = owner.now; rtype = rdata.now.rtype; ttl = ttl.0; rdata = rdata.now.octets })) }
 {
     let seconds = ttl.0;
     write!(text, "{sign}{owner} {seconds} IN ")?;

@@ -9,7 +9,7 @@ use Rattle.change_command.proofs.lines.put_set.Goals as goal
 pub returns : goal.returns
 returns c =
     let set = c.args.set.now in
-    let sign = string_bytes c.args.sign.now in
+    let sign = c.args.sign.now in
     let ds = c.data-rdata-items.result.now in
     let before = string_bytes c.args.text.now in
     let lines = data_lines-records sign (owner_of set) (rtype_of set) (ttl_of set) ds c.data-rdata-items.ensures.lawful.typed in

@@ -6,7 +6,7 @@ use Rattle.change_command.proofs.lines.put_sets.Goals as goal
 
 pub returns : goal.returns
 returns c =
-    let f = signed_line (string_bytes c.args.sign.now) in
+    let f = signed_line c.args.sign.now in
     let left : flat_map (flat_map f) (drop c.loop-set.set-index c.args.sets.now) ≡ [] = ap (flat_map (flat_map f)) (drop_all c.loop-set.set-index c.args.sets.now c.loop-set-test.false) in
     sym (ap (λ os. string_bytes c.loop-set.text ++ os) left ∙ append-nil (string_bytes c.loop-set.text))
-    ∙ c.loop-set.invariant ∙ ap (λ os. string_bytes c.args.text.now ++ os) (lines_of_sets (string_bytes c.args.sign.now) c.args.sets.now)
+    ∙ c.loop-set.invariant ∙ ap (λ os. string_bytes c.args.text.now ++ os) (lines_of_sets c.args.sign.now c.args.sets.now)

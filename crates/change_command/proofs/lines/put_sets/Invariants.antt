@@ -5,4 +5,4 @@ use Rattle.change_command.proofs.lines.put_sets.Given as goal
 -- what is written, with what is left, is all
 abbrev pub invariant-loop-set : goal.invariant-loop-set
 invariant-loop-set l =
-    string_bytes l.text ++ flat_map (flat_map (signed_line (string_bytes l.sign))) (drop l.set-index l.sets) ≡ string_bytes l.initial.text ++ flat_map (flat_map (signed_line (string_bytes l.sign))) l.sets
+    string_bytes l.text ++ flat_map (flat_map (signed_line l.sign)) (drop l.set-index l.sets) ≡ string_bytes l.initial.text ++ flat_map (flat_map (signed_line l.sign)) l.sets
