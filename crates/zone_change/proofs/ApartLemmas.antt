@@ -1,7 +1,7 @@
 -- Sets that are passed by a walk over two zones.
-use Rattle.std.proofs.Common.{◌≡◌, refl, sym, ap, ◌∙◌, subst, ℕ, Bool, true, false, ◌&&◌, ◌||◌, not, ◌==◌, cond, List, [], ◌∷◌, ◌++◌, map, length, filter, All, arith, true≢false, Option, None, Some, MatchOption, Bor}
+use Rattle.std.proofs.Common.{◌≡◌, refl, sym, ap, ◌∙◌, subst, Bool, true, false, ◌||◌, not, ◌==◌, List, [], ◌∷◌, ◌++◌, All, true≢false, Option, None, Some, MatchOption, Bor}
 use Rattle.std.specs.Option.{option_copied}
-use Rattle.std.specs.List.{list_any, AllByRecursion}
+use Rattle.std.specs.List.{list_any}
 use Rattle.std.proofs.lemmas.List.Elements.{filter-append, recursion_from_All}
 use Rattle.std.proofs.lemmas.List.Folds.{list_any-append}
 use Rattle.dns_name.specs.Name.{Name, is_same}

@@ -1,9 +1,9 @@
 -- An NS of the next zone that comes first, where two zones share none at the apex.
-use Rattle.std.proofs.Common.{◌≡◌, ◌≢◌, refl, sym, ap, ◌∙◌, subst, ℕ, suc, ◌≤◌, ◌<◌, Bool, true, false, ◌&&◌, ◌||◌, not, ◌==◌, nat_lt, cond, List, [], ◌∷◌, ◌++◌, map, take, length, filter, All, arith, true≢false, ◌⊎◌, inl, inr, Option, None, Some, unwrap_or}
+use Rattle.std.proofs.Common.{◌≡◌, ◌≢◌, refl, sym, ap, ◌∙◌, subst, ℕ, suc, ◌≤◌, ◌<◌, Bool, true, false, ◌&&◌, not, ◌==◌, cond, List, [], ◌∷◌, ◌++◌, map, take, length, filter, arith, true≢false, ◌⊎◌, inl, inr, Option, None, Some, unwrap_or}
 use Rattle.std.specs.Option.{IfSome, option_and_then}
 use Rattle.std.specs.List.{list_any, AllByRecursion}
-use Rattle.std.specs.Ordering.{is_lt, is_eq}
-use Rattle.std.specs.declared.cmp.Ordering.TheVariants.{Less, Equal, Greater}
+use Rattle.std.specs.Ordering.{is_eq}
+use Rattle.std.specs.declared.cmp.Ordering.TheVariants.{Equal}
 use Rattle.std.proofs.lemmas.Bool.{eqb-true}
 use Rattle.std.proofs.lemmas.List.{length-map}
 use Rattle.dns_name.specs.Name.{Name, is_same}
@@ -17,16 +17,16 @@ use Rattle.zone_tree.specs.Zone.{IsZone, is_of, rrset_of, soa_of, apex_of}
 use Rattle.zone_tree.specs.Change.{is_same_record, left_out}
 use Rattle.zone_tree.specs.Patch.{is_among}
 use Rattle.zone_tree.specs.Version.{zone_serial, first_data}
-use Rattle.zone_tree.proofs.Rising.{each_weaker, each_map, each_append}
+use Rattle.zone_tree.proofs.Rising.{each_map, each_append}
 use Rattle.update_core.specs.Verdict.{has_rrset}
-use Rattle.update_core.specs.Act.{with_one, with_ttl, record_with_ttl, has_other_than_alias, has_lesser_soa, within_limits, effect, effects}
+use Rattle.update_core.specs.Act.{with_one, with_ttl, record_with_ttl, has_other_than_alias, has_lesser_soa, effect, effects}
 use Rattle.update_core.proofs.EffectKeeps.{IsNext, effects_keep}
 use Rattle.update_core.proofs.OneMore.{by_order, tied, filter-with_one_not}
 use Rattle.update_core.proofs.RulesChanged.{filter-map, of_stays, ttl_owner, ttl_rtype}
 use Rattle.update_core.proofs.VerdictLemmas.{rrset_of-same}
 use Rattle.zone_change.specs.Change.{put_in, taken_out, steps, servers_of, first_server, with_first, HasRoom}
-use Rattle.zone_change.proofs.Lists.{IsIn, both, is_not, equal, equal_numbers, is_one, same_itself, each_in, each_from, kept_in, in_kept, any_in, all_kept, by_false}
-use Rattle.zone_change.proofs.Steps.{IsPlain, plain, lawful_in, turned, row_of, no_alias_kept, CanStep, leads, not_over, ttl_stays}
+use Rattle.zone_change.proofs.Lists.{IsIn, both, equal_numbers, is_one, each_in, each_from, in_kept, any_in, all_kept}
+use Rattle.zone_change.proofs.Steps.{plain, lawful_in, turned, row_of, no_alias_kept, CanStep, leads, not_over}
 use Rattle.zone_change.proofs.Passed.{IsHomely, homely, Passes, all_pass, all_sent, added_all, deleted_all}
 
 -- a list of one element, and one of some

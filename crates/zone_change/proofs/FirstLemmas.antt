@@ -1,6 +1,6 @@
 -- What an NS that comes first makes of a zone, by what becomes of the update that adds it.
-use Rattle.std.proofs.Common.{◌≡◌, refl, sym, ap, ◌∙◌, subst, Bool, true, false, cond, if◌then◌else◌, List, [], ◌∷◌, ◌++◌, map, take, All, true≢false, inl, inr, ◌⊎◌, Option, None, Some, Err, unwrap_or}
-use Rattle.std.specs.Option.{IfSome, option_map, option_or, option_and_then, is_some}
+use Rattle.std.proofs.Common.{◌≡◌, refl, sym, ap, ◌∙◌, Bool, true, false, cond, if◌then◌else◌, List, [], ◌∷◌, ◌++◌, map, take, All, true≢false, inl, inr, ◌⊎◌, Option, None, Some, Err, unwrap_or}
+use Rattle.std.specs.Option.{option_map, option_or, option_and_then, is_some}
 use Rattle.std.specs.Result.{IsErrOf}
 use Rattle.std.specs.List.{list_any}
 use Rattle.std.specs.Cmp.Lexicographic.{pointwise}
@@ -19,9 +19,9 @@ use Rattle.update_core.specs.Act.{effect, effects, act, completed, IsSent}
 use Rattle.update_core.proofs.EffectKeeps.{effects_keep}
 use Rattle.zone_change.specs.Change.{aimed, put_in, steps, servers_of, first_server, with_first, update_from, AreBeside, HasRoom, CanChange}
 use Rattle.zone_change.proofs.Passed.{all_pass, all_sent}
-use Rattle.zone_change.proofs.First.{CanLead, first_passes, leads_on}
+use Rattle.zone_change.proofs.First.{first_passes, leads_on}
 use Rattle.zone_change.proofs.Law.{IsAim, taken_by, aims}
-use Rattle.zone_change.proofs.UpdateLemmas.{beside_effects, no_effects}
+use Rattle.zone_change.proofs.UpdateLemmas.{beside_effects}
 use Rattle.zone_change.proofs.RecordsLemmas.{like}
 
 module _ (old : List Record) (rs : List RawRecord) (h : IsZone old) (passed : prescan old rs ≡ None) (sent : All IsSent rs) where

@@ -1,5 +1,5 @@
 -- The update that takes one zone to another is taken, and does that.
-use Rattle.std.proofs.Common.{◌≡◌, refl, sym, ap, ◌∙◌, subst, ◌<◌, Bool, true, false, ◌&&◌, ◌||◌, not, ◌==◌, cond, if◌then◌else◌, List, [], ◌∷◌, ◌++◌, map, length, filter, true≢false, ◌⊎◌, inl, inr, Option, None, Some, ℕ, bytes_eq}
+use Rattle.std.proofs.Common.{◌≡◌, refl, sym, ap, ◌∙◌, subst, ◌<◌, Bool, true, false, ◌&&◌, ◌==◌, cond, if◌then◌else◌, List, [], ◌∷◌, ◌++◌, map, length, true≢false, ◌⊎◌, inl, inr, None, Some, ℕ}
 use Rattle.std.specs.Option.{option_map, option_or}
 use Rattle.std.specs.List.{list_any, AllByRecursion}
 use Rattle.std.specs.Cmp.Lexicographic.{pointwise}
@@ -13,22 +13,22 @@ use Rattle.dns_rdata.specs.Record.{Record, IsLawful, owner_of}
 use Rattle.dns_rdata.specs.Raw.{RawRecord}
 use Rattle.dns_rdata.specs.SerialOrder.{serial_less, serial_next}
 use Rattle.zone_tree.specs.Zone.{IsZone, is_of, rrset_of, soa_of, apex_of}
-use Rattle.zone_tree.specs.Change.{is_same_record, left_out}
+use Rattle.zone_tree.specs.Change.{is_same_record}
 use Rattle.zone_tree.specs.Patch.{is_among}
 use Rattle.zone_tree.specs.Version.{zone_serial}
 use Rattle.zone_tree.proofs.LawLemmas.{under_itself, soa_is_at_apex}
 use Rattle.zone_tree.proofs.Rising.{each_append}
-use Rattle.update_core.specs.Verdict.{zone_section, prerequisite, prerequisites, is_gathered, is_met, have_same_data, check, permission, prescan, verdict}
-use Rattle.update_core.specs.Act.{record_at_serial, at_serial, effects, completed, act, IsSent}
+use Rattle.update_core.specs.Verdict.{zone_section, prerequisite, prerequisites, is_gathered, is_met, have_same_data, prescan, verdict}
+use Rattle.update_core.specs.Act.{at_serial, effects, completed, act}
 use Rattle.update_core.proofs.ListLemmas.{by_test}
 use Rattle.update_core.proofs.EffectKeeps.{IsNext}
 use Rattle.update_core.proofs.ActKeeps.{serial_zone}
 use Rattle.update_core.proofs.SerialLaw.{next_serial_less}
 use Rattle.zone_change.specs.Change.{put_in, standing, steps, servers_of, first_server, with_first, change_records, update_from, change_to, aimed, HasRoom, CanChange}
-use Rattle.zone_change.proofs.Lists.{IsIn, both, same_type, is_one, same_itself, in_kept, equal_numbers}
-use Rattle.zone_change.proofs.Steps.{IsPlain, plain}
+use Rattle.zone_change.proofs.Lists.{IsIn, both, is_one, same_itself, in_kept, equal_numbers}
+use Rattle.zone_change.proofs.Steps.{plain}
 use Rattle.zone_change.proofs.Passed.{Passes, all_pass}
-use Rattle.zone_change.proofs.First.{one_of, CanLead, leads_on, first_passes, steps_pass}
+use Rattle.zone_change.proofs.First.{one_of, leads_on, first_passes, steps_pass}
 
 -- lists whose records are the same, one by one
 pub pointwise_itself : (zs : List Record) → pointwise is_same_record zs zs ≡ true

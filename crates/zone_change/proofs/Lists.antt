@@ -1,21 +1,21 @@
 -- Facts on lists of records in canonical order.
-use Rattle.std.proofs.Common.{◌≡◌, refl, sym, ap, ◌∙◌, subst, ℕ, zero, suc, ◌+◌, ◌≤◌, ◌<◌, Bool, true, false, ◌&&◌, ◌||◌, not, ◌==◌, cond, List, [], ◌∷◌, ◌++◌, map, length, filter, arith, true≢false, ◌⊎◌, inl, inr, ⊎_elim}
+use Rattle.std.proofs.Common.{◌≡◌, refl, sym, ap, ◌∙◌, subst, ℕ, ◌≤◌, Bool, true, false, ◌&&◌, ◌||◌, not, ◌==◌, cond, List, [], ◌∷◌, map, length, filter, arith, true≢false, ◌⊎◌, inl, inr, ⊎_elim}
 use Rattle.std.specs.List.{list_any, AllByRecursion}
-use Rattle.std.specs.Ordering.{nat_cmp, ordering_then, ordering_reverse, is_lt, is_eq}
+use Rattle.std.specs.Ordering.{nat_cmp, ordering_reverse, is_lt, is_eq}
 use Rattle.std.specs.Cmp.{first_so, second_so}
 use Rattle.std.specs.Cmp.Lexicographic.{slice_cmp}
 use Rattle.std.specs.declared.cmp.Ordering.{Ordering}
 use Rattle.std.specs.declared.cmp.Ordering.TheVariants.{Less, Equal, Greater}
 use Rattle.std.proofs.lemmas.Bool.{eqb-true}
 use Rattle.std.proofs.lemmas.Bool.Decides.{nat_tests}
-use Rattle.std.proofs.lemmas.Cmp.{tied_itself, nat_cmp_total, nat_list_cmp_total}
+use Rattle.std.proofs.lemmas.Cmp.{tied_itself}
 use Rattle.std.proofs.lemmas.Map.Text.{is_eq-slice_cmp}
 use Rattle.std.proofs.lemmas.Slice.Eq.{bytes_eq-Decides}
 use Rattle.dns_name.specs.Name.{is_same, canonical_cmp}
 use Rattle.dns_rdata.specs.Record.{Record, IsLawful, record_cmp}
 use Rattle.zone_tree.specs.Zone.{IsBefore}
 use Rattle.zone_tree.specs.Change.{is_same_record}
-use Rattle.zone_tree.proofs.NameOrder.{folds_from_same, same_from_tie, tie_from_same}
+use Rattle.zone_tree.proofs.NameOrder.{folds_from_same, same_from_tie}
 use Rattle.zone_tree.proofs.Rising.{Rises}
 use Rattle.zone_tree.proofs.SetLemmas.{record_total}
 use Rattle.zone_tree.proofs.ZoneLemmas.{eqb_from_tie}

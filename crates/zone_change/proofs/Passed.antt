@@ -1,5 +1,5 @@
 -- The records of a change pass the prescan, and are records as they are read (RFC 2136, 3.4.1).
-use Rattle.std.proofs.Common.{◌≡◌, refl, sym, ap, ◌∙◌, Bool, true, false, ◌&&◌, not, ◌==◌, List, [], ◌∷◌, ◌++◌, map, All, None, Some}
+use Rattle.std.proofs.Common.{◌≡◌, refl, sym, ap, ◌∙◌, Bool, true, false, ◌&&◌, ◌==◌, List, [], ◌∷◌, map, All, None}
 use Rattle.std.specs.Option.{option_or, is_some}
 use Rattle.std.specs.List.{AllByRecursion}
 use Rattle.std.proofs.lemmas.List.Elements.{All-from_recursion, recursion_from_All}
@@ -8,11 +8,11 @@ use Rattle.dns_rdata.specs.Numbers.{type_NS}
 use Rattle.dns_rdata.specs.Record.{Record, IsLawful}
 use Rattle.dns_rdata.specs.Raw.{RawRecord}
 use Rattle.zone_tree.specs.Zone.{IsZone, apex_of, is_wild}
-use Rattle.zone_tree.proofs.Rising.{each_weaker, each_both, each_map}
+use Rattle.zone_tree.proofs.Rising.{each_weaker, each_map}
 use Rattle.update_core.specs.Verdict.{prescan_of, prescan}
 use Rattle.update_core.specs.Act.{IsSent}
 use Rattle.zone_change.specs.Change.{put_in, taken_out}
-use Rattle.zone_change.proofs.Lists.{IsIn, each_in, each_from}
+use Rattle.zone_change.proofs.Lists.{IsIn, each_in}
 
 -- what an update's record of a zone of this apex has
 pub record IsHomely (zone : List Record) (r : Record) : Type 0 where

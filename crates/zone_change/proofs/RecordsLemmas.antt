@@ -1,5 +1,5 @@
 -- The records of the update, by what goes and comes and by whether the zones share an NS.
-use Rattle.std.proofs.Common.{◌≡◌, refl, sym, ap, ◌∙◌, subst, ℕ, ◌<◌, Bool, true, false, true≢false, cond, if◌then◌else◌, List, [], ◌∷◌, ◌++◌, map, take, unwrap_or, lit<, None}
+use Rattle.std.proofs.Common.{◌≡◌, refl, sym, ap, ◌∙◌, ◌<◌, Bool, true, false, true≢false, cond, if◌then◌else◌, List, [], ◌++◌, map, take, unwrap_or, lit<, None}
 use Rattle.dns_name.specs.Name.{Name}
 use Rattle.dns_rdata.specs.Raw.{RawRecord}
 use Rattle.std.proofs.Math.Bridge.{le_prop}

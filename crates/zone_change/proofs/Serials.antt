@@ -1,14 +1,14 @@
 -- What two zones have that the other hasn't doesn't depend on their serials.
-use Rattle.std.proofs.Common.{◌≡◌, ◌≢◌, refl, sym, ap, ◌∙◌, subst, ℕ, Bool, true, false, ◌&&◌, ◌||◌, not, ◌==◌, cond, List, [], ◌∷◌, map, filter, true≢false, inl, inr, eqb-true}
-use Rattle.std.specs.List.{list_any, AllByRecursion}
+use Rattle.std.proofs.Common.{◌≡◌, ◌≢◌, refl, sym, ap, ◌∙◌, subst, ℕ, Bool, true, false, ◌&&◌, ◌||◌, not, ◌==◌, cond, List, [], ◌∷◌, true≢false}
+use Rattle.std.specs.List.{list_any}
 use Rattle.dns_rdata.specs.Numbers.{type_SOA}
 use Rattle.dns_rdata.specs.Data.{with_serial}
-use Rattle.dns_rdata.specs.Record.{Record, IsLawful}
-use Rattle.zone_tree.specs.Zone.{IsZone, soa_of}
+use Rattle.dns_rdata.specs.Record.{Record}
+use Rattle.zone_tree.specs.Zone.{soa_of}
 use Rattle.zone_tree.specs.Change.{is_same_record, left_out}
 use Rattle.zone_tree.specs.Patch.{is_among}
-use Rattle.update_core.specs.Act.{record_at_serial, at_serial}
-use Rattle.zone_change.proofs.Lists.{IsIn, both, same_type, is_one, same_itself, each_from, kept_in, in_kept, any_in, by_false, filter_same, same_lists}
+use Rattle.update_core.specs.Act.{at_serial}
+use Rattle.zone_change.proofs.Lists.{IsIn, same_type, is_one, each_from, kept_in, in_kept, any_in, by_false, filter_same, same_lists}
 use Rattle.zone_change.proofs.Steps.{IsPlain, lawful_in}
 
 no_soa : (r s : Record) → (r.rtype == type_SOA) ≡ false → (s.rtype == type_SOA) ≡ true → is_same_record r s ≡ false

@@ -1,8 +1,8 @@
 -- The records of an update that takes one zone to another, where both have an NS of the apex and the SOA's serial rises.
-use Rattle.std.proofs.Common.{◌≡◌, refl, sym, ap, ◌∙◌, subst, ℕ, ◌≤◌, ◌<◌, ◌^◌, Bool, true, false, ◌&&◌, ◌||◌, not, ◌==◌, nat_lt, cond, List, [], ◌∷◌, ◌++◌, map, length, filter, All, arith, true≢false, inl, inr, Option, None, Some, unwrap_or, bytes_eq}
+use Rattle.std.proofs.Common.{◌≡◌, refl, sym, ap, ◌∙◌, subst, ℕ, ◌≤◌, ◌<◌, ◌^◌, Bool, true, false, ◌&&◌, ◌||◌, not, ◌==◌, nat_lt, cond, List, [], ◌∷◌, ◌++◌, map, length, filter, All, arith, true≢false, inl, inr, Option, Some, unwrap_or, bytes_eq}
 use Rattle.std.specs.Option.{option_and_then}
 use Rattle.std.specs.List.{list_any, AllByRecursion}
-use Rattle.std.specs.Ordering.{nat_cmp, ordering_then, is_lt, is_eq}
+use Rattle.std.specs.Ordering.{nat_cmp, ordering_then, is_eq}
 use Rattle.std.specs.Cmp.Lexicographic.{slice_cmp}
 use Rattle.std.specs.declared.cmp.Ordering.{Ordering}
 use Rattle.std.specs.declared.cmp.Ordering.TheVariants.{Equal}
@@ -11,7 +11,7 @@ use Rattle.std.proofs.lemmas.Bool.Decides.{nat_tests}
 use Rattle.std.proofs.lemmas.Cmp.{tied_itself, nat_cmp_total, nat_list_cmp_total}
 use Rattle.std.proofs.lemmas.Slice.Eq.{bytes_eq-Decides}
 use Rattle.std.proofs.lemmas.List.Elements.{recursion_from_All}
-use Rattle.dns_name.specs.Name.{Name, fold_name, is_same}
+use Rattle.dns_name.specs.Name.{Name, is_same}
 use Rattle.dns_name.specs.Order.{is_same_equiv}
 use Rattle.dns_rdata.specs.Numbers.{type_NS, type_CNAME, type_SOA}
 use Rattle.dns_rdata.specs.Data.{data_of, serial_of}

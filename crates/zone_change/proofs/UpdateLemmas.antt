@@ -1,6 +1,6 @@
 -- The NS that two zones share, and the zone that one of them leaves.
-use Rattle.std.proofs.Common.{◌≡◌, refl, sym, ap, ◌∙◌, subst, ℕ, Bool, true, false, ◌&&◌, ◌||◌, not, ◌==◌, cond, List, [], ◌∷◌, ◌++◌, map, filter, flat_map, length, get_or, arith, All, true≢false, if◌then◌else◌, Option, None, Some, unwrap_or, bytes_eq}
-use Rattle.std.specs.Option.{IfSome, option_map, option_or, is_some}
+use Rattle.std.proofs.Common.{◌≡◌, refl, sym, ap, ◌∙◌, subst, ℕ, Bool, true, ◌&&◌, ◌||◌, ◌==◌, List, [], ◌∷◌, ◌++◌, map, flat_map, length, get_or, arith, if◌then◌else◌, Option, None, Some, unwrap_or}
+use Rattle.std.specs.Option.{IfSome, option_map}
 use Rattle.std.specs.List.{list_any, AllByRecursion}
 use Rattle.std.specs.Ordering.{is_eq}
 use Rattle.std.specs.Cmp.{first_so}
@@ -11,15 +11,15 @@ use Rattle.dns_name.specs.Name.{Name, is_same}
 use Rattle.dns_name.specs.Order.{is_same_equiv}
 use Rattle.dns_rdata.specs.Numbers.{type_NS, class_IN}
 use Rattle.dns_rdata.specs.Data.{Data}
-use Rattle.dns_rdata.specs.Record.{Record, record_cmp, records_with}
+use Rattle.dns_rdata.specs.Record.{Record, records_with}
 use Rattle.dns_rdata.specs.Raw.{RawRecord}
 use Rattle.dns_rdata.specs.SerialOrder.{serial_less, serial_next}
-use Rattle.zone_tree.specs.Zone.{IsZone, is_of, rrset_of, apex_of}
-use Rattle.zone_tree.specs.Change.{is_same_record, left_out}
+use Rattle.zone_tree.specs.Zone.{IsZone, is_of, apex_of}
+use Rattle.zone_tree.specs.Change.{is_same_record}
 use Rattle.zone_tree.specs.Patch.{is_among}
 use Rattle.zone_tree.specs.Sets.{records_in}
 use Rattle.zone_tree.specs.Version.{zone_serial}
-use Rattle.update_core.specs.Act.{at_serial, completed, effects, act}
+use Rattle.update_core.specs.Act.{at_serial, completed, effects}
 use Rattle.update_core.proofs.ListLemmas.{by_test}
 use Rattle.update_core.proofs.EffectKeeps.{IsNext}
 use Rattle.zone_change.specs.Change.{as_sent, standing, servers_of, AreBeside}

@@ -1,4 +1,4 @@
-use Rattle.std.proofs.Common.{◌≡◌, sym, ap, ◌∙◌}
+use Rattle.std.proofs.Common.{sym, ap, ◌∙◌}
 use Rattle.std.specs.List.{list_any}
 use Rattle.dns_name.specs.Name.{is_same}
 use Rattle.dns_rdata.specs.Record.{owner_of, rtype_of}

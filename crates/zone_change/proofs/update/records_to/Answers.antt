@@ -1,4 +1,4 @@
-use Rattle.std.proofs.Common.{◌≡◌, refl, unwrap_or, true, false, true≢false, ◌++◌, map, take, All, None, sym, ap, ◌∙◌, subst}
+use Rattle.std.proofs.Common.{◌≡◌, refl, unwrap_or, true≢false, ◌++◌, map, take, All, None, sym, ap, ◌∙◌, subst}
 use Rattle.std.specs.List.{list_any}
 use Rattle.std.proofs.lemmas.Result.{err_from_is_err_and}
 use Rattle.zone_tree.specs.Patch.{is_among}
