@@ -2,6 +2,8 @@
 ghost use Rattle.std.specs.Prelude.{◌≡◌, ◌≤◌};
 ghost use Rattle.hmac.specs.Hmac.{block_size, mac_size};
 
+use crate::key::MAX_MAC;
+
 /// A hash function that a MAC is made by (FIPS 180-4).
 #[derive(Clone, Copy, Debug, PartialEq, Eq)]
 pub enum Algorithm {
@@ -16,7 +18,8 @@ pub enum Algorithm {
 impl Algorithm {
     /// How many octets a MAC has: as many as a digest (RFC 2104, 2).
     pub fn mac_size(self) -> usize
-        ensures { result ≡ mac_size self }
+        ensures size { result ≡ mac_size self }
+        ensures most { result ≤ MAX_MAC }
     {
         match self {
             Algorithm::Sha256 => 32,

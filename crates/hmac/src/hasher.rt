@@ -1,6 +1,6 @@
 //! A hasher of one of the hash functions.
 ghost use Rattle.std.specs.Prelude.{◌≡◌, ◌≤◌, ◌++◌, ℕ, List, [], length};
-ghost use Rattle.hmac.specs.Hmac.{hash};
+ghost use Rattle.hmac.specs.Hmac.{hash, mac_size};
 ghost use Rattle.hmac.specs.Hashers.{algorithm_of, Holds};
 
 use crate::algorithm::Algorithm;
@@ -32,6 +32,17 @@ impl Hasher {
         }
     }
 
+    /// Its hash function.
+    pub(crate) fn algorithm(&self) -> Algorithm
+        ensures { result ≡ algorithm_of self.now }
+    {
+        match self {
+            Hasher::Of256(_) => Algorithm::Sha256,
+            Hasher::Of384(_) => Algorithm::Sha384,
+            Hasher::Of512(_) => Algorithm::Sha512,
+        }
+    }
+
     /// The same hasher, of the same text.
     pub(crate) fn copy(&self) -> Hasher
         ensures { result ≡ self.now }
@@ -57,7 +68,8 @@ impl Hasher {
 
     /// The digest of the text.
     pub(crate) fn finish(self) -> ArrayVec<u8, MAX_MAC>
-        ensures { (text : List ℕ) → Holds self text → result.items ≡ hash (algorithm_of self) text }
+        ensures size { length result.items ≡ mac_size (algorithm_of self) }
+        ensures digest { (text : List ℕ) → Holds self text → result.items ≡ hash (algorithm_of self) text }
     {
         match self {
             Hasher::Of256(hasher) => octets_of(&hasher.finalize()),

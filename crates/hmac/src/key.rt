@@ -62,6 +62,14 @@ impl Key {
         }
     }
 
+    /// How many octets its MACs have (RFC 2104, 2).
+    pub fn mac_size(&self) -> usize
+        ensures size { result ≡ mac_size self.now.algorithm }
+        ensures most { result ≤ MAX_MAC }
+    {
+        self.inner.algorithm().mac_size()
+    }
+
     /// A MAC of no text yet.
     #[tactic(auto, unfolding(crate::specs::Macs::IsMac))]
     pub fn begin(&self) -> Mac
@@ -96,7 +104,8 @@ impl Mac {
     /// The MAC of the text.
     #[tactic(auto, unfolding(crate::specs::Macs::IsMac, crate::specs::Hmac::hmac_by))]
     pub fn finish(self) -> ArrayVec<u8, MAX_MAC>
-        ensures { (key : Keyed) (text : List ℕ) → IsMac self key text → result.items ≡ hmac_by key text }
+        ensures mac { (key : Keyed) (text : List ℕ) → IsMac self key text → result.items ≡ hmac_by key text }
+        ensures size { (key : Keyed) (text : List ℕ) → IsMac self key text → length result.items ≡ mac_size key.algorithm }
     {
         let sum = self.inner.finish();
         let mut outer = self.outer;

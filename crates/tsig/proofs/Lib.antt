@@ -1,0 +1,4 @@
+pub mod ListLemmas
+mod ReadBack
+mod PutBack
+mod SignedAlone
