@@ -19,8 +19,8 @@ use Rattle.tsig.specs.Taken.{IsSignedBy}
 use Rattle.tsig.specs.Opened.{judged, by_key, by_tsig, by_place, opened, asking_of, is_size, is_right, is_timely}
 use Rattle.tsig.specs.Tsig.{Tsig, tsig_at}
 use Rattle.tsig.specs.declared.asking.Asking.{Asking}
-use Rattle.tsig.specs.declared.open.Opened.{Opened}
-use Rattle.tsig.specs.declared.open.Opened.TheVariants.{Unsigned, Silent, Malformed, Unknown, Wrong, Late, Short, Signed}
+use Rattle.tsig.specs.declared.judging.Opened.{Opened}
+use Rattle.tsig.specs.declared.judging.Opened.TheVariants.{Unsigned, Silent, Malformed, Unknown, Wrong, Late, Short, Signed}
 
 -- of a choice that comes to Signed the side that isn't Signed wasn't taken
 past : (b : Bool) (x y : Opened) (asking : Asking) → ¬ (x ≡ Signed asking) → (if b then x else y) ≡ Signed asking → (b ≡ false) × (y ≡ Signed asking)

@@ -10,8 +10,8 @@ use Rattle.tsig.specs.Fields.{Fields}
 use Rattle.tsig.specs.Keys.{SharedKey, key_of}
 use Rattle.tsig.specs.Tsig.{Tsig, tsig_at}
 use Rattle.tsig.specs.declared.asking.Asking.{Asking}
-use Rattle.tsig.specs.declared.open.Opened.{Opened}
-use Rattle.tsig.specs.declared.open.Opened.TheVariants.{Unsigned, Silent, Malformed, Unknown, Wrong, Late, Short, Signed}
+use Rattle.tsig.specs.declared.judging.Opened.{Opened}
+use Rattle.tsig.specs.declared.judging.Opened.TheVariants.{Unsigned, Silent, Malformed, Unknown, Wrong, Late, Short, Signed}
 
 -- whether a MAC of this size may be one that is cut short: no more octets than the whole has, and neither under 10 nor under the half of these
 -- (RFC 8945, 5.2.2.1)

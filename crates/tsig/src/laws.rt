@@ -7,7 +7,7 @@ ghost use Rattle.tsig.specs.Keys.{SharedKey};
 ghost use Rattle.tsig.specs.Opened.{opened};
 ghost use Rattle.tsig.specs.Taken.{IsSignedBy};
 ghost use Rattle.tsig.specs.declared.asking.Asking.{Asking as Said};
-ghost use Rattle.tsig.specs.declared.open.Opened.TheVariants.{Signed as Taken};
+ghost use Rattle.tsig.specs.declared.judging.Opened.TheVariants.{Signed as Taken};
 
 /// The fields of a TSIG that are written are the ones that are read (RFC 8945, 4.2).
 pub fn fields_are_read_back()

@@ -6,7 +6,7 @@ ghost use Rattle.tsig.specs.Sealed.{refused};
 use crate::fields::Data;
 use crate::octets::number_at;
 use crate::record::{Tsig, record_octets};
-use crate::seal::append_record;
+use crate::sealing::append_record;
 use crate::told::Told;
 use dns_message::HEADER;
 
