@@ -1,4 +1,7 @@
+pub mod EqLemmas
 pub mod ListLemmas
+pub mod RecordLemmas
+pub mod SizeLemmas
 mod ReadBack
 mod PutBack
 mod SignedAlone

@@ -1,7 +1,7 @@
 -- Octets that are written over others.
-use Rattle.std.proofs.Common.{◌≡◌, ℕ, ◌+◌, ◌-◌, ◌<◌, ◌≤◌, min, List, [], ◌∷◌, ◌++◌, length, take, drop, refl, sym, ap, ◌∙◌, arith, length-append, append_assoc}
+use Rattle.std.proofs.Common.{◌≡◌, ℕ, ◌+◌, ◌-◌, ◌<◌, ◌≤◌, List, [], ◌∷◌, ◌++◌, length, take, drop, refl, sym, ap, ◌∙◌, arith, length-append, append_assoc}
 use Rattle.std.specs.Int.{from_be_bytes, w16}
-use Rattle.std.proofs.lemmas.List.{take_at, drop_at, take-take, drop-take, drop-drop, length-take-le, length-take, length-drop, take_all}
+use Rattle.std.proofs.lemmas.List.{take_at, drop_at, take-take, drop-take, drop-drop, length-take-le}
 use Rattle.std.proofs.Math.Seq.{take-add}
 use Rattle.dns_message.specs.Message.{number_at}
 
@@ -13,21 +13,21 @@ front_put o x at room = take_at (take at o ++ x) (drop (at + length x) o) (at + 
 pub behind_put : (o x : List ℕ) (at : ℕ) → at + length x ≤ length o → drop (at + length x) (take at o ++ x ++ drop (at + length x) o) ≡ drop (at + length x) o
 behind_put o x at room = drop_at (take at o ++ x) (drop (at + length x) o) (at + length x) (length-append (take at o) x ∙ ap (λ n. n + length x) (length-take-le at o (omega (arith, room))))
 
-split : (n m : ℕ) → n ≤ m → m ≡ n + (m - n)
-split n m before = omega (arith, before)
+apart : (n m : ℕ) → n ≤ m → m ≡ n + (m - n)
+apart n m before = omega (arith, before)
 
 -- what is the same behind a position is so behind a later one
 pub same_behind : (a b : List ℕ) (n m : ℕ) → drop n a ≡ drop n b → n ≤ m → drop m a ≡ drop m b
 same_behind a b n m same before =
-    ap (λ k. drop k a) (split n m before) ∙ sym (drop-drop (m - n) n a) ∙ ap (drop (m - n)) same ∙ drop-drop (m - n) n b ∙ ap (λ k. drop k b) (sym (split n m before))
+    ap (λ k. drop k a) (apart n m before) ∙ sym (drop-drop (m - n) n a) ∙ ap (drop (m - n)) same ∙ drop-drop (m - n) n b ∙ ap (λ k. drop k b) (sym (apart n m before))
 
 -- the first octets are the first of those, and then those that stand behind these
 pub first_two : (o : List ℕ) (n m : ℕ) → n ≤ m → take m o ≡ take n o ++ take (m - n) (drop n o)
-first_two o n m before = ap (λ k. take k o) (split n m before) ∙ take-add n (m - n) o
+first_two o n m before = ap (λ k. take k o) (apart n m before) ∙ take-add n (m - n) o
 
 -- what stands behind a position of the first octets
 pub rest_of_first : (o : List ℕ) (n m : ℕ) → n ≤ m → drop n (take m o) ≡ take (m - n) (drop n o)
-rest_of_first o n m before = ap (λ k. drop n (take k o)) (split n m before) ∙ drop-take n (m - n) o
+rest_of_first o n m before = ap (λ k. drop n (take k o)) (apart n m before) ∙ drop-take n (m - n) o
 
 -- a number of the first octets is the one that stands there
 pub number_of_first : (o : List ℕ) (at len : ℕ) → at + 2 ≤ len → number_at (take len o) at ≡ number_at o at
@@ -35,19 +35,19 @@ number_of_first o at len within =
     ap (λ l. from_be_bytes w16 (take 2 l)) (rest_of_first o at len (omega (arith, within)))
     ∙ ap (from_be_bytes w16) (take-take 2 (len - at) (drop at o) (omega (arith, within)))
 
--- a message with another count, and a record behind it
-pub appended : (o p q count record : List ℕ) (len next : ℕ) → 12 ≤ len → take 12 p ≡ take 10 o ++ count → drop 12 p ≡ drop 12 o → take next q ≡ take len p ++ record
-    → take next q ≡ take 10 (take len o) ++ (count ++ (drop 12 (take len o) ++ record))
-appended o p q count record len next header counted behind written =
+-- a message with another count, and a added behind it
+pub appended : (o p q count added : List ℕ) (len next : ℕ) → 12 ≤ len → take 12 p ≡ take 10 o ++ count → drop 12 p ≡ drop 12 o → take next q ≡ take len p ++ added
+    → take next q ≡ take 10 (take len o) ++ (count ++ (drop 12 (take len o) ++ added))
+appended o p q count added len next header counted behind written =
     written
-    ∙ ap (λ l. l ++ record) (
-        first_two p 12 len header
-        ∙ ap (λ l. l ++ take (len - 12) (drop 12 p)) counted
-        ∙ ap (λ l. (take 10 o ++ count) ++ take (len - 12) l) behind
-        ∙ ap (λ l. (l ++ count) ++ take (len - 12) (drop 12 o)) (sym (take-take 10 len o (omega (arith, header))))
-        ∙ ap (λ l. (take 10 (take len o) ++ count) ++ l) (sym (rest_of_first o 12 len header)))
-    ∙ append_assoc (take 10 (take len o) ++ count) (drop 12 (take len o)) record
-    ∙ append_assoc (take 10 (take len o)) count (drop 12 (take len o) ++ record)
+    ∙ ap (λ l. l ++ added) (
+    first_two p 12 len header
+    ∙ ap (λ l. l ++ take (len - 12) (drop 12 p)) counted
+    ∙ ap (λ l. (take 10 o ++ count) ++ take (len - 12) l) behind
+    ∙ ap (λ l. (l ++ count) ++ take (len - 12) (drop 12 o)) (sym (take-take 10 len o (omega (arith, header))))
+    ∙ ap (λ l. (take 10 (take len o) ++ count) ++ l) (sym (rest_of_first o 12 len header)))
+    ∙ append_assoc (take 10 (take len o) ++ count) (drop 12 (take len o)) added
+    ∙ append_assoc (take 10 (take len o)) count (drop 12 (take len o) ++ added)
 
 -- a reply that is cut
 pub cut_octets : (o p middle : List ℕ) (len end : ℕ) → 12 ≤ end → end ≤ len → take 12 p ≡ take 2 o ++ middle → drop 12 p ≡ drop 12 o

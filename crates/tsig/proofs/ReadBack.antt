@@ -11,7 +11,6 @@ use Rattle.tsig.specs.Fields.{Fields, HaveRoom, with_length, written, fields_in}
 abbrev ending : Fields → List ℕ
 ending f = to_be_bytes w16 f.original ++ (to_be_bytes w16 f.error ++ with_length f.other)
 
-
 -- what is read, by the MAC's size and what stands after it
 abbrev from : ℕ → List ℕ → List ℕ → Option Fields
 from size behind o =

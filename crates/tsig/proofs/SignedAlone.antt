@@ -72,7 +72,6 @@ named : (owner algorithm : Name) (keys : List SharedKey) (o : Option ℕ) (r : �
 named owner algorithm keys None r at is = cc
 named owner algorithm keys (Some index) r at is = named_at owner algorithm keys index (slice_get keys index) r at refl is
 
-
 -- what holds of a request that was judged to be signed
 record IsGood (now : ℕ) (msg : List ℕ) (start : ℕ) (tsig : Tsig) (index : ℕ) (key : SharedKey) (asking : Asking) : Type 0 where
   size : is_size (mac_size key.secret.algorithm) (length tsig.fields.mac) ≡ true
@@ -119,6 +118,7 @@ le-true a b e = grind (arith, nat_tests)
 
 -- so a request that is taken is signed
 pub taken : (keys : List SharedKey) (now : ℕ) (msg : List ℕ) (asking : Asking) → opened keys now msg ≡ Signed asking → IsSignedBy keys now msg asking
+unfolding is_right
 taken keys now msg asking is =
     let long = past (nat_lt (length msg) 12) Silent _ asking (λ e. cc) is in
     let asked = past (is_reply msg) Silent _ asking (λ e. cc) long.1 in

@@ -19,7 +19,7 @@ abbrev pub is_size : ℕ → ℕ → Bool
 is_size whole size = nat_le size whole && nat_le (max 10 (whole / 2)) size
 
 -- whether the MAC of the TSIG at a position is the message's, or the beginning of it (RFC 8945, 5.2.2)
-abbrev pub is_right : SharedKey → List ℕ → List ℕ → ℕ → Fields → Bool
+unfoldable pub is_right : SharedKey → List ℕ → List ℕ → ℕ → Fields → Bool
 is_right key prior msg start f = bytes_eq f.mac (take (length f.mac) (mac_over key prior (bare msg start f.original) f))
 
 -- whether a time is within the fudge of now (RFC 8945, 5.2.3)

@@ -21,16 +21,16 @@ pub struct Asking {
 }
 
 /// What a reply has to know of a TSIG that names this key.
-pub(crate) fn asking_of(key: u16, data: &Data<'_>) -> Asking
-    requires { length data.now.mac ≤ MAX_MAC }
-    ensures { result ≡ asking_of key data.now }
+pub(crate) fn asking_of(key: u16, fields: &Data<'_>) -> Asking
+    requires { length fields.now.mac ≤ MAX_MAC }
+    ensures { result ≡ asking_of key fields.now }
 {
     let mut mac = ArrayVec::new();
-    let _ = mac.try_extend_from_slice(data.mac);
+    let _ = mac.try_extend_from_slice(fields.mac);
     Asking {
         key,
         mac,
-        time: data.time,
-        fudge: data.fudge,
+        time: fields.time,
+        fudge: fields.fudge,
     }
 }

@@ -14,6 +14,7 @@ use hmac::Mac;
 pub(crate) const ARCOUNT: usize = 10;
 
 /// Writes a message without its TSIG, which stands at a position, to the front of `out`, with this ID, and gives how many octets it has. What is behind these stays.
+#[tactic(auto, unfolding(crate::specs::Digested::bare))]
 pub fn write_bare(msg: &[u8], start: usize, id: u16, out: &mut [u8]) -> usize
     requires header { HEADER ≤ length msg.now }
     requires room { length msg.now ≤ length out.old }
@@ -27,6 +28,7 @@ pub fn write_bare(msg: &[u8], start: usize, id: u16, out: &mut [u8]) -> usize
 }
 
 /// Adds a message without its TSIG, which stands at a position, to a MAC's text, with this ID.
+#[tactic(auto, unfolding(crate::specs::Digested::bare))]
 pub(crate) fn add_bare(mac: &mut Mac, msg: &[u8], start: usize, id: u16)
     requires { HEADER ≤ length msg.now }
     ensures { (key : Keyed) (text : List ℕ) → IsMac mac.old key text → IsMac mac.new key (text ++ bare msg.now start id) }

@@ -1,9 +1,8 @@
 //! What of a signed message is digested (RFC 8945, 4.3 and 5.3).
-ghost use Rattle.std.specs.Prelude.{◌≡◌, ◌≤◌, ◌<◌, ◌^◌, ◌++◌, ℕ, List, length};
-ghost use Rattle.std.specs.Prelude.{take};
+ghost use Rattle.std.specs.Prelude.{◌≡◌, ◌≤◌, ◌<◌, ◌^◌, ◌++◌, ℕ, List, length, take, bytes_eq};
 ghost use Rattle.hmac.specs.Hmac.{Keyed, hmac_by, mac_size};
 ghost use Rattle.hmac.specs.Macs.{IsMac};
-ghost use Rattle.tsig.specs.Digested.{bare, front, timers, variables, digested, mac_over, mac_later};
+ghost use Rattle.tsig.specs.Digested.{bare, front, timers, variables, key_variables, digested, mac_over, mac_later};
 ghost use Rattle.tsig.specs.Fields.{with_length};
 ghost use Rattle.tsig.specs.Opened.{is_right};
 
@@ -16,15 +15,29 @@ use dns_message::HEADER;
 use hmac::{MAX_MAC, Mac, is_same};
 
 /// Whether the MAC of the TSIG at a position is the message's, or the beginning of it (RFC 8945, 5.2.2).
-pub(crate) fn is_right(key: &Key, prior: &[u8], msg: &[u8], start: usize, data: &Data<'_>) -> bool
+#[tactic(auto, unfolding(crate::specs::Opened::is_right))]
+pub(crate) fn is_right(key: &Key, prior: &[u8], msg: &[u8], start: usize, fields: &Data<'_>) -> bool
     requires header { HEADER ≤ length msg.now }
     requires few { length prior.now < 2 ^ 16 }
-    requires small { length data.now.other < 2 ^ 16 }
-    ensures { result ≡ is_right key.now prior.now msg.now start data.now }
+    requires small { length fields.now.other < 2 ^ 16 }
+    ensures { result ≡ is_right key.now prior.now msg.now start fields.now }
 {
-    let own = mac_of(key, prior, msg, start, data);
-    let front = own.get(..data.mac.len()).unwrap_or(&own);
-    is_same(data.mac, front)
+    let own = mac_of(key, prior, msg, start, fields);
+    is_front(fields.mac, &own)
+}
+
+/// Whether a MAC is the beginning of another.
+fn is_front(mac: &[u8], own: &[u8]) -> bool
+    ensures { result ≡ bytes_eq mac.now (take (length mac.now) own.now) }
+{
+    is_same(mac, front_of(own, mac.len()))
+}
+
+/// The first octets, so many; all where there are fewer.
+fn front_of(octets: &[u8], count: usize) -> &[u8]
+    ensures { result.now ≡ take count octets.now }
+{
+    octets.get(..count).unwrap_or(octets)
 }
 
 /// The MAC of a message without its TSIG, which stands at a position, by the fields of that (RFC 8945, 4.3).
@@ -33,17 +46,17 @@ fn mac_of(
     prior: &[u8],
     msg: &[u8],
     start: usize,
-    data: &Data<'_>,
+    fields: &Data<'_>,
 ) -> ArrayVec<u8, MAX_MAC>
     requires header { HEADER ≤ length msg.now }
     requires few { length prior.now < 2 ^ 16 }
-    requires small { length data.now.other < 2 ^ 16 }
-    ensures { result.items ≡ mac_over key.now prior.now (bare msg.now start data.now.original) data.now }
+    requires small { length fields.now.other < 2 ^ 16 }
+    ensures { result.items ≡ mac_over key.now prior.now (bare msg.now start fields.now.original) fields.now }
 {
     let mut mac = key.secret().begin();
     add_front(&mut mac, prior);
-    add_bare(&mut mac, msg, start, data.original);
-    add_variables(&mut mac, key, data);
+    add_bare(&mut mac, msg, start, fields.original);
+    add_variables(&mut mac, key, fields);
     mac.finish()
 }
 
@@ -52,17 +65,17 @@ pub(crate) fn mac_over(
     key: &Key,
     prior: &[u8],
     plain: &[u8],
-    data: &Data<'_>,
+    fields: &Data<'_>,
 ) -> ArrayVec<u8, MAX_MAC>
     requires few { length prior.now < 2 ^ 16 }
-    requires small { length data.now.other < 2 ^ 16 }
-    ensures mac { result.items ≡ mac_over key.now prior.now plain.now data.now }
+    requires small { length fields.now.other < 2 ^ 16 }
+    ensures mac { result.items ≡ mac_over key.now prior.now plain.now fields.now }
     ensures size { length result.items ≡ mac_size key.now.secret.algorithm }
 {
     let mut mac = key.secret().begin();
     add_front(&mut mac, prior);
     mac.add(plain);
-    add_variables(&mut mac, key, data);
+    add_variables(&mut mac, key, fields);
     mac.finish()
 }
 
@@ -71,16 +84,16 @@ pub(crate) fn mac_later(
     key: &Key,
     prior: &[u8],
     plain: &[u8],
-    data: &Data<'_>,
+    fields: &Data<'_>,
 ) -> ArrayVec<u8, MAX_MAC>
     requires { length prior.now < 2 ^ 16 }
-    ensures mac { result.items ≡ mac_later key.now prior.now plain.now data.now }
+    ensures mac { result.items ≡ mac_later key.now prior.now plain.now fields.now }
     ensures size { length result.items ≡ mac_size key.now.secret.algorithm }
 {
     let mut mac = key.secret().begin();
     add_front(&mut mac, prior);
     mac.add(plain);
-    add_timers(&mut mac, data);
+    add_timers(&mut mac, fields);
     mac.finish()
 }
 
@@ -89,9 +102,10 @@ fn add_front(mac: &mut Mac, prior: &[u8])
     requires { length prior.now < 2 ^ 16 }
     ensures { (key : Keyed) (text : List ℕ) → IsMac mac.old key text → IsMac mac.new key (text ++ front prior.now) }
 {
-    match prior {
-        [] => mac.add(&[]),
-        [_, ..] => add_with_length(mac, prior),
+    if prior.len() == 0 {
+        mac.add(&[]);
+    } else {
+        add_with_length(mac, prior);
     }
 }
 
@@ -105,22 +119,32 @@ fn add_with_length(mac: &mut Mac, octets: &[u8])
 }
 
 /// Adds Time Signed and Fudge (RFC 8945, 5.3.1).
-fn add_timers(mac: &mut Mac, data: &Data<'_>)
-    ensures { (key : Keyed) (text : List ℕ) → IsMac mac.old key text → IsMac mac.new key (text ++ timers data.now) }
+#[tactic(auto, unfolding(crate::specs::Digested::timers))]
+fn add_timers(mac: &mut Mac, fields: &Data<'_>)
+    ensures { (key : Keyed) (text : List ℕ) → IsMac mac.old key text → IsMac mac.new key (text ++ timers fields.now) }
 {
-    mac.add(&time_octets(data.time));
-    mac.add(&data.fudge.to_be_bytes());
+    mac.add(&time_octets(fields.time));
+    mac.add(&fields.fudge.to_be_bytes());
 }
 
-/// Adds the variables of a TSIG (RFC 8945, 4.3.3).
-fn add_variables(mac: &mut Mac, by: &Key, data: &Data<'_>)
-    requires { length data.now.other < 2 ^ 16 }
-    ensures { (key : Keyed) (text : List ℕ) → IsMac mac.old key text → IsMac mac.new key (text ++ variables by.now data.now) }
+/// Adds the variables that a key determines (RFC 8945, 4.3.3).
+#[tactic(auto, unfolding(crate::specs::Digested::key_variables))]
+fn add_key(mac: &mut Mac, by: &Key)
+    ensures { (key : Keyed) (text : List ℕ) → IsMac mac.old key text → IsMac mac.new key (text ++ key_variables by.now) }
 {
     mac.add(by.name().fold().wire());
     mac.add(&[0, 255, 0, 0, 0, 0]);
     mac.add(by.algorithm().wire());
-    add_timers(mac, data);
-    mac.add(&data.error.to_be_bytes());
-    add_with_length(mac, data.other);
+}
+
+/// Adds the variables of a TSIG (RFC 8945, 4.3.3).
+#[tactic(auto, unfolding(crate::specs::Digested::variables))]
+fn add_variables(mac: &mut Mac, by: &Key, fields: &Data<'_>)
+    requires { length fields.now.other < 2 ^ 16 }
+    ensures { (key : Keyed) (text : List ℕ) → IsMac mac.old key text → IsMac mac.new key (text ++ variables by.now fields.now) }
+{
+    add_key(mac, by);
+    add_timers(mac, fields);
+    mac.add(&fields.error.to_be_bytes());
+    add_with_length(mac, fields.other);
 }

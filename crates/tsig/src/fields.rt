@@ -76,31 +76,31 @@ pub(crate) fn fields_in<'m>(octets: &'m [u8]) -> Option<Data<'m>>
 }
 
 /// Puts the fields behind what a record has.
-pub(crate) fn put_fields(record: &mut ArrayVec<u8, MAX_RECORD>, data: &Data<'_>)
-    requires { length record.old.items + FIXED + length data.now.mac + length data.now.other ≤ MAX_RECORD }
-    ensures { record.new.items ≡ record.old.items ++ written data.now }
+pub(crate) fn put_fields(record: &mut ArrayVec<u8, MAX_RECORD>, fields: &Data<'_>)
+    requires { length out.old.items + FIXED + length fields.now.mac + length fields.now.other ≤ MAX_RECORD }
+    ensures { out.new.items ≡ out.old.items ++ written fields.now }
 {
-    put(record, &time_octets(data.time));
-    put(record, &data.fudge.to_be_bytes());
-    put_with_length(record, data.mac);
-    put(record, &data.original.to_be_bytes());
-    put(record, &data.error.to_be_bytes());
-    put_with_length(record, data.other);
+    put(out, &time_octets(fields.time));
+    put(out, &fields.fudge.to_be_bytes());
+    put_with_length(out, fields.mac);
+    put(out, &fields.original.to_be_bytes());
+    put(out, &fields.error.to_be_bytes());
+    put_with_length(out, fields.other);
 }
 
 /// Puts octets behind what a record has.
 pub(crate) fn put(record: &mut ArrayVec<u8, MAX_RECORD>, octets: &[u8])
-    requires { length record.old.items + length octets.now ≤ MAX_RECORD }
-    ensures { record.new.items ≡ record.old.items ++ octets.now }
+    requires { length out.old.items + length octets.now ≤ MAX_RECORD }
+    ensures { out.new.items ≡ out.old.items ++ octets.now }
 {
-    let _ = record.try_extend_from_slice(octets);
+    let _ = out.try_extend_from_slice(octets);
 }
 
 /// Puts octets behind what a record has, after their number.
 fn put_with_length(record: &mut ArrayVec<u8, MAX_RECORD>, octets: &[u8])
-    requires { length record.old.items + 2 + length octets.now ≤ MAX_RECORD }
-    ensures { record.new.items ≡ record.old.items ++ with_length octets.now }
+    requires { length out.old.items + 2 + length octets.now ≤ MAX_RECORD }
+    ensures { out.new.items ≡ out.old.items ++ with_length octets.now }
 {
-    put(record, &(octets.len() as u16).to_be_bytes());
-    put(record, octets);
+    put(out, &(octets.len() as u16).to_be_bytes());
+    put(out, octets);
 }

@@ -1,5 +1,6 @@
 //! How a request is judged by its TSIG (RFC 8945, 5.2).
 ghost use Rattle.std.specs.Prelude.{◌≡◌, ◌≤◌, length};
+ghost use Rattle.std.specs.Bool.{OnTrue};
 ghost use Rattle.hmac.specs.Hmac.{mac_size};
 ghost use Rattle.tsig.specs.Opened.{is_size, is_timely, judged, by_tsig, opened};
 ghost use Rattle.tsig.specs.Tsig.{tsig_at};
@@ -81,18 +82,18 @@ fn judge<'m>(
     key: &Key,
 ) -> Opened<'m>
     requires { HEADER ≤ length msg.now }
-    ensures { result ≡ judged now msg.now start tsig index key.now }
+    ensures { result ≡ judged now msg.now start tsig.entry index key.now }
 {
-    let size = tsig.data().mac.len();
+    let size = tsig.fields().mac.len();
     let whole = key.secret().mac_size();
     if !is_size(whole, size) {
         return Opened::Malformed;
     }
-    if !is_right(key, &[], msg, start, tsig.data()) {
+    if !is_right(key, &[], msg, start, tsig.fields()) {
         return Opened::Wrong(tsig);
     }
-    let asking = asking_of(index, tsig.data());
-    if !is_timely(now, tsig.data()) {
+    let asking = asking_of(index, tsig.fields());
+    if !is_timely(now, tsig.fields()) {
         return Opened::Late(asking);
     }
     if size < whole {
@@ -103,15 +104,16 @@ fn judge<'m>(
 
 /// Whether a MAC of this size may be one that is cut short, or a whole one (RFC 8945, 5.2.2.1).
 fn is_size(whole: usize, size: usize) -> bool
-    ensures { result ≡ is_size whole size }
+    ensures size { result ≡ is_size whole size }
+    ensures within { OnTrue result (size ≤ whole) }
 {
     size <= whole && MIN_MAC.max(whole / 2) <= size
 }
 
 /// Whether a time is within the fudge of now (RFC 8945, 5.2.3).
-fn is_timely(now: u64, data: &Data<'_>) -> bool
-    ensures { result ≡ is_timely now data.now }
+fn is_timely(now: u64, fields: &Data<'_>) -> bool
+    ensures { result ≡ is_timely now fields.now }
 {
-    let fudge = u64::from(data.fudge);
-    now.saturating_sub(data.time) <= fudge && data.time.saturating_sub(now) <= fudge
+    let fudge = u64::from(fields.fudge);
+    now.saturating_sub(fields.time) <= fudge && fields.time.saturating_sub(now) <= fudge
 }

@@ -1,5 +1,5 @@
 //! The keys of a server (RFC 8945, 5.2.1).
-ghost use Rattle.std.specs.Prelude.{◌≡◌, ◌<◌, ◌↔◌, [], ◌∷◌, ◌++◌, length, slice_get, IsTrue, OnOk, OnErr};
+ghost use Rattle.std.specs.Prelude.{◌≡◌, ◌<◌, ◌↔◌, [], ◌∷◌, ◌++◌, length, slice_get, IsTrue, IfSome, OnOk, OnErr};
 ghost use Rattle.std.specs.Option.{option_copied};
 ghost use Rattle.tsig.specs.Keys.{index_of};
 
@@ -73,10 +73,15 @@ impl Keys {
     pub(crate) fn index_of(&self, name: &Name, algorithm: &Name) -> Option<u16>
         ensures { result ≡ index_of name.now algorithm.now self.now }
     {
-        let index = self
-            .keys
-            .iter()
-            .position(|key| key.is_named(name, algorithm))?;
+        let index = position_of(&self.keys, name, algorithm)?;
         Some(index as u16)
     }
+}
+
+/// The index of the first of some keys of this name and this algorithm; None where there is none.
+fn position_of(keys: &[Key], name: &Name, algorithm: &Name) -> Option<usize>
+    ensures index { result ≡ index_of name.now algorithm.now keys.now }
+    ensures within { IfSome result (λ index. index < length keys.now) }
+{
+    keys.iter().position(|key| key.is_named(name, algorithm))
 }

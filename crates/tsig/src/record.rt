@@ -23,7 +23,7 @@ pub(crate) const BETWEEN: usize = 10;
 pub struct Tsig<'m> {
     owner: Name,
     algorithm: Name,
-    data: Data<'m>,
+    fields: Data<'m>,
 }
 
 impl<'m> Model for Tsig<'m> {
@@ -33,7 +33,7 @@ impl<'m> Model for Tsig<'m> {
 
     ghost Value = { Standing };
 
-    ghost view = { λ a. record { owner = a.owner; algorithm = a.algorithm; fields = a.data } };
+    ghost view = { λ a. record { owner = a.owner; algorithm = a.algorithm; fields = a.fields } };
 
     ghost invariant = { λ a. length (wire_of a.owner) + length (wire_of a.algorithm) ≤ names_limit };
 }
@@ -54,10 +54,11 @@ impl<'m> Tsig<'m> {
     }
 
     /// The fields after these.
-    pub(crate) fn data(&self) -> &Data<'m>
-        ensures { result.now ≡ self.now.fields }
+    pub(crate) fn fields(&self) -> &Data<'m>
+        ensures fields { result.now ≡ self.now.fields }
+        ensures short { length (wire_of self.now.owner) + length (wire_of self.now.algorithm) ≤ names_limit }
     {
-        &self.data
+        &self.fields
     }
 }
 
@@ -75,13 +76,15 @@ pub(crate) fn tsig_at<'m>(octets: &Message<'m>, at: usize) -> Option<Tsig<'m>>
 fn tsig_behind<'m>(octets: &'m [u8], owner: Name, at: usize) -> Option<Tsig<'m>>
     ensures { result ≡ option_and_then (λ r. tsig_of owner (data_of octets.now r)) (record_of octets.now (Ok (owner, at))) }
 {
-    let data = data_at(octets, at)?;
-    tsig_of(owner, data)
+    match data_at(octets, at) {
+        None => None,
+        Some(own) => tsig_of(owner, own),
+    }
 }
 
 /// The data of the record whose owner ends at a position; None where the octets end before (RFC 1035, 4.1.3).
 fn data_at(octets: &[u8], at: usize) -> Option<&[u8]>
-    ensures { (owner : Labels) → option_map (λ data. data.now) result ≡ option_map (data_of octets.now) (record_of octets.now (Ok (owner, at))) }
+    ensures { (owner : Labels) → option_map (λ octets. octets.now) result ≡ option_map (data_of octets.now) (record_of octets.now (Ok (owner, at))) }
 {
     let _ = octets.get(at..)?;
     let size = octets.get(at + 8..)?.first_chunk::<2>()?;
@@ -94,14 +97,14 @@ fn tsig_of<'m>(owner: Name, octets: &'m [u8]) -> Option<Tsig<'m>>
     ensures { result ≡ tsig_of owner octets.now }
 {
     let (algorithm, len) = Name::from_wire(octets)?;
-    let data = fields_in(octets.get(len..)?)?;
+    let fields = fields_in(octets.get(len..)?)?;
     if owner.wire().len() + algorithm.wire().len() > MAX_NAMES {
         return None;
     }
     Some(Tsig {
         owner,
         algorithm,
-        data,
+        fields,
     })
 }
 
@@ -109,17 +112,18 @@ fn tsig_of<'m>(owner: Name, octets: &'m [u8]) -> Option<Tsig<'m>>
 pub(crate) fn record_octets(
     owner: &Name,
     algorithm: &Name,
-    data: &Data<'_>,
+    fields: &Data<'_>,
 ) -> ArrayVec<u8, MAX_RECORD>
-    requires { length (wire_of owner.now) + BETWEEN + length (wire_of algorithm.now) + FIXED + length data.now.mac + length data.now.other ≤ MAX_RECORD }
-    ensures { result.items ≡ record_octets (record { owner = owner.now; algorithm = algorithm.now; fields = data.now }) }
+    requires { length (wire_of owner.now) + BETWEEN + length (wire_of algorithm.now) + FIXED + length fields.now.mac + length fields.now.other ≤ MAX_RECORD }
+    ensures octets { result.items ≡ record_octets (record { owner = owner.now; algorithm = algorithm.now; fields = fields.now }) }
+    ensures size { length result.items ≡ length (wire_of owner.now) + BETWEEN + length (wire_of algorithm.now) + FIXED + length fields.now.mac + length fields.now.other }
 {
-    let mut record = ArrayVec::new();
-    let size = algorithm.wire().len() + FIXED + data.mac.len() + data.other.len();
-    put(&mut record, owner.wire());
-    put(&mut record, &[0, 250, 0, 255, 0, 0, 0, 0]);
-    put(&mut record, &(size as u16).to_be_bytes());
-    put(&mut record, algorithm.wire());
-    put_fields(&mut record, data);
-    record
+    let mut out = ArrayVec::new();
+    let size = algorithm.wire().len() + FIXED + fields.mac.len() + fields.other.len();
+    put(&mut out, owner.wire());
+    put(&mut out, &[0, 250, 0, 255, 0, 0, 0, 0]);
+    put(&mut out, &(size as u16).to_be_bytes());
+    put(&mut out, algorithm.wire());
+    put_fields(&mut out, fields);
+    out
 }

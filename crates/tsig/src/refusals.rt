@@ -24,14 +24,14 @@ pub fn refuse(tsig: &Tsig<'_>, told: Told, out: &mut [u8], len: usize) -> usize
     ensures size { result ≤ len + MAX_REFUSAL }
 {
     let other = told.other();
-    let data = Data {
-        time: tsig.data().time,
-        fudge: tsig.data().fudge,
+    let fields = Data {
+        time: tsig.fields().time,
+        fudge: tsig.fields().fudge,
         mac: &[],
         original: number_at(out, 0),
         error: told.number(),
         other: &other,
     };
-    let record = record_octets(tsig.owner(), tsig.algorithm(), &data);
-    append_record(out, len, &record)
+    let added = record_octets(tsig.owner(), tsig.algorithm(), &fields);
+    append_record(out, len, &added)
 }

@@ -1,10 +1,12 @@
 //! How a message is signed (RFC 8945, 5.3).
-ghost use Rattle.std.specs.Prelude.{◌≡◌, ◌≤◌, ◌<◌, ◌+◌, ◌-◌, ◌^◌, [], length, take, drop, IfSome};
+ghost use Rattle.std.specs.Prelude.{◌≡◌, ◌≤◌, ◌<◌, ◌+◌, ◌-◌, ◌^◌, [], length, take, drop, Ok, IfSome, option_and_then};
+ghost use Rattle.dns_name.specs.Name.{Name as Labels};
 ghost use Rattle.dns_message.specs.Message.{number_at};
+ghost use Rattle.dns_message.specs.Reads.{question_of};
 ghost use Rattle.hmac.specs.Hmac.{mac_size};
 ghost use Rattle.tsig.specs.Digested.{mac_over, mac_later};
 ghost use Rattle.tsig.specs.Fields.{other_of};
-ghost use Rattle.tsig.specs.Sealed.{stamped, with_record, with_tsig, signed_later, tsig_size, question_end, cut_middle, cut_to, cut, fitted, sealed};
+ghost use Rattle.tsig.specs.Sealed.{stamped, with_record, with_tsig, signed_later, tsig_size, question_end, end_within, cut_middle, cut_to, cut, fitted, sealed};
 
 use crate::bare::ARCOUNT;
 use crate::digest::{mac_later, mac_over};
@@ -54,11 +56,11 @@ pub fn seal(
     let size = tsig_size(key, stamp);
     let len = fit(out, len, size, limit);
     let other = stamp.told.other();
-    let data = data_of(stamp, &out[..len], &[], &other);
-    let mac = mac_over(key, prior, &out[..len], &data);
-    let len = append_tsig(key, stamp, &mac, out, len);
+    let fields = data_of(stamp, &out[..len], &[], &other);
+    let mac = mac_over(key, prior, &out[..len], &fields);
+    append_tsig(key, stamp, &mac, out, len);
     *prior = mac;
-    len
+    len + size
 }
 
 /// Signs a later message of a reply, as [`seal`] does, where `prior` is the MAC of the one before; it is never cut (RFC 8945, 5.3.1).
@@ -77,12 +79,13 @@ pub fn seal_later(
     ensures size { result ≤ len + MAX_TSIG }
     ensures behind { drop result out.new ≡ drop result out.old }
 {
+    let size = tsig_size(key, stamp);
     let other = stamp.told.other();
-    let data = data_of(stamp, &out[..len], &[], &other);
-    let mac = mac_later(key, prior, &out[..len], &data);
-    let len = append_tsig(key, stamp, &mac, out, len);
+    let fields = data_of(stamp, &out[..len], &[], &other);
+    let mac = mac_later(key, prior, &out[..len], &fields);
+    append_tsig(key, stamp, &mac, out, len);
     *prior = mac;
-    len
+    len + size
 }
 
 /// The fields of a message's TSIG with this MAC and this Other Data (RFC 8945, 4.2).
@@ -110,34 +113,33 @@ fn tsig_size(key: &Key, stamp: &Stamp) -> usize
     names + FIXED + key.secret().mac_size() + stamp.told.other().len()
 }
 
-/// Puts a key's TSIG of this MAC behind the message in the first octets of `out`, and gives how many octets it has then.
-fn append_tsig(key: &Key, stamp: &Stamp, mac: &[u8], out: &mut [u8], len: usize) -> usize
+/// Puts a key's TSIG of this MAC behind the message in the first octets of `out`.
+fn append_tsig(key: &Key, stamp: &Stamp, mac: &[u8], out: &mut [u8], len: usize)
     requires header { HEADER ≤ len }
     requires whole { length mac.now ≡ mac_size key.now.secret.algorithm }
     requires room { len + tsig_size key.now stamp.now ≤ length out.old }
     requires counted { number_at out.old 10 < 2 ^ 16 - 1 }
-    ensures octets { take result out.new ≡ with_tsig key.now stamp.now mac.now (take len out.old) }
-    ensures size { result ≡ len + tsig_size key.now stamp.now }
-    ensures behind { drop result out.new ≡ drop result out.old }
+    ensures octets { take (len + tsig_size key.now stamp.now) out.new ≡ with_tsig key.now stamp.now mac.now (take len out.old) }
+    ensures behind { drop (len + tsig_size key.now stamp.now) out.new ≡ drop (len + tsig_size key.now stamp.now) out.old }
 {
     let other = stamp.told.other();
-    let data = data_of(stamp, &out[..len], mac, &other);
-    let record = record_octets(key.name(), key.algorithm(), &data);
-    append_record(out, len, &record)
+    let fields = data_of(stamp, &out[..len], mac, &other);
+    let added = record_octets(key.name(), key.algorithm(), &fields);
+    append_record(out, len, &added);
 }
 
 /// Puts an additional record behind the message in the first octets of `out`, and gives how many octets it has then.
 pub(crate) fn append_record(out: &mut [u8], len: usize, record: &[u8]) -> usize
     requires header { HEADER ≤ len }
-    requires room { len + length record.now ≤ length out.old }
+    requires room { len + length added.now ≤ length out.old }
     requires counted { number_at out.old 10 < 2 ^ 16 - 1 }
-    ensures octets { take result out.new ≡ with_record (take len out.old) record.now }
-    ensures size { result ≡ len + length record.now }
+    ensures octets { take result out.new ≡ with_record (take len out.old) added.now }
+    ensures size { result ≡ len + length added.now }
     ensures behind { drop result out.new ≡ drop result out.old }
 {
     let count = number_at(out, ARCOUNT) + 1;
     put_at(out, ARCOUNT, &count.to_be_bytes());
-    put_at(out, len, record)
+    put_at(out, len, added)
 }
 
 /// Cuts the reply in the first octets of `out`, where it doesn't fit the limit with a TSIG of so many octets, and gives how many octets it has.
@@ -210,7 +212,18 @@ fn question_end(plain: &[u8]) -> Option<usize>
     if number_at(plain, QDCOUNT) != 1 {
         return None;
     }
-    let end = Message::new(plain).behind_name(HEADER)? + BEHIND_NAME;
+    let Ok((_, at)) = Message::new(plain).read_name(HEADER) else {
+        return None;
+    };
+    end_behind(plain, at)
+}
+
+/// Where the question ends whose name ends at a position; None where the octets end before, and of more octets than a question has (RFC 1035, 4.1.2).
+fn end_behind(plain: &[u8], at: usize) -> Option<usize>
+    ensures end { (name : Labels) → result ≡ option_and_then (λ q. end_within q.1) (question_of plain.now (Ok (name, at))) }
+    ensures within { IfSome result (λ end. (HEADER ≤ end) × (end ≤ length plain.now) × (end ≤ HEADER + MAX_QUESTION)) }
+{
+    let end = at.checked_add(BEHIND_NAME)?;
     if end > plain.len() || end < HEADER || end > HEADER + MAX_QUESTION {
         return None;
     }

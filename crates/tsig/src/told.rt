@@ -1,5 +1,5 @@
 //! What a TSIG tells (RFC 8945, 3).
-ghost use Rattle.std.specs.Prelude.{◌≡◌};
+ghost use Rattle.std.specs.Prelude.{◌≡◌, ◌≤◌, length};
 ghost use Rattle.tsig.specs.Fields.{error_number, other_of, time_octets};
 
 use arrayvec::ArrayVec;
@@ -38,7 +38,8 @@ impl Told {
 
     /// The error's Other Data (RFC 8945, 5.2.3).
     pub(crate) fn other(self) -> ArrayVec<u8, TIME>
-        ensures { result.items ≡ other_of self }
+        ensures octets { result.items ≡ other_of self }
+        ensures few { length result.items ≤ TIME }
     {
         match self {
             Told::Nothing => ArrayVec::new(),
@@ -52,7 +53,8 @@ impl Told {
 
 /// A time in 48 bits (RFC 8945, 4.2).
 pub(crate) fn time_octets(time: u64) -> ArrayVec<u8, TIME>
-    ensures { result.items ≡ time_octets time }
+    ensures octets { result.items ≡ time_octets time }
+    ensures size { length result.items ≡ TIME }
 {
     let high = (time / 4_294_967_296 % 65_536) as u16;
     let low = (time % 4_294_967_296) as u32;
