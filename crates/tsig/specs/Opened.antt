@@ -30,14 +30,19 @@ is_timely now f = nat_le (now - f.time) f.fudge && nat_le (f.time - now) f.fudge
 abbrev pub asking_of : ℕ → Fields → Asking
 asking_of index f = record { key = index; mac = record { items = f.mac }; time = f.time; fudge = f.fudge }
 
--- a request whose key is known: the size of its MAC, its MAC, its time, and whether its MAC is whole (RFC 8945, 5.2.2 to 5.2.4)
+-- a request whose MAC is right: its time, and whether its MAC is whole (RFC 8945, 5.2.3 and 5.2.4)
+abbrev pub judged_after : ℕ → ℕ → ℕ → Fields → Opened
+judged_after now index whole f =
+    if not (is_timely now f) then Late (asking_of index f)
+    else if nat_lt (length f.mac) whole then Short (asking_of index f)
+    else Signed (asking_of index f)
+
+-- a request whose key is known: the size of its MAC, its MAC, and what comes after these (RFC 8945, 5.2.2)
 abbrev pub judged : ℕ → List ℕ → ℕ → Tsig → ℕ → SharedKey → Opened
 judged now msg start tsig index key =
     if not (is_size (mac_size key.secret.algorithm) (length tsig.fields.mac)) then Malformed
     else if not (is_right key [] msg start tsig.fields) then Wrong tsig
-    else if not (is_timely now tsig.fields) then Late (asking_of index tsig.fields)
-    else if nat_lt (length tsig.fields.mac) (mac_size key.secret.algorithm) then Short (asking_of index tsig.fields)
-    else Signed (asking_of index tsig.fields)
+    else judged_after now index (mac_size key.secret.algorithm) tsig.fields
 
 -- by the key that its TSIG names (RFC 8945, 5.2.1)
 abbrev pub by_key : ℕ → List ℕ → ℕ → Tsig → Option (ℕ × SharedKey) → Opened

@@ -1,5 +1,5 @@
 //! What stands after the algorithm's name in the data of a TSIG (RFC 8945, 4.2).
-ghost use Rattle.std.specs.Prelude.{◌≡◌, ◌≤◌, ◌+◌, ◌*◌, ◌^◌, ◌<◌, ◌++◌, length};
+ghost use Rattle.std.specs.Prelude.{◌≡◌, ◌≤◌, ◌+◌, ◌*◌, ◌^◌, ◌<◌, ◌++◌, length, IfSome};
 ghost use Rattle.dns_message.specs.Message.{number_at};
 ghost use Rattle.dns_message.specs.Reads.{long_number_at};
 ghost use Rattle.tsig.specs.Fields.{Fields, written, with_length, fields_in};
@@ -52,7 +52,8 @@ fn time_of(octets: &[u8]) -> u64
 
 /// The fields that octets are; None where these end before them or after them.
 pub(crate) fn fields_in<'m>(octets: &'m [u8]) -> Option<Data<'m>>
-    ensures { result ≡ fields_in octets.now }
+    ensures fields { result ≡ fields_in octets.now }
+    ensures few { IfSome result (λ f. length f.other < 2 ^ 16) }
 {
     if octets.len() < FIXED {
         return None;
@@ -76,7 +77,7 @@ pub(crate) fn fields_in<'m>(octets: &'m [u8]) -> Option<Data<'m>>
 }
 
 /// Puts the fields behind what a record has.
-pub(crate) fn put_fields(record: &mut ArrayVec<u8, MAX_RECORD>, fields: &Data<'_>)
+pub(crate) fn put_fields(out: &mut ArrayVec<u8, MAX_RECORD>, fields: &Data<'_>)
     requires { length out.old.items + FIXED + length fields.now.mac + length fields.now.other ≤ MAX_RECORD }
     ensures { out.new.items ≡ out.old.items ++ written fields.now }
 {
@@ -89,7 +90,7 @@ pub(crate) fn put_fields(record: &mut ArrayVec<u8, MAX_RECORD>, fields: &Data<'_
 }
 
 /// Puts octets behind what a record has.
-pub(crate) fn put(record: &mut ArrayVec<u8, MAX_RECORD>, octets: &[u8])
+pub(crate) fn put(out: &mut ArrayVec<u8, MAX_RECORD>, octets: &[u8])
     requires { length out.old.items + length octets.now ≤ MAX_RECORD }
     ensures { out.new.items ≡ out.old.items ++ octets.now }
 {
@@ -97,7 +98,7 @@ pub(crate) fn put(record: &mut ArrayVec<u8, MAX_RECORD>, octets: &[u8])
 }
 
 /// Puts octets behind what a record has, after their number.
-fn put_with_length(record: &mut ArrayVec<u8, MAX_RECORD>, octets: &[u8])
+fn put_with_length(out: &mut ArrayVec<u8, MAX_RECORD>, octets: &[u8])
     requires { length out.old.items + 2 + length octets.now ≤ MAX_RECORD }
     ensures { out.new.items ≡ out.old.items ++ with_length octets.now }
 {

@@ -2,7 +2,7 @@
 ghost use Rattle.std.specs.Prelude.{◌≡◌, ◌≤◌, length};
 ghost use Rattle.std.specs.Bool.{OnTrue};
 ghost use Rattle.hmac.specs.Hmac.{mac_size};
-ghost use Rattle.tsig.specs.Opened.{is_size, is_timely, judged, by_tsig, opened};
+ghost use Rattle.tsig.specs.Opened.{is_size, is_timely, judged_after, judged, by_tsig, opened};
 ghost use Rattle.tsig.specs.Tsig.{tsig_at};
 
 use crate::asking::{Asking, asking_of};
@@ -12,6 +12,7 @@ use crate::key::Key;
 use crate::keys::Keys;
 use crate::record::{Tsig, tsig_at};
 use dns_message::{HEADER, Place, QR, tsig_place};
+use hmac::MAX_MAC;
 use wire_names::Message;
 
 /// The fewest octets of a MAC that is cut short (RFC 8945, 5.2.2.1).
@@ -92,11 +93,19 @@ fn judge<'m>(
     if !is_right(key, &[], msg, start, tsig.fields()) {
         return Opened::Wrong(tsig);
     }
-    let asking = asking_of(index, tsig.fields());
-    if !is_timely(now, tsig.fields()) {
+    judge_after(now, index, whole, tsig.fields())
+}
+
+/// What a request is whose MAC is right, of a key whose MACs have so many octets.
+fn judge_after<'m>(now: u64, index: u16, whole: usize, fields: &Data<'_>) -> Opened<'m>
+    requires { length fields.now.mac ≤ MAX_MAC }
+    ensures { result ≡ judged_after now index whole fields.now }
+{
+    let asking = asking_of(index, fields);
+    if !is_timely(now, fields) {
         return Opened::Late(asking);
     }
-    if size < whole {
+    if fields.mac.len() < whole {
         return Opened::Short(asking);
     }
     Opened::Signed(asking)

@@ -1,5 +1,5 @@
 //! A TSIG as it stands in a message (RFC 8945, 4.2).
-ghost use Rattle.std.specs.Prelude.{◌≡◌, ◌≤◌, ◌+◌, length, Ok, option_map, option_and_then};
+ghost use Rattle.std.specs.Prelude.{◌≡◌, ◌≤◌, ◌<◌, ◌+◌, ◌^◌, length, Ok, option_map, option_and_then};
 ghost use Rattle.dns_name.specs.Name.{Name as Labels, wire_of};
 ghost use Rattle.dns_message.specs.Message.{number_at};
 ghost use Rattle.dns_message.specs.Reads.{record_of};
@@ -27,7 +27,7 @@ pub struct Tsig<'m> {
 }
 
 impl<'m> Model for Tsig<'m> {
-    ghost use Rattle.std.specs.Prelude.{◌+◌, ◌≤◌, length};
+    ghost use Rattle.std.specs.Prelude.{◌+◌, ◌≤◌, ◌<◌, ◌^◌, length};
     ghost use Rattle.dns_name.specs.Name.{wire_of};
     ghost use Rattle.tsig.specs.Tsig.{Tsig as Standing, names_limit};
 
@@ -35,7 +35,7 @@ impl<'m> Model for Tsig<'m> {
 
     ghost view = { λ a. record { owner = a.owner; algorithm = a.algorithm; fields = a.fields } };
 
-    ghost invariant = { λ a. length (wire_of a.owner) + length (wire_of a.algorithm) ≤ names_limit };
+    ghost invariant = { λ a. (length (wire_of a.owner) + length (wire_of a.algorithm) ≤ names_limit) × (length a.fields.other < 2 ^ 16) };
 }
 
 impl<'m> Tsig<'m> {
@@ -56,6 +56,7 @@ impl<'m> Tsig<'m> {
     /// The fields after these.
     pub(crate) fn fields(&self) -> &Data<'m>
         ensures fields { result.now ≡ self.now.fields }
+        ensures few { length result.now.other < 2 ^ 16 }
         ensures short { length (wire_of self.now.owner) + length (wire_of self.now.algorithm) ≤ names_limit }
     {
         &self.fields

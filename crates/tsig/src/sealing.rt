@@ -129,7 +129,7 @@ fn append_tsig(key: &Key, stamp: &Stamp, mac: &[u8], out: &mut [u8], len: usize)
 }
 
 /// Puts an additional record behind the message in the first octets of `out`, and gives how many octets it has then.
-pub(crate) fn append_record(out: &mut [u8], len: usize, record: &[u8]) -> usize
+pub(crate) fn append_record(out: &mut [u8], len: usize, added: &[u8]) -> usize
     requires header { HEADER ≤ len }
     requires room { len + length added.now ≤ length out.old }
     requires counted { number_at out.old 10 < 2 ^ 16 - 1 }
