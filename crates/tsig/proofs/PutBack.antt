@@ -7,7 +7,7 @@ use Rattle.std.proofs.lemmas.List.{take_all}
 use Rattle.std.proofs.lemmas.Slice.Eq.{bytes_eq-Decides}
 use Rattle.std.specs.Prelude.{true, bytes_eq}
 use Rattle.dns_message.specs.Message.{number_at}
-use Rattle.tsig.specs.Digested.{bare, message, mac_over}
+use Rattle.tsig.specs.Digested.{bare, message, timers, variables, mac_over}
 use Rattle.tsig.specs.Fields.{Fields}
 use Rattle.tsig.specs.Keys.{SharedKey}
 use Rattle.tsig.specs.Opened.{is_right}

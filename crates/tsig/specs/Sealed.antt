@@ -80,10 +80,10 @@ abbrev pub sealed : SharedKey → List ℕ → Stamp → ℕ → List ℕ → Li
 sealed key prior stamp limit plain = signed key prior stamp (fitted (tsig_size key stamp) limit plain)
 
 -- the fields of the TSIG that tells of an unknown key or a wrong MAC: the request's times, and no MAC (RFC 8945, 5.3.2)
-abbrev pub unsigned : Tsig → Told → List ℕ → Fields
-unsigned tsig told plain = record {
-  time = tsig.fields.time;
-  fudge = tsig.fields.fudge;
+abbrev pub unsigned : Fields → Told → List ℕ → Fields
+unsigned f told plain = record {
+  time = f.time;
+  fudge = f.fudge;
   mac = [];
   original = number_at plain 0;
   error = error_number told;
@@ -93,4 +93,4 @@ unsigned tsig told plain = record {
 -- a reply that tells of an unknown key or a wrong MAC, unsigned, with the names of the request's TSIG (RFC 8945, 5.3.2)
 abbrev pub refused : Tsig → Told → List ℕ → List ℕ
 refused tsig told plain =
-    with_record plain (record_octets (record { owner = tsig.owner; algorithm = tsig.algorithm; fields = unsigned tsig told plain }))
+    with_record plain (record_octets (record { owner = tsig.owner; algorithm = tsig.algorithm; fields = unsigned tsig.fields told plain }))

@@ -1,7 +1,8 @@
 //! How an unknown key and a wrong MAC are told (RFC 8945, 5.3.2).
 ghost use Rattle.std.specs.Prelude.{◌≡◌, ◌≤◌, ◌<◌, ◌+◌, ◌-◌, ◌^◌, length, take, drop};
 ghost use Rattle.dns_message.specs.Message.{number_at};
-ghost use Rattle.tsig.specs.Sealed.{refused};
+ghost use Rattle.tsig.specs.Fields.{other_of};
+ghost use Rattle.tsig.specs.Sealed.{unsigned, refused};
 
 use crate::fields::Data;
 use crate::octets::number_at;
@@ -24,14 +25,23 @@ pub fn refuse(tsig: &Tsig<'_>, told: Told, out: &mut [u8], len: usize) -> usize
     ensures size { result ≤ len + MAX_REFUSAL }
 {
     let other = told.other();
-    let fields = Data {
-        time: tsig.fields().time,
-        fudge: tsig.fields().fudge,
-        mac: &[],
-        original: number_at(out, 0),
-        error: told.number(),
-        other: &other,
-    };
+    let fields = unsigned(tsig.fields(), told, &out[..len], &other);
     let added = record_octets(tsig.owner(), tsig.algorithm(), &fields);
     append_record(out, len, &added)
+}
+
+/// The fields of the TSIG that tells an error of a request of these fields (RFC 8945, 5.3.2).
+fn unsigned<'m>(fields: &Data<'_>, told: Told, plain: &[u8], other: &'m [u8]) -> Data<'m>
+    requires header { HEADER ≤ length plain.now }
+    requires tells { other.now ≡ other_of told }
+    ensures { result ≡ unsigned fields.now told plain.now }
+{
+    Data {
+        time: fields.time,
+        fudge: fields.fudge,
+        mac: &[],
+        original: number_at(plain, 0),
+        error: told.number(),
+        other,
+    }
 }
