@@ -15,6 +15,8 @@ TOP = os.path.join(os.path.dirname(os.path.abspath(__file__)), "..")
 # What `rt try --test` takes of the memory at most, and what it may take of the clock, in seconds, to compile and to run.
 MEMORY = 2.5e9
 MOST = 1200
+# Crates whose tests run for minutes, though they have few lines.
+LONG = {"test_changes"}
 
 
 def lanes():
@@ -25,7 +27,7 @@ def lanes():
 
 
 def crates_with_tests():
-    """The crates of crates.txt that have tests, those with most lines first."""
+    """The crates of crates.txt that have tests, first those whose tests are long, then those with most lines."""
     found = []
     with open(f"{TOP}/crates.txt", encoding="utf-8") as it:
         names = [line.split("#")[0].split(":")[0].split() for line in it]
@@ -38,8 +40,8 @@ def crates_with_tests():
                 lines += text.count("\n")
                 has_tests |= "#[test]" in text
         if has_tests:
-            found.append((lines, name))
-    return [name for _, name in sorted(found, reverse=True)]
+            found.append((name in LONG, lines, name))
+    return [name for _, _, name in sorted(found, reverse=True)]
 
 
 def said_by(command, folder, **more):
