@@ -20,7 +20,7 @@ use tcp_connections::{Messages, serve_stream};
 pub fn answer_stream<R: Wait, M: Messages, A: tcp_connections::Handler<M>, G: Gate>(
     rt: &R,
     alloc: Global,
-    answering: &mut A,
+    handler: &mut A,
     tape: MemoryStream,
     gate: &G,
     room: &mut [u8],
@@ -28,11 +28,11 @@ pub fn answer_stream<R: Wait, M: Messages, A: tcp_connections::Handler<M>, G: Ga
 ) -> (StreamEnd, MemoryStream)
     requires room { 0 < length room.old }
     requires out { message_limit ≤ length out.old }
-    ensures ends { EndsAs (A.is_reply (A.peer answering.old)) result.0 (A.seen answering.old (A.asker answering.old)) (tape_told tape) (A.seen answering.new (A.asker answering.old)) (Some (tape_told result.1)) }
-    ensures grows { EachGrows (A.seen answering.new) (A.seen answering.old) }
+    ensures ends { EndsAs (A.is_reply (A.peer handler.old)) result.0 (A.seen handler.old (A.asker handler.old)) (tape_told tape) (A.seen handler.new (A.asker handler.old)) (Some (tape_told result.1)) }
+    ensures grows { EachGrows (A.seen handler.new) (A.seen handler.old) }
 {
     let mut stream = Counted::new(tape);
-    let end = serve_stream(rt, alloc, answering, &mut stream, gate, room, out);
+    let end = serve_stream(rt, alloc, handler, &mut stream, gate, room, out);
     (end, stream.inner)
 }
 
@@ -41,7 +41,7 @@ pub fn answer_stream<R: Wait, M: Messages, A: tcp_connections::Handler<M>, G: Ga
 /// send fails are left out, and are counted (RFC 1035, 4.2.1). Nothing that was known is forgotten.
 pub fn answer_datagrams<R: Wait, A: Handler, G: Gate>(
     rt: &R,
-    answering: &mut A,
+    handler: &mut A,
     tray: MemoryDatagrams,
     allowed: Allowed<'_>,
     most: u64,
@@ -51,10 +51,10 @@ pub fn answer_datagrams<R: Wait, A: Handler, G: Gate>(
 ) -> (DatagramsEnd, MemoryDatagrams)
     requires request_room { message_limit ≤ length request.old }
     requires reply_room { message_limit ≤ length out.old }
-    ensures ends { EndsBy A.is_reply allowed.entry.addresses.now result.0 (A.seen answering.old) (tray_told tray) tray.faults most (A.seen answering.new) (Some (tray_told result.1)) result.1.faults }
-    ensures grows { Grows (A.seen answering.new) (A.seen answering.old) }
+    ensures ends { EndsBy A.is_reply allowed.entry.addresses.now result.0 (A.seen handler.old) (tray_told tray) tray.faults most (A.seen handler.new) (Some (tray_told result.1)) result.1.faults }
+    ensures grows { Grows (A.seen handler.new) (A.seen handler.old) }
 {
     let mut tray = tray;
-    let end = serve_udp(rt, answering, &mut tray, allowed, most, gate, request, out);
+    let end = serve_udp(rt, handler, &mut tray, allowed, most, gate, request, out);
     (end, tray)
 }

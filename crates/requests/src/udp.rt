@@ -29,19 +29,19 @@ pub enum DatagramsEnd {
 /// be loaded; then nothing is sent.
 fn reply<R: Wait, A: Handler, D: Datagrams>(
     rt: &R,
-    answering: &mut A,
+    handler: &mut A,
     datagrams: &mut D,
     request: &[u8],
     from: SocketAddr,
     out: &mut [u8],
 ) -> Result<(), Spent>
     requires { message_limit ≤ length out.old }
-    ensures grows { Grows (A.seen answering.new) (A.seen answering.old) }
-    ensures replied { OnOk result (RepliesTo A.is_reply (by_datagram (A.peer answering.old)) (A.seen answering.old) request.now from (A.seen answering.new) (D.datagrams datagrams.old) (D.failed datagrams.old) (D.datagrams datagrams.new) (D.failed datagrams.new)) }
+    ensures grows { Grows (A.seen handler.new) (A.seen handler.old) }
+    ensures replied { OnOk result (RepliesTo A.is_reply (by_datagram (A.peer handler.old)) (A.seen handler.old) request.now from (A.seen handler.new) (D.datagrams datagrams.old) (D.failed datagrams.old) (D.datagrams datagrams.new) (D.failed datagrams.new)) }
     ensures spent { OnErr result (D.datagrams datagrams.new ≡ D.datagrams datagrams.old) }
     ensures same { OnErr result (D.failed datagrams.new ≡ D.failed datagrams.old) }
 {
-    match answering.answer(rt, request, out) {
+    match handler.answer(rt, request, out) {
         Ok(Some(len)) => {
             datagrams.send(&out[..len], from);
             Ok(())
@@ -54,7 +54,7 @@ fn reply<R: Wait, A: Handler, D: Datagrams>(
 /// Receives a datagram and answers it. Returns how the answering ends, if it ends with this datagram.
 fn turn<R: Wait, A: Handler, D: Datagrams, G: Gate>(
     rt: &R,
-    answering: &mut A,
+    handler: &mut A,
     datagrams: &mut D,
     allowed: Allowed<'_>,
     gate: &G,
@@ -63,15 +63,15 @@ fn turn<R: Wait, A: Handler, D: Datagrams, G: Gate>(
 ) -> Option<DatagramsEnd>
     requires request_room { message_limit ≤ length request.old }
     requires reply_room { message_limit ≤ length out.old }
-    ensures grows { Grows (A.seen answering.new) (A.seen answering.old) }
-    ensures turns { IfSome (D.datagrams datagrams.old) (λ o. TurnsBy A.is_reply allowed.entry.addresses.now result (A.seen answering.old) o (D.failed datagrams.old) (A.seen answering.new) (D.datagrams datagrams.new) (D.failed datagrams.new)) }
+    ensures grows { Grows (A.seen handler.new) (A.seen handler.old) }
+    ensures turns { IfSome (D.datagrams datagrams.old) (λ o. TurnsBy A.is_reply allowed.entry.addresses.now result (A.seen handler.old) o (D.failed datagrams.old) (A.seen handler.new) (D.datagrams datagrams.new) (D.failed datagrams.new)) }
 {
     let Some((len, from)) = datagrams.receive(request) else {
         return Some(DatagramsEnd::Device);
     };
-    answering.turn_to(allowed.peer(from, Transport::Udp), from);
+    handler.turn_to(allowed.peer(from, Transport::Udp), from);
     gate.enter();
-    let replied = reply(rt, answering, datagrams, &request[..len], from, out);
+    let replied = reply(rt, handler, datagrams, &request[..len], from, out);
     gate.leave();
     match replied {
         Ok(()) => {}
@@ -83,7 +83,7 @@ fn turn<R: Wait, A: Handler, D: Datagrams, G: Gate>(
 /// Answers at most `most` requests that come as datagrams, one after another; fewer if one can't be received, or no version can be loaded.
 fn answer_all<R: Wait, A: Handler, D: Datagrams, G: Gate>(
     rt: &R,
-    answering: &mut A,
+    handler: &mut A,
     datagrams: &mut D,
     allowed: Allowed<'_>,
     most: u64,
@@ -93,11 +93,11 @@ fn answer_all<R: Wait, A: Handler, D: Datagrams, G: Gate>(
 ) -> DatagramsEnd
     requires request_room { message_limit ≤ length request.old }
     requires reply_room { message_limit ≤ length out.old }
-    ensures grows { Grows (A.seen answering.new) (A.seen answering.old) }
-    ensures answered { IfSome (D.datagrams datagrams.old) (λ o. EndsBy A.is_reply allowed.entry.addresses.now result (A.seen answering.old) o (D.failed datagrams.old) most (A.seen answering.new) (D.datagrams datagrams.new) (D.failed datagrams.new)) }
+    ensures grows { Grows (A.seen handler.new) (A.seen handler.old) }
+    ensures answered { IfSome (D.datagrams datagrams.old) (λ o. EndsBy A.is_reply allowed.entry.addresses.now result (A.seen handler.old) o (D.failed datagrams.old) most (A.seen handler.new) (D.datagrams datagrams.new) (D.failed datagrams.new)) }
 {
     for _done in 0..most {
-        match turn(rt, answering, datagrams, allowed, gate, request, out) {
+        match turn(rt, handler, datagrams, allowed, gate, request, out) {
             Some(end) => return end,
             None => {}
         }
@@ -111,7 +111,7 @@ fn answer_all<R: Wait, A: Handler, D: Datagrams, G: Gate>(
 /// kept unsent at the end.
 pub fn serve_udp<R: Wait, A: Handler, D: Datagrams, G: Gate>(
     rt: &R,
-    answering: &mut A,
+    handler: &mut A,
     datagrams: &mut D,
     allowed: Allowed<'_>,
     most: u64,
@@ -121,10 +121,10 @@ pub fn serve_udp<R: Wait, A: Handler, D: Datagrams, G: Gate>(
 ) -> DatagramsEnd
     requires request_room { message_limit ≤ length request.old }
     requires reply_room { message_limit ≤ length out.old }
-    ensures grows { Grows (A.seen answering.new) (A.seen answering.old) }
-    ensures answered { IfSome (D.datagrams datagrams.old) (λ o. EndsBy A.is_reply allowed.entry.addresses.now result (A.seen answering.old) o (D.failed datagrams.old) most (A.seen answering.new) (D.datagrams datagrams.new) (D.failed datagrams.new)) }
+    ensures grows { Grows (A.seen handler.new) (A.seen handler.old) }
+    ensures answered { IfSome (D.datagrams datagrams.old) (λ o. EndsBy A.is_reply allowed.entry.addresses.now result (A.seen handler.old) o (D.failed datagrams.old) most (A.seen handler.new) (D.datagrams datagrams.new) (D.failed datagrams.new)) }
 {
-    let end = answer_all(rt, answering, datagrams, allowed, most, gate, request, out);
+    let end = answer_all(rt, handler, datagrams, allowed, most, gate, request, out);
     datagrams.flush();
     end
 }

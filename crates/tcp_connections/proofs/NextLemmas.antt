@@ -13,10 +13,10 @@ use Rattle.tcp_connections.specs.Links.{HasStopped}
 use Rattle.tcp_connections.specs.declared.connection.Connection.{Connection}
 
 -- a connection that couldn't go on has stopped
-pub stopped_by_step : {S M : Type 0} (would_block : S → Type 0) (is_later : Peer → List ℕ → Type 0) (link : Option (Connection S M)) (new : Connection S M) (step : Step) → link ≡ Some new → (step ≡ Blocked) ⊎ (step ≡ Later)
-    → (◌≡◌ {A = Result Step StreamEnd} (Ok step) (Ok Blocked) → would_block new.stream) → (◌≡◌ {A = Result Step StreamEnd} (Ok step) (Ok Later) → IsHeldUp (is_later new.peer) new.conversation) → HasStopped would_block is_later link
-stopped_by_step would_block is_later link new step is (inl same) blocked waits = subst (HasStopped would_block is_later) (sym is) (inl (blocked (ap (λ (s : Step). Ok s) same)))
-stopped_by_step would_block is_later link new step is (inr same) blocked waits = subst (HasStopped would_block is_later) (sym is) (inr (waits (ap (λ (s : Step). Ok s) same)))
+pub stopped_by_step : {S M : Type 0} (would_block : S → Type 0) (is_later : Peer → List ℕ → Type 0) (connection : Option (Connection S M)) (new : Connection S M) (step : Step) → connection ≡ Some new → (step ≡ Blocked) ⊎ (step ≡ Later)
+    → (◌≡◌ {A = Result Step StreamEnd} (Ok step) (Ok Blocked) → would_block new.stream) → (◌≡◌ {A = Result Step StreamEnd} (Ok step) (Ok Later) → IsHeldUp (is_later new.peer) new.state) → HasStopped would_block is_later connection
+stopped_by_step would_block is_later connection new step is (inl same) blocked waits = subst (HasStopped would_block is_later) (sym is) (inl (blocked (ap (λ (s : Step). Ok s) same)))
+stopped_by_step would_block is_later connection new step is (inr same) blocked waits = subst (HasStopped would_block is_later) (sym is) (inr (waits (ap (λ (s : Step). Ok s) same)))
 
 module _ {L : Type 0} (Stopped : Option L → Type 0) where
   -- what holds of one key still does, once it or another one has been served

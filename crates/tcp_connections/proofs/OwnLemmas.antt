@@ -25,7 +25,7 @@ err_follows (Err fault) step holds = step fault holds
 
 module _ {T : Type 0} (IsReply : Peer → Learned T → Learned T → List ℕ → List (List ℕ) → Type 0) where
   -- a connection isn't served, and maybe more is known
-  pub own_same : (now : ℕ) (seen later : Learned T) (link : Option Seen) → Grows later seen → OwnServed IsReply now seen link later link
+  pub own_same : (now : ℕ) (seen later : Learned T) (connection : Option Seen) → Grows later seen → OwnServed IsReply now seen connection later connection
   own_same now seen later None grows = tt
   own_same now seen later (Some a) grows = record {
     peer = refl;

@@ -88,12 +88,12 @@ least_as numbers others (Some key) same least = (least.0, same key ∙ least.1, 
 
 -- a connection waits as long where its peer's group is looked at by either
 module _ {S M : Type 0} (p q : PeerGroup → Bool) (same : (group : PeerGroup) → p group ≡ q group) where
-  waits_among : (link : Option (Connection S M)) → waits_in p link ≡ waits_in q link
+  waits_among : (connection : Option (Connection S M)) → waits_in p connection ≡ waits_in q connection
   waits_among None = refl
-  waits_among (Some link) = ap (λ (b : Bool). if b then waits_by (awaited link.conversation) link.begun else None) (same link.group)
+  waits_among (Some connection) = ap (λ (b : Bool). if b then waits_by (awaited connection.state) connection.begun else None) (same connection.group)
 
-  pub longest_as : (links : Slab (Connection S M)) (found : Option ℕ) → IsLongest q links found → IsLongest p links found
-  longest_as links found least = least_as (λ key. waits_in q (get links key)) (λ key. waits_in p (get links key)) found (λ key. waits_among (get links key)) least
+  pub longest_as : (connections : Slab (Connection S M)) (found : Option ℕ) → IsLongest q connections found → IsLongest p connections found
+  longest_as connections found least = least_as (λ key. waits_in q (get connections key)) (λ key. waits_in p (get connections key)) found (λ key. waits_among (get connections key)) least
 
 -- more than a quarter, by numbers
 pub quarter_less : (length number : ℕ) → max (length / 4) 1 < number → length < 4 * number

@@ -37,15 +37,15 @@ IsBegun now passed begun more later = (later ≡ now) ⊎ ((more ≡ passed) × 
 module _ {S M : Type 0} where
   -- a connection goes on at a time: its window begins anew if nothing waits to be taken, or its ten seconds are over
   abbrev pub gone_on : ℕ → Connection S M → Connection S M
-  gone_on now link = record link { window = window_at now link.window link.conversation }
+  gone_on now connection = record connection { window = window_at now connection.window connection.state }
 
   -- what a sweep leaves under a key
   abbrev pub kept_at : Limits → ℕ → Option (Connection S M) → Option (Connection S M)
   kept_at limits now None = None
-  kept_at limits now (Some link) =
-      if is_over limits now link.begun link.conversation then None
-      else if is_slow limits.rate now link.window link.conversation then None
-      else Some (gone_on now link)
+  kept_at limits now (Some connection) =
+      if is_over limits now connection.begun connection.state then None
+      else if is_slow limits.rate now connection.window connection.state then None
+      else Some (gone_on now connection)
 
 -- of numbers that some keys have, that of a key is least; or none has one
 abbrev pub IsLeast : (ℕ → Option ℕ) → Option ℕ → Type 0

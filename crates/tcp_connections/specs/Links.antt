@@ -63,14 +63,14 @@ module _ {T : Type 0} (IsReply : Peer → Learned T → Learned T → List ℕ �
 
 -- there is no connection under a key, its stream would block, or it is held up by a request that is answered later
 abbrev pub HasStopped : {S M : Type 0} → (S → Type 0) → (Peer → List ℕ → Type 0) → Option (Connection S M) → Type 0
-HasStopped would_block is_later link = IfSome link (λ l. would_block l.stream ⊎ IsHeldUp (is_later l.peer) l.conversation)
+HasStopped would_block is_later connection = IfSome connection (λ l. would_block l.stream ⊎ IsHeldUp (is_later l.peer) l.state)
 
 -- what contracts see of a connection, by how its stream reports its octets
 abbrev pub seen_of : {S M : Type 0} → (S → Option (List ℕ × List ℕ)) → Connection S M → Seen
-seen_of octets link = record { peer = link.peer; from = link.from; group = link.group; octets = octets link.stream; kept = link.conversation; begun = link.begun; window = link.window }
+seen_of octets connection = record { peer = connection.peer; from = connection.from; group = connection.group; octets = octets connection.stream; kept = connection.state; begun = connection.begun; window = connection.window }
 
 -- the count of ends if the connection under a key, if there is one, ends when it is over at a time, by what it waits for or because its
 -- peer takes too slowly
 abbrev pub ends_at : {S M : Type 0} → Limits → ℕ → Option (Connection S M) → Ends → Ends
 ends_at limits now None ends = ends
-ends_at limits now (Some link) ends = if is_over limits now link.begun link.conversation then one_late (awaited link.conversation) ends else if is_slow limits.rate now link.window link.conversation then one_slow ends else ends
+ends_at limits now (Some connection) ends = if is_over limits now connection.begun connection.state then one_late (awaited connection.state) ends else if is_slow limits.rate now connection.window connection.state then one_slow ends else ends

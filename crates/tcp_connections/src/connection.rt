@@ -29,7 +29,7 @@ use std::sync::Wait;
 /// peer is waited for, in nanoseconds of a worker thread's clock; and the window in which the octets that the peer takes are counted.
 pub struct Connection<S: Drop, M: Messages> {
     pub(crate) stream: S,
-    pub(crate) conversation: ConnectionState<M>,
+    pub(crate) state: ConnectionState<M>,
     pub(crate) peer: Peer,
     pub(crate) from: SocketAddr,
     pub(crate) group: PeerGroup,
@@ -42,7 +42,7 @@ impl<S: Drop, M: Messages> Drop for Connection<S, M> {
     fn drop(self) {
         let Connection {
             stream: _,
-            conversation: _,
+            state: _,
             peer: _,
             from: _,
             group: _,
@@ -56,7 +56,7 @@ impl<S: Drop, M: Messages> Connection<S, M> {
     /// A connection of which nothing is read yet: its stream, its peer and the address of that, and the time.
     pub fn new(stream: S, alloc: Global, peer: Peer, from: SocketAddr, now: u64) -> Connection<S, M>
         ensures stream { result.stream ≡ stream }
-        ensures fresh { result.conversation ≡ nothing_kept }
+        ensures fresh { result.state ≡ nothing_kept }
         ensures peer { result.peer ≡ peer }
         ensures from { result.from ≡ from }
         ensures group { IsGroupOf (socket_ip from) result.group }
@@ -65,7 +65,7 @@ impl<S: Drop, M: Messages> Connection<S, M> {
     {
         Connection {
             stream,
-            conversation: ConnectionState::new(alloc),
+            state: ConnectionState::new(alloc),
             peer,
             from,
             group: PeerGroup::of(from.ip()),
@@ -79,33 +79,27 @@ impl<S: Drop, M: Messages> Connection<S, M> {
 
     /// Whether it is over at a time: its peer has taken as long as it may to finish what is waited for.
     pub(crate) fn is_over(&self, limits: Limits, now: u64) -> bool
-        ensures { result ≡ is_over limits now self.now.begun self.now.conversation }
+        ensures { result ≡ is_over limits now self.now.begun self.now.state }
     {
         is_late(
-            patience(limits, self.conversation.awaits()),
+            patience(limits, self.state.awaits()),
             now.saturating_sub(self.begun),
         )
     }
 
     /// Whether it is over at a time because its peer takes what is written to it at less than a rate, in octets in ten seconds.
     pub(crate) fn is_slow(&self, rate: u64, now: u64) -> bool
-        ensures { result ≡ is_slow rate now self.now.window self.now.conversation }
+        ensures { result ≡ is_slow rate now self.now.window self.now.state }
     {
-        self.window.is_slow(
-            rate,
-            now,
-            self.conversation.awaits(),
-            self.conversation.taken(),
-        )
+        self.window
+            .is_slow(rate, now, self.state.awaits(), self.state.taken())
     }
 
     /// Goes on at a time: its window begins anew if nothing waits to be taken, or its ten seconds are over.
     pub(crate) fn go_on(&mut self, now: u64)
-        ensures { self.new ≡ record self.old { window = window_at now self.old.window self.old.conversation } }
+        ensures { self.new ≡ record self.old { window = window_at now self.old.window self.old.state } }
     {
-        self.window = self
-            .window
-            .at(now, self.conversation.awaits(), self.conversation.taken());
+        self.window = self.window.at(now, self.state.awaits(), self.state.taken());
     }
 }
 
@@ -145,8 +139,8 @@ fn begun_by(passed: u64, more: u64, begun: u64, now: u64) -> u64
 /// then on.
 pub(crate) fn serve_connection<R: Wait, S: Blocking + Drop, M: Messages, A: Handler<M>>(
     rt: &R,
-    answering: &mut A,
-    link: &mut Connection<S, M>,
+    handler: &mut A,
+    connection: &mut Connection<S, M>,
     key: usize,
     now: u64,
     room: &mut [u8],
@@ -154,28 +148,28 @@ pub(crate) fn serve_connection<R: Wait, S: Blocking + Drop, M: Messages, A: Hand
 ) -> Result<Step, StreamEnd>
     requires room { 0 < length room.old }
     requires out { message_limit ≤ length out.old }
-    ensures peer { link.new.peer ≡ link.old.peer }
-    ensures from { link.new.from ≡ link.old.from }
-    ensures group { link.new.group ≡ link.old.group }
-    ensures window { link.new.window ≡ link.old.window }
-    ensures grows { EachGrows (A.seen answering.new) (A.seen answering.old) }
-    ensures goes { OnOk result (Goes (A.is_reply link.old.peer) (A.seen answering.old key) (told_by link.old.conversation (S.octets link.old.stream)) (A.seen answering.new key) (told_by link.new.conversation (S.octets link.new.stream))) }
-    ensures stops { IfErr result (λ end. Stops (A.is_reply link.old.peer) end (A.seen answering.old key) (told_by link.old.conversation (S.octets link.old.stream)) (A.seen answering.new key) (S.octets link.new.stream)) }
-    ensures written { Writes (S.octets link.old.stream) (S.octets link.new.stream) }
-    ensures begun { link.new.begun ≡ begun_behind link.old.conversation.passed link.new.conversation.passed link.old.begun now }
-    ensures blocked { result ≡ Ok Step.Blocked → S.would_block link.new.stream }
-    ensures waits { result ≡ Ok Step.Later → IsHeldUp (A.is_later link.new.peer) link.new.conversation }
+    ensures peer { connection.new.peer ≡ connection.old.peer }
+    ensures from { connection.new.from ≡ connection.old.from }
+    ensures group { connection.new.group ≡ connection.old.group }
+    ensures window { connection.new.window ≡ connection.old.window }
+    ensures grows { EachGrows (A.seen handler.new) (A.seen handler.old) }
+    ensures goes { OnOk result (Goes (A.is_reply connection.old.peer) (A.seen handler.old key) (told_by connection.old.state (S.octets connection.old.stream)) (A.seen handler.new key) (told_by connection.new.state (S.octets connection.new.stream))) }
+    ensures stops { IfErr result (λ end. Stops (A.is_reply connection.old.peer) end (A.seen handler.old key) (told_by connection.old.state (S.octets connection.old.stream)) (A.seen handler.new key) (S.octets connection.new.stream)) }
+    ensures written { Writes (S.octets connection.old.stream) (S.octets connection.new.stream) }
+    ensures begun { connection.new.begun ≡ begun_behind connection.old.state.passed connection.new.state.passed connection.old.begun now }
+    ensures blocked { result ≡ Ok Step.Blocked → S.would_block connection.new.stream }
+    ensures waits { result ≡ Ok Step.Later → IsHeldUp (A.is_later connection.new.peer) connection.new.state }
 {
-    answering.turn_to(link.peer, link.from, key);
-    let passed = link.conversation.passed();
+    handler.turn_to(connection.peer, connection.from, key);
+    let passed = connection.state.passed();
     let served = serve_some(
         rt,
-        answering,
-        &mut link.conversation,
-        &mut link.stream,
+        handler,
+        &mut connection.state,
+        &mut connection.stream,
         room,
         out,
     );
-    link.begun = begun_by(passed, link.conversation.passed(), link.begun, now);
+    connection.begun = begun_by(passed, connection.state.passed(), connection.begun, now);
     served
 }

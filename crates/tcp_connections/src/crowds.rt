@@ -11,22 +11,26 @@ use peer_groups::{Groups, PeerGroup, Survey};
 use slab::Slab;
 
 /// Whether there is a connection under a key, and its peer is of a group.
-fn is_of<S: Drop, M: Messages>(links: &Slab<Connection<S, M>>, group: PeerGroup, key: usize) -> bool
-    ensures { result ≡ is_of group (get links.now key) }
+fn is_of<S: Drop, M: Messages>(
+    connections: &Slab<Connection<S, M>>,
+    group: PeerGroup,
+    key: usize,
+) -> bool
+    ensures { result ≡ is_of group (get connections.now key) }
 {
-    match links.get(key) {
-        Some(link) => link.group.is_same(group),
+    match connections.get(key) {
+        Some(connection) => connection.group.is_same(group),
         None => false,
     }
 }
 
 /// How many connections the peers of a group have.
-fn held_by<S: Drop, M: Messages>(links: &Slab<Connection<S, M>>, group: PeerGroup) -> usize
-    ensures { result ≡ held group links.now }
+fn held_by<S: Drop, M: Messages>(connections: &Slab<Connection<S, M>>, group: PeerGroup) -> usize
+    ensures { result ≡ held group connections.now }
 {
     let mut held: usize = 0;
-    for key in 0..links.capacity() {
-        if is_of(links, group, key) {
+    for key in 0..connections.capacity() {
+        if is_of(connections, group, key) {
             held += 1;
         }
     }
@@ -34,30 +38,30 @@ fn held_by<S: Drop, M: Messages>(links: &Slab<Connection<S, M>>, group: PeerGrou
 }
 
 /// A quarter of the places that are taken, at least one.
-fn quarter_of<S: Drop, M: Messages>(links: &Slab<Connection<S, M>>) -> usize
-    ensures { result ≡ quarter links.now }
+fn quarter_of<S: Drop, M: Messages>(connections: &Slab<Connection<S, M>>) -> usize
+    ensures { result ≡ quarter connections.now }
 {
-    (links.len() / 4).max(1)
+    (connections.len() / 4).max(1)
 }
 
 /// Whether a group's peers have a quarter of the places that are taken.
 pub(crate) fn has_quarter<S: Drop, M: Messages>(
-    links: &Slab<Connection<S, M>>,
+    connections: &Slab<Connection<S, M>>,
     group: PeerGroup,
 ) -> bool
-    ensures { IsTrue result ↔ (quarter links.now ≤ held group links.now) }
+    ensures { IsTrue result ↔ (quarter connections.now ≤ held group connections.now) }
 {
-    quarter_of(links) <= held_by(links, group)
+    quarter_of(connections) <= held_by(connections, group)
 }
 
 /// At most three groups, which include each that has more than a quarter of the connections.
-fn candidates<S: Drop, M: Messages>(links: &Slab<Connection<S, M>>) -> Groups
-    ensures { (group : Group) → is_crowd links.now group ≡ true → has_group result group ≡ true }
+fn candidates<S: Drop, M: Messages>(connections: &Slab<Connection<S, M>>) -> Groups
+    ensures { (group : Group) → is_crowd connections.now group ≡ true → has_group result group ≡ true }
 {
     let mut survey = Survey::new();
-    for key in 0..links.capacity() {
-        match links.get(key) {
-            Some(link) => survey.add(link.group),
+    for key in 0..connections.capacity() {
+        match connections.get(key) {
+            Some(connection) => survey.add(connection.group),
             None => {}
         }
     }
@@ -66,26 +70,26 @@ fn candidates<S: Drop, M: Messages>(links: &Slab<Connection<S, M>>) -> Groups
 
 /// A group, if its peers have more than a quarter of the places that are taken.
 fn crowd<S: Drop, M: Messages>(
-    links: &Slab<Connection<S, M>>,
+    connections: &Slab<Connection<S, M>>,
     candidate: Option<PeerGroup>,
 ) -> Option<PeerGroup>
-    ensures { result ≡ crowd_of links.now candidate }
+    ensures { result ≡ crowd_of connections.now candidate }
 {
     let group = candidate?;
-    if quarter_of(links) < held_by(links, group) {
+    if quarter_of(connections) < held_by(connections, group) {
         return Some(group);
     }
     None
 }
 
 /// The groups whose peers have more than a quarter of the places that are taken.
-pub(crate) fn crowds<S: Drop, M: Messages>(links: &Slab<Connection<S, M>>) -> Groups
-    ensures { (group : Group) → has_group result group ≡ is_crowd links.now group }
+pub(crate) fn crowds<S: Drop, M: Messages>(connections: &Slab<Connection<S, M>>) -> Groups
+    ensures { (group : Group) → has_group result group ≡ is_crowd connections.now group }
 {
-    let found = candidates(links);
+    let found = candidates(connections);
     Groups {
-        first: crowd(links, found.first),
-        second: crowd(links, found.second),
-        third: crowd(links, found.third),
+        first: crowd(connections, found.first),
+        second: crowd(connections, found.second),
+        third: crowd(connections, found.third),
     }
 }

@@ -12,60 +12,60 @@ use crate::limits::Limits;
 use slab::Slab;
 
 /// Lets the connection under a key, if there is one, go on at a time.
-fn go_on<S: Drop, M: Messages>(links: &mut Slab<Connection<S, M>>, now: u64, key: usize)
-    ensures own { get links.new key ≡ option_map (gone_on now) (get links.old key) }
-    ensures others { (other : ℕ) → other ≢ key → get links.new other ≡ get links.old other }
-    ensures len { slab_len links.new ≡ slab_len links.old }
-    ensures capacity { links.new.capacity ≡ links.old.capacity }
+fn go_on<S: Drop, M: Messages>(connections: &mut Slab<Connection<S, M>>, now: u64, key: usize)
+    ensures own { get connections.new key ≡ option_map (gone_on now) (get connections.old key) }
+    ensures others { (other : ℕ) → other ≢ key → get connections.new other ≡ get connections.old other }
+    ensures len { slab_len connections.new ≡ slab_len connections.old }
+    ensures capacity { connections.new.capacity ≡ connections.old.capacity }
 {
-    if let Some(link) = links.get_mut(key) {
-        link.go_on(now);
+    if let Some(connection) = connections.get_mut(key) {
+        connection.go_on(now);
     }
 }
 
 /// Ends the connection under a key if it is over at a time, and counts it by what it waited for, or as one whose peer took too slowly.
 fn sweep_key<S: Drop, M: Messages>(
-    links: &mut Slab<Connection<S, M>>,
+    connections: &mut Slab<Connection<S, M>>,
     limits: Limits,
     now: u64,
     key: usize,
     ends: &mut Ends,
 )
-    ensures own { get links.new key ≡ kept_at limits now (get links.old key) }
-    ensures others { (other : ℕ) → other ≢ key → get links.new other ≡ get links.old other }
-    ensures counted { ends.new ≡ ends_at limits now (get links.old key) ends.old }
-    ensures ended { AreCounted ends.old ends.new (slab_len links.old) (slab_len links.new) }
-    ensures capacity { links.new.capacity ≡ links.old.capacity }
+    ensures own { get connections.new key ≡ kept_at limits now (get connections.old key) }
+    ensures others { (other : ℕ) → other ≢ key → get connections.new other ≡ get connections.old other }
+    ensures counted { ends.new ≡ ends_at limits now (get connections.old key) ends.old }
+    ensures ended { AreCounted ends.old ends.new (slab_len connections.old) (slab_len connections.new) }
+    ensures capacity { connections.new.capacity ≡ connections.old.capacity }
 {
-    let Some(link) = links.get(key) else {
+    let Some(connection) = connections.get(key) else {
         return;
     };
-    if link.is_over(limits, now) {
-        ends.count_late(link.conversation.awaits());
-        links.try_remove(key);
+    if connection.is_over(limits, now) {
+        ends.count_late(connection.state.awaits());
+        connections.try_remove(key);
         return;
     }
-    if link.is_slow(limits.rate, now) {
+    if connection.is_slow(limits.rate, now) {
         ends.count_slow();
-        links.try_remove(key);
+        connections.try_remove(key);
         return;
     }
-    go_on(links, now, key);
+    go_on(connections, now, key);
 }
 
 /// Ends the connections that are over at a time, in nanoseconds of the clock by which they began, and counts them by what they waited for,
 /// or as those whose peers took too slowly what was written to them. The others stay as they were, except for the windows in which what is
 /// taken is counted.
 pub fn sweep<S: Drop, M: Messages>(
-    links: &mut Slab<Connection<S, M>>,
+    connections: &mut Slab<Connection<S, M>>,
     limits: Limits,
     now: u64,
     ends: &mut Ends,
 )
-    ensures swept { (key : ℕ) → get links.new key ≡ kept_at limits now (get links.old key) }
-    ensures ended { AreCounted ends.old ends.new (slab_len links.old) (slab_len links.new) }
+    ensures swept { (key : ℕ) → get connections.new key ≡ kept_at limits now (get connections.old key) }
+    ensures ended { AreCounted ends.old ends.new (slab_len connections.old) (slab_len connections.new) }
 {
-    for key in 0..links.capacity() {
-        sweep_key(links, limits, now, key, ends);
+    for key in 0..connections.capacity() {
+        sweep_key(connections, limits, now, key, ends);
     }
 }

@@ -185,24 +185,24 @@ impl<M: Messages> ConnectionState<M> {
     pub fn answer<R: Wait, A: Handler<M>>(
         &mut self,
         rt: &R,
-        answering: &mut A,
+        handler: &mut A,
         out: &mut [u8],
     ) -> Result<Step, StreamEnd>
         requires { message_limit ≤ length out.old }
-        ensures peer { A.peer answering.new ≡ A.peer answering.old }
-        ensures asker { A.asker answering.new ≡ A.asker answering.old }
-        ensures grows { EachGrows (A.seen answering.new) (A.seen answering.old) }
-        ensures turn { result ≡ Ok Step.More → Turn (A.is_reply (A.peer answering.old)) (A.seen answering.old (A.asker answering.old)) (self.old.held, due self.old) (A.seen answering.new (A.asker answering.old)) (self.new.held, due self.new) }
+        ensures peer { A.peer handler.new ≡ A.peer handler.old }
+        ensures asker { A.asker handler.new ≡ A.asker handler.old }
+        ensures grows { EachGrows (A.seen handler.new) (A.seen handler.old) }
+        ensures turn { result ≡ Ok Step.More → Turn (A.is_reply (A.peer handler.old)) (A.seen handler.old (A.asker handler.old)) (self.old.held, due self.old) (A.seen handler.new (A.asker handler.old)) (self.new.held, due self.new) }
         ensures passed { result ≡ Ok Step.More → self.new.passed ≡ one_passed self.old.passed }
         ensures taken { OnOk result (self.new.taken ≡ self.old.taken) }
         ensures same { IfOk result (λ step. step ≢ Step.More → self.new ≡ self.old) }
         ensures none { result ≡ Ok Step.Done → frame_in self.old.held ≡ None }
         ensures full { result ≡ Ok Step.Full → IsFull self.old }
-        ensures later { result ≡ Ok Step.Later → Waits (A.is_later (A.peer answering.old)) self.old.held }
+        ensures later { result ≡ Ok Step.Later → Waits (A.is_later (A.peer handler.old)) self.old.held }
         ensures going { result ≡ Ok Step.Blocked → ⊥ }
         ensures ended { OnErr result (self.new ≡ self.old) }
         ensures end { IfErr result (λ end. (end ≡ EndOf.Spent) ⊎ (end ≡ EndOf.NoMemory)) }
-        ensures spent { IfErr result (λ end. end ≡ EndOf.Spent → A.spent answering.new) }
+        ensures spent { IfErr result (λ end. end ≡ EndOf.Spent → A.spent handler.new) }
     {
         if self.is_full() {
             return Ok(Step::Full);
@@ -210,7 +210,7 @@ impl<M: Messages> ConnectionState<M> {
         let Some((request, count)) = first_frame(self.held.as_slice()) else {
             return Ok(Step::Done);
         };
-        let reply = match answering.reply(rt, request, out) {
+        let reply = match handler.reply(rt, request, out) {
             Ok(reply) => reply,
             Err(end) => return Err(end),
         };

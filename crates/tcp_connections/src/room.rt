@@ -48,17 +48,17 @@ fn waits_by(awaited: Waiting, begun: u64) -> Option<u64>
 
 /// Since when the connection under a key waits for a whole request; None if there is none of a peer of these groups, or it doesn't.
 fn waits_at<S: Drop, M: Messages>(
-    links: &Slab<Connection<S, M>>,
+    connections: &Slab<Connection<S, M>>,
     among: Among,
     key: usize,
 ) -> Option<u64>
-    ensures { result ≡ waits_in (among_has among) (get links.now key) }
+    ensures { result ≡ waits_in (among_has among) (get connections.now key) }
 {
-    let link = links.get(key)?;
-    if !among.has(link.group) {
+    let connection = connections.get(key)?;
+    if !among.has(connection.group) {
         return None;
     }
-    waits_by(link.conversation.awaits(), link.begun)
+    waits_by(connection.state.awaits(), connection.begun)
 }
 
 /// Of a key's number and the least so far, with its key, the lesser.
@@ -75,26 +75,29 @@ fn lesser(least: Option<(usize, u64)>, key: usize, number: u64) -> Option<(usize
 
 /// The connection that waits longest of those under the keys up to one, given the one of those before it.
 fn longest_up_to<S: Drop, M: Messages>(
-    links: &Slab<Connection<S, M>>,
+    connections: &Slab<Connection<S, M>>,
     among: Among,
     before: Option<(usize, u64)>,
     key: usize,
 ) -> Option<(usize, u64)>
-    ensures { IsLeastBelow (λ k. waits_in (among_has among) (get links.now k)) key before → IsLeastBelow (λ k. waits_in (among_has among) (get links.now k)) (key + 1) result }
+    ensures { IsLeastBelow (λ k. waits_in (among_has among) (get connections.now k)) key before → IsLeastBelow (λ k. waits_in (among_has among) (get connections.now k)) (key + 1) result }
 {
-    match waits_at(links, among, key) {
+    match waits_at(connections, among, key) {
         Some(since) => lesser(before, key, since),
         None => before,
     }
 }
 
 /// The key of the connection, of a peer of some groups, that waits longest for a whole request; None if none waits for one.
-fn longest<S: Drop, M: Messages>(links: &Slab<Connection<S, M>>, among: Among) -> Option<usize>
-    ensures { IsLongest (among_has among) links.now result }
+fn longest<S: Drop, M: Messages>(
+    connections: &Slab<Connection<S, M>>,
+    among: Among,
+) -> Option<usize>
+    ensures { IsLongest (among_has among) connections.now result }
 {
     let mut longest: Option<(usize, u64)> = None;
-    for key in 0..links.capacity() {
-        longest = longest_up_to(links, among, longest, key);
+    for key in 0..connections.capacity() {
+        longest = longest_up_to(connections, among, longest, key);
     }
     match longest {
         Some((key, _since)) => Some(key),
@@ -103,16 +106,19 @@ fn longest<S: Drop, M: Messages>(links: &Slab<Connection<S, M>>, among: Among) -
 }
 
 /// The key of the connection that gives up its place to a newcomer of a group; None if none does.
-fn giver<S: Drop, M: Messages>(links: &Slab<Connection<S, M>>, newcomer: PeerGroup) -> Option<usize>
-    ensures { IsGiver newcomer links.now result }
+fn giver<S: Drop, M: Messages>(
+    connections: &Slab<Connection<S, M>>,
+    newcomer: PeerGroup,
+) -> Option<usize>
+    ensures { IsGiver newcomer connections.now result }
 {
-    if has_quarter(links, newcomer) {
-        return longest(links, Among::These(Groups::one(newcomer)));
+    if has_quarter(connections, newcomer) {
+        return longest(connections, Among::These(Groups::one(newcomer)));
     }
-    if let Some(key) = longest(links, Among::These(crowds(links))) {
+    if let Some(key) = longest(connections, Among::These(crowds(connections))) {
         return Some(key);
     }
-    longest(links, Among::All)
+    longest(connections, Among::All)
 }
 
 /// Whether there is a place for one more connection.
@@ -130,23 +136,23 @@ pub enum Room {
 /// without a whole request (RFC 7766, 6.2.3). If the newcomer's group has a quarter of the places already, that is one of its own;
 /// otherwise it is, first, one of a group that has more than a quarter (own).
 pub fn make_room<S: Drop, M: Messages>(
-    links: &mut Slab<Connection<S, M>>,
+    connections: &mut Slab<Connection<S, M>>,
     places: usize,
     newcomer: PeerGroup,
 ) -> Room
-    ensures free { result ≡ RoomFor.Free → (slab_len links.old < places) × (links.new ≡ links.old) }
-    ensures made { (key : ℕ) → result ≡ RoomFor.Made key → IsGiver newcomer links.old (Some key) × (get links.new key ≡ None) }
-    ensures taken { (key : ℕ) → result ≡ RoomFor.Made key → places ≤ slab_len links.old }
-    ensures len { (key : ℕ) → result ≡ RoomFor.Made key → slab_len links.new + 1 ≡ slab_len links.old }
-    ensures others { (key : ℕ) → result ≡ RoomFor.Made key → (other : ℕ) → other ≢ key → get links.new other ≡ get links.old other }
-    ensures full { result ≡ RoomFor.Full → (places ≤ slab_len links.old) × IsGiver newcomer links.old None × (links.new ≡ links.old) }
+    ensures free { result ≡ RoomFor.Free → (slab_len connections.old < places) × (connections.new ≡ connections.old) }
+    ensures made { (key : ℕ) → result ≡ RoomFor.Made key → IsGiver newcomer connections.old (Some key) × (get connections.new key ≡ None) }
+    ensures taken { (key : ℕ) → result ≡ RoomFor.Made key → places ≤ slab_len connections.old }
+    ensures len { (key : ℕ) → result ≡ RoomFor.Made key → slab_len connections.new + 1 ≡ slab_len connections.old }
+    ensures others { (key : ℕ) → result ≡ RoomFor.Made key → (other : ℕ) → other ≢ key → get connections.new other ≡ get connections.old other }
+    ensures full { result ≡ RoomFor.Full → (places ≤ slab_len connections.old) × IsGiver newcomer connections.old None × (connections.new ≡ connections.old) }
 {
-    if links.len() < places {
+    if connections.len() < places {
         return Room::Free;
     }
-    let Some(key) = giver(links, newcomer) else {
+    let Some(key) = giver(connections, newcomer) else {
         return Room::Full;
     };
-    links.try_remove(key);
+    connections.try_remove(key);
     Room::Made(key)
 }

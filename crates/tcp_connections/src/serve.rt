@@ -28,23 +28,23 @@ const TURNS: usize = 2;
 /// Answers whole requests that are held, in their order, a limited number of them.
 fn answer_some<R: Wait, M: Messages, A: Handler<M>>(
     rt: &R,
-    answering: &mut A,
-    conversation: &mut ConnectionState<M>,
+    handler: &mut A,
+    state: &mut ConnectionState<M>,
     out: &mut [u8],
 ) -> Result<Step, StreamEnd>
     requires { message_limit ≤ length out.old }
-    ensures peer { A.peer answering.new ≡ A.peer answering.old }
-    ensures asker { A.asker answering.new ≡ A.asker answering.old }
-    ensures grows { EachGrows (A.seen answering.new) (A.seen answering.old) }
-    ensures keeps { Keeps (A.is_reply (A.peer answering.old)) (A.seen answering.old (A.asker answering.old)) conversation.old (A.seen answering.new (A.asker answering.old)) conversation.new }
-    ensures none { result ≡ Ok Step.Done → frame_in conversation.new.held ≡ None }
-    ensures later { result ≡ Ok Step.Later → Waits (A.is_later (A.peer answering.old)) conversation.new.held }
+    ensures peer { A.peer handler.new ≡ A.peer handler.old }
+    ensures asker { A.asker handler.new ≡ A.asker handler.old }
+    ensures grows { EachGrows (A.seen handler.new) (A.seen handler.old) }
+    ensures keeps { Keeps (A.is_reply (A.peer handler.old)) (A.seen handler.old (A.asker handler.old)) state.old (A.seen handler.new (A.asker handler.old)) state.new }
+    ensures none { result ≡ Ok Step.Done → frame_in state.new.held ≡ None }
+    ensures later { result ≡ Ok Step.Later → Waits (A.is_later (A.peer handler.old)) state.new.held }
     ensures going { result ≡ Ok Step.Blocked → ⊥ }
     ensures end { IfErr result (λ end. (end ≡ EndOf.Spent) ⊎ (end ≡ EndOf.NoMemory)) }
-    ensures spent { IfErr result (λ end. end ≡ EndOf.Spent → A.spent answering.new) }
+    ensures spent { IfErr result (λ end. end ≡ EndOf.Spent → A.spent handler.new) }
 {
     for _answered in 0..REQUESTS {
-        match conversation.answer(rt, answering, out) {
+        match state.answer(rt, handler, out) {
             Ok(step) => match step {
                 Step::More => {}
                 _ => return Ok(step),
@@ -57,16 +57,16 @@ fn answer_some<R: Wait, M: Messages, A: Handler<M>>(
 
 /// Writes the first of what is to be written, as much as the stream takes at once.
 fn write_some<M: Messages, S: Blocking>(
-    conversation: &mut ConnectionState<M>,
+    state: &mut ConnectionState<M>,
     stream: &mut S,
     out: &mut [u8],
 ) -> Result<Step, StreamEnd>
     requires { message_limit ≤ length out.old }
-    ensures stays { OnOk result (Stays (told_by conversation.old (S.octets stream.old)) (told_by conversation.new (S.octets stream.new))) }
-    ensures held { OnOk result (conversation.new.held ≡ conversation.old.held) }
-    ensures ready { result ≡ Ok Step.Done → conversation.new.ready ≡ [] }
-    ensures later { result ≡ Ok Step.Done → conversation.new.later ≡ [] }
-    ensures ends { IfErr result (λ end. EndsTold end (told_by conversation.old (S.octets stream.old)) (S.octets stream.new)) }
+    ensures stays { OnOk result (Stays (told_by state.old (S.octets stream.old)) (told_by state.new (S.octets stream.new))) }
+    ensures held { OnOk result (state.new.held ≡ state.old.held) }
+    ensures ready { result ≡ Ok Step.Done → state.new.ready ≡ [] }
+    ensures later { result ≡ Ok Step.Done → state.new.later ≡ [] }
+    ensures ends { IfErr result (λ end. EndsTold end (told_by state.old (S.octets stream.old)) (S.octets stream.new)) }
     ensures written { Writes (S.octets stream.old) (S.octets stream.new) }
     ensures same { OnOk result (S.faults stream.new ≡ S.faults stream.old) }
     ensures counted { IfErr result (λ end. EndCounted end (S.faults stream.old) (S.faults stream.new)) }
@@ -74,16 +74,16 @@ fn write_some<M: Messages, S: Blocking>(
     ensures blocked { result ≡ Ok Step.Blocked → S.would_block stream.new }
     ensures unspent { IfErr result (λ end. end ≡ EndOf.Spent → ⊥) }
 {
-    match conversation.refill(out) {
+    match state.refill(out) {
         Ok(()) => {}
         Err(_) => return Err(StreamEnd::NoMemory),
     }
-    if conversation.ready().is_empty() {
+    if state.ready().is_empty() {
         return Ok(Step::Done);
     }
-    match stream.write(conversation.ready()) {
+    match stream.write(state.ready()) {
         Ok(count) => {
-            conversation.advance(count);
+            state.advance(count);
             Ok(Step::More)
         }
         Err(Fault::Blocked) => Ok(Step::Blocked),
@@ -93,16 +93,16 @@ fn write_some<M: Messages, S: Blocking>(
 
 /// Writes what is to be written, by a limited number of writes.
 fn flush<M: Messages, S: Blocking>(
-    conversation: &mut ConnectionState<M>,
+    state: &mut ConnectionState<M>,
     stream: &mut S,
     out: &mut [u8],
 ) -> Result<Step, StreamEnd>
     requires { message_limit ≤ length out.old }
-    ensures stays { OnOk result (Stays (told_by conversation.old (S.octets stream.old)) (told_by conversation.new (S.octets stream.new))) }
-    ensures held { OnOk result (conversation.new.held ≡ conversation.old.held) }
-    ensures ready { result ≡ Ok Step.Done → conversation.new.ready ≡ [] }
-    ensures later { result ≡ Ok Step.Done → conversation.new.later ≡ [] }
-    ensures ends { IfErr result (λ end. EndsTold end (told_by conversation.old (S.octets stream.old)) (S.octets stream.new)) }
+    ensures stays { OnOk result (Stays (told_by state.old (S.octets stream.old)) (told_by state.new (S.octets stream.new))) }
+    ensures held { OnOk result (state.new.held ≡ state.old.held) }
+    ensures ready { result ≡ Ok Step.Done → state.new.ready ≡ [] }
+    ensures later { result ≡ Ok Step.Done → state.new.later ≡ [] }
+    ensures ends { IfErr result (λ end. EndsTold end (told_by state.old (S.octets stream.old)) (S.octets stream.new)) }
     ensures written { Writes (S.octets stream.old) (S.octets stream.new) }
     ensures same { OnOk result (S.faults stream.new ≡ S.faults stream.old) }
     ensures counted { IfErr result (λ end. EndCounted end (S.faults stream.old) (S.faults stream.new)) }
@@ -111,7 +111,7 @@ fn flush<M: Messages, S: Blocking>(
     ensures unspent { IfErr result (λ end. end ≡ EndOf.Spent → ⊥) }
 {
     for _written in 0..WRITES {
-        match write_some(conversation, stream, out) {
+        match write_some(state, stream, out) {
             Ok(Step::More) => {}
             Ok(step) => return Ok(step),
             Err(end) => return Err(end),
@@ -122,14 +122,14 @@ fn flush<M: Messages, S: Blocking>(
 
 /// Reads some octets, and holds them. The stream ends before a frame or inside one.
 fn read_some<M: Messages, S: Blocking>(
-    conversation: &mut ConnectionState<M>,
+    state: &mut ConnectionState<M>,
     stream: &mut S,
     room: &mut [u8],
 ) -> Result<Step, StreamEnd>
-    requires waits { IsWaiting conversation.old }
+    requires waits { IsWaiting state.old }
     requires room { 0 < length room.old }
-    ensures stays { OnOk result (Stays (told_by conversation.old (S.octets stream.old)) (told_by conversation.new (S.octets stream.new))) }
-    ensures ends { IfErr result (λ end. EndsTold end (told_by conversation.old (S.octets stream.old)) (S.octets stream.new)) }
+    ensures stays { OnOk result (Stays (told_by state.old (S.octets stream.old)) (told_by state.new (S.octets stream.new))) }
+    ensures ends { IfErr result (λ end. EndsTold end (told_by state.old (S.octets stream.old)) (S.octets stream.new)) }
     ensures written { Writes (S.octets stream.old) (S.octets stream.new) }
     ensures same { OnOk result (S.faults stream.new ≡ S.faults stream.old) }
     ensures counted { IfErr result (λ end. EndCounted end (S.faults stream.old) (S.faults stream.new)) }
@@ -143,12 +143,12 @@ fn read_some<M: Messages, S: Blocking>(
         Err(Fault::Failed) => return Err(StreamEnd::Device),
     };
     if count == 0 {
-        if conversation.holds() {
+        if state.holds() {
             return Err(StreamEnd::Torn);
         }
         return Err(StreamEnd::Clean);
     }
-    match conversation.take(&room[..count]) {
+    match state.take(&room[..count]) {
         Ok(()) => Ok(Step::More),
         Err(_) => Err(StreamEnd::NoMemory),
     }
@@ -157,35 +157,35 @@ fn read_some<M: Messages, S: Blocking>(
 /// Writes what is to be written, and then, if nothing is left of it, reads once, unless the answering of requests came to something else than
 /// that no whole request is held.
 pub(crate) fn write_and_read<M: Messages, S: Blocking>(
-    conversation: &mut ConnectionState<M>,
+    state: &mut ConnectionState<M>,
     stream: &mut S,
     answered: Step,
     room: &mut [u8],
     out: &mut [u8],
 ) -> Result<Step, StreamEnd>
-    requires none { answered ≡ StepOf.Done → frame_in conversation.old.held ≡ None }
+    requires none { answered ≡ StepOf.Done → frame_in state.old.held ≡ None }
     requires going { answered ≢ StepOf.Blocked }
     requires room { 0 < length room.old }
     requires out { message_limit ≤ length out.old }
-    ensures stays { OnOk result (Stays (told_by conversation.old (S.octets stream.old)) (told_by conversation.new (S.octets stream.new))) }
-    ensures ends { IfErr result (λ end. EndsTold end (told_by conversation.old (S.octets stream.old)) (S.octets stream.new)) }
+    ensures stays { OnOk result (Stays (told_by state.old (S.octets stream.old)) (told_by state.new (S.octets stream.new))) }
+    ensures ends { IfErr result (λ end. EndsTold end (told_by state.old (S.octets stream.old)) (S.octets stream.new)) }
     ensures written { Writes (S.octets stream.old) (S.octets stream.new) }
     ensures same { OnOk result (S.faults stream.new ≡ S.faults stream.old) }
     ensures counted { IfErr result (λ end. EndCounted end (S.faults stream.old) (S.faults stream.new)) }
     ensures blocked { result ≡ Ok Step.Blocked → S.would_block stream.new }
     ensures waits { result ≡ Ok Step.Later → answered ≡ StepOf.Later }
-    ensures held { result ≡ Ok Step.Later → conversation.new.held ≡ conversation.old.held }
-    ensures ready { result ≡ Ok Step.Later → conversation.new.ready ≡ [] }
-    ensures later { result ≡ Ok Step.Later → conversation.new.later ≡ [] }
+    ensures held { result ≡ Ok Step.Later → state.new.held ≡ state.old.held }
+    ensures ready { result ≡ Ok Step.Later → state.new.ready ≡ [] }
+    ensures later { result ≡ Ok Step.Later → state.new.later ≡ [] }
     ensures unspent { IfErr result (λ end. end ≡ EndOf.Spent → ⊥) }
 {
-    match flush(conversation, stream, out) {
+    match flush(state, stream, out) {
         Ok(Step::Done) => {}
         Ok(step) => return Ok(step),
         Err(end) => return Err(end),
     }
     match answered {
-        Step::Done => read_some(conversation, stream, room),
+        Step::Done => read_some(state, stream, room),
         step => Ok(step),
     }
 }
@@ -197,32 +197,32 @@ pub(crate) fn write_and_read<M: Messages, S: Blocking>(
 /// If a reply is made later, the requests after it wait, and nothing more is read.
 pub fn serve_some<R: Wait, M: Messages, A: Handler<M>, S: Blocking>(
     rt: &R,
-    answering: &mut A,
-    conversation: &mut ConnectionState<M>,
+    handler: &mut A,
+    state: &mut ConnectionState<M>,
     stream: &mut S,
     room: &mut [u8],
     out: &mut [u8],
 ) -> Result<Step, StreamEnd>
     requires room { 0 < length room.old }
     requires out { message_limit ≤ length out.old }
-    ensures peer { A.peer answering.new ≡ A.peer answering.old }
-    ensures asker { A.asker answering.new ≡ A.asker answering.old }
-    ensures grows { EachGrows (A.seen answering.new) (A.seen answering.old) }
-    ensures goes { OnOk result (Goes (A.is_reply (A.peer answering.old)) (A.seen answering.old (A.asker answering.old)) (told_by conversation.old (S.octets stream.old)) (A.seen answering.new (A.asker answering.old)) (told_by conversation.new (S.octets stream.new))) }
-    ensures stops { IfErr result (λ end. Stops (A.is_reply (A.peer answering.old)) end (A.seen answering.old (A.asker answering.old)) (told_by conversation.old (S.octets stream.old)) (A.seen answering.new (A.asker answering.old)) (S.octets stream.new)) }
+    ensures peer { A.peer handler.new ≡ A.peer handler.old }
+    ensures asker { A.asker handler.new ≡ A.asker handler.old }
+    ensures grows { EachGrows (A.seen handler.new) (A.seen handler.old) }
+    ensures goes { OnOk result (Goes (A.is_reply (A.peer handler.old)) (A.seen handler.old (A.asker handler.old)) (told_by state.old (S.octets stream.old)) (A.seen handler.new (A.asker handler.old)) (told_by state.new (S.octets stream.new))) }
+    ensures stops { IfErr result (λ end. Stops (A.is_reply (A.peer handler.old)) end (A.seen handler.old (A.asker handler.old)) (told_by state.old (S.octets stream.old)) (A.seen handler.new (A.asker handler.old)) (S.octets stream.new)) }
     ensures written { Writes (S.octets stream.old) (S.octets stream.new) }
     ensures same { OnOk result (S.faults stream.new ≡ S.faults stream.old) }
     ensures counted { IfErr result (λ end. EndCounted end (S.faults stream.old) (S.faults stream.new)) }
     ensures blocked { result ≡ Ok Step.Blocked → S.would_block stream.new }
-    ensures waits { result ≡ Ok Step.Later → IsHeldUp (A.is_later (A.peer answering.old)) conversation.new }
-    ensures spent { IfErr result (λ end. end ≡ EndOf.Spent → A.spent answering.new) }
+    ensures waits { result ≡ Ok Step.Later → IsHeldUp (A.is_later (A.peer handler.old)) state.new }
+    ensures spent { IfErr result (λ end. end ≡ EndOf.Spent → A.spent handler.new) }
 {
     for _turned in 0..TURNS {
-        let answered = match answer_some(rt, answering, conversation, out) {
+        let answered = match answer_some(rt, handler, state, out) {
             Ok(step) => step,
             Err(end) => return Err(end),
         };
-        match write_and_read(conversation, stream, answered, room, out) {
+        match write_and_read(state, stream, answered, room, out) {
             Ok(step) => {
                 if step.has_stopped() {
                     return Ok(step);

@@ -20,8 +20,8 @@ use std::sync::Wait;
 #[tactic(auto, using(crate::proofs::AskedLemmas::each_itself))]
 fn serve_key<R: Wait, S: Blocking + Drop, M: Messages, A: Handler<M>>(
     rt: &R,
-    answering: &mut A,
-    links: &mut Slab<Connection<S, M>>,
+    handler: &mut A,
+    connections: &mut Slab<Connection<S, M>>,
     key: usize,
     ends: &mut Ends,
     now: u64,
@@ -30,19 +30,19 @@ fn serve_key<R: Wait, S: Blocking + Drop, M: Messages, A: Handler<M>>(
 ) -> bool
     requires room { 0 < length room.old }
     requires out { message_limit ≤ length out.old }
-    ensures grows { EachGrows (A.seen answering.new) (A.seen answering.old) }
-    ensures own { OwnServed A.is_reply now (A.seen answering.old key) (option_map (seen_of S.octets) (get links.old key)) (A.seen answering.new key) (option_map (seen_of S.octets) (get links.new key)) }
-    ensures others { (other : ℕ) → other ≢ key → get links.new other ≡ get links.old other }
-    ensures ended { AreCounted ends.old ends.new (slab_len links.old) (slab_len links.new) }
-    ensures stopped { result ≡ false → HasStopped S.would_block A.is_later (get links.new key) }
+    ensures grows { EachGrows (A.seen handler.new) (A.seen handler.old) }
+    ensures own { OwnServed A.is_reply now (A.seen handler.old key) (option_map (seen_of S.octets) (get connections.old key)) (A.seen handler.new key) (option_map (seen_of S.octets) (get connections.new key)) }
+    ensures others { (other : ℕ) → other ≢ key → get connections.new other ≡ get connections.old other }
+    ensures ended { AreCounted ends.old ends.new (slab_len connections.old) (slab_len connections.new) }
+    ensures stopped { result ≡ false → HasStopped S.would_block A.is_later (get connections.new key) }
 {
-    let Some(link) = links.get_mut(key) else {
+    let Some(connection) = connections.get_mut(key) else {
         return false;
     };
-    match serve_connection(rt, answering, link, key, now, room, out) {
+    match serve_connection(rt, handler, connection, key, now, room, out) {
         Ok(step) => !step.has_stopped(),
         Err(end) => {
-            links.try_remove(key);
+            connections.try_remove(key);
             ends.count(end);
             false
         }
@@ -56,8 +56,8 @@ fn serve_key<R: Wait, S: Blocking + Drop, M: Messages, A: Handler<M>>(
 #[tactic(auto, using(crate::proofs::AskedLemmas::each_itself))]
 pub fn serve_ready<R: Wait, S: Blocking + Drop, M: Messages, A: Handler<M>>(
     rt: &R,
-    answering: &mut A,
-    links: &mut Slab<Connection<S, M>>,
+    handler: &mut A,
+    connections: &mut Slab<Connection<S, M>>,
     keys: &[usize],
     next: &mut Vec<usize>,
     ends: &mut Ends,
@@ -67,16 +67,16 @@ pub fn serve_ready<R: Wait, S: Blocking + Drop, M: Messages, A: Handler<M>>(
 ) -> Result<(), AllocError>
     requires room { 0 < length room.old }
     requires out { message_limit ≤ length out.old }
-    ensures grows { EachGrows (A.seen answering.new) (A.seen answering.old) }
-    ensures own { (key : ℕ) → OwnServed A.is_reply now (A.seen answering.old key) (option_map (seen_of S.octets) (get links.old key)) (A.seen answering.new key) (option_map (seen_of S.octets) (get links.new key)) }
-    ensures ended { AreCounted ends.old ends.new (slab_len links.old) (slab_len links.new) }
-    ensures same { OnErr result (links.new ≡ links.old) }
+    ensures grows { EachGrows (A.seen handler.new) (A.seen handler.old) }
+    ensures own { (key : ℕ) → OwnServed A.is_reply now (A.seen handler.old key) (option_map (seen_of S.octets) (get connections.old key)) (A.seen handler.new key) (option_map (seen_of S.octets) (get connections.new key)) }
+    ensures ended { AreCounted ends.old ends.new (slab_len connections.old) (slab_len connections.new) }
+    ensures same { OnErr result (connections.new ≡ connections.old) }
     ensures next { BeginsWith next.new.items next.old.items }
-    ensures going { OnOk result (All (λ key. Contains next.new.items key ⊎ HasStopped S.would_block A.is_later (get links.new key)) keys.now) }
+    ensures going { OnOk result (All (λ key. Contains next.new.items key ⊎ HasStopped S.would_block A.is_later (get connections.new key)) keys.now) }
 {
     next.reserve(keys.len())?;
     for key in keys {
-        if serve_key(rt, answering, links, *key, ends, now, room, out) {
+        if serve_key(rt, handler, connections, *key, ends, now, room, out) {
             let Ok(()) = next.push(*key) else {
                 unreachable!()
             };

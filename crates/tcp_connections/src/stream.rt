@@ -18,26 +18,26 @@ use std::sync::Wait;
 /// Answers the first whole request that is held. It passes the gate, which is left once the reply is made, or is to be made later.
 fn answer_through<R: Wait, M: Messages, A: Handler<M>, G: Gate>(
     rt: &R,
-    answering: &mut A,
-    conversation: &mut ConnectionState<M>,
+    handler: &mut A,
+    state: &mut ConnectionState<M>,
     gate: &G,
     out: &mut [u8],
 ) -> Result<Step, StreamEnd>
     requires { message_limit ≤ length out.old }
-    ensures peer { A.peer answering.new ≡ A.peer answering.old }
-    ensures asker { A.asker answering.new ≡ A.asker answering.old }
-    ensures grows { EachGrows (A.seen answering.new) (A.seen answering.old) }
-    ensures keeps { Keeps (A.is_reply (A.peer answering.old)) (A.seen answering.old (A.asker answering.old)) conversation.old (A.seen answering.new (A.asker answering.old)) conversation.new }
-    ensures none { result ≡ Ok Step.Done → frame_in conversation.new.held ≡ None }
+    ensures peer { A.peer handler.new ≡ A.peer handler.old }
+    ensures asker { A.asker handler.new ≡ A.asker handler.old }
+    ensures grows { EachGrows (A.seen handler.new) (A.seen handler.old) }
+    ensures keeps { Keeps (A.is_reply (A.peer handler.old)) (A.seen handler.old (A.asker handler.old)) state.old (A.seen handler.new (A.asker handler.old)) state.new }
+    ensures none { result ≡ Ok Step.Done → frame_in state.new.held ≡ None }
     ensures going { result ≡ Ok Step.Blocked → ⊥ }
     ensures end { IfErr result (λ end. (end ≡ End.Spent) ⊎ (end ≡ End.NoMemory)) }
-    ensures spent { IfErr result (λ end. end ≡ End.Spent → A.spent answering.new) }
+    ensures spent { IfErr result (λ end. end ≡ End.Spent → A.spent handler.new) }
 {
-    let is_next = conversation.has_next();
+    let is_next = state.has_next();
     if is_next {
         gate.enter();
     }
-    let answered = conversation.answer(rt, answering, out);
+    let answered = state.answer(rt, handler, out);
     if is_next {
         gate.leave();
     }
@@ -51,7 +51,7 @@ fn answer_through<R: Wait, M: Messages, A: Handler<M>, G: Gate>(
 pub fn serve_stream<R: Wait, M: Messages, A: Handler<M>, S: Stream, G: Gate>(
     rt: &R,
     alloc: Global,
-    answering: &mut A,
+    handler: &mut A,
     stream: &mut Counted<S>,
     gate: &G,
     room: &mut [u8],
@@ -60,18 +60,18 @@ pub fn serve_stream<R: Wait, M: Messages, A: Handler<M>, S: Stream, G: Gate>(
     requires counting { stream.old.faults < 2 ^ 64 - 1 }
     requires room { 0 < length room.old }
     requires out { message_limit ≤ length out.old }
-    ensures served { IfSome (S.octets stream.old.inner) (λ o. EndsAs (A.is_reply (A.peer answering.old)) result (A.seen answering.old (A.asker answering.old)) o (A.seen answering.new (A.asker answering.old)) (S.octets stream.new.inner)) }
-    ensures grows { EachGrows (A.seen answering.new) (A.seen answering.old) }
+    ensures served { IfSome (S.octets stream.old.inner) (λ o. EndsAs (A.is_reply (A.peer handler.old)) result (A.seen handler.old (A.asker handler.old)) o (A.seen handler.new (A.asker handler.old)) (S.octets stream.new.inner)) }
+    ensures grows { EachGrows (A.seen handler.new) (A.seen handler.old) }
     ensures device { result ≡ End.Device → stream.old.faults < stream.new.faults }
-    ensures spent { result ≡ End.Spent → A.spent answering.new }
+    ensures spent { result ≡ End.Spent → A.spent handler.new }
 {
-    let mut conversation: ConnectionState<M> = ConnectionState::new(alloc);
+    let mut state: ConnectionState<M> = ConnectionState::new(alloc);
     for _ in rt.forever() {
-        let answered = match answer_through(rt, answering, &mut conversation, gate, out) {
+        let answered = match answer_through(rt, handler, &mut state, gate, out) {
             Ok(step) => step,
             Err(end) => return end,
         };
-        match write_and_read(&mut conversation, stream, answered, room, out) {
+        match write_and_read(&mut state, stream, answered, room, out) {
             Ok(_) => {}
             Err(end) => return end,
         }

@@ -49,25 +49,25 @@ module _ {S M : Type 0} (origin : S → SocketAddr) (octets : S → Option (List
   moves_made stream newcomer old new key of gave none others = moves_once old new (gives stream newcomer key of gave none others)
 
   -- one begins
-  pub moves_begun : (from : SocketAddr) (peer : Peer) (stream : S) (old new : Slab (Connection S M)) (key : ℕ) (link : Connection S M) → get old key ≡ None → get new key ≡ Some link → ((other : ℕ) → other ≢ key → get new other ≡ get old other)
-      → link.stream ≡ stream → link.from ≡ from → from ≡ origin stream → link.peer ≡ peer → IsPeer allowed Tcp from peer → link.conversation ≡ nothing_kept → link.begun ≡ now → IsGroupOf (socket_ip from) link.group → link.window ≡ record { since = now; taken = 0 } → Moves origin octets allowed now old new
-  moves_begun from peer stream old new key link vacant put others is come told same is_peer kept begun group window =
-      let here : from ≡ origin link.stream = told ∙ ap origin (sym is) in
-      let began : HasBegun origin octets allowed now link = record {
+  pub moves_begun : (from : SocketAddr) (peer : Peer) (stream : S) (old new : Slab (Connection S M)) (key : ℕ) (connection : Connection S M) → get old key ≡ None → get new key ≡ Some connection → ((other : ℕ) → other ≢ key → get new other ≡ get old other)
+      → connection.stream ≡ stream → connection.from ≡ from → from ≡ origin stream → connection.peer ≡ peer → IsPeer allowed Tcp from peer → connection.state ≡ nothing_kept → connection.begun ≡ now → IsGroupOf (socket_ip from) connection.group → connection.window ≡ record { since = now; taken = 0 } → Moves origin octets allowed now old new
+  moves_begun from peer stream old new key connection vacant put others is come told same is_peer kept begun group window =
+      let here : from ≡ origin connection.stream = told ∙ ap origin (sym is) in
+      let began : HasBegun origin octets allowed now connection = record {
         from = come ∙ here;
-        peer = subst (λ (p : Peer). IsPeer allowed Tcp (origin link.stream) p) (sym same) (subst (λ (a : SocketAddr). IsPeer allowed Tcp a peer) here is_peer);
+        peer = subst (λ (p : Peer). IsPeer allowed Tcp (origin connection.stream) p) (sym same) (subst (λ (a : SocketAddr). IsPeer allowed Tcp a peer) here is_peer);
         kept = kept;
         begun = begun;
-        group = subst (λ (a : SocketAddr). IsGroupOf (socket_ip a) link.group) here group;
+        group = subst (λ (a : SocketAddr). IsGroupOf (socket_ip a) connection.group) here group;
         window = window;
       } in
-      moves_once old new (begins key link vacant put began others)
+      moves_once old new (begins key connection vacant put began others)
 
   -- one is put under the next key, or there is no memory for it
-  pub moves_put : {E : Type 0} (result : Result ℕ E) (from : SocketAddr) (peer : Peer) (stream : S) (old new : Slab (Connection S M)) (link : Connection S M) → IfOk result (λ key. get old key ≡ None) → IfOk result (λ key. Updates old new key (Some link)) → OnErr result (new ≡ record old { capacity = new.capacity })
-      → link.stream ≡ stream → link.from ≡ from → from ≡ origin stream → link.peer ≡ peer → IsPeer allowed Tcp from peer → link.conversation ≡ nothing_kept → link.begun ≡ now → IsGroupOf (socket_ip from) link.group → link.window ≡ record { since = now; taken = 0 } → Moves origin octets allowed now old new
-  moves_put (Ok key) from peer stream old new link vacant updates failed is come told same is_peer kept begun group window = moves_begun from peer stream old new key link vacant updates.changed updates.others is come told same is_peer kept begun group window
-  moves_put (Err fault) from peer stream old new link vacant updates failed is come told same is_peer kept begun group window = moves_wider old new new.capacity failed
+  pub moves_put : {E : Type 0} (result : Result ℕ E) (from : SocketAddr) (peer : Peer) (stream : S) (old new : Slab (Connection S M)) (connection : Connection S M) → IfOk result (λ key. get old key ≡ None) → IfOk result (λ key. Updates old new key (Some connection)) → OnErr result (new ≡ record old { capacity = new.capacity })
+      → connection.stream ≡ stream → connection.from ≡ from → from ≡ origin stream → connection.peer ≡ peer → IsPeer allowed Tcp from peer → connection.state ≡ nothing_kept → connection.begun ≡ now → IsGroupOf (socket_ip from) connection.group → connection.window ≡ record { since = now; taken = 0 } → Moves origin octets allowed now old new
+  moves_put (Ok key) from peer stream old new connection vacant updates failed is come told same is_peer kept begun group window = moves_begun from peer stream old new key connection vacant updates.changed updates.others is come told same is_peer kept begun group window
+  moves_put (Err fault) from peer stream old new connection vacant updates failed is come told same is_peer kept begun group window = moves_wider old new new.capacity failed
 
   -- those that are over go, by limits that are the given ones or those where places are scarce
   pub sweeps_over : (limits used : Limits) (old new : Slab (Connection S M)) → (used ≡ limits) ⊎ (used ≡ scarce limits) → ((key : ℕ) → get new key ≡ kept_at used now (get old key)) → Sweeps origin octets limits now old new
@@ -75,15 +75,15 @@ module _ {S M : Type 0} (origin : S → SocketAddr) (octets : S → Option (List
   sweeps_over limits used old new (inr same) swept = inr (inr (subst (λ (l : Limits). (key : ℕ) → get new key ≡ kept_at l now (get old key)) same swept))
 
   module _ (would_block : S → Type 0) (is_later : Peer → List ℕ → Type 0) where
-    kept_if : (link : Connection S M) (over slow : Bool) → HasStopped would_block is_later (Some link) → HasStopped would_block is_later (if over then None else if slow then None else Some (gone_on now link))
-    kept_if link true slow stopped = tt
-    kept_if link false true stopped = tt
-    kept_if link false false stopped = stopped
+    kept_if : (connection : Connection S M) (over slow : Bool) → HasStopped would_block is_later (Some connection) → HasStopped would_block is_later (if over then None else if slow then None else Some (gone_on now connection))
+    kept_if connection true slow stopped = tt
+    kept_if connection false true stopped = tt
+    kept_if connection false false stopped = stopped
 
     -- what has stopped still has once those that are over are gone
-    stopped_kept : (limits : Limits) (link : Option (Connection S M)) → HasStopped would_block is_later link → HasStopped would_block is_later (kept_at limits now link)
+    stopped_kept : (limits : Limits) (connection : Option (Connection S M)) → HasStopped would_block is_later connection → HasStopped would_block is_later (kept_at limits now connection)
     stopped_kept limits None stopped = tt
-    stopped_kept limits (Some link) stopped = kept_if link (is_over limits now link.begun link.conversation) (is_slow limits.rate now link.window link.conversation) stopped
+    stopped_kept limits (Some connection) stopped = kept_if connection (is_over limits now connection.begun connection.state) (is_slow limits.rate now connection.window connection.state) stopped
 
     stopped_by : (limits : Limits) (old new : Slab (Connection S M)) → ((key : ℕ) → get new key ≡ kept_at limits now (get old key)) → (key : ℕ) → HasStopped would_block is_later (get old key) → HasStopped would_block is_later (get new key)
     stopped_by limits old new swept key stopped = subst (HasStopped would_block is_later) (sym (swept key)) (stopped_kept limits (get old key) stopped)
@@ -105,8 +105,8 @@ module _ {S M : Type 0} (origin : S → SocketAddr) (octets : S → Option (List
 
   module _ {T : Type 0} (IsReply : Peer → Learned T → Learned T → List ℕ → List (List ℕ) → Type 0) where
     -- none is served, and maybe more is known
-    pub serves_none : (seen later : ℕ → Learned T) (links : Slab (Connection S M)) → EachGrows later seen → Serves origin octets IsReply now seen links later links
-    serves_none seen later links grows = λ key. own_same IsReply now (seen key) (later key) (option_map (seen_of octets) (get links key)) (grows key)
+    pub serves_none : (seen later : ℕ → Learned T) (connections : Slab (Connection S M)) → EachGrows later seen → Serves origin octets IsReply now seen connections later connections
+    serves_none seen later connections grows = λ key. own_same IsReply now (seen key) (later key) (option_map (seen_of octets) (get connections key)) (grows key)
 
     pub serves_as : (seen later : ℕ → Learned T) (old new same : Slab (Connection S M)) → new ≡ same → Serves origin octets IsReply now seen old later same → Serves origin octets IsReply now seen old later new
     serves_as seen later old new same is own = subst (λ (s : Slab (Connection S M)). Serves origin octets IsReply now seen old later s) (sym is) own

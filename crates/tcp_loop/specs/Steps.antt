@@ -36,24 +36,24 @@ nothing_counted = record {
 -- of connections under some keys, each that could go on is among the next ones: for any other key there is no connection any more, its
 -- stream would block, or its first request waits for its reply
 abbrev pub GoOn : {S M : Type 0} → (S → Type 0) → (Peer → List ℕ → Type 0) → Slab (Connection S M) → List ℕ → List ℕ → Type 0
-GoOn would_block is_later links keys next = All (λ key. Contains next key ⊎ HasStopped would_block is_later (get links key)) keys
+GoOn would_block is_later connections keys next = All (λ key. Contains next key ⊎ HasStopped would_block is_later (get connections key)) keys
 
 -- the address that a stream comes from, and what its octets are, as far as it reports them
 module _ {S M : Type 0} (origin : S → SocketAddr) (octets : S → Option (List ℕ × List ℕ)) where
   -- a connection has begun at a time: its peer is the one at the address that its stream comes from, by that alone, and nothing is kept of
   -- it
-  pub record HasBegun (allowed : List IpAddr) (now : ℕ) (link : Connection S M) : Type 0 where
-    pub from : link.from ≡ origin link.stream
-    pub peer : IsPeer allowed Tcp (origin link.stream) link.peer
-    pub kept : link.conversation ≡ nothing_kept
-    pub begun : link.begun ≡ now
-    pub group : IsGroupOf (socket_ip (origin link.stream)) link.group
-    pub window : link.window ≡ record { since = now; taken = 0 }
+  pub record HasBegun (allowed : List IpAddr) (now : ℕ) (connection : Connection S M) : Type 0 where
+    pub from : connection.from ≡ origin connection.stream
+    pub peer : IsPeer allowed Tcp (origin connection.stream) connection.peer
+    pub kept : connection.state ≡ nothing_kept
+    pub begun : connection.begun ≡ now
+    pub group : IsGroupOf (socket_ip (origin connection.stream)) connection.group
+    pub window : connection.window ≡ record { since = now; taken = 0 }
 
   -- a place is taken, or given up to another: a connection begins under a key that had none; the connection that has to gives up its place
   -- for a newcomer whose stream comes from an address of the newcomer's group; or nothing changes
   pub data Move (allowed : List IpAddr) (now : ℕ) (old new : Slab (Connection S M)) : Type 0 where
-    begins : (key : ℕ) (link : Connection S M) → get old key ≡ None → get new key ≡ Some link → HasBegun allowed now link → ((other : ℕ) → other ≢ key → get new other ≡ get old other) → Move allowed now old new
+    begins : (key : ℕ) (connection : Connection S M) → get old key ≡ None → get new key ≡ Some connection → HasBegun allowed now connection → ((other : ℕ) → other ≢ key → get new other ≡ get old other) → Move allowed now old new
     gives : (stream : S) (newcomer : PeerGroup) (key : ℕ) → IsGroupOf (socket_ip (origin stream)) newcomer → IsGiver newcomer old (Some key) → get new key ≡ None → ((other : ℕ) → other ≢ key → get new other ≡ get old other) → Move allowed now old new
     rests : ((key : ℕ) → get new key ≡ get old key) → Move allowed now old new
 

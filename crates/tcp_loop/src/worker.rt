@@ -49,7 +49,7 @@ pub enum TurnEnd {
 
 /// The connections of a worker thread.
 pub struct EventLoop<S: Drop, M: Messages> {
-    links: Slab<Connection<S, M>>,
+    connections: Slab<Connection<S, M>>,
     /// How many may be open.
     places: usize,
     waiting: Waiting,
@@ -71,7 +71,7 @@ pub struct EventLoop<S: Drop, M: Messages> {
 impl<S: Drop, M: Messages> Drop for EventLoop<S, M> {
     fn drop(self) {
         let EventLoop {
-            links: _,
+            connections: _,
             places: _,
             waiting: _,
             told: _,
@@ -90,15 +90,15 @@ impl<S: Blocking + Remote + Drop, M: Messages> EventLoop<S, M> {
     /// A worker thread without connections, with `places` places for them, and with `arrivals` listeners, at each of which one may be
     /// waiting. Nothing is counted yet, and nothing keeps it from accepting any.
     pub fn new(alloc: Global, places: usize, arrivals: usize) -> Result<EventLoop<S, M>, AllocError>
-        ensures empty { IfOk result (λ turns. (key : ℕ) → get turns.links key ≡ None) }
-        ensures none { IfOk result (λ turns. slab_len turns.links ≡ 0) }
+        ensures empty { IfOk result (λ turns. (key : ℕ) → get turns.connections key ≡ None) }
+        ensures none { IfOk result (λ turns. slab_len turns.connections ≡ 0) }
         ensures places { IfOk result (λ turns. turns.places ≡ places) }
         ensures may_come { IfOk result (λ turns. turns.may_come.items ≡ replicate arrivals true) }
         ensures open { IfOk result (λ turns. turns.shut_until ≡ 0) }
         ensures tally { IfOk result (λ turns. turns.tally ≡ nothing_counted) }
     {
         Ok(EventLoop {
-            links: Slab::new(alloc),
+            connections: Slab::new(alloc),
             places,
             waiting: Waiting::new(alloc, places)?,
             told: Vec::new(alloc),
@@ -132,7 +132,7 @@ impl<S: Blocking + Remote + Drop, M: Messages> EventLoop<S, M> {
 
     /// Marks what was reported ready: connections, and listeners at which others may be waiting.
     fn mark(&mut self)
-        ensures links { self.new.links ≡ self.old.links }
+        ensures connections { self.new.connections ≡ self.old.connections }
         ensures places { self.new.places ≡ self.old.places }
     {
         mark_told(&self.told, &mut self.may_come, &mut self.waiting);
@@ -142,13 +142,13 @@ impl<S: Blocking + Remote + Drop, M: Messages> EventLoop<S, M> {
     /// Whether there is a place for one more connection, of a peer of a group, if need be that of the connection that has gone longest
     /// without a whole request, which is then ended.
     fn make_place(&mut self, newcomer: PeerGroup) -> bool
-        ensures moves { (allowed : List IpAddr) (now : ℕ) (stream : S) → IsGroupOf (socket_ip (S.origin stream)) newcomer → Moves S.origin S.octets allowed now self.old.links self.new.links }
+        ensures moves { (allowed : List IpAddr) (now : ℕ) (stream : S) → IsGroupOf (socket_ip (S.origin stream)) newcomer → Moves S.origin S.octets allowed now self.old.connections self.new.connections }
         ensures places { self.new.places ≡ self.old.places }
-        ensures room { result ≡ true → slab_len self.old.links ≤ self.old.places → slab_len self.new.links < self.new.places }
-        ensures none { result ≡ false → self.new.links ≡ self.old.links }
-        ensures free { slab_len self.old.links < self.old.places → self.new.links ≡ self.old.links }
+        ensures room { result ≡ true → slab_len self.old.connections ≤ self.old.places → slab_len self.new.connections < self.new.places }
+        ensures none { result ≡ false → self.new.connections ≡ self.old.connections }
+        ensures free { slab_len self.old.connections < self.old.places → self.new.connections ≡ self.old.connections }
     {
-        match make_room(&mut self.links, self.places, newcomer) {
+        match make_room(&mut self.connections, self.places, newcomer) {
             Room::Free => true,
             Room::Made(_key) => {
                 self.tally.evicted = self.tally.evicted.saturating_add(1);
@@ -165,25 +165,25 @@ impl<S: Blocking + Remote + Drop, M: Messages> EventLoop<S, M> {
     fn watch<P: Readiness<S>>(&self, poll: &mut P, stream: &mut S) -> Result<(), NotWatched>
         ensures { P.time poll.new ≡ P.time poll.old }
     {
-        poll.watch(stream, self.links.vacant_key())
+        poll.watch(stream, self.connections.vacant_key())
     }
 
     /// Gives a new connection a place, as that of the peer at the address that it comes from.
     fn put(&mut self, plan: Plan<'_>, stream: S, now: u64)
-        ensures moves { Moves S.origin S.octets plan.entry.allowed.addresses.now now self.old.links self.new.links }
+        ensures moves { Moves S.origin S.octets plan.entry.allowed.addresses.now now self.old.connections self.new.connections }
         ensures places { self.new.places ≡ self.old.places }
-        ensures few { slab_len self.old.links < self.old.places → slab_len self.new.links ≤ self.new.places }
+        ensures few { slab_len self.old.connections < self.old.places → slab_len self.new.connections ≤ self.new.places }
     {
         let from = stream.address();
         let peer = plan.allowed.peer(from, Transport::Tcp);
-        let link = Connection::new(stream, self.alloc, peer, from, now);
-        let put = self.links.insert(link).ok();
+        let connection = Connection::new(stream, self.alloc, peer, from, now);
+        let put = self.connections.insert(connection).ok();
         self.note(put);
     }
 
     /// Counts a connection that has a key now, which waits for its turn; or one that got none since there was no memory.
     fn note(&mut self, put: Option<usize>)
-        ensures links { self.new.links ≡ self.old.links }
+        ensures connections { self.new.connections ≡ self.old.connections }
         ensures places { self.new.places ≡ self.old.places }
     {
         let Some(key) = put else {
@@ -196,10 +196,10 @@ impl<S: Blocking + Remote + Drop, M: Messages> EventLoop<S, M> {
 
     /// Gives a new connection a place, if there is one, and watches it.
     fn begin<P: Readiness<S>>(&mut self, poll: &mut P, plan: Plan<'_>, stream: S, now: u64)
-        ensures moves { Moves S.origin S.octets plan.entry.allowed.addresses.now now self.old.links self.new.links }
+        ensures moves { Moves S.origin S.octets plan.entry.allowed.addresses.now now self.old.connections self.new.connections }
         ensures time { P.time poll.new ≡ P.time poll.old }
         ensures places { self.new.places ≡ self.old.places }
-        ensures few { slab_len self.old.links ≤ self.old.places → slab_len self.new.links ≤ self.new.places }
+        ensures few { slab_len self.old.connections ≤ self.old.places → slab_len self.new.connections ≤ self.new.places }
     {
         if !self.make_place(PeerGroup::of(stream.address().ip())) {
             return;
@@ -220,10 +220,10 @@ impl<S: Blocking + Remote + Drop, M: Messages> EventLoop<S, M> {
         arrivals: &mut L,
         now: u64,
     ) -> Result<Option<bool>, TurnEnd>
-        ensures moves { Moves S.origin S.octets plan.entry.allowed.addresses.now now self.old.links self.new.links }
+        ensures moves { Moves S.origin S.octets plan.entry.allowed.addresses.now now self.old.connections self.new.connections }
         ensures time { P.time poll.new ≡ P.time poll.old }
         ensures places { self.new.places ≡ self.old.places }
-        ensures few { slab_len self.old.links ≤ self.old.places → slab_len self.new.links ≤ self.new.places }
+        ensures few { slab_len self.old.connections ≤ self.old.places → slab_len self.new.connections ≤ self.new.places }
     {
         match arrivals.take() {
             Ok(stream) => {
@@ -250,10 +250,10 @@ impl<S: Blocking + Remote + Drop, M: Messages> EventLoop<S, M> {
         arrivals: &mut L,
         now: u64,
     ) -> Result<bool, TurnEnd>
-        ensures moves { Moves S.origin S.octets plan.entry.allowed.addresses.now now self.old.links self.new.links }
+        ensures moves { Moves S.origin S.octets plan.entry.allowed.addresses.now now self.old.connections self.new.connections }
         ensures time { P.time poll.new ≡ P.time poll.old }
         ensures places { self.new.places ≡ self.old.places }
-        ensures few { slab_len self.old.links ≤ self.old.places → slab_len self.new.links ≤ self.new.places }
+        ensures few { slab_len self.old.connections ≤ self.old.places → slab_len self.new.connections ≤ self.new.places }
     {
         for _taken in 0..ARRIVALS.min(self.places) {
             match self.take_one(poll, plan, arrivals, now)? {
@@ -271,7 +271,7 @@ impl<S: Blocking + Remote + Drop, M: Messages> EventLoop<S, M> {
 
     /// Marks whether connections may be waiting at a listener.
     fn mark_place(&mut self, place: usize, may: bool)
-        ensures links { self.new.links ≡ self.old.links }
+        ensures connections { self.new.connections ≡ self.old.connections }
         ensures places { self.new.places ≡ self.old.places }
     {
         if let Some(may_come) = self.may_come.get_mut(place) {
@@ -288,10 +288,10 @@ impl<S: Blocking + Remote + Drop, M: Messages> EventLoop<S, M> {
         place: usize,
         now: u64,
     ) -> Result<(), TurnEnd>
-        ensures moves { Moves S.origin S.octets plan.entry.allowed.addresses.now now self.old.links self.new.links }
+        ensures moves { Moves S.origin S.octets plan.entry.allowed.addresses.now now self.old.connections self.new.connections }
         ensures time { P.time poll.new ≡ P.time poll.old }
         ensures places { self.new.places ≡ self.old.places }
-        ensures few { slab_len self.old.links ≤ self.old.places → slab_len self.new.links ≤ self.new.places }
+        ensures few { slab_len self.old.connections ≤ self.old.places → slab_len self.new.connections ≤ self.new.places }
     {
         if self.shut_until != 0 || !self.may_wait(place) {
             return Ok(());
@@ -309,10 +309,10 @@ impl<S: Blocking + Remote + Drop, M: Messages> EventLoop<S, M> {
         places: &mut [L],
         now: u64,
     ) -> Result<(), TurnEnd>
-        ensures moves { Moves S.origin S.octets plan.entry.allowed.addresses.now now self.old.links self.new.links }
+        ensures moves { Moves S.origin S.octets plan.entry.allowed.addresses.now now self.old.connections self.new.connections }
         ensures time { P.time poll.new ≡ P.time poll.old }
         ensures places { self.new.places ≡ self.old.places }
-        ensures few { slab_len self.old.links ≤ self.old.places → slab_len self.new.links ≤ self.new.places }
+        ensures few { slab_len self.old.connections ≤ self.old.places → slab_len self.new.connections ≤ self.new.places }
     {
         if now < self.shut_until {
             return Ok(());
@@ -327,8 +327,8 @@ impl<S: Blocking + Remote + Drop, M: Messages> EventLoop<S, M> {
     /// Ends the connections that are over, once a second.
     fn sweep(&mut self, plan: Plan<'_>, now: u64)
         ensures places { self.new.places ≡ self.old.places }
-        ensures few { slab_len self.new.links ≤ slab_len self.old.links }
-        ensures swept { Sweeps S.origin S.octets plan.entry.limits now self.old.links self.new.links }
+        ensures few { slab_len self.new.connections ≤ slab_len self.old.connections }
+        ensures swept { Sweeps S.origin S.octets plan.entry.limits now self.old.connections self.new.connections }
         ensures served { self.new.served.items ≡ self.old.served.items }
         ensures next { self.new.next.items ≡ self.old.next.items }
     {
@@ -336,8 +336,8 @@ impl<S: Blocking + Remote + Drop, M: Messages> EventLoop<S, M> {
             return;
         }
         self.swept = now;
-        let limits = limits_at(plan.limits, self.links.len(), self.places);
-        sweep(&mut self.links, limits, now, &mut self.tally.ends);
+        let limits = limits_at(plan.limits, self.connections.len(), self.places);
+        sweep(&mut self.connections, limits, now, &mut self.tally.ends);
     }
 
     /// One turn: waits until something may be ready, accepts new connections, serves those that may go on by a share each, and ends those
@@ -352,17 +352,17 @@ impl<S: Blocking + Remote + Drop, M: Messages> EventLoop<S, M> {
         poll: &mut P,
         plan: Plan<'_>,
         places: &mut [L],
-        answering: &mut A,
+        handler: &mut A,
         room: &mut [u8],
         out: &mut [u8],
     ) -> Result<(), TurnEnd>
         requires room { 0 < length room.old }
         requires out { message_limit ≤ length out.old }
-        ensures grows { EachGrows (A.seen answering.new) (A.seen answering.old) }
+        ensures grows { EachGrows (A.seen handler.new) (A.seen handler.old) }
         ensures places { self.new.places ≡ self.old.places }
-        ensures few { slab_len self.old.links ≤ self.old.places → slab_len self.new.links ≤ self.new.places }
-        ensures turned { HasTurned S.origin S.octets A.is_reply plan.entry.allowed.addresses.now plan.entry.limits (P.time poll.new) (A.seen answering.old) self.old.links (A.seen answering.new) self.new.links }
-        ensures going { OnOk result (GoOn S.would_block A.is_later self.new.links self.new.served.items self.new.next.items) }
+        ensures few { slab_len self.old.connections ≤ self.old.places → slab_len self.new.connections ≤ self.new.places }
+        ensures turned { HasTurned S.origin S.octets A.is_reply plan.entry.allowed.addresses.now plan.entry.limits (P.time poll.new) (A.seen handler.old) self.old.connections (A.seen handler.new) self.new.connections }
+        ensures going { OnOk result (GoOn S.would_block A.is_later self.new.connections self.new.served.items self.new.next.items) }
     {
         let Ok(now) = poll.wait(self.patience(), &mut self.told) else {
             return Err(TurnEnd::Device);
@@ -374,8 +374,8 @@ impl<S: Blocking + Remote + Drop, M: Messages> EventLoop<S, M> {
         self.next.clear();
         let served = serve_ready(
             rt,
-            answering,
-            &mut self.links,
+            handler,
+            &mut self.connections,
             &self.served,
             &mut self.next,
             &mut self.tally.ends,

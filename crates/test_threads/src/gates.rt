@@ -92,7 +92,7 @@ impl<'g, 's, Z: FirstZone + Send + Sync, N: ServerName + Send + Sync> Job
 
     // For the stream, the gate is left after the reply is written.
     #[tactic(auto, using(requests::proofs::TurnLemmas::grows_itself))]
-    fn run<R: Wait, A: Handler, L: ServiceLog>(&mut self, rt: &R, answering: &mut A, _log: &L) {
+    fn run<R: Wait, A: Handler, L: ServiceLog>(&mut self, rt: &R, handler: &mut A, _log: &L) {
         let gate = self.gate;
         let Some(reader) = self.reader.take() else {
             return;
@@ -107,7 +107,7 @@ impl<'g, 's, Z: FirstZone + Send + Sync, N: ServerName + Send + Sync> Job
         let mut reply = [0u8; 65_535];
         let (_end, tray) = answer_datagrams(
             rt,
-            answering,
+            handler,
             tray,
             Allowed::new(&[]),
             1,

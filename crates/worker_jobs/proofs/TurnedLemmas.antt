@@ -17,6 +17,6 @@ module _ {S M T : Type 0} (origin : S → SocketAddr) (octets : S → Option (Li
   turned_more seen mid old between later new so_far (turned now more last) = turned now (turned_more seen mid old between _ _ so_far more) last
 
   -- one turn alone, behind which the connections stay
-  pub one_turned : (now : ℕ) (seen later : ℕ → Learned T) (old : Slab (Connection S M)) (mid new : EventLoop S M) → HasTurned origin octets IsReply allowed limits now seen old later mid.links → new ≡ mid → Turned origin octets IsReply allowed limits seen old later new.links
+  pub one_turned : (now : ℕ) (seen later : ℕ → Learned T) (old : Slab (Connection S M)) (mid new : EventLoop S M) → HasTurned origin octets IsReply allowed limits now seen old later mid.connections → new ≡ mid → Turned origin octets IsReply allowed limits seen old later new.connections
   one_turned now seen later old mid new has same =
-      subst (λ (turns : EventLoop S M). Turned origin octets IsReply allowed limits seen old later turns.links) (sym same) (turned now unturned has)
+      subst (λ (event_loop : EventLoop S M). Turned origin octets IsReply allowed limits seen old later event_loop.connections) (sym same) (turned now unturned has)

@@ -27,9 +27,9 @@ pub struct ConnectionsJob<'a, S: Drop, P, L, C> {
     pub number: usize,
     poll: WakingPoll<'a, P>,
     places: Vec<L>,
-    turns: EventLoop<S, Transfer>,
+    event_loop: EventLoop<S, Transfer>,
     plan: Plan<'a>,
-    standing: StopFlag<'a>,
+    stop: StopFlag<'a>,
     clock: &'a C,
     /// The losses when they were last logged, and the time of that.
     told: Losses,
@@ -47,9 +47,9 @@ impl<'a, S: Drop, P: Drop, L: Drop, C> Drop for ConnectionsJob<'a, S, P, L, C> {
             number: _,
             poll: _,
             places: _,
-            turns: _,
+            event_loop: _,
             plan: _,
-            standing: _,
+            stop: _,
             clock: _,
             told: _,
             told_at: _,
@@ -122,23 +122,23 @@ impl<
         number: usize,
         poll: P,
         places: Vec<L>,
-        turns: EventLoop<S, Transfer>,
+        event_loop: EventLoop<S, Transfer>,
         plan: Plan<'a>,
-        standing: StopFlag<'a>,
+        stop: StopFlag<'a>,
         clock: &'a C,
         scratch: Scratch,
     ) -> ConnectionsJob<'a, S, P, L, C>
         ensures number { result.number ≡ number }
         ensures plan { result.plan ≡ plan.entry }
-        ensures turns { result.turns ≡ turns }
+        ensures event_loop { result.event_loop ≡ event_loop }
     {
         ConnectionsJob {
             number,
             poll: WakingPoll::new(poll),
             places,
-            turns,
+            event_loop,
             plan,
-            standing,
+            stop,
             clock,
             told: Losses::default(),
             told_at: Duration::from_secs(0),
@@ -152,7 +152,7 @@ impl<
     pub fn hearing(self, alloc: Global, told: &'a WakeList) -> ConnectionsJob<'a, S, P, L, C>
         ensures number { result.number ≡ self.entry.number }
         ensures plan { result.plan ≡ self.entry.plan }
-        ensures turns { result.turns ≡ self.entry.turns }
+        ensures event_loop { result.event_loop ≡ self.entry.event_loop }
     {
         let mut hearing = self;
         hearing.poll.listen(alloc, told);
@@ -170,11 +170,11 @@ impl<
     fn count(&mut self, tally: Tally)
         ensures number { self.new.number ≡ self.old.number }
         ensures plan { self.new.plan ≡ self.old.plan }
-        ensures turns { self.new.turns ≡ self.old.turns }
+        ensures event_loop { self.new.event_loop ≡ self.old.event_loop }
     {
         let ended = ended_in(tally);
         if ended > self.counted {
-            self.standing.progress.add(ended - self.counted);
+            self.stop.progress.add(ended - self.counted);
             self.counted = ended;
         }
     }
@@ -184,7 +184,7 @@ impl<
         ensures told { (self.new.told ≡ self.old.told) ⊎ (self.new.told ≡ lost_of tally) }
         ensures number { self.new.number ≡ self.old.number }
         ensures plan { self.new.plan ≡ self.old.plan }
-        ensures turns { self.new.turns ≡ self.old.turns }
+        ensures event_loop { self.new.event_loop ≡ self.old.event_loop }
     {
         let lost = losses_in(tally);
         if lost == self.told {
@@ -206,29 +206,29 @@ impl<
     fn turn<R: Wait, A: Handler<Transfer>, O: ServiceLog>(
         &mut self,
         rt: &R,
-        answering: &mut A,
+        handler: &mut A,
         log: &O,
     ) -> Option<JobEnd>
-        ensures grows { EachGrows (A.seen answering.new) (A.seen answering.old) }
-        ensures turned { Turned S.origin S.octets A.is_reply self.old.plan.allowed.addresses.now self.old.plan.limits (A.seen answering.old) self.old.turns.links (A.seen answering.new) self.new.turns.links }
+        ensures grows { EachGrows (A.seen handler.new) (A.seen handler.old) }
+        ensures turned { Turned S.origin S.octets A.is_reply self.old.plan.allowed.addresses.now self.old.plan.limits (A.seen handler.old) self.old.event_loop.connections (A.seen handler.new) self.new.event_loop.connections }
         ensures number { self.new.number ≡ self.old.number }
         ensures plan { self.new.plan ≡ self.old.plan }
     {
-        if self.standing.is_over() {
-            return Some(JobEnd::Done(self.standing.progress.done()));
+        if self.stop.is_over() {
+            return Some(JobEnd::Done(self.stop.progress.done()));
         }
         self.poll.take_woken(rt);
         let Scratch { request, reply } = &mut *self.scratch;
-        let taken = self.turns.poll_once(
+        let taken = self.event_loop.poll_once(
             rt,
             &mut self.poll,
             self.plan,
             self.places.as_mut_slice(),
-            answering,
+            handler,
             request,
             reply,
         );
-        let tally = self.turns.tally();
+        let tally = self.event_loop.tally();
         self.count(tally);
         self.tell(rt, log, tally);
         match taken {
@@ -242,17 +242,17 @@ impl<
     pub fn serve<R: Wait, A: Handler<Transfer>, O: ServiceLog>(
         &mut self,
         rt: &R,
-        answering: &mut A,
+        handler: &mut A,
         log: &O,
     ) -> JobEnd
-        ensures grows { EachGrows (A.seen answering.new) (A.seen answering.old) }
-        ensures turned { Turned S.origin S.octets A.is_reply self.old.plan.allowed.addresses.now self.old.plan.limits (A.seen answering.old) self.old.turns.links (A.seen answering.new) self.new.turns.links }
+        ensures grows { EachGrows (A.seen handler.new) (A.seen handler.old) }
+        ensures turned { Turned S.origin S.octets A.is_reply self.old.plan.allowed.addresses.now self.old.plan.limits (A.seen handler.old) self.old.event_loop.connections (A.seen handler.new) self.new.event_loop.connections }
         ensures number { self.new.number ≡ self.old.number }
         ensures plan { self.new.plan ≡ self.old.plan }
         ensures end { self.new.end ≡ Some result }
     {
         for _ in rt.forever() {
-            if let Some(end) = self.turn(rt, answering, log) {
+            if let Some(end) = self.turn(rt, handler, log) {
                 self.end = Some(end);
                 return end;
             }

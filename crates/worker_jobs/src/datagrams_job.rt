@@ -16,7 +16,7 @@ pub struct DatagramsJob<'a, D> {
     /// The number of its worker.
     pub number: usize,
     job: UdpJob<'a, D>,
-    standing: StopFlag<'a>,
+    stop: StopFlag<'a>,
     end: Option<JobEnd>,
 }
 
@@ -26,20 +26,20 @@ impl<'a, D: Drop> Drop for DatagramsJob<'a, D> {
         let DatagramsJob {
             number: _,
             job: _,
-            standing: _,
+            stop: _,
             end: _,
         } = self;
     }
 }
 
 /// The end of a job, from the end of its datagrams: the same, but done instead of failed where the thread was to end.
-fn end_of(end: JobEnd, standing: StopFlag<'_>) -> JobEnd
+fn end_of(end: JobEnd, stop: StopFlag<'_>) -> JobEnd
     ensures { EndsSo end result }
 {
     match end {
         JobEnd::Device => {
-            if standing.is_over() {
-                return JobEnd::Done(standing.progress.done());
+            if stop.is_over() {
+                return JobEnd::Done(stop.progress.done());
             }
             JobEnd::Device
         }
@@ -55,7 +55,7 @@ impl<'a, D: Datagrams> DatagramsJob<'a, D> {
         number: usize,
         datagrams: D,
         allowed: Allowed<'a>,
-        standing: StopFlag<'a>,
+        stop: StopFlag<'a>,
         scratch: Scratch,
     ) -> DatagramsJob<'a, D>
         ensures number { result.number ≡ number }
@@ -65,7 +65,7 @@ impl<'a, D: Datagrams> DatagramsJob<'a, D> {
         DatagramsJob {
             number,
             job: UdpJob::new(number, datagrams, allowed, u64::MAX, scratch),
-            standing,
+            stop,
             end: None,
         }
     }
@@ -79,14 +79,14 @@ impl<'a, D: Datagrams> DatagramsJob<'a, D> {
 
     /// Answers datagrams as they come, until none can be received any more or no version can be loaded, and gives how that ended. Each peer may
     /// update and transfer by its own address (RFC 1035, 4.2.1).
-    pub fn serve<R: Wait, A: Handler>(&mut self, rt: &R, answering: &mut A) -> JobEnd
-        ensures served { IfSome (D.datagrams self.old.job.datagrams) (λ o. (end : EndOfJob) × EndsSo end result × JobEndsBy A.is_reply self.old.job.allowed.addresses.now end (A.seen answering.old) o (D.failed self.old.job.datagrams) self.old.job.most (A.seen answering.new) (D.datagrams self.new.job.datagrams) (D.failed self.new.job.datagrams)) }
-        ensures grows { Grows (A.seen answering.new) (A.seen answering.old) }
+    pub fn serve<R: Wait, A: Handler>(&mut self, rt: &R, handler: &mut A) -> JobEnd
+        ensures served { IfSome (D.datagrams self.old.job.datagrams) (λ o. (end : EndOfJob) × EndsSo end result × JobEndsBy A.is_reply self.old.job.allowed.addresses.now end (A.seen handler.old) o (D.failed self.old.job.datagrams) self.old.job.most (A.seen handler.new) (D.datagrams self.new.job.datagrams) (D.failed self.new.job.datagrams)) }
+        ensures grows { Grows (A.seen handler.new) (A.seen handler.old) }
         ensures end { self.new.end ≡ Some result }
         ensures number { self.new.number ≡ self.old.number }
     {
-        let served = self.job.serve(rt, answering);
-        let end = end_of(served, self.standing);
+        let served = self.job.serve(rt, handler);
+        let end = end_of(served, self.stop);
         self.end = Some(end);
         end
     }

@@ -161,16 +161,16 @@ impl<'a, C: Clock> NotifyJob<'a, C> {
     fn do_due<R: Wait, A: Notifying, L: ServiceLog>(
         &mut self,
         rt: &R,
-        answering: &mut A,
+        handler: &mut A,
         log: &L,
     ) -> Result<Option<u64>, JobEnd>
-        ensures grows { Grows (A.seen answering.new) (A.seen answering.old) }
+        ensures grows { Grows (A.seen handler.new) (A.seen handler.old) }
         ensures number { self.new.number ≡ self.old.number }
     {
         let mut out = [0u8; MAX_NOTIFY];
         for _ in 0..MOST_TURNS {
             let id = (self.ids.next_u32() / IDS) as u16;
-            let Ok(next) = answering.next_turn(&mut self.notifier, id, &mut out) else {
+            let Ok(next) = handler.next_turn(&mut self.notifier, id, &mut out) else {
                 return Err(JobEnd::Spent);
             };
             match next {
@@ -201,15 +201,15 @@ impl<'a, C: Clock> NotifyJob<'a, C> {
     fn look<R: Wait, A: Notifying, L: ServiceLog>(
         &mut self,
         rt: &R,
-        answering: &mut A,
+        handler: &mut A,
         log: &L,
     ) -> Option<JobEnd>
-        ensures grows { Grows (A.seen answering.new) (A.seen answering.old) }
+        ensures grows { Grows (A.seen handler.new) (A.seen handler.old) }
         ensures number { self.new.number ≡ self.old.number }
     {
         let is_over = self.shutdown.is_ending() || self.shutdown.has_one_left();
         self.notifier.show(millis_of(self.clock));
-        let wait = match self.do_due(rt, answering, log) {
+        let wait = match self.do_due(rt, handler, log) {
             Ok(wait) => wait.unwrap_or(LONGEST_LOOK).min(LONGEST_LOOK),
             Err(end) => return Some(end),
         };
@@ -231,15 +231,15 @@ impl<'a, C: Clock> NotifyJob<'a, C> {
     pub fn serve<R: Wait, A: Notifying, L: ServiceLog>(
         &mut self,
         rt: &R,
-        answering: &mut A,
+        handler: &mut A,
         log: &L,
     ) -> JobEnd
-        ensures grows { Grows (A.seen answering.new) (A.seen answering.old) }
+        ensures grows { Grows (A.seen handler.new) (A.seen handler.old) }
         ensures end { self.new.end ≡ Some result }
         ensures number { self.new.number ≡ self.old.number }
     {
         for _ in rt.forever() {
-            if let Some(end) = self.look(rt, answering, log) {
+            if let Some(end) = self.look(rt, handler, log) {
                 self.end = Some(end);
                 return end;
             }

@@ -79,16 +79,16 @@ impl<'a, D: Datagrams> UdpJob<'a, D> {
 
     /// Answers the job's number of datagrams as they come, and gives how that ended. It answers fewer where one can't be received, or no
     /// version can be loaded. Each peer may update and transfer by its own address (RFC 1035, 4.2.1).
-    pub fn serve<R: Wait, A: Handler>(&mut self, rt: &R, answering: &mut A) -> JobEnd
-        ensures served { IfSome (D.datagrams self.old.datagrams) (λ o. JobEndsBy A.is_reply self.old.allowed.addresses.now result (A.seen answering.old) o (D.failed self.old.datagrams) self.old.most (A.seen answering.new) (D.datagrams self.new.datagrams) (D.failed self.new.datagrams)) }
-        ensures grows { Grows (A.seen answering.new) (A.seen answering.old) }
+    pub fn serve<R: Wait, A: Handler>(&mut self, rt: &R, handler: &mut A) -> JobEnd
+        ensures served { IfSome (D.datagrams self.old.datagrams) (λ o. JobEndsBy A.is_reply self.old.allowed.addresses.now result (A.seen handler.old) o (D.failed self.old.datagrams) self.old.most (A.seen handler.new) (D.datagrams self.new.datagrams) (D.failed self.new.datagrams)) }
+        ensures grows { Grows (A.seen handler.new) (A.seen handler.old) }
         ensures end { self.new.end ≡ Some result }
         ensures same { self.new.number ≡ self.old.number }
     {
         let Scratch { request, reply } = &mut *self.scratch;
         let end = serve_udp(
             rt,
-            answering,
+            handler,
             &mut self.datagrams,
             self.allowed,
             self.most,
@@ -107,13 +107,13 @@ impl<D: Datagrams + Send + Drop> Job for UdpJob<'_, D> {
 
     ghost is_done = { λ job. IsSome job.end };
 
-    fn run<R: Wait, A: Handler, L: ServiceLog>(&mut self, rt: &R, answering: &mut A, log: &L)
-        ensures served { IfSome (D.datagrams self.old.datagrams) (λ o. (end : EndOfJob) × (self.new.end ≡ Some end) × JobEndsBy A.is_reply self.old.allowed.addresses.now end (A.seen answering.old) o (D.failed self.old.datagrams) self.old.most (A.seen answering.new) (D.datagrams self.new.datagrams) (D.failed self.new.datagrams)) }
-        ensures grows { Grows (A.seen answering.new) (A.seen answering.old) }
+    fn run<R: Wait, A: Handler, L: ServiceLog>(&mut self, rt: &R, handler: &mut A, log: &L)
+        ensures served { IfSome (D.datagrams self.old.datagrams) (λ o. (end : EndOfJob) × (self.new.end ≡ Some end) × JobEndsBy A.is_reply self.old.allowed.addresses.now end (A.seen handler.old) o (D.failed self.old.datagrams) self.old.most (A.seen handler.new) (D.datagrams self.new.datagrams) (D.failed self.new.datagrams)) }
+        ensures grows { Grows (A.seen handler.new) (A.seen handler.old) }
         ensures number { self.new.number ≡ self.old.number }
         ensures done { IsSome self.new.end }
     {
-        let end = self.serve(rt, answering);
+        let end = self.serve(rt, handler);
         let (worker, transport) = (self.number, Transport::Udp);
         log.tell(
             rt,

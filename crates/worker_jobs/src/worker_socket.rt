@@ -73,7 +73,7 @@ enum Mode {
 /// A worker's UDP socket, with the count of its failures.
 pub struct WorkerSocket<'a> {
     socket: UdpSocket,
-    standing: StopFlag<'a>,
+    stop: StopFlag<'a>,
     mode: Mode,
     held: HeldReplies,
     /// How many replies failed to be sent, and aren't counted yet.
@@ -86,7 +86,7 @@ impl<'a> Drop for WorkerSocket<'a> {
     fn drop(self) {
         let WorkerSocket {
             socket: _,
-            standing: _,
+            stop: _,
             mode: _,
             held: _,
             lost: _,
@@ -97,18 +97,14 @@ impl<'a> Drop for WorkerSocket<'a> {
 
 impl<'a> WorkerSocket<'a> {
     /// The socket of a worker thread, which waits for datagrams from now on. No failure is counted yet.
-    pub fn new(
-        alloc: Global,
-        socket: UdpSocket,
-        standing: StopFlag<'a>,
-    ) -> io::Result<WorkerSocket<'a>>
+    pub fn new(alloc: Global, socket: UdpSocket, stop: StopFlag<'a>) -> io::Result<WorkerSocket<'a>>
         ensures { IfOk result (λ socket. socket.faults ≡ 0) }
     {
         socket.set_nonblocking(false)?;
         socket.set_read_timeout(Some(Duration::from_secs(LOOK)))?;
         Ok(WorkerSocket {
             socket,
-            standing,
+            stop,
             mode: Mode::Waiting(0),
             held: HeldReplies::new(alloc)?,
             lost: 0,
@@ -181,7 +177,7 @@ impl<'a> WorkerSocket<'a> {
         ensures same { self.new.faults ≡ self.old.faults }
     {
         for _tried in 0..u64::MAX {
-            if self.standing.is_over() {
+            if self.stop.is_over() {
                 return None;
             }
             self.prepare().ok()?;
@@ -207,7 +203,7 @@ impl Datagrams for WorkerSocket<'_> {
     fn receive(&mut self, buf: &mut [u8]) -> Option<(usize, SocketAddr)> {
         match self.next(buf) {
             Some(received) => {
-                self.standing.progress.add(1);
+                self.stop.progress.add(1);
                 Some(received)
             }
             None => {

@@ -24,10 +24,10 @@ pub trait Job: Send + Drop {
     ghost is_done: { Self → Type 0 };
 
     /// Does the job, with a handler that answers each peer that it is turned to. Logs how the job ends.
-    fn run<R: Wait, A: Handler, L: ServiceLog>(&mut self, rt: &R, answering: &mut A, log: &L)
+    fn run<R: Wait, A: Handler, L: ServiceLog>(&mut self, rt: &R, handler: &mut A, log: &L)
         ensures number { number self.new ≡ number self.old }
         ensures done { is_done self.new }
-        ensures grows { Grows (A.seen answering.new) (A.seen answering.old) };
+        ensures grows { Grows (A.seen handler.new) (A.seen handler.old) };
 }
 
 /// Not all jobs could be started: a thread was refused, or there was no memory to track the jobs. The pairs come back, and no job has begun.

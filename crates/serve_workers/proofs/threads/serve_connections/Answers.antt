@@ -9,7 +9,7 @@ use Rattle.serve_workers.proofs.threads.serve_connections.Goals as goal
 pub returns-clause-seen : goal.returns-clause-seen
 returns-clause-seen g c =
     let before = c.with_sender-handler.result in
-    let after = c.serve-end.new.answering in
+    let after = c.serve-end.new.handler in
     subst (λ (r : ReaderState Version). BeginsWith r.seen c.args.reader.seen) (sym c.into_reader.ensures)
     (subst (λ (r : ReaderState Version). BeginsWith after.reader.seen r.seen) (c.with_sender-handler.ensures.reader ∙ c.new-handler.ensures.reader)
     (reader_grows before.taken after.taken before.reader after.reader c.serve-end.ensures.grows).published)

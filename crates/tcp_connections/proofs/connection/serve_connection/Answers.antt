@@ -10,32 +10,32 @@ use Rattle.tcp_connections.proofs.connection.serve_connection.Goals as goal
 pub returns-clause-goes : goal.returns-clause-goes
 returns-clause-goes g c =
     let key = c.args.key in
-    let a = told_by c.args.link.now.conversation (g.S.Blocking.octets c.args.link.now.stream) in
-    let b = told_by c.serve_some-served.new.conversation (g.S.Blocking.octets c.serve_some-served.new.stream) in
+    let a = told_by c.args.connection.now.state (g.S.Blocking.octets c.args.connection.now.stream) in
+    let b = told_by c.serve_some-served.new.state (g.S.Blocking.octets c.serve_some-served.new.stream) in
     let known = g.A.Handler.seen c.turn_to.new.self in
-    let later = g.A.Handler.seen c.serve_some-served.new.answering in
+    let later = g.A.Handler.seen c.serve_some-served.new.handler in
     let mine = g.A.Handler.peer c.turn_to.new.self in
     ok_follows c.serve_some-served.result
-    (λ goes. goes_as g.A.Handler.is_reply (g.A.Handler.seen c.args.answering.now key) (known key) (later key) c.args.link.now.peer mine a b c.turn_to.ensures.other (c.turn_to.ensures.grows key)
+    (λ goes. goes_as g.A.Handler.is_reply (g.A.Handler.seen c.args.handler.now key) (known key) (later key) c.args.connection.now.peer mine a b c.turn_to.ensures.other (c.turn_to.ensures.grows key)
     (subst (λ (n : ℕ). Goes (g.A.Handler.is_reply mine) (known n) a (later n) b) c.turn_to.ensures.asker goes))
     c.serve_some-served.ensures.goes
 
 pub returns-clause-stops : goal.returns-clause-stops
 returns-clause-stops g c =
     let key = c.args.key in
-    let a = told_by c.args.link.now.conversation (g.S.Blocking.octets c.args.link.now.stream) in
+    let a = told_by c.args.connection.now.state (g.S.Blocking.octets c.args.connection.now.stream) in
     let b = g.S.Blocking.octets c.serve_some-served.new.stream in
     let known = g.A.Handler.seen c.turn_to.new.self in
-    let later = g.A.Handler.seen c.serve_some-served.new.answering in
+    let later = g.A.Handler.seen c.serve_some-served.new.handler in
     let mine = g.A.Handler.peer c.turn_to.new.self in
     err_follows c.serve_some-served.result
-    (λ end stops. stops_as g.A.Handler.is_reply end (g.A.Handler.seen c.args.answering.now key) (known key) (later key) c.args.link.now.peer mine a b c.turn_to.ensures.other (c.turn_to.ensures.grows key)
+    (λ end stops. stops_as g.A.Handler.is_reply end (g.A.Handler.seen c.args.handler.now key) (known key) (later key) c.args.connection.now.peer mine a b c.turn_to.ensures.other (c.turn_to.ensures.grows key)
     (subst (λ (n : ℕ). Stops (g.A.Handler.is_reply mine) end (known n) a (later n) b) c.turn_to.ensures.asker stops))
     c.serve_some-served.ensures.stops
 
 pub returns-clause-grows : goal.returns-clause-grows
-returns-clause-grows g c = each_more (g.A.Handler.seen c.args.answering.now) (g.A.Handler.seen c.turn_to.new.self) (g.A.Handler.seen c.serve_some-served.new.answering) c.turn_to.ensures.grows c.serve_some-served.ensures.grows
+returns-clause-grows g c = each_more (g.A.Handler.seen c.args.handler.now) (g.A.Handler.seen c.turn_to.new.self) (g.A.Handler.seen c.serve_some-served.new.handler) c.turn_to.ensures.grows c.serve_some-served.ensures.grows
 
 pub returns-clause-waits : goal.returns-clause-waits
 returns-clause-waits g c = λ is.
-    held_up_as g.A.Handler.is_later c.args.link.now.peer (g.A.Handler.peer c.turn_to.new.self) c.serve_some-served.new.conversation c.turn_to.ensures.other (c.serve_some-served.ensures.waits is)
+    held_up_as g.A.Handler.is_later c.args.connection.now.peer (g.A.Handler.peer c.turn_to.new.self) c.serve_some-served.new.state c.turn_to.ensures.other (c.serve_some-served.ensures.waits is)

@@ -6,4 +6,4 @@ use Rattle.tcp_connections.specs.Places.{is_of}
 use Rattle.tcp_connections.proofs.crowds.candidates.Given as goal
 
 abbrev pub invariant-loop-key : goal.invariant-loop-key
-invariant-loop-key g l = IsSurvey (count_by is_some (take l.key l.links.slots)) (λ group. count_by (is_of group) (take l.key l.links.slots)) l.survey
+invariant-loop-key g l = IsSurvey (count_by is_some (take l.key l.connections.slots)) (λ group. count_by (is_of group) (take l.key l.connections.slots)) l.survey

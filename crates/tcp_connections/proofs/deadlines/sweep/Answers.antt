@@ -10,7 +10,7 @@ pub loop-key-init : goal.loop-key-init
 loop-key-init g c = record {
   below = λ k within. absurd (omega (arith, within));
   above = λ k over. refl;
-  ended = counted_none c.args.ends.now (slab_len c.args.links.now) (slab_len c.args.links.now) refl;
+  ended = counted_none c.args.ends.now (slab_len c.args.connections.now) (slab_len c.args.connections.now) refl;
   capacity = refl;
 }
 
@@ -18,8 +18,8 @@ pub loop-key-preserved : goal.loop-key-preserved
 loop-key-preserved g c =
     let so_far = c.loop-key.invariant in
     record {
-      below = below_more (kept_at c.args.limits c.args.now) (get c.args.links.now) (get c.loop-key.links) (get c.sweep_key.new.links) c.loop-key.key so_far.below so_far.above c.sweep_key.ensures.own c.sweep_key.ensures.others;
-      above = above_more (kept_at c.args.limits c.args.now) (get c.args.links.now) (get c.loop-key.links) (get c.sweep_key.new.links) c.loop-key.key so_far.above c.sweep_key.ensures.others;
-      ended = counted_then c.args.ends.now c.loop-key.ends c.sweep_key.new.ends (slab_len c.args.links.now) (slab_len c.loop-key.links) (slab_len c.sweep_key.new.links) so_far.ended c.sweep_key.ensures.ended;
+      below = below_more (kept_at c.args.limits c.args.now) (get c.args.connections.now) (get c.loop-key.connections) (get c.sweep_key.new.connections) c.loop-key.key so_far.below so_far.above c.sweep_key.ensures.own c.sweep_key.ensures.others;
+      above = above_more (kept_at c.args.limits c.args.now) (get c.args.connections.now) (get c.loop-key.connections) (get c.sweep_key.new.connections) c.loop-key.key so_far.above c.sweep_key.ensures.others;
+      ended = counted_then c.args.ends.now c.loop-key.ends c.sweep_key.new.ends (slab_len c.args.connections.now) (slab_len c.loop-key.connections) (slab_len c.sweep_key.new.connections) so_far.ended c.sweep_key.ensures.ended;
       capacity = c.sweep_key.ensures.capacity ∙ so_far.capacity;
     }

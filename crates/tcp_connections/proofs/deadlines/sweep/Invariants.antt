@@ -7,8 +7,8 @@ use Rattle.tcp_connections.proofs.deadlines.sweep.Given as goal
 
 abbrev pub invariant-loop-key : goal.invariant-loop-key
 invariant-loop-key g l = record {
-  below : (k : ℕ) → k < l.key → get l.links k ≡ kept_at l.limits l.now (get l.initial.links k);
-  above : (k : ℕ) → l.key ≤ k → get l.links k ≡ get l.initial.links k;
-  ended : AreCounted l.initial.ends l.ends (slab_len l.initial.links) (slab_len l.links);
-  capacity : l.links.capacity ≡ l.initial.links.capacity;
+  below : (k : ℕ) → k < l.key → get l.connections k ≡ kept_at l.limits l.now (get l.initial.connections k);
+  above : (k : ℕ) → l.key ≤ k → get l.connections k ≡ get l.initial.connections k;
+  ended : AreCounted l.initial.ends l.ends (slab_len l.initial.connections) (slab_len l.connections);
+  capacity : l.connections.capacity ≡ l.initial.connections.capacity;
 }

@@ -13,37 +13,37 @@ loop-answered-init g c = record {
   grows = each_itself _;
   peer = refl;
   asker = refl;
-  keeps = keeps_itself (g.A.Handler.is_reply (g.A.Handler.peer c.args.answering.now)) (g.A.Handler.seen c.args.answering.now (g.A.Handler.asker c.args.answering.now)) c.args.conversation.now;
+  keeps = keeps_itself (g.A.Handler.is_reply (g.A.Handler.peer c.args.handler.now)) (g.A.Handler.seen c.args.handler.now (g.A.Handler.asker c.args.handler.now)) c.args.state.now;
 }
 
 pub loop-answered-preserved : goal.loop-answered-preserved
 loop-answered-preserved g c =
     let so_far = c.loop-answered.invariant in
-    let Reply = g.A.Handler.is_reply (g.A.Handler.peer c.args.answering.now) in
-    let key = g.A.Handler.asker c.args.answering.now in
-    let seen = g.A.Handler.seen c.loop-answered.answering in
-    let later = g.A.Handler.seen c.answer.new.answering in
-    let k = c.loop-answered.conversation in
+    let Reply = g.A.Handler.is_reply (g.A.Handler.peer c.args.handler.now) in
+    let key = g.A.Handler.asker c.args.handler.now in
+    let seen = g.A.Handler.seen c.loop-answered.handler in
+    let later = g.A.Handler.seen c.answer.new.handler in
+    let k = c.loop-answered.state in
     let m = c.answer.new.self in
-    let keyed = subst (λ (n : ℕ). Turn (g.A.Handler.is_reply (g.A.Handler.peer c.loop-answered.answering)) (seen n) (k.held, due k) (later n) (m.held, due m)) so_far.asker (c.in-Ok.ensures.turn (ap (λ s. Ok s) c.in-More.is)) in
+    let keyed = subst (λ (n : ℕ). Turn (g.A.Handler.is_reply (g.A.Handler.peer c.loop-answered.handler)) (seen n) (k.held, due k) (later n) (m.held, due m)) so_far.asker (c.in-Ok.ensures.turn (ap (λ s. Ok s) c.in-More.is)) in
     let moved = subst (λ (peer : Peer). Turn (g.A.Handler.is_reply peer) (seen key) (k.held, due k) (later key) (m.held, due m)) so_far.peer keyed in
     record {
       grows = each_more _ _ _ so_far.grows c.in-Ok.ensures.grows;
       peer = c.in-Ok.ensures.peer ∙ so_far.peer;
       asker = c.in-Ok.ensures.asker ∙ so_far.asker;
-      keeps = keeps_more Reply (g.A.Handler.seen c.args.answering.now key) (seen key) (later key) c.args.conversation.now k m so_far.keeps (keeps_turn Reply (seen key) (later key) k m moved);
+      keeps = keeps_more Reply (g.A.Handler.seen c.args.handler.now key) (seen key) (later key) c.args.state.now k m so_far.keeps (keeps_turn Reply (seen key) (later key) k m moved);
     }
 
 pub returns-in_default-clause-keeps : goal.returns-in_default-clause-keeps
 returns-in_default-clause-keeps g c =
     let so_far = c.loop-answered.invariant in
-    let Reply = g.A.Handler.is_reply (g.A.Handler.peer c.args.answering.now) in
-    let key = g.A.Handler.asker c.args.answering.now in
-    let seen = g.A.Handler.seen c.loop-answered.answering key in
-    let later = g.A.Handler.seen c.answer.new.answering key in
-    let k = c.loop-answered.conversation in
+    let Reply = g.A.Handler.is_reply (g.A.Handler.peer c.args.handler.now) in
+    let key = g.A.Handler.asker c.args.handler.now in
+    let seen = g.A.Handler.seen c.loop-answered.handler key in
+    let later = g.A.Handler.seen c.answer.new.handler key in
+    let k = c.loop-answered.state in
     let m = c.answer.new.self in
-    keeps_more Reply (g.A.Handler.seen c.args.answering.now key) seen later c.args.conversation.now k m so_far.keeps (keeps_same Reply seen later k m (c.in-Ok.ensures.grows key) (c.in-Ok.ensures.same c.in_default.not-More))
+    keeps_more Reply (g.A.Handler.seen c.args.handler.now key) seen later c.args.state.now k m so_far.keeps (keeps_same Reply seen later k m (c.in-Ok.ensures.grows key) (c.in-Ok.ensures.same c.in_default.not-More))
 
 pub returns-in_default-clause-grows : goal.returns-in_default-clause-grows
 returns-in_default-clause-grows g c = each_more _ _ _ c.loop-answered.invariant.grows c.in-Ok.ensures.grows
@@ -51,13 +51,13 @@ returns-in_default-clause-grows g c = each_more _ _ _ c.loop-answered.invariant.
 pub returns-in-Err-clause-keeps : goal.returns-in-Err-clause-keeps
 returns-in-Err-clause-keeps g c =
     let so_far = c.loop-answered.invariant in
-    let Reply = g.A.Handler.is_reply (g.A.Handler.peer c.args.answering.now) in
-    let key = g.A.Handler.asker c.args.answering.now in
-    let seen = g.A.Handler.seen c.loop-answered.answering key in
-    let later = g.A.Handler.seen c.answer.new.answering key in
-    let k = c.loop-answered.conversation in
+    let Reply = g.A.Handler.is_reply (g.A.Handler.peer c.args.handler.now) in
+    let key = g.A.Handler.asker c.args.handler.now in
+    let seen = g.A.Handler.seen c.loop-answered.handler key in
+    let later = g.A.Handler.seen c.answer.new.handler key in
+    let k = c.loop-answered.state in
     let m = c.answer.new.self in
-    keeps_more Reply (g.A.Handler.seen c.args.answering.now key) seen later c.args.conversation.now k m so_far.keeps (keeps_same Reply seen later k m (c.in-Err.ensures.grows key) c.in-Err.ensures.ended)
+    keeps_more Reply (g.A.Handler.seen c.args.handler.now key) seen later c.args.state.now k m so_far.keeps (keeps_same Reply seen later k m (c.in-Err.ensures.grows key) c.in-Err.ensures.ended)
 
 pub returns-in-Err-clause-grows : goal.returns-in-Err-clause-grows
 returns-in-Err-clause-grows g c = each_more _ _ _ c.loop-answered.invariant.grows c.in-Err.ensures.grows
@@ -68,5 +68,5 @@ returns-in_default-clause-none g c = λ is.
 
 pub returns-in_default-clause-later : goal.returns-in_default-clause-later
 returns-in_default-clause-later g c = λ is.
-    waits_as g.A.Handler.is_later (g.A.Handler.peer c.args.answering.now) (g.A.Handler.peer c.loop-answered.answering) c.loop-answered.conversation.held c.answer.new.self.held c.loop-answered.invariant.peer
+    waits_as g.A.Handler.is_later (g.A.Handler.peer c.args.handler.now) (g.A.Handler.peer c.loop-answered.handler) c.loop-answered.state.held c.answer.new.self.held c.loop-answered.invariant.peer
     (ap (λ (k : Kept). k.held) (c.in-Ok.ensures.same c.in_default.not-More)) (c.in-Ok.ensures.later is)

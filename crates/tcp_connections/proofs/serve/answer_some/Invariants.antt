@@ -6,8 +6,8 @@ use Rattle.tcp_connections.proofs.serve.answer_some.Given as goal
 
 abbrev pub invariant-loop-answered : goal.invariant-loop-answered
 invariant-loop-answered g l = record {
-  grows : EachGrows (g.A.Handler.seen l.answering) (g.A.Handler.seen l.initial.answering);
-  peer : g.A.Handler.peer l.answering ≡ g.A.Handler.peer l.initial.answering;
-  asker : g.A.Handler.asker l.answering ≡ g.A.Handler.asker l.initial.answering;
-  keeps : Keeps (g.A.Handler.is_reply (g.A.Handler.peer l.initial.answering)) (g.A.Handler.seen l.initial.answering (g.A.Handler.asker l.initial.answering)) l.initial.conversation (g.A.Handler.seen l.answering (g.A.Handler.asker l.initial.answering)) l.conversation;
+  grows : EachGrows (g.A.Handler.seen l.handler) (g.A.Handler.seen l.initial.handler);
+  peer : g.A.Handler.peer l.handler ≡ g.A.Handler.peer l.initial.handler;
+  asker : g.A.Handler.asker l.handler ≡ g.A.Handler.asker l.initial.handler;
+  keeps : Keeps (g.A.Handler.is_reply (g.A.Handler.peer l.initial.handler)) (g.A.Handler.seen l.initial.handler (g.A.Handler.asker l.initial.handler)) l.initial.state (g.A.Handler.seen l.handler (g.A.Handler.asker l.initial.handler)) l.state;
 }

@@ -6,8 +6,8 @@ use Rattle.tcp_connections.proofs.serve.flush.Given as goal
 
 abbrev pub invariant-loop-written : goal.invariant-loop-written
 invariant-loop-written g l = record {
-  stays : Stays (told_by l.initial.conversation (g.S.Blocking.octets l.initial.stream)) (told_by l.conversation (g.S.Blocking.octets l.stream));
-  held : l.conversation.held ≡ l.initial.conversation.held;
+  stays : Stays (told_by l.initial.state (g.S.Blocking.octets l.initial.stream)) (told_by l.state (g.S.Blocking.octets l.stream));
+  held : l.state.held ≡ l.initial.state.held;
   written : Writes (g.S.Blocking.octets l.initial.stream) (g.S.Blocking.octets l.stream);
   same : g.S.Blocking.faults l.stream ≡ g.S.Blocking.faults l.initial.stream;
 }

@@ -8,10 +8,10 @@ use Rattle.tcp_connections.proofs.serve.serve_some.Given as goal
 
 abbrev pub invariant-loop-turned : goal.invariant-loop-turned
 invariant-loop-turned g l = record {
-  grows : EachGrows (g.A.Handler.seen l.answering) (g.A.Handler.seen l.initial.answering);
-  peer : g.A.Handler.peer l.answering ≡ g.A.Handler.peer l.initial.answering;
-  asker : g.A.Handler.asker l.answering ≡ g.A.Handler.asker l.initial.answering;
-  goes : Goes (g.A.Handler.is_reply (g.A.Handler.peer l.initial.answering)) (g.A.Handler.seen l.initial.answering (g.A.Handler.asker l.initial.answering)) (told_by l.initial.conversation (g.S.Blocking.octets l.initial.stream)) (g.A.Handler.seen l.answering (g.A.Handler.asker l.initial.answering)) (told_by l.conversation (g.S.Blocking.octets l.stream));
+  grows : EachGrows (g.A.Handler.seen l.handler) (g.A.Handler.seen l.initial.handler);
+  peer : g.A.Handler.peer l.handler ≡ g.A.Handler.peer l.initial.handler;
+  asker : g.A.Handler.asker l.handler ≡ g.A.Handler.asker l.initial.handler;
+  goes : Goes (g.A.Handler.is_reply (g.A.Handler.peer l.initial.handler)) (g.A.Handler.seen l.initial.handler (g.A.Handler.asker l.initial.handler)) (told_by l.initial.state (g.S.Blocking.octets l.initial.stream)) (g.A.Handler.seen l.handler (g.A.Handler.asker l.initial.handler)) (told_by l.state (g.S.Blocking.octets l.stream));
   written : Writes (g.S.Blocking.octets l.initial.stream) (g.S.Blocking.octets l.stream);
   same : g.S.Blocking.faults l.stream ≡ g.S.Blocking.faults l.initial.stream;
 }

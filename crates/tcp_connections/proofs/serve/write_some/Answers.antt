@@ -7,14 +7,14 @@ use Rattle.tcp_connections.proofs.ToldLemmas.{stays_kept, stays_more, stays_writ
 use Rattle.tcp_connections.proofs.serve.write_some.Goals as goal
 
 pub returns-in-Err-clause-ends : goal.returns-in-Err-clause-ends
-returns-in-Err-clause-ends g c = ends_here c.args.conversation.now (g.S.Blocking.octets c.args.stream.now)
+returns-in-Err-clause-ends g c = ends_here c.args.state.now (g.S.Blocking.octets c.args.stream.now)
 
 pub returns-in-Err-clause-written : goal.returns-in-Err-clause-written
 returns-in-Err-clause-written g c = writes_itself (g.S.Blocking.octets c.args.stream.now)
 
 pub returns-then-is_empty-clause-stays : goal.returns-then-is_empty-clause-stays
 returns-then-is_empty-clause-stays g c =
-    stays_kept c.args.conversation.now c.refill.new.self (g.S.Blocking.octets c.args.stream.now) c.in-Ok.ensures.held c.in-Ok.ensures.due
+    stays_kept c.args.state.now c.refill.new.self (g.S.Blocking.octets c.args.stream.now) c.in-Ok.ensures.held c.in-Ok.ensures.due
 
 pub returns-then-is_empty-clause-written : goal.returns-then-is_empty-clause-written
 returns-then-is_empty-clause-written g c = writes_itself (g.S.Blocking.octets c.args.stream.now)
@@ -25,7 +25,7 @@ returns-in-Ok-write-clause-stays g c =
     let b = g.S.Blocking.octets c.write.new.self in
     let k = c.refill.new.self in
     let takes = subst (λ l. Takes a b (take c.in-Ok-write.count l)) c.ready-2.ensures c.in-Ok-write.ensures.takes in
-    stays_more (told_by c.args.conversation.now a) (told_by k a) _ (stays_kept c.args.conversation.now k a c.in-Ok.ensures.held c.in-Ok.ensures.due)
+    stays_more (told_by c.args.state.now a) (told_by k a) _ (stays_kept c.args.state.now k a c.in-Ok.ensures.held c.in-Ok.ensures.due)
     (stays_written k c.advance.new.self c.in-Ok-write.count c.advance.new.self.passed c.advance.new.self.taken a b takes c.advance.ensures.rest)
 
 pub returns-in-Ok-write-clause-written : goal.returns-in-Ok-write-clause-written
@@ -35,7 +35,7 @@ pub returns-in-Err-Blocked-clause-stays : goal.returns-in-Err-Blocked-clause-sta
 returns-in-Err-Blocked-clause-stays g c =
     let a = g.S.Blocking.octets c.args.stream.now in
     let k = c.refill.new.self in
-    stays_more (told_by c.args.conversation.now a) (told_by k a) _ (stays_kept c.args.conversation.now k a c.in-Ok.ensures.held c.in-Ok.ensures.due)
+    stays_more (told_by c.args.state.now a) (told_by k a) _ (stays_kept c.args.state.now k a c.in-Ok.ensures.held c.in-Ok.ensures.due)
     (stays_unwritten k a (g.S.Blocking.octets c.write.new.self) c.in-Err-Blocked.ensures.failed)
 
 pub returns-in-Err-Blocked-clause-written : goal.returns-in-Err-Blocked-clause-written
@@ -46,9 +46,9 @@ returns-in-Err-Failed-clause-ends g c =
     let a = g.S.Blocking.octets c.args.stream.now in
     let b = g.S.Blocking.octets c.write.new.self in
     let k = c.refill.new.self in
-    let kept = stays_kept c.args.conversation.now k a c.in-Ok.ensures.held c.in-Ok.ensures.due in
-    let all = stays_more (told_by c.args.conversation.now a) (told_by k a) (told_by k b) kept (stays_unwritten k a b c.in-Err-Failed.ensures.failed) in
-    ends_stay Device (told_by c.args.conversation.now a) (told_by k b) b all (ends_here k b)
+    let kept = stays_kept c.args.state.now k a c.in-Ok.ensures.held c.in-Ok.ensures.due in
+    let all = stays_more (told_by c.args.state.now a) (told_by k a) (told_by k b) kept (stays_unwritten k a b c.in-Err-Failed.ensures.failed) in
+    ends_stay Device (told_by c.args.state.now a) (told_by k b) b all (ends_here k b)
 
 pub returns-in-Err-Failed-clause-written : goal.returns-in-Err-Failed-clause-written
 returns-in-Err-Failed-clause-written g c = writes_taken _ _ _ c.in-Err-Failed.ensures.failed

@@ -11,10 +11,10 @@ use Rattle.tcp_connections.proofs.serve_each.serve_ready.Given as goal
 
 abbrev pub invariant-loop-key : goal.invariant-loop-key
 invariant-loop-key g l = record {
-  grows : EachGrows (g.A.Handler.seen l.answering) (g.A.Handler.seen l.initial.answering);
-  own : (key : ℕ) → OwnServed g.A.Handler.is_reply l.now (g.A.Handler.seen l.initial.answering key) (option_map (seen_of g.S.Blocking.octets) (get l.initial.links key)) (g.A.Handler.seen l.answering key) (option_map (seen_of g.S.Blocking.octets) (get l.links key));
-  ended : AreCounted l.initial.ends l.ends (slab_len l.initial.links) (slab_len l.links);
+  grows : EachGrows (g.A.Handler.seen l.handler) (g.A.Handler.seen l.initial.handler);
+  own : (key : ℕ) → OwnServed g.A.Handler.is_reply l.now (g.A.Handler.seen l.initial.handler key) (option_map (seen_of g.S.Blocking.octets) (get l.initial.connections key)) (g.A.Handler.seen l.handler key) (option_map (seen_of g.S.Blocking.octets) (get l.connections key));
+  ended : AreCounted l.initial.ends l.ends (slab_len l.initial.connections) (slab_len l.connections);
   next : BeginsWith l.next.items l.initial.next.items;
-  going : All (λ key. Contains l.next.items key ⊎ HasStopped g.S.Blocking.would_block g.A.Handler.is_later (get l.links key)) (take l.key-index l.keys);
+  going : All (λ key. Contains l.next.items key ⊎ HasStopped g.S.Blocking.would_block g.A.Handler.is_later (get l.connections key)) (take l.key-index l.keys);
   room : vec_len l.next + length l.keys ≤ vec_capacity l.next + l.key-index;
 }

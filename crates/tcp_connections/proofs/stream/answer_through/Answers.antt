@@ -4,10 +4,10 @@ use Rattle.tcp_connections.proofs.stream.answer_through.Goals as goal
 
 pub returns-then-is_next-2-clause-keeps : goal.returns-then-is_next-2-clause-keeps
 returns-then-is_next-2-clause-keeps g c =
-    keeps_step (g.A.Handler.is_reply (g.A.Handler.peer c.args.answering.now)) (g.A.Handler.seen c.args.answering.now (g.A.Handler.asker c.args.answering.now)) (g.A.Handler.seen c.answer-answered.new.answering (g.A.Handler.asker c.args.answering.now)) c.args.conversation.now c.answer-answered.new.self c.answer-answered.result
-    (c.answer-answered.ensures.grows (g.A.Handler.asker c.args.answering.now)) c.answer-answered.ensures.turn c.answer-answered.ensures.same c.answer-answered.ensures.ended
+    keeps_step (g.A.Handler.is_reply (g.A.Handler.peer c.args.handler.now)) (g.A.Handler.seen c.args.handler.now (g.A.Handler.asker c.args.handler.now)) (g.A.Handler.seen c.answer-answered.new.handler (g.A.Handler.asker c.args.handler.now)) c.args.state.now c.answer-answered.new.self c.answer-answered.result
+    (c.answer-answered.ensures.grows (g.A.Handler.asker c.args.handler.now)) c.answer-answered.ensures.turn c.answer-answered.ensures.same c.answer-answered.ensures.ended
 
 pub returns-else-is_next-2-clause-keeps : goal.returns-else-is_next-2-clause-keeps
 returns-else-is_next-2-clause-keeps g c =
-    keeps_step (g.A.Handler.is_reply (g.A.Handler.peer c.args.answering.now)) (g.A.Handler.seen c.args.answering.now (g.A.Handler.asker c.args.answering.now)) (g.A.Handler.seen c.answer-answered.new.answering (g.A.Handler.asker c.args.answering.now)) c.args.conversation.now c.answer-answered.new.self c.answer-answered.result
-    (c.answer-answered.ensures.grows (g.A.Handler.asker c.args.answering.now)) c.answer-answered.ensures.turn c.answer-answered.ensures.same c.answer-answered.ensures.ended
+    keeps_step (g.A.Handler.is_reply (g.A.Handler.peer c.args.handler.now)) (g.A.Handler.seen c.args.handler.now (g.A.Handler.asker c.args.handler.now)) (g.A.Handler.seen c.answer-answered.new.handler (g.A.Handler.asker c.args.handler.now)) c.args.state.now c.answer-answered.new.self c.answer-answered.result
+    (c.answer-answered.ensures.grows (g.A.Handler.asker c.args.handler.now)) c.answer-answered.ensures.turn c.answer-answered.ensures.same c.answer-answered.ensures.ended

@@ -9,13 +9,13 @@ use Rattle.tcp_connections.proofs.stream.serve_stream.Goals as goal
 
 pub loop-init : goal.loop-init
 loop-init g c =
-    let Reply = g.A.Handler.is_reply (g.A.Handler.peer c.args.answering.now) in
+    let Reply = g.A.Handler.is_reply (g.A.Handler.peer c.args.handler.now) in
     let a = g.S.Stream.octets c.args.stream.now.inner in
     record {
       grows = each_itself _;
       peer = refl;
       asker = refl;
-      goes = goes_stays Reply (g.A.Handler.seen c.args.answering.now (g.A.Handler.asker c.args.answering.now)) a (told_by c.new-conversation.result a) (stays_fresh c.new-conversation.result a c.new-conversation.ensures);
+      goes = goes_stays Reply (g.A.Handler.seen c.args.handler.now (g.A.Handler.asker c.args.handler.now)) a (told_by c.new-state.result a) (stays_fresh c.new-state.result a c.new-state.ensures);
       written = writes_itself _;
       same = refl;
     }
@@ -23,18 +23,18 @@ loop-init g c =
 pub loop-preserved : goal.loop-preserved
 loop-preserved g c =
     let so_far = c.loop.invariant in
-    let peer = g.A.Handler.peer c.args.answering.now in
-    let key = g.A.Handler.asker c.args.answering.now in
-    let seen = g.A.Handler.seen c.loop.answering in
-    let later = g.A.Handler.seen c.answer_through.new.answering in
+    let peer = g.A.Handler.peer c.args.handler.now in
+    let key = g.A.Handler.asker c.args.handler.now in
+    let seen = g.A.Handler.seen c.loop.handler in
+    let later = g.A.Handler.seen c.answer_through.new.handler in
     let o = g.S.Stream.octets c.loop.stream.inner in
-    let n = told_by c.write_and_read.new.conversation (g.S.Stream.octets c.write_and_read.new.stream.inner) in
+    let n = told_by c.write_and_read.new.state (g.S.Stream.octets c.write_and_read.new.stream.inner) in
     record {
       grows = each_more _ _ _ so_far.grows c.answer_through.ensures.grows;
       peer = c.answer_through.ensures.peer ∙ so_far.peer;
       asker = c.answer_through.ensures.asker ∙ so_far.asker;
-      goes = goes_more (g.A.Handler.is_reply peer) (g.A.Handler.seen c.args.answering.now key) (seen key) (later key) (g.S.Stream.octets c.args.stream.now.inner) (told_by c.loop.conversation o) n so_far.goes
-          (goes_turned g.A.Handler.is_reply peer (g.A.Handler.peer c.loop.answering) key (g.A.Handler.asker c.loop.answering) seen later c.loop.conversation c.answer_through.new.conversation o n so_far.peer so_far.asker c.answer_through.ensures.keeps c.in-Ok-write_and_read.ensures.stays);
+      goes = goes_more (g.A.Handler.is_reply peer) (g.A.Handler.seen c.args.handler.now key) (seen key) (later key) (g.S.Stream.octets c.args.stream.now.inner) (told_by c.loop.state o) n so_far.goes
+          (goes_turned g.A.Handler.is_reply peer (g.A.Handler.peer c.loop.handler) key (g.A.Handler.asker c.loop.handler) seen later c.loop.state c.answer_through.new.state o n so_far.peer so_far.asker c.answer_through.ensures.keeps c.in-Ok-write_and_read.ensures.stays);
       written = writes_more _ _ _ so_far.written c.in-Ok-write_and_read.ensures.written;
       same = c.in-Ok-write_and_read.ensures.same ∙ so_far.same;
     }
@@ -42,18 +42,18 @@ loop-preserved g c =
 pub returns-in-Err-clause-served : goal.returns-in-Err-clause-served
 returns-in-Err-clause-served g c =
     let so_far = c.loop.invariant in
-    let peer = g.A.Handler.peer c.args.answering.now in
-    let key = g.A.Handler.asker c.args.answering.now in
-    let start = g.A.Handler.seen c.args.answering.now key in
+    let peer = g.A.Handler.peer c.args.handler.now in
+    let key = g.A.Handler.asker c.args.handler.now in
+    let start = g.A.Handler.seen c.args.handler.now key in
     let a = g.S.Stream.octets c.args.stream.now.inner in
-    let seen = g.A.Handler.seen c.loop.answering in
-    let later = g.A.Handler.seen c.answer_through.new.answering in
+    let seen = g.A.Handler.seen c.loop.handler in
+    let later = g.A.Handler.seen c.answer_through.new.handler in
     let o = g.S.Stream.octets c.loop.stream.inner in
-    let m = c.answer_through.new.conversation in
+    let m = c.answer_through.new.state in
     let end = c.in-Err.end in
     stream_ends (g.A.Handler.is_reply peer) end start (later key) a o
-    (stops_more (g.A.Handler.is_reply peer) end start (seen key) (later key) a (told_by c.loop.conversation o) o so_far.goes
-    (stops_turned g.A.Handler.is_reply end peer (g.A.Handler.peer c.loop.answering) key (g.A.Handler.asker c.loop.answering) seen later c.loop.conversation m o o so_far.peer so_far.asker c.answer_through.ensures.keeps (ends_lacking end m o c.in-Err.ensures.end)))
+    (stops_more (g.A.Handler.is_reply peer) end start (seen key) (later key) a (told_by c.loop.state o) o so_far.goes
+    (stops_turned g.A.Handler.is_reply end peer (g.A.Handler.peer c.loop.handler) key (g.A.Handler.asker c.loop.handler) seen later c.loop.state m o o so_far.peer so_far.asker c.answer_through.ensures.keeps (ends_lacking end m o c.in-Err.ensures.end)))
     so_far.written
 
 pub returns-in-Err-clause-grows : goal.returns-in-Err-clause-grows
@@ -62,18 +62,18 @@ returns-in-Err-clause-grows g c = each_more _ _ _ c.loop.invariant.grows c.answe
 pub returns-in-Err-write_and_read-clause-served : goal.returns-in-Err-write_and_read-clause-served
 returns-in-Err-write_and_read-clause-served g c =
     let so_far = c.loop.invariant in
-    let peer = g.A.Handler.peer c.args.answering.now in
-    let key = g.A.Handler.asker c.args.answering.now in
-    let start = g.A.Handler.seen c.args.answering.now key in
+    let peer = g.A.Handler.peer c.args.handler.now in
+    let key = g.A.Handler.asker c.args.handler.now in
+    let start = g.A.Handler.seen c.args.handler.now key in
     let a = g.S.Stream.octets c.args.stream.now.inner in
-    let seen = g.A.Handler.seen c.loop.answering in
-    let later = g.A.Handler.seen c.answer_through.new.answering in
+    let seen = g.A.Handler.seen c.loop.handler in
+    let later = g.A.Handler.seen c.answer_through.new.handler in
     let o = g.S.Stream.octets c.loop.stream.inner in
     let new = g.S.Stream.octets c.write_and_read.new.stream.inner in
     let end = c.in-Err-write_and_read.end in
     stream_ends (g.A.Handler.is_reply peer) end start (later key) a new
-    (stops_more (g.A.Handler.is_reply peer) end start (seen key) (later key) a (told_by c.loop.conversation o) new so_far.goes
-    (stops_turned g.A.Handler.is_reply end peer (g.A.Handler.peer c.loop.answering) key (g.A.Handler.asker c.loop.answering) seen later c.loop.conversation c.answer_through.new.conversation o new so_far.peer so_far.asker c.answer_through.ensures.keeps c.in-Err-write_and_read.ensures.ends))
+    (stops_more (g.A.Handler.is_reply peer) end start (seen key) (later key) a (told_by c.loop.state o) new so_far.goes
+    (stops_turned g.A.Handler.is_reply end peer (g.A.Handler.peer c.loop.handler) key (g.A.Handler.asker c.loop.handler) seen later c.loop.state c.answer_through.new.state o new so_far.peer so_far.asker c.answer_through.ensures.keeps c.in-Err-write_and_read.ensures.ends))
     (writes_more _ _ _ so_far.written c.in-Err-write_and_read.ensures.written)
 
 pub returns-in-Err-write_and_read-clause-grows : goal.returns-in-Err-write_and_read-clause-grows

@@ -8,10 +8,10 @@ use Rattle.tcp_connections.proofs.stream.serve_stream.Given as goal
 
 abbrev pub invariant-loop : goal.invariant-loop
 invariant-loop g l = record {
-  grows : EachGrows (g.A.Handler.seen l.answering) (g.A.Handler.seen l.initial.answering);
-  peer : g.A.Handler.peer l.answering ≡ g.A.Handler.peer l.initial.answering;
-  asker : g.A.Handler.asker l.answering ≡ g.A.Handler.asker l.initial.answering;
-  goes : Goes (g.A.Handler.is_reply (g.A.Handler.peer l.initial.answering)) (g.A.Handler.seen l.initial.answering (g.A.Handler.asker l.initial.answering)) (g.S.Stream.octets l.initial.stream.inner) (g.A.Handler.seen l.answering (g.A.Handler.asker l.initial.answering)) (told_by l.conversation (g.S.Stream.octets l.stream.inner));
+  grows : EachGrows (g.A.Handler.seen l.handler) (g.A.Handler.seen l.initial.handler);
+  peer : g.A.Handler.peer l.handler ≡ g.A.Handler.peer l.initial.handler;
+  asker : g.A.Handler.asker l.handler ≡ g.A.Handler.asker l.initial.handler;
+  goes : Goes (g.A.Handler.is_reply (g.A.Handler.peer l.initial.handler)) (g.A.Handler.seen l.initial.handler (g.A.Handler.asker l.initial.handler)) (g.S.Stream.octets l.initial.stream.inner) (g.A.Handler.seen l.handler (g.A.Handler.asker l.initial.handler)) (told_by l.state (g.S.Stream.octets l.stream.inner));
   written : Writes (g.S.Stream.octets l.initial.stream.inner) (g.S.Stream.octets l.stream.inner);
   same : l.stream.faults ≡ l.initial.stream.faults;
 }

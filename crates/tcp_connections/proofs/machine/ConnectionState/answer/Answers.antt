@@ -13,7 +13,7 @@ returns-clause-turn g c = λ made.
     let whole : held ≡ frame_of request ++ drop count held = subst (λ l. l ≡ frame_of request ++ drop count l) (c.as_slice.ensures ∙ ap (λ (k : Kept). k.held) c.self.view_is) c.in-Some.ensures.frame in
     let still : c.self-2.inside.held ≡ held = ap (λ (k : Kept). k.held) c.self-2.view_is ∙ c.in-Ok-queue.ensures.held in
     let left : c.advance.new.self ≡ drop count held = c.advance.ensures ∙ ap (λ l. drop count l) still in
-    turn_made (g.A.Handler.is_reply (g.A.Handler.peer c.args.answering.now)) _ _ _ _ _ _ request _ (c.reply.ensures.grows (g.A.Handler.asker c.args.answering.now)) (c.in-Ok.ensures.reply c.in_default-reply.not-Later) (whole ∙ ap (λ l. frame_of request ++ l) (sym left))
+    turn_made (g.A.Handler.is_reply (g.A.Handler.peer c.args.handler.now)) _ _ _ _ _ _ request _ (c.reply.ensures.grows (g.A.Handler.asker c.args.handler.now)) (c.in-Ok.ensures.reply c.in_default-reply.not-Later) (whole ∙ ap (λ l. frame_of request ++ l) (sym left))
     (ap (λ (k : Kept). due k) c.self-2.view_is ∙ c.in-Ok-queue.ensures.queued)
 
 pub returns-in-Later-clause-later : goal.returns-in-Later-clause-later

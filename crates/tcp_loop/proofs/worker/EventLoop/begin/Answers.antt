@@ -9,7 +9,7 @@ use Rattle.tcp_loop.proofs.worker.EventLoop.begin.Goals as goal
 pub returns-clause-moves : goal.returns-clause-moves
 returns-clause-moves g c =
     let of = subst (λ (ip : IpAddr). IsGroupOf ip c.of.result) (c.ip.ensures ∙ ap socket_ip c.address.ensures) c.of.ensures in
-    moves_more g.S.Remote.origin g.S.Blocking.octets c.args.plan.allowed.addresses.now c.args.now c.args.self.now.links c.make_place.new.self.links c.put.new.self.links
+    moves_more g.S.Remote.origin g.S.Blocking.octets c.args.plan.allowed.addresses.now c.args.now c.args.self.now.connections c.make_place.new.self.connections c.put.new.self.connections
     (c.make_place.ensures.moves c.args.plan.allowed.addresses.now c.args.now c.args.stream of) c.put.ensures.moves
 
 pub returns-then-not-make_place-clause-moves : goal.returns-then-not-make_place-clause-moves

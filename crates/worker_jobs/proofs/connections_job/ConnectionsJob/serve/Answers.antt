@@ -12,7 +12,7 @@ loop-init g c = record { grows = each_itself _; turned = unturned; number = refl
 pub loop-preserved : goal.loop-preserved
 loop-preserved g c =
     let turned = subst
-    (λ (p : Plan). Turned g.S.Remote.origin g.S.Blocking.octets g.A.Handler.is_reply p.allowed.addresses.now p.limits (g.A.Handler.seen c.loop.answering) c.loop.self.turns.links (g.A.Handler.seen c.turn.new.answering) c.turn.new.self.turns.links)
+    (λ (p : Plan). Turned g.S.Remote.origin g.S.Blocking.octets g.A.Handler.is_reply p.allowed.addresses.now p.limits (g.A.Handler.seen c.loop.handler) c.loop.self.event_loop.connections (g.A.Handler.seen c.turn.new.handler) c.turn.new.self.event_loop.connections)
     c.loop.invariant.plan
     c.turn.ensures.turned in record {
       grows = each_more _ _ _ c.loop.invariant.grows c.turn.ensures.grows;
@@ -27,7 +27,7 @@ returns-in-Some-turn-clause-grows g c = each_more _ _ _ c.loop.invariant.grows c
 pub returns-in-Some-turn-clause-turned : goal.returns-in-Some-turn-clause-turned
 returns-in-Some-turn-clause-turned g c =
     let turned = subst
-    (λ (p : Plan). Turned g.S.Remote.origin g.S.Blocking.octets g.A.Handler.is_reply p.allowed.addresses.now p.limits (g.A.Handler.seen c.loop.answering) c.loop.self.turns.links (g.A.Handler.seen c.turn.new.answering) c.turn.new.self.turns.links)
+    (λ (p : Plan). Turned g.S.Remote.origin g.S.Blocking.octets g.A.Handler.is_reply p.allowed.addresses.now p.limits (g.A.Handler.seen c.loop.handler) c.loop.self.event_loop.connections (g.A.Handler.seen c.turn.new.handler) c.turn.new.self.event_loop.connections)
     c.loop.invariant.plan
     c.turn.ensures.turned in
     turned_more _ _ _ _ _ _ _ _ _ _ _ c.loop.invariant.turned turned

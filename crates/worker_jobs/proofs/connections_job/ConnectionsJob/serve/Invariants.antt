@@ -6,8 +6,8 @@ use Rattle.worker_jobs.proofs.connections_job.ConnectionsJob.serve.Given as goal
 
 abbrev pub invariant-loop : goal.invariant-loop
 invariant-loop g l = record {
-  grows : EachGrows (g.A.Handler.seen l.answering) (g.A.Handler.seen l.initial.answering);
-  turned : Turned g.S.Remote.origin g.S.Blocking.octets g.A.Handler.is_reply l.initial.self.plan.allowed.addresses.now l.initial.self.plan.limits (g.A.Handler.seen l.initial.answering) l.initial.self.turns.links (g.A.Handler.seen l.answering) l.self.turns.links;
+  grows : EachGrows (g.A.Handler.seen l.handler) (g.A.Handler.seen l.initial.handler);
+  turned : Turned g.S.Remote.origin g.S.Blocking.octets g.A.Handler.is_reply l.initial.self.plan.allowed.addresses.now l.initial.self.plan.limits (g.A.Handler.seen l.initial.handler) l.initial.self.event_loop.connections (g.A.Handler.seen l.handler) l.self.event_loop.connections;
   number : l.self.number ≡ l.initial.self.number;
   plan : l.self.plan ≡ l.initial.self.plan;
 }

@@ -5,6 +5,6 @@ use Rattle.worker_jobs.proofs.notify_job.NotifyJob.do_due.Given as goal
 
 abbrev pub invariant-loop : goal.invariant-loop
 invariant-loop g l = record {
-  grows : Grows (g.A.Handler.seen l.answering) (g.A.Handler.seen l.initial.answering);
+  grows : Grows (g.A.Handler.seen l.handler) (g.A.Handler.seen l.initial.handler);
   number : l.self.number ≡ l.initial.self.number;
 }
