@@ -27,6 +27,21 @@ pub enum Task<'a> {
     Serve(Serve<'a>),
     /// Prints the zone of a store.
     Stored(Stored<'a>),
+    /// Prints what changes from one zone to another.
+    Change(Change<'a>),
+}
+
+/// Two zones of which what changes from the first to the second is to be printed.
+#[derive(Drop)]
+pub struct Change<'a> {
+    /// Where the old zone's text comes from.
+    pub old: Source<'a>,
+    /// Where the next zone's text comes from.
+    pub next: Source<'a>,
+    /// The origin at the start of both texts.
+    pub origin: Name,
+    /// Whether the update is printed as a message in hexadecimal, in place of the records.
+    pub is_hex: bool,
 }
 
 /// A store whose zone is to be printed.
@@ -63,10 +78,10 @@ fn task_of<'a>(
     let origin = Name::from_text(text.as_bytes(), &Name::root()).map_err(
         |fault| CommandFault::Origin(text, fault),
     )?;
-    let zone = match found.get_str(ZONE) {
-        Some("-") | None => Source::Input,
-        Some(path) => Source::File(path),
-    };
+    if name == "change" {
+        return Ok(Task::Change(change_of(found, origin)));
+    }
+    let zone = text_source(found.get_str(ZONE));
     if name == "serve" {
         return Ok(Task::Serve(serve_of(alloc, found, zone, origin)?));
     }
@@ -74,6 +89,24 @@ fn task_of<'a>(
         command: command_of(name, found, zone, origin)?,
         has_origin: found.get_str(ORIGIN).is_some(),
     })
+}
+
+/// The source of a text, by its word: `-` is standard input.
+fn text_source(word: Option<&str>) -> Source<'_> {
+    match word {
+        Some("-") | None => Source::Input,
+        Some(path) => Source::File(path),
+    }
+}
+
+/// The zones of which what changes is to be printed.
+fn change_of<'a>(found: &ArgMatches<'a>, origin: Name) -> Change<'a> {
+    Change {
+        old: text_source(found.get_str(OLD)),
+        next: text_source(found.get_str(NEW)),
+        origin,
+        is_hex: found.get_flag(HEX),
+    }
 }
 
 /// The store whose zone is to be printed.
@@ -128,6 +161,15 @@ pub const ORIGIN: &str = "origin";
 
 /// The argument for the source of a zone's text.
 pub const ZONE: &str = "zone";
+
+/// The argument for the source of the old zone's text.
+pub const OLD: &str = "old";
+
+/// The argument for the source of the next zone's text.
+pub const NEW: &str = "new";
+
+/// The option for the update's message.
+pub const HEX: &str = "hex";
 
 /// The option for replies as over TCP.
 pub const TCP: &str = "tcp";

@@ -11,7 +11,7 @@ mod program;
 mod secondaries;
 mod store_options;
 
-pub use command::{Stored, Task, parse_words};
+pub use command::{Change, Stored, Task, parse_words};
 pub use fault::{CommandFault, tell_fault};
 pub use options::{MAX_THREADS, Serve};
 pub use secondaries::{Secondary, is_routed, source_of};

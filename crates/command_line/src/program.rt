@@ -1,5 +1,5 @@
 //! The program's commands, and the arguments of each.
-use crate::command::{BEFORE_FAULT, DIR, KEEP, ORIGIN, TCP, WINDOW, ZONE};
+use crate::command::{BEFORE_FAULT, DIR, HEX, KEEP, NEW, OLD, ORIGIN, TCP, WINDOW, ZONE};
 use crate::options::{ALLOW, CONNECTIONS, COUNT, IDLE, LISTEN, MESSAGE, REPLY, WORKERS};
 use crate::secondaries::NOTIFY;
 use crate::store_options::{JOURNAL, STORE, TAKE, TRANSFER_RATE, UDP_BUFFER, UPDATE_QUEUE};
@@ -94,6 +94,12 @@ const COMMANDS: &[CommandRow] = &[
         words: STEPS_WORDS,
     },
     CommandRow {
+        name: "change",
+        about: "prints what an update changes that takes OLD to NEW, one record per line",
+        example: "Example, the update as a message in hexadecimal, sent to a zone from a file:\n  dnsd change --hex old.zone new.zone | dnsd answer old.zone",
+        words: CHANGE_WORDS,
+    },
+    CommandRow {
         name: "zone",
         about: "prints the zone of a store as a server would load it, one record per line",
         example: "Example, a backup of a store's zone while it is served:\n  dnsd zone /var/lib/dnsd > saved && mv saved backup.zone",
@@ -131,6 +137,26 @@ const STEPS_WORDS: &[WordRow] = &[
         name: WINDOW,
         form: Form::Default("N", "16"),
         help: "size of the IXFR history, at most 16",
+    },
+];
+
+/// The arguments of `change`.
+const CHANGE_WORDS: &[WordRow] = &[
+    ORIGIN_ROW,
+    WordRow {
+        name: HEX,
+        form: Form::Flag,
+        help: "print the update as a message in hexadecimal",
+    },
+    WordRow {
+        name: OLD,
+        form: Form::Word("OLD"),
+        help: "text of the old zone: a file, or - for standard input up to a line %",
+    },
+    WordRow {
+        name: NEW,
+        form: Form::Word("NEW"),
+        help: "text of the new zone, the same",
     },
 ];
 

@@ -1,0 +1,11 @@
+//! What changes from one zone to another, as text: for `dnsd change`.
+//!
+//! [`write_change`] tells the records that go and come, a line each, and [`write_message`] the update as one message in hexadecimal. Contracts see
+//! the texts as functions of both zones (`change_text`, `change_hex`).
+#![tactic(auto)]
+
+mod hex_line;
+mod lines;
+
+pub use hex_line::write_message;
+pub use lines::write_change;

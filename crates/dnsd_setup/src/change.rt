@@ -1,0 +1,111 @@
+//! Printing what changes from one zone to another.
+use crate::zone_file::read_zone_file;
+use change_command::{write_change, write_message};
+use command_line::Change;
+use commands::{DONE, FAILED, Fault, REFUSED, Source, read_zone_text, tell_of};
+use dns_name::Name;
+use master_file::read_zone;
+use std::alloc::Global;
+use std::io::{self, BufRead, BufReader};
+use std::rt::Files;
+use zone_change::ChangeFault;
+use zone_tree::Zone;
+
+/// Prints what changes from one zone to another on standard output, and returns the program's status. Errors go to standard error.
+pub fn run_change<R: Files + Print + Eprint + Input + AllocGlobal>(
+    rt: &R,
+    change: &Change<'_>,
+) -> io::Result<u8> {
+    let alloc = rt.alloc();
+    let mut reader = BufReader::new(alloc, rt.reader())?;
+    let Some(old_text) = text_from(rt, change.old, &mut reader)? else {
+        return Ok(FAILED);
+    };
+    let Some(next_text) = text_from(rt, change.next, &mut reader)? else {
+        return Ok(FAILED);
+    };
+    let old = match zone_from(alloc, old_text.as_slice(), change.old, &change.origin) {
+        Ok(zone) => zone,
+        Err(refused) => return tell_refused(rt, &refused),
+    };
+    let next = match zone_from(alloc, next_text.as_slice(), change.next, &change.origin) {
+        Ok(zone) => zone,
+        Err(refused) => return tell_refused(rt, &refused),
+    };
+    print_change(rt, &old, &next, change.is_hex)
+}
+
+/// A zone's text that is refused: the program's status, and what is to be said of it.
+#[derive(Drop)]
+struct RefusedText {
+    status: u8,
+    errors: Vec<u8>,
+}
+
+/// The text of a source: a file, or standard input up to a line `%`. None if it cannot be read; standard error then has the reason.
+fn text_from<R: Files + Eprint + AllocGlobal, I: BufRead>(
+    rt: &R,
+    source: Source<'_>,
+    reader: &mut I,
+) -> io::Result<Option<Vec<u8>>> {
+    match source {
+        Source::Input => Ok(Some(read_zone_text(rt.alloc(), reader)?)),
+        Source::File(path) => read_zone_file(rt, path),
+    }
+}
+
+/// The zone of a text, or what is to be said where it is refused.
+fn zone_from(
+    alloc: Global,
+    text: &[u8],
+    source: Source<'_>,
+    origin: &Name,
+) -> Result<Zone, RefusedText> {
+    match read_zone(alloc, text, origin) {
+        Ok(zone) => Ok(zone),
+        Err(fault) => {
+            let mut errors = Vec::new(alloc);
+            let status = tell_of(alloc, Err(Fault::Zone(fault)), source, text, &mut errors);
+            Err(RefusedText { status, errors })
+        }
+    }
+}
+
+/// Writes on standard error why a text is refused, and returns the program's status.
+fn tell_refused<R: Eprint + AllocGlobal>(rt: &R, refused: &RefusedText) -> io::Result<u8> {
+    rt.eprint(String::from_utf8_lossy(rt.alloc(), refused.errors.as_slice())?)?;
+    Ok(refused.status)
+}
+
+/// Prints what changes, or the update as a message in hexadecimal, and returns the program's status.
+fn print_change<R: Print + Eprint + AllocGlobal>(
+    rt: &R,
+    old: &Zone,
+    next: &Zone,
+    is_hex: bool,
+) -> io::Result<u8> {
+    let alloc = rt.alloc();
+    let written = if is_hex {
+        write_message(alloc, old, next)
+    } else {
+        write_change(alloc, old, next)
+    };
+    match written {
+        Ok(text) => {
+            print!(rt; "{text}")?;
+            Ok(DONE)
+        }
+        Err(fault) => {
+            eprintln!(rt; "error: {fault}")?;
+            Ok(status_of(fault))
+        }
+    }
+}
+
+/// The program's status where nothing is printed.
+fn status_of(fault: ChangeFault) -> u8 {
+    match fault {
+        ChangeFault::NoMemory => FAILED,
+        _ => REFUSED,
+    }
+}

@@ -1,0 +1,12 @@
+pub mod Lists
+pub mod Steps
+pub mod Passed
+pub mod First
+pub mod Law
+pub mod Serials
+pub mod ApartLemmas
+pub mod ChangeLemmas
+pub mod UpdateLemmas
+pub mod RecordsLemmas
+pub mod ServerLemmas
+pub mod FirstLemmas

@@ -1,0 +1,4 @@
+pub mod Change
+pub mod Apart
+pub mod Message
+pub use Rattle.update_core.specs.Act
