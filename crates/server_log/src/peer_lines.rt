@@ -1,10 +1,10 @@
 //! Lines about clients whose requests were refused, or were signed although no keys are configured: at most one per client and kind of request in a
 //! second.
-use peer_groups::PeerGroup;
 use std::alloc::Global;
 use std::fmt::{self, Display, Formatter};
 use std::mem;
 use std::net::SocketAddr;
+use tcp_connections::PeerGroup;
 use zone_server::Event;
 
 /// The maximum number of separate lines that wait to be written (own).

@@ -1,7 +1,7 @@
 -- Four different groups are struck out.
 use Rattle.std.proofs.Common.{refl, sym, ◌∙◌, arith}
-use Rattle.peer_groups.proofs.SurveyLemmas.{struck}
-use Rattle.peer_groups.proofs.survey.Survey.add.Goals as goal
+use Rattle.tcp_connections.proofs.SurveyLemmas.{struck}
+use Rattle.tcp_connections.proofs.survey.Survey.add.Goals as goal
 
 pub returns-else-self-eq0-3 : goal.returns-else-self-eq0-3
 returns-else-self-eq0-3 c = λ total count few survey.

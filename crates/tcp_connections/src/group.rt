@@ -1,6 +1,6 @@
 //! Peers that count as one.
 ghost use Rattle.std.specs.Prelude.{◌≡◌};
-ghost use Rattle.peer_groups.specs.Group.{IsGroupOf, is_same, is_group, has_group};
+ghost use Rattle.tcp_connections.specs.Group.{IsGroupOf, is_same, is_group, has_group};
 
 use std::net::IpAddr;
 
@@ -49,7 +49,7 @@ pub(crate) fn is_group(found: Option<PeerGroup>, group: PeerGroup) -> bool
 
 /// At most three groups.
 #[derive(Clone, Copy, Debug)]
-pub struct Groups {
+pub(crate) struct Groups {
     /// One of them.
     pub first: Option<PeerGroup>,
     /// Another one.

@@ -1,8 +1,8 @@
 -- Groups that make up more than a quarter of what was added (own).
 use Rattle.std.specs.Prelude.{◌≡◌, ℕ, ◌+◌, ◌*◌, ◌≤◌, Bool, true, false, cond}
-use Rattle.peer_groups.specs.Group.{is_same, is_group}
-use Rattle.peer_groups.specs.declared.group.PeerGroup.{PeerGroup}
-use Rattle.peer_groups.specs.declared.survey.Survey.{Survey}
+use Rattle.tcp_connections.specs.Group.{is_same, is_group}
+use Rattle.tcp_connections.specs.declared.group.PeerGroup.{PeerGroup}
+use Rattle.tcp_connections.specs.declared.survey.Survey.{Survey}
 
 -- the number of a group among three candidates; 0 if it is none of them
 abbrev pub picked : Bool → Bool → Bool → ℕ → ℕ → ℕ → ℕ

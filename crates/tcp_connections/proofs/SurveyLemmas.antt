@@ -1,11 +1,11 @@
 -- Four different groups are struck out at once.
 use Rattle.std.proofs.Common.{◌≡◌, refl, ℕ, ◌+◌, ◌-◌, ◌*◌, ◌<◌, ◌≤◌, Bool, true, false, cond, Option, None, Some, sym, ◌∙◌, ap, subst, arith}
 use Rattle.std.proofs.lemmas.Bool.{eqb-true}
-use Rattle.peer_groups.specs.Group.{is_same, is_group}
-use Rattle.peer_groups.specs.Survey.{picked, number_of, IsSurvey, with_one}
-use Rattle.peer_groups.specs.declared.group.PeerGroup.{PeerGroup}
-use Rattle.peer_groups.specs.declared.group.PeerGroup.TheVariants.{V4, V6}
-use Rattle.peer_groups.specs.declared.survey.Survey.{Survey}
+use Rattle.tcp_connections.specs.Group.{is_same, is_group}
+use Rattle.tcp_connections.specs.Survey.{picked, number_of, IsSurvey, with_one}
+use Rattle.tcp_connections.specs.declared.group.PeerGroup.{PeerGroup}
+use Rattle.tcp_connections.specs.declared.group.PeerGroup.TheVariants.{V4, V6}
+use Rattle.tcp_connections.specs.declared.survey.Survey.{Survey}
 
 -- groups that are the same are equal
 pub same_equal : (a b : PeerGroup) → is_same a b ≡ true → a ≡ b

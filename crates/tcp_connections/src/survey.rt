@@ -1,7 +1,7 @@
 //! The most frequent groups.
 ghost use Rattle.std.specs.Prelude.{◌≡◌, ◌<◌, ◌+◌, ◌-◌, ◌*◌, ◌^◌, ℕ, None, Some, true};
-ghost use Rattle.peer_groups.specs.Group.{has_group};
-ghost use Rattle.peer_groups.specs.Survey.{IsSurvey, with_one};
+ghost use Rattle.tcp_connections.specs.Group.{has_group};
+ghost use Rattle.tcp_connections.specs.Survey.{IsSurvey, with_one};
 
 use crate::group::{Groups, PeerGroup, is_group};
 
@@ -40,7 +40,7 @@ impl Candidate {
 /// added and is none of the candidates, while all three have a number above 0, is struck out against one of each candidate, so that four
 /// different ones go at once (J. Misra and D. Gries, "Finding repeated elements", 1982).
 #[derive(Clone, Copy, Debug)]
-pub struct Survey {
+pub(crate) struct Survey {
     first: Candidate,
     second: Candidate,
     third: Candidate,

@@ -2,9 +2,9 @@
 use Rattle.std.specs.Prelude.{◌≡◌, ℕ, ◌/◌, ◌^◌, ◌==◌, Bool, true, false, ◌||◌, Option, None, Some}
 use Rattle.std.specs.Net.Addr.{ipv4_bits, ipv6_bits, MatchIp, IsCanonicalOf}
 use Rattle.std.specs.declared.net.ip_addr.IpAddr.{IpAddr}
-use Rattle.peer_groups.specs.declared.group.PeerGroup.{PeerGroup}
-use Rattle.peer_groups.specs.declared.group.PeerGroup.TheVariants.{V4, V6}
-use Rattle.peer_groups.specs.declared.group.Groups.{Groups}
+use Rattle.tcp_connections.specs.declared.group.PeerGroup.{PeerGroup}
+use Rattle.tcp_connections.specs.declared.group.PeerGroup.TheVariants.{V4, V6}
+use Rattle.tcp_connections.specs.declared.group.Groups.{Groups}
 
 -- an address's group: the number of an IPv4 address, the first 64 bits of an IPv6 address
 abbrev pub IsOwnGroup : IpAddr → PeerGroup → Type 0
