@@ -1,4 +1,4 @@
-//! Support for tests of the running server: streams and datagrams held in memory, zones from tables of records, cells of versions for a test to
+//! Support for tests of the running server: streams and datagrams held in memory, a gate that holds no request, zones from tables of records, cells of versions for a test to
 //! run in, updates as the queue takes them, and logs.
 //!
 //! Contracts can name the octets of streams and datagrams, and say what is written. [`answer_stream`] answers the requests of a [`MemoryStream`]
@@ -14,6 +14,7 @@ mod answer;
 mod cells;
 mod copy;
 mod datagram;
+mod gate;
 mod logs;
 mod memory_datagrams;
 mod memory_stream;
@@ -26,6 +27,7 @@ pub use cells::{
     parts_of, server_of,
 };
 pub use datagram::Datagram;
+pub use gate::OpenGate;
 pub use logs::{Kept, NoLog, asker};
 pub use memory_datagrams::MemoryDatagrams;
 pub use memory_stream::MemoryStream;

@@ -1,6 +1,6 @@
 -- At the end no reply is held back.
 use Rattle.requests.proofs.ExchangeLemmas.{all_flushed}
-use Rattle.requests.proofs.udp.serve_udp.Goals as goal
+use Rattle.requests.proofs.udp.serve_datagrams.Goals as goal
 
 pub returns-clause-answered : goal.returns-clause-answered
 returns-clause-answered g c =
