@@ -31,7 +31,7 @@ pub struct MemoryDisk {
 impl MemoryDisk {
     ghost use Rattle.std.specs.Prelude.{◌≡◌, [], IfOk};
     ghost use Rattle.journal.specs.Disk.{BeginsWith};
-    ghost use Rattle.told_disks.specs.MemoryDisk.{written, synced};
+    ghost use Rattle.memory_devices.specs.MemoryDisk.{written, synced};
 
     /// A disk whose octets are all on it, as a start finds it. All its calls work.
     pub fn of(alloc: Global, octets: &[u8]) -> Result<MemoryDisk, AllocError>
@@ -102,17 +102,17 @@ fn left_of(octet: u8, fate: u8) -> u8 {
 }
 
 impl Disk for MemoryDisk {
-    ghost use Rattle.told_disks.specs.MemoryDisk.{written as told_written, synced as told_synced, lost as told_lost, history as told_history};
+    ghost use Rattle.memory_devices.specs.MemoryDisk.{written as disk_written, synced as disk_synced, lost as disk_lost, history as disk_history};
 
     type Fault = DiskFault;
 
-    ghost written = { told_written };
+    ghost written = { disk_written };
 
-    ghost synced = { told_synced };
+    ghost synced = { disk_synced };
 
-    ghost lost = { told_lost };
+    ghost lost = { disk_lost };
 
-    ghost history = { told_history };
+    ghost history = { disk_history };
 
     fn append(&mut self, octets: &[u8]) -> Result<(), DiskFault> {
         self.calls.note(&[BEGUN, 0], &self.synced);

@@ -1,7 +1,7 @@
 -- The octets of a disk in memory.
 use Rattle.std.specs.Prelude.{ℕ, List}
 use Rattle.store_files.specs.Calls.{lost_by, history_by}
-use Rattle.told_disks.specs.declared.memory_disk.MemoryDisk.{MemoryDisk}
+use Rattle.memory_devices.specs.declared.memory_disk.MemoryDisk.{MemoryDisk}
 
 -- the octets as they are
 abbrev pub written : MemoryDisk → List ℕ
