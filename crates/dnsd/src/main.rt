@@ -2,7 +2,7 @@
 //!
 //! `command_line` parses the command line. Commands over a zone's text, standard input and standard output are in `commands`: `answer` replies to
 //! each request that it reads, `check` prints the zone's text in its canonical form, `apply` prints the text of the zone after a transfer's messages,
-//! and `steps` plays a script. `zone` prints the zone of a store, by `stored_zone`, and `change` what changes from one zone to another, by
+//! and `steps` plays a script. `zone` prints the zone of a store, by `command_line`, and `change` what changes from one zone to another, by
 //! `change_command`. `serve` answers on sockets, by the workers of `serve_workers`, with what `dnsd_setup` reads, locks and binds.
 #![tactic(auto)]
 

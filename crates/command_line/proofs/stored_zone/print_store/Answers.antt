@@ -4,7 +4,7 @@ use Rattle.std.specs.Io.KnownBytes.{Appends}
 use Rattle.commands.proofs.LinesLemmas.{Appends-kept}
 use Rattle.dns_rdata.specs.Record.{Record}
 use Rattle.master_file.specs.WrittenZone.{zone_text}
-use Rattle.stored_zone.proofs.print.print_store.Goals as goal
+use Rattle.command_line.proofs.stored_zone.print_store.Goals as goal
 
 pub returns-clause-printed : goal.returns-clause-printed
 returns-clause-printed g c =

@@ -1,7 +1,7 @@
 //! Printing a store's zone (own).
 ghost use Rattle.std.specs.Prelude.{◌≡◌, [], IfOk, IfErr, OnOk};
 ghost use Rattle.std.specs.Io.Buffered.{writer_buffer, writer_contents};
-ghost use Rattle.stored_zone.specs.Printed.{IsPart, Prints, IsPrintFault};
+ghost use Rattle.command_line.specs.Printed.{IsPart, Prints, IsPrintFault};
 
 use commands::run_check;
 use std::alloc::Global;
@@ -28,7 +28,7 @@ pub enum PrintFault {
 
 impl From<StartFault> for PrintFault {
     ghost use Rattle.std.specs.Prelude.{◌≡◌};
-    ghost use Rattle.stored_zone.specs.declared.print.PrintFault.TheVariants.{NoStart};
+    ghost use Rattle.command_line.specs.declared.stored_zone.PrintFault.TheVariants.{NoStart};
 
     ghost from_gives = { λ fault given. given ≡ NoStart fault };
 
@@ -39,7 +39,7 @@ impl From<StartFault> for PrintFault {
 
 impl From<io::Error> for PrintFault {
     ghost use Rattle.std.specs.Prelude.{◌≡◌};
-    ghost use Rattle.stored_zone.specs.declared.print.PrintFault.TheVariants.{Device};
+    ghost use Rattle.command_line.specs.declared.stored_zone.PrintFault.TheVariants.{Device};
 
     ghost from_gives = { λ fault given. given ≡ Device fault };
 

@@ -5,10 +5,10 @@ use Rattle.master_file.specs.WrittenZone.{zone_text}
 use Rattle.store_recovery.specs.declared.start.Recovery.{Recovery}
 use Rattle.store_recovery.specs.Before.{IsStartedBefore, IsBeforeFault}
 use Rattle.store_recovery.specs.Start.{IsStarted, IsStartFault}
-use Rattle.stored_zone.specs.declared.print.Part.{Part}
-use Rattle.stored_zone.specs.declared.print.Part.TheVariants.{Whole, BeforeFault}
-use Rattle.stored_zone.specs.declared.print.PrintFault.{PrintFault}
-use Rattle.stored_zone.specs.declared.print.PrintFault.TheVariants.{NoStart, Device}
+use Rattle.command_line.specs.declared.stored_zone.Part.{Part}
+use Rattle.command_line.specs.declared.stored_zone.Part.TheVariants.{Whole, BeforeFault}
+use Rattle.command_line.specs.declared.stored_zone.PrintFault.{PrintFault}
+use Rattle.command_line.specs.declared.stored_zone.PrintFault.TheVariants.{NoStart, Device}
 
 -- what a start recovers from all of a journal, or from the part before damage
 abbrev pub IsPart : Part → List ℕ → List ℕ → Recovery → Type 0
