@@ -12,10 +12,9 @@ pub mod thread_specs;
 
 use command_line::{Task, parse_words, tell_fault};
 use commands::{Command, FAILED};
-use dnsd_setup::{run_change, run_on_streams, run_stored};
+use dnsd_setup::{ROOT_APEX, run_change, run_on_streams, run_stored};
 use log_lines::Level;
 use serve::run_serve;
-use server_log::ROOT_APEX;
 use std::fs::{File, Files};
 use std::net::{Net, TcpListener, TcpStream};
 use std::process::ExitCode;
