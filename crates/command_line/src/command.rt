@@ -14,7 +14,6 @@ use std::alloc::{AllocError, Global};
 use std::convert::AsStr;
 
 /// The task that a command line requests.
-#[derive(Drop)]
 pub enum Task<'a> {
     /// A command that uses standard input and output.
     Lines {
@@ -31,8 +30,21 @@ pub enum Task<'a> {
     Change(Change<'a>),
 }
 
+impl<'a> Drop for Task<'a> {
+    fn drop(self) {
+        match self {
+            Task::Lines {
+                command: _,
+                has_origin: _,
+            } => {}
+            Task::Serve(_) => {}
+            Task::Stored(_) => {}
+            Task::Change(_) => {}
+        }
+    }
+}
+
 /// Two zones of which what changes from the first to the second is to be printed.
-#[derive(Drop)]
 pub struct Change<'a> {
     /// Where the old zone's text comes from.
     pub old: Source<'a>,
@@ -42,6 +54,17 @@ pub struct Change<'a> {
     pub origin: Name,
     /// Whether the update is printed as a message in hexadecimal, in place of the records.
     pub is_hex: bool,
+}
+
+impl<'a> Drop for Change<'a> {
+    fn drop(self) {
+        let Change {
+            old: _,
+            next: _,
+            origin: _,
+            is_hex: _,
+        } = self;
+    }
 }
 
 /// A store whose zone is to be printed.

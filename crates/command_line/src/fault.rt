@@ -55,7 +55,6 @@ pub enum CommandFault<'a> {
     NoStore(&'static str),
 }
 
-// By hand: a derived drop is proved once more in each crate that lets such a value go.
 impl<'a> Drop for CommandFault<'a> {
     fn drop(self) {
         match self {
