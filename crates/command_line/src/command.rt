@@ -21,6 +21,8 @@ pub enum Task<'a> {
         command: Command<'a>,
         /// Whether an origin was given for its zone's text.
         has_origin: bool,
+        /// Whether warnings of its zone's text are requested.
+        has_warnings: bool,
     },
     /// Serves a zone on sockets.
     Serve(Serve<'a>),
@@ -111,6 +113,7 @@ fn task_of<'a>(
     Ok(Task::Lines {
         command: command_of(name, found, zone, origin)?,
         has_origin: found.get_str(ORIGIN).is_some(),
+        has_warnings: name == "check" && found.get_flag(WARN),
     })
 }
 
@@ -190,6 +193,9 @@ pub const OLD: &str = "old";
 
 /// The argument for the source of the next zone's text.
 pub const NEW: &str = "new";
+
+/// The option for warnings of a zone's text.
+pub const WARN: &str = "warn";
 
 /// The option for the update's message.
 pub const HEX: &str = "hex";

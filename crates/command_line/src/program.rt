@@ -1,5 +1,5 @@
 //! The program's commands, and the arguments of each.
-use crate::command::{BEFORE_FAULT, DIR, HEX, KEEP, NEW, OLD, ORIGIN, TCP, WINDOW, ZONE};
+use crate::command::{BEFORE_FAULT, DIR, HEX, KEEP, NEW, OLD, ORIGIN, TCP, WARN, WINDOW, ZONE};
 use crate::options::{ALLOW, CONNECTIONS, COUNT, IDLE, LISTEN, MESSAGE, REPLY, WORKERS};
 use crate::secondaries::NOTIFY;
 use crate::store_options::{JOURNAL, STORE, TAKE, TRANSFER_RATE, UDP_BUFFER, UPDATE_QUEUE};
@@ -79,7 +79,7 @@ const COMMANDS: &[CommandRow] = &[
         name: "check",
         about: "prints the zone in canonical form, one record per line",
         example: "Example:\n  dnsd check zones/example.test.zone",
-        words: &[ORIGIN_ROW, ZONE_ROW],
+        words: CHECK_WORDS,
     },
     CommandRow {
         name: "apply",
@@ -121,6 +121,17 @@ const ANSWER_WORDS: &[WordRow] = &[
         name: TCP,
         form: Form::Flag,
         help: "reply as over TCP, with at most 65535 bytes; by default as over UDP, with at most 512, or up to 1232 with EDNS",
+    },
+];
+
+/// The arguments of `check`.
+const CHECK_WORDS: &[WordRow] = &[
+    ORIGIN_ROW,
+    ZONE_ROW,
+    WordRow {
+        name: WARN,
+        form: Form::Flag,
+        help: "warn of what is likely a mistake, such as a mail server without an address",
     },
 ];
 
