@@ -4,7 +4,7 @@ use Rattle.world_run.proofs.world.play_lines.Goals as goal
 
 pub loop-line-preserved : goal.loop-line-preserved
 loop-line-preserved c =
-    line_played c.args.lines.now c.loop-line.line-index c.line-item.result c.loop-line.replies.items _ _ c.loop-line.play _ (omega arith) c.line-item.is c.in_ok-play_line.ensures.ok c.loop-line.invariant
+    line_played c.args.lines.now c.loop-line.line-index c.line-item.result c.loop-line.replies.items _ _ c.loop-line.play _ (omega arith) c.line-item.is c.in-Ok.ensures.ok c.loop-line.invariant
 
 pub returns-clause-told : goal.returns-clause-told
 returns-clause-told c = all_played c.args.play.now c.args.lines.now c.loop-line.line-index c.loop-line.replies.items c.loop-line.play (omega arith) c.loop-line.invariant
