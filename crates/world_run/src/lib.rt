@@ -9,6 +9,7 @@
 #![tactic(auto)]
 
 mod asked;
+mod boxed_heading;
 mod calls;
 mod entries;
 mod fault;
