@@ -4,7 +4,6 @@ ghost use Rattle.world_run.specs.declared.phase.Phase.TheVariants.{Swap};
 ghost use Rattle.world_run.specs.declared.phase.Progress.TheVariants.{On};
 ghost use Rattle.world_run.specs.Phases.{after, load_after, look_after, raise_after, note_after, probe_after, settle_after, keep_after, enter_after, entry_of as says_entry_of, seek_after, gain_after, gained_after, with_got, sent_after, release_after, bury_after, fade_after, gone as says_gone, past as says_past, leaving_after, oldest_after};
 
-use crate::boxed_heading::BoxedHeading;
 use crate::entries::Entry;
 use crate::fault::WorldFault;
 use crate::lent::Handle;
@@ -15,6 +14,7 @@ use crate::sending::{Seeking, Sending};
 use crate::step::Answer;
 use cell_core::{WordEvent, WordMachine};
 use dns_rdata::Serial;
+use serve_core::Heading;
 use std::mem;
 
 impl<'a> Phase<'a> {
@@ -96,7 +96,7 @@ fn after_published<'a>(keeping: Keeping, kept: usize, entry: Option<Entry>) -> P
 
 /// The same, given the owner of the oldest version, if it is to be released.
 fn oldest_after<'a>(
-    heading: BoxedHeading,
+    heading: Heading,
     kept: usize,
     entry: Option<Entry>,
     leaving: OwnerList,
@@ -115,7 +115,7 @@ fn oldest_after<'a>(
 
 /// What follows once the oldest version that was kept, or an entry that left the window, is gone.
 fn leaving_after<'a>(
-    heading: BoxedHeading,
+    heading: Heading,
     kept: usize,
     entry: Option<Entry>,
     leaving: OwnerList,

@@ -2,10 +2,9 @@
 ghost use Rattle.std.specs.Prelude.{◌≡◌, ◌+◌, ◌<◌, ◌^◌, true, IfOk, IfErr, ◌==◌, Some, None, if◌then◌else◌};
 ghost use Rattle.dns_message.specs.Message.{opcode_UPDATE};
 ghost use Rattle.world_run.specs.Judgements.{judged as says_judged, judged_by};
-ghost use Rattle.world_run.specs.declared.judged.Judged.TheVariants.{Told, Makes};
+ghost use Rattle.world_run.specs.declared.judged.Judged.TheVariants.{Told};
 ghost use Rattle.update_core.specs.Applied.{code_of};
 
-use crate::boxed_heading::BoxedHeading;
 use crate::fault::WorldFault;
 use crate::lent::Request;
 use crate::published::Published;
@@ -21,9 +20,9 @@ use zone_tree::Version;
 #[derive(Drop)]
 pub enum Judged {
     /// It gets this code, and changes nothing. The reply has this heading.
-    Told(BoxedHeading, Rcode),
+    Told(Heading, Rcode),
     /// It makes this version. The reply has this heading.
-    Makes(BoxedHeading, Published),
+    Makes(Heading, Published),
 }
 
 /// The outcome of an update in the last version; None where the request is no update, and where the version's number would pass 64 bits (RFC 2136, 3; own).
@@ -44,9 +43,9 @@ pub(crate) fn judge(
     let said = parse(alloc, request.as_slice());
     match &said {
         Parsed::Update(update) => judge_update(alloc, version, update),
-        Parsed::Fault(head, code) => judge_fault(alloc, Heading::header_alone(*head), *code),
+        Parsed::Fault(head, code) => Ok(judge_fault(Heading::header_alone(*head), *code)),
         Parsed::BadOpt(head, question, code, dnssec_ok) => {
-            judge_fault(alloc, Heading::of_bad(*head, question, *dnssec_ok), *code)
+            Ok(judge_fault(Heading::of_bad(*head, question, *dnssec_ok), *code))
         }
         Parsed::NoMemory(_) => Err(WorldFault::NoMemory),
         _ => Ok(None),
@@ -54,58 +53,16 @@ pub(crate) fn judge(
 }
 
 /// The outcome of an update that can't be read, or whose OPT record is refused; None where the request is no update.
-///
-/// `NoMemory` where an allocation was refused.
-fn judge_fault(alloc: Global, heading: Heading, code: Rcode) -> Result<Option<Judged>, WorldFault>
-    ensures ok { IfOk result (λ judged. judged ≡ (if heading.head.opcode == opcode_UPDATE then Some (Told heading code) else None)) }
-    ensures refused { IfErr result (λ fault. fault ≡ WorldFault.NoMemory) }
+fn judge_fault(heading: Heading, code: Rcode) -> Option<Judged>
+    ensures { result ≡ (if heading.head.opcode == opcode_UPDATE then Some (Told heading code) else None) }
 {
     if heading.head.opcode == OPCODE_UPDATE {
-        return told(alloc, heading, code);
+        return Some(Judged::Told(heading, code));
     }
-    mem::drop(heading);
-    Ok(None)
-}
-
-/// An update that gets a code, and changes nothing.
-///
-/// `NoMemory` where an allocation was refused.
-fn told(alloc: Global, heading: Heading, code: Rcode) -> Result<Option<Judged>, WorldFault>
-    ensures ok { IfOk result (λ judged. judged ≡ Some (Told heading code)) }
-    ensures refused { IfErr result (λ fault. fault ≡ WorldFault.NoMemory) }
-{
-    match BoxedHeading::new(alloc, heading) {
-        Ok(heading) => Ok(Some(Judged::Told(heading, code))),
-        Err(fault) => Err(fault),
-    }
-}
-
-/// An update that makes a version.
-///
-/// `NoMemory` where an allocation was refused.
-fn makes(alloc: Global, heading: Heading, next: Version) -> Result<Option<Judged>, WorldFault>
-    ensures ok { IfOk result (λ judged. judged ≡ Some (Makes heading next)) }
-    ensures refused { IfErr result (λ fault. fault ≡ WorldFault.NoMemory) }
-{
-    let boxed = match BoxedHeading::new(alloc, heading) {
-        Ok(boxed) => boxed,
-        Err(fault) => {
-            mem::drop(next);
-            return Err(fault);
-        }
-    };
-    match Published::new(alloc, next) {
-        Ok(version) => Ok(Some(Judged::Makes(boxed, version))),
-        Err(fault) => {
-            mem::drop(boxed);
-            Err(fault)
-        }
-    }
+    None
 }
 
 /// The outcome of an update that was read (RFC 2136, 3).
-///
-/// `NoMemory` where an allocation was refused.
 fn judge_update(
     alloc: Global,
     version: &Version,
@@ -115,11 +72,21 @@ fn judge_update(
     ensures ok { IfOk result (λ judged. judged ≡ judged_by version.now update.now (code_of version.now.zone update.now true)) }
     ensures refused { IfErr result (λ fault. fault ≡ WorldFault.NoMemory) }
 {
+    let heading = Heading::of_update(update);
     let outcome = apply(alloc, version, update, true);
     let code = outcome.code();
     match outcome {
-        Outcome::Refused(_) | Outcome::Unchanged => told(alloc, Heading::of_update(update), code),
-        Outcome::Next(next) => makes(alloc, Heading::of_update(update), next),
-        Outcome::NoMemory => Err(WorldFault::NoMemory),
+        Outcome::Refused(_) | Outcome::Unchanged => Ok(Some(Judged::Told(heading, code))),
+        Outcome::Next(next) => match Published::new(alloc, next) {
+            Ok(version) => Ok(Some(Judged::Makes(heading, version))),
+            Err(fault) => {
+                mem::drop(heading);
+                Err(fault)
+            }
+        },
+        Outcome::NoMemory => {
+            mem::drop(heading);
+            Err(WorldFault::NoMemory)
+        }
     }
 }

@@ -9,7 +9,6 @@
 #![tactic(auto)]
 
 mod asked;
-mod boxed_heading;
 mod calls;
 mod entries;
 mod fault;

@@ -2,7 +2,6 @@
 ghost use Rattle.std.specs.Prelude.{◌≡◌, IfOk, IfErr};
 ghost use Rattle.world_run.specs.Phases.{word_step, step_name, reserves as says_reserves, reserves_weakly as says_reserves_weakly, uses as says_uses, uses_for, updates as says_updates, is_for_update, seeks as says_seeks, bars as says_bars};
 
-use crate::boxed_heading::BoxedHeading;
 use crate::entries::Entry;
 use crate::fault::WorldFault;
 use crate::lent::Handle;
@@ -12,12 +11,13 @@ use crate::sending::{Seeking, Sending};
 use crate::step::{Answer, StepName};
 use cell_core::WordStep;
 use dns_rdata::Serial;
+use serve_core::Heading;
 
 /// What an update does after its publication.
 #[derive(Drop)]
 pub struct Keeping {
     /// The heading of the reply, from the update.
-    pub heading: BoxedHeading,
+    pub heading: Heading,
     /// The owner of the oldest version that is kept, where it is to be released for the new one.
     pub oldest: Option<usize>,
     /// The serial of the new version, where it is entered in the window.
@@ -36,9 +36,9 @@ pub enum Purpose<'a> {
     Publish(Keeping, usize, Option<Entry>),
     /// The oldest version that is kept is released, for the one that an update has loaded under this owner, with this entry; the reply has this
     /// heading. Then these weak owners are released.
-    Oldest(BoxedHeading, usize, Option<Entry>, OwnerList),
+    Oldest(Heading, usize, Option<Entry>, OwnerList),
     /// An entry leaves the window for that version, and then these weak owners are released.
-    Leaves(BoxedHeading, usize, Option<Entry>, OwnerList),
+    Leaves(Heading, usize, Option<Entry>, OwnerList),
     /// A transfer releases an owner that it has got, and then these.
     Sent(Sending<'a>, OwnerList),
 }
@@ -92,9 +92,9 @@ pub enum End<'a> {
     /// The call gives this answer.
     Told(Answer),
     /// An update has found no free slot; its reply has this heading.
-    NoSlot(BoxedHeading),
+    NoSlot(Heading),
     /// An update has made a version, which is kept under this owner, with this entry where it has one; its reply has this heading.
-    Kept(BoxedHeading, usize, Option<Entry>),
+    Kept(Heading, usize, Option<Entry>),
     /// A transfer has got as many as it can of the versions that it asks for, and has released them.
     Sent(Sending<'a>),
 }

@@ -341,13 +341,8 @@ impl<'a> Play<'a> {
             End::OwnedWeakly(name, owner, number) => {
                 put_owner(alloc, &mut self.weak_names, name, owner, number)
             }
-            End::NoSlot(heading) => reply_with(alloc, heading.heading(), Rcode::ServFail),
-            End::Kept(heading, owner, entry) => self.keep_version(
-                alloc,
-                heading.heading(),
-                owner,
-                entry,
-            ),
+            End::NoSlot(heading) => reply_with(alloc, &heading, Rcode::ServFail),
+            End::Kept(heading, owner, entry) => self.keep_version(alloc, &heading, owner, entry),
             End::Sent(sending) => sending.answer(alloc),
         }
     }

@@ -8,7 +8,6 @@ ghost use Rattle.zone_tree.specs.Version.{Version as Numbered, zone_serial};
 ghost use Rattle.world_run.specs.declared.step.Call.TheVariants.{Load, Copy, Weak, Up};
 
 use crate::asked::{answer_in, reply_with};
-use crate::boxed_heading::BoxedHeading;
 use crate::calls::{is_barred, is_reserved, is_reserved_weakly, is_used};
 use crate::entries::{enters, leaving_for};
 use crate::fault::WorldFault;
@@ -21,6 +20,7 @@ use crate::play::Play;
 use crate::published::Published;
 use crate::step::{Answer, Call};
 use dns_rdata::Serial;
+use serve_core::Heading;
 use std::alloc::Global;
 use std::mem;
 use zone_tree::Version;
@@ -196,7 +196,7 @@ impl<'a> Play<'a> {
         ensures refused { IfErr result (λ fault. fault ≡ WorldFault.NoMemory) }
     {
         match judged {
-            Judged::Told(heading, code) => match reply_with(alloc, heading.heading(), code) {
+            Judged::Told(heading, code) => match reply_with(alloc, &heading, code) {
                 Ok(answer) => Ok(Start::Answers(answer)),
                 Err(fault) => Err(fault),
             },
@@ -208,7 +208,7 @@ impl<'a> Play<'a> {
     fn publication(
         &self,
         alloc: Global,
-        heading: BoxedHeading,
+        heading: Heading,
         version: Published,
     ) -> Result<Start<'a>, WorldFault>
         ensures ok { IfOk result (λ how. how ≡ publication_start self.now heading version) }
@@ -241,7 +241,7 @@ impl<'a> Play<'a> {
     fn keeping(
         &self,
         alloc: Global,
-        heading: BoxedHeading,
+        heading: Heading,
         serial: Serial,
     ) -> Result<Keeping, WorldFault>
         ensures ok { IfOk result (λ keeping. (version : Numbered) → zone_serial version.zone ≡ serial.0 → keeping ≡ keeping_for self.now heading version) }
