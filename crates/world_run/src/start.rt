@@ -53,17 +53,18 @@ impl<'a> Play<'a> {
         ensures ok { IfOk result (λ how. how ≡ says_start self.now call.now) }
         ensures refused { IfErr result (λ fault. fault ≡ WorldFault.NoMemory) }
     {
-        match call {
-            Call::Load(name) => Ok(self.load(name)),
-            Call::Drop(name) => Ok(self.release(name)),
-            Call::Copy(given, name) => Ok(self.copy(given, name)),
-            Call::Weak(given, name) => Ok(self.weaken(given, name)),
-            Call::Fade(name) => Ok(self.fade(name)),
-            Call::Up(weak, name) => Ok(self.raise(weak, name)),
-            Call::Ask(name, request) => self.ask(alloc, name, request),
-            Call::Transfer(name, request) => self.ask_transfer(alloc, name, request),
-            Call::Update(request) => self.update(alloc, request),
-        }
+        let how = match call {
+            Call::Load(name) => self.load(name),
+            Call::Drop(name) => self.release(name),
+            Call::Copy(given, name) => self.copy(given, name),
+            Call::Weak(given, name) => self.weaken(given, name),
+            Call::Fade(name) => self.fade(name),
+            Call::Up(weak, name) => self.raise(weak, name),
+            Call::Ask(name, request) => return self.ask(alloc, name, request),
+            Call::Transfer(name, request) => return self.ask_transfer(alloc, name, request),
+            Call::Update(request) => return self.update(alloc, request),
+        };
+        Ok(how)
     }
 
     /// How a load begins.
