@@ -33,7 +33,6 @@ pub enum Fault {
     Device(io::Error),
 }
 
-// By hand: a derived drop is proved once more in each crate that lets such a value go.
 impl Drop for Fault {
     fn drop(self) {
         match self {

@@ -51,7 +51,6 @@ pub struct RawRecords {
     records: Vec<RawRecord>,
 }
 
-// By hand: a derived drop is proved once more in each crate that lets such a value go.
 impl Drop for RawRecords {
     fn drop(self) {
         let RawRecords { records: _ } = self;
@@ -105,7 +104,6 @@ pub struct Update {
     pub updates: RawRecords,
 }
 
-// By hand: a derived drop is proved once more in each crate that lets such a value go.
 impl Drop for Update {
     fn drop(self) {
         let Update {

@@ -19,7 +19,6 @@ pub struct TcpPeer {
     pub(crate) news: Option<ReadHint>,
 }
 
-// By hand: a derived drop is proved once more in each crate that lets such a value go.
 impl Drop for TcpPeer {
     fn drop(self) {
         let TcpPeer {

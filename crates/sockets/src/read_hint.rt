@@ -13,7 +13,6 @@ struct ReadState {
     is_closed: AtomicBool,
 }
 
-// By hand: a derived drop is proved once more in each crate that lets such a value go.
 impl Drop for ReadState {
     fn drop(self) {
         let ReadState {

@@ -29,7 +29,6 @@ pub struct Watch<'a, C> {
     news: Vec<Option<ReadHint>>,
 }
 
-// By hand: a derived drop is proved once more in each crate that lets such a value go.
 impl<'a, C> Drop for Watch<'a, C> {
     fn drop(self) {
         let Watch {

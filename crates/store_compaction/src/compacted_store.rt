@@ -36,7 +36,6 @@ pub struct CompactedStore<
     failed: bool,
 }
 
-// By hand: a derived drop is proved once more in each crate that lets such a value go.
 impl<R: Files<File = File> + Alloc + Clone + Drop, T: TextWriter, N: Notes + Drop> Drop
     for CompactedStore<R, T, N> {
     fn drop(self) {

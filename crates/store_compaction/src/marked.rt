@@ -18,7 +18,6 @@ pub struct Compaction {
     pub(crate) bodies: Vec<Body>,
 }
 
-// By hand: a derived drop is proved once more in each crate that lets such a value go.
 impl Drop for Compaction {
     fn drop(self) {
         let Compaction {

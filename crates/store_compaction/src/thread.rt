@@ -122,7 +122,6 @@ pub struct ThreadTextWriter<R: Files<File = File> + RandomSource + Clock + Threa
     begun: Option<Duration>,
 }
 
-// By hand: a derived drop is proved once more in each crate that lets such a value go.
 impl<R: Files<File = File> + RandomSource + Clock + Threads + Drop> Drop for ThreadTextWriter<R> {
     fn drop(self) {
         let ThreadTextWriter {

@@ -37,7 +37,6 @@ pub struct Connection<S: Drop, M: Messages> {
     pub(crate) window: Window,
 }
 
-// By hand: a derived drop is proved once more in each crate that lets such a value go.
 impl<S: Drop, M: Messages> Drop for Connection<S, M> {
     fn drop(self) {
         let Connection {

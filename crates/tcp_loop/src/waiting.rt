@@ -17,7 +17,6 @@ pub(crate) struct Waiting {
     is_in: Vec<bool>,
 }
 
-// By hand: a derived drop is proved once more in each crate that lets such a value go.
 impl Drop for Waiting {
     fn drop(self) {
         let Waiting {

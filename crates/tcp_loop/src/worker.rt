@@ -66,7 +66,6 @@ pub struct EventLoop<S: Drop, M: Messages> {
     alloc: Global,
 }
 
-// By hand: a derived drop is proved once more in each crate that lets such a value go.
 impl<S: Drop, M: Messages> Drop for EventLoop<S, M> {
     fn drop(self) {
         let EventLoop {

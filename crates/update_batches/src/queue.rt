@@ -29,7 +29,6 @@ pub struct Queue<T> {
     came: Condvar,
 }
 
-// By hand: a derived drop is proved once more in each crate that lets such a value go.
 impl<T: Drop> Drop for Queue<T> {
     fn drop(self) {
         let Queue { state: _, came: _ } = self;

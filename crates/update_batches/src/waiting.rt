@@ -29,7 +29,6 @@ pub struct Waiting<T> {
     most_octets: usize,
 }
 
-// By hand: a derived drop is proved once more in each crate that lets such a value go.
 impl<T: Drop> Drop for Waiting<T> {
     fn drop(self) {
         let Waiting {

@@ -24,7 +24,6 @@ pub(crate) struct PendingUpdate<N: Naming> {
     pub known: Snapshot<VersionReader<N>>,
 }
 
-// By hand: a derived drop is proved once more in each crate that lets such a value go.
 impl<N: Naming> Drop for PendingUpdate<N> {
     fn drop(self) {
         let PendingUpdate {

@@ -27,7 +27,6 @@ pub struct AtTicket {
     outcome: UpdateOutcome,
 }
 
-// By hand: a derived drop is proved once more in each crate that lets such a value go.
 impl Drop for AtTicket {
     fn drop(self) {
         let AtTicket {
@@ -44,7 +43,6 @@ pub(crate) struct PendingReplies {
     free: Option<usize>,
 }
 
-// By hand: a derived drop is proved once more in each crate that lets such a value go.
 impl Drop for PendingReplies {
     fn drop(self) {
         let PendingReplies {

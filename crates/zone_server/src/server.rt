@@ -37,7 +37,6 @@ pub struct Server<'a, Z: FirstZone, N: ServerName> {
     state: Mutex<ServerState<'a, Z, N>>,
 }
 
-// By hand: a derived drop is proved once more in each crate that lets such a value go.
 impl<'a, Z: FirstZone, N: ServerName> Drop for Server<'a, Z, N> {
     fn drop(self) {
         let Server { cell: _, state: _ } = self;

@@ -44,7 +44,6 @@ pub struct ServerState<'a, Z: FirstZone, N: ServerName> {
     right: Option<PublishRight<N>>,
 }
 
-// By hand: a derived drop is proved once more in each crate that lets such a value go.
 impl<'a, Z: FirstZone, N: ServerName> Drop for ServerState<'a, Z, N> {
     fn drop(self) {
         let ServerState {

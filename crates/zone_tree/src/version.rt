@@ -21,7 +21,6 @@ pub struct Version {
     delta: Option<Delta>,
 }
 
-// By hand: a derived drop is proved once more in each crate that lets such a value go.
 impl Drop for Version {
     fn drop(self) {
         let Version {

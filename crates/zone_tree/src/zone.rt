@@ -38,7 +38,6 @@ pub struct Zone {
     owners: Owners,
 }
 
-// By hand: a derived drop is proved once more in each crate that lets such a value go.
 impl Drop for Zone {
     fn drop(self) {
         let Zone {
