@@ -107,7 +107,7 @@ impl<'a, Z: FirstZone, N: Naming> Engine<'a, Z, N> {
         ensures latest { IsLatest Z.zone self.now.held.published self.now.held.last }
         ensures replayed { IsReplay Z.zone self.now.held.last }
     {
-        self.publisher.last()
+        self.publisher.last_number()
     }
 
     /// The version published last.

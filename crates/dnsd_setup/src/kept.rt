@@ -3,7 +3,7 @@ ghost use Rattle.std.specs.Prelude.{IfOk};
 ghost use Rattle.dnsd_setup.specs.Begun.{CanBegin};
 ghost use Rattle.store_server.specs.Resumed.{IsGiven};
 
-use crate::begin::{StartedStore, StartedZone};
+use crate::started_zone::{StartedStore, StartedZone};
 use crate::zone_file::tell_zone;
 use command_line::{Serve, StorePlan, ToldFault};
 use commands::{FAILED, REFUSED};

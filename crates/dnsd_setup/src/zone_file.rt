@@ -2,7 +2,7 @@
 ghost use Rattle.std.specs.Prelude.{IfOk};
 ghost use Rattle.dnsd_setup.specs.Begun.{CanBegin};
 
-use crate::begin::StartedZone;
+use crate::started_zone::StartedZone;
 use command_line::Serve;
 use commands::{Fault, Source, read_zone_text, tell};
 use log_lines::Level;

@@ -16,7 +16,7 @@ pub struct TcpPeer {
     from: SocketAddr,
     faults: u64,
     /// What is known about the connection without a system call, after it is watched.
-    pub(crate) news: Option<ReadHint>,
+    pub(crate) hint: Option<ReadHint>,
 }
 
 impl Drop for TcpPeer {
@@ -25,7 +25,7 @@ impl Drop for TcpPeer {
             inner: _,
             from: _,
             faults: _,
-            news: _,
+            hint: _,
         } = self;
     }
 }
@@ -63,14 +63,14 @@ impl TcpPeer {
             inner,
             from,
             faults: 0,
-            news: None,
+            hint: None,
         }
     }
 
     /// Whether it is known, without a system call, that a read would find nothing.
     fn is_empty(&self) -> bool {
-        match &self.news {
-            Some(news) => news.is_empty(),
+        match &self.hint {
+            Some(hint) => hint.is_empty(),
             None => false,
         }
     }
@@ -80,8 +80,8 @@ impl TcpPeer {
         if count == 0 || count >= room {
             return;
         }
-        if let Some(news) = &self.news {
-            news.note_empty();
+        if let Some(hint) = &self.hint {
+            hint.note_empty();
         }
     }
 

@@ -7,7 +7,7 @@ ghost use Rattle.journal.specs.Log.{is_stuck};
 ghost use Rattle.store_compaction.specs.Writer.{log_of, trail_of, head_of, under_way_of};
 ghost use Rattle.store_compaction.specs.Stands.{Stands};
 
-use crate::event::{CompactionEvent, Notes};
+use crate::event::{CompactionEvent, CompactionLog};
 use crate::text_writer::TextWriter;
 use crate::writer::StoreWriter;
 use std::alloc::Global;
@@ -25,12 +25,12 @@ pub(crate) fn is_due(writer: &StoreWriter<FileDisk>, most: u64, had: u64) -> boo
 }
 
 /// Starts the next zone text, at once or a few seconds later. Returns whether it is started. The store's journal stays the same.
-pub(crate) fn begin_next<W: Wait, T: TextWriter, N: Notes>(
+pub(crate) fn begin_next<W: Wait, T: TextWriter, N: CompactionLog>(
     rt: &W,
     alloc: Global,
     writer: &mut StoreWriter<FileDisk>,
     texts: &mut T,
-    notes: &mut N,
+    events: &mut N,
     later: bool,
 ) -> bool
     ensures trail { trail_of writer.new ≡ trail_of writer.old }
@@ -41,17 +41,17 @@ pub(crate) fn begin_next<W: Wait, T: TextWriter, N: Notes>(
         → Stands written synced text batches zone updates k writer.new (T.wanted texts.new) }
 {
     let Ok(Some(next)) = writer.begin_compaction(rt, alloc) else {
-        notes.note(rt, CompactionEvent::NotBegun);
+        events.note(rt, CompactionEvent::NotBegun);
         return false;
     };
     let number = next.number;
     match texts.write(rt, alloc, next, writer.head(), later) {
         Ok(()) => {
-            notes.note(rt, CompactionEvent::Begun(number));
+            events.note(rt, CompactionEvent::Begun(number));
             true
         }
         Err(fault) => {
-            notes.note(rt, CompactionEvent::NoText(fault));
+            events.note(rt, CompactionEvent::NoText(fault));
             false
         }
     }

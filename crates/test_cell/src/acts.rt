@@ -61,7 +61,7 @@ impl<'a, N: Naming> Player<'a, N> {
         reader: NamedReader<Counted, N>,
     ) -> Player<'a, N> {
         Player {
-            first: teller.publisher.last(),
+            first: teller.publisher.last_number(),
             teller,
             reader,
             owners: Vec::new(alloc),
@@ -110,7 +110,7 @@ impl<'a, N: Naming> Player<'a, N> {
         let teller = &mut self.teller;
         let cell = teller.cell;
         cell.meet(&mut teller.publisher, &mut self.reader);
-        Some(teller.publisher.last())
+        Some(teller.publisher.last_number())
     }
 
     fn publish(&mut self) -> Option<u64> {

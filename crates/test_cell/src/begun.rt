@@ -96,7 +96,7 @@ fn load_by<R: Abort>(
 {
     let mut owner = draw(rt, cell, reader);
     let number = owner.number();
-    assert!(rt; number == publisher.last() && owner.get().number == number);
+    assert!(rt; number == publisher.last_number() && owner.get().number == number);
     match leak {
         Leak::Nothing => {}
         Leak::Strong => {
@@ -148,7 +148,7 @@ impl Begun {
 
     /// Publishes the next value; the owner of the version before it is let go.
     pub(crate) fn publish<R: Abort>(&mut self, rt: &R) {
-        let last = self.publisher.last();
+        let last = self.publisher.last_number();
         assert!(rt; last < MOST);
         let value = Counted {
             number: last + 1,
@@ -216,7 +216,7 @@ impl Begun {
     /// The cell can't be ended: all come back as they were, no value is dropped, and what is published goes on.
     pub(crate) fn goes_on<R: Abort>(self, rt: &R) -> Begun {
         let before = (
-            self.publisher.last(),
+            self.publisher.last_number(),
             self.readers.len(),
             self.tally.drops(),
         );
@@ -224,7 +224,7 @@ impl Begun {
             panic!(rt; "the cell is ended");
         };
         let after = (
-            begun.publisher.last(),
+            begun.publisher.last_number(),
             begun.readers.len(),
             begun.tally.drops(),
         );
@@ -235,7 +235,7 @@ impl Begun {
 
     /// The cell can be ended, and gives the value published last: it alone hasn't been dropped, and then it is.
     pub(crate) fn ends<R: Abort>(self, rt: &R) {
-        let last = self.publisher.last();
+        let last = self.publisher.last_number();
         let tally = Arc::try_clone(&self.tally).expect(rt, "memory");
         match self.close() {
             Ok(value) => end_of(rt, value, last, &tally),

@@ -123,7 +123,7 @@ impl<'a, N: Naming> Teller<'a, N> {
 
     /// Whether a number is published.
     fn publish(&mut self, value: u64) -> bool {
-        if self.publisher.last() == u64::MAX {
+        if self.publisher.last_number() == u64::MAX {
             return false;
         }
         self.cell.publish(&mut self.publisher, value).is_ok()

@@ -120,7 +120,7 @@ pub(crate) fn end<R: Abort, N: Naming>(
     readers: Vec<NamedReader<Counted, N>>,
     tally: &Tally,
 ) {
-    let last = publisher.last();
+    let last = publisher.last_number();
     match cell.close(publisher, readers) {
         Ok(value) => end_of(rt, value, last, tally),
         Err(_) => panic!(rt; "the cell is in use"),
@@ -181,7 +181,7 @@ impl<'a, N: Naming> Teller<'a, N> {
 
     /// One publication, of the value that is due: the old version's owner. None where there was no slot.
     pub(crate) fn publish(&mut self) -> Option<NamedStrong<'a, Counted, Rising, N>> {
-        let last = self.publisher.last();
+        let last = self.publisher.last_number();
         if last >= MOST {
             return None;
         }
@@ -239,7 +239,7 @@ impl<'a, N: Naming> Teller<'a, N> {
     /// goes on with the same value.
     pub(crate) fn run(&mut self, up_to: u64) -> bool {
         for _ in 0..TURNS {
-            if self.publisher.last() >= up_to {
+            if self.publisher.last_number() >= up_to {
                 return true;
             }
             match self.publish() {

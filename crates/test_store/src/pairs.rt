@@ -14,7 +14,7 @@ fn leave_half(rt: &HostRuntime, dir: &str, number: u64) -> Result<(), Fail> {
 }
 
 /// Creates the first store of a directory, with a text. Returns its zone text followed by its journal, as they are found.
-fn begin_first(rt: &HostRuntime, dir: &str, text: &[u8]) -> Result<Vec<u8>, Fail> {
+fn create_first(rt: &HostRuntime, dir: &str, text: &[u8]) -> Result<Vec<u8>, Fail> {
     let (journal, _) = begun(rt.alloc(), 0, text)?;
     match begin_pair(rt, rt.alloc(), dir, text, &journal) {
         Ok(_) => Ok(found(rt, dir)?),
@@ -36,7 +36,7 @@ fn a_first_pair_is_begun(rt: HostRuntime) -> Result<(), Fail> {
         }
         assert_eq!(rt; found(&rt, dir)?.as_slice(), b"empty".as_slice());
         assert_eq!(rt;
-            begin_first(&rt, dir, b"first")?,
+            create_first(&rt, dir, b"first")?,
             pair_of(rt.alloc(), 0, b"first")?
         );
         assert!(rt; !fs::exists(&rt, "test_store_first/journal.new")?);
@@ -52,7 +52,7 @@ fn a_first_pair_is_begun(rt: HostRuntime) -> Result<(), Fail> {
 fn pairs_are_found(rt: HostRuntime) -> Result<(), Fail> {
     let dir = "test_store_pairs";
     make_folder(&rt, dir)?;
-    let mut before = begin_first(&rt, dir, b"first")?;
+    let mut before = create_first(&rt, dir, b"first")?;
     for (number, text) in [(1, b"second".as_slice()), (2, b"")] {
         leave_half(&rt, dir, number)?;
         let is_before = found(&rt, dir)? == before;

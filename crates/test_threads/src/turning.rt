@@ -329,7 +329,7 @@ fn heard<'a>(
 #[derive(Drop)]
 struct Shared {
     told: WakeList,
-    muster: Shutdown,
+    shutdown: Shutdown,
     progress: WorkLimit,
     clock: Steps,
 }
@@ -338,7 +338,7 @@ struct Shared {
 fn shared_for(alloc: Global, case: &Case) -> Option<Shared> {
     Some(Shared {
         told: WakeList::new(alloc, 8).ok()?,
-        muster: Shutdown::new(1),
+        shutdown: Shutdown::new(1),
         progress: WorkLimit::new(case.most),
         clock: Steps {
             read: AtomicU64::new(2),
@@ -374,7 +374,7 @@ fn job_of<'a>(
         places_of(alloc, case.comers)?,
         EventLoop::new(alloc, 8, 1).ok()?,
         plan,
-        StopFlag::new(&shared.muster, &shared.progress),
+        StopFlag::new(&shared.shutdown, &shared.progress),
         &shared.clock,
         Scratch::new(alloc).ok()?,
     );

@@ -7,7 +7,7 @@ use Rattle.dns_rdata.specs.Raw.{RawRecord}
 use Rattle.transfer_core.specs.declared.fault.TransferFault.{TransferFault}
 use Rattle.transfer_core.specs.declared.fault.TransferFault.TheVariants.{NoMemory}
 use Rattle.transfer_in.specs.declared.taking.Progress.{Progress}
-use Rattle.transfer_in.specs.Standing.{Tells}
+use Rattle.transfer_in.specs.ListState.{Tells}
 use Rattle.transfer_in.specs.Taking.{unreadable, records_of_message, records_of_messages, behind, IsRead, IsRefused}
 use Rattle.transfer_in.proofs.TakingLemmas.{IsRead-more}
 

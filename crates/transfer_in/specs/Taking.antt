@@ -11,7 +11,7 @@ use Rattle.transfer_core.specs.declared.fault.TransferFault.TheVariants.{NoMemor
 use Rattle.transfer_in.specs.declared.taking.Progress.{Progress}
 use Rattle.transfer_in.specs.declared.taking.Progress.TheVariants.{Nothing, Opened, Under}
 use Rattle.transfer_core.specs.Take.{is_soa, steps_through, ended, behind_first, take}
-use Rattle.transfer_in.specs.Standing.{reading_of, AreHeld}
+use Rattle.transfer_in.specs.ListState.{reading_of, AreHeld}
 
 -- a record that can't be read, which no list has
 abbrev pub unreadable : RawRecord

@@ -3,7 +3,7 @@ ghost use Rattle.std.specs.Prelude.{◌≡◌, ◌⊎◌, true, false, IfOk, IfE
 ghost use Rattle.dns_name.specs.Name.{fold_name};
 ghost use Rattle.zone_tree.specs.Zone.{IsZone};
 ghost use Rattle.transfer_core.specs.Take.{is_zone};
-ghost use Rattle.transfer_in.specs.Standing.{AreHeld};
+ghost use Rattle.transfer_in.specs.ListState.{AreHeld};
 
 use crate::grouped::sets_of;
 use crate::holding::Holding;

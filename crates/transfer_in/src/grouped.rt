@@ -12,7 +12,7 @@ ghost use Rattle.dns_rdata.specs.Record.{Record, owner_of, rtype_of, ttl_of};
 ghost use Rattle.zone_tree.specs.Zone.{rrset_of, share_ttl};
 ghost use Rattle.zone_tree.specs.Sets.{records_in};
 ghost use Rattle.transfer_core.specs.Take.{is_zone};
-ghost use Rattle.transfer_in.specs.Standing.{AreHeld};
+ghost use Rattle.transfer_in.specs.ListState.{AreHeld};
 ghost use Rattle.transfer_in.specs.Grouped.{IsBehindAll, AreInOrder};
 
 use crate::held::HeldRecord;

@@ -3,7 +3,7 @@ ghost use Rattle.std.specs.Prelude.{◌≡◌, ◌≢◌, ◌⊎◌, ◌∷◌, 
 ghost use Rattle.dns_rdata.specs.Record.{IsLawful};
 ghost use Rattle.zone_tree.specs.Zone.{IsZone, apex_of};
 ghost use Rattle.transfer_core.specs.Take.{entered, is_soa, behind_first};
-ghost use Rattle.transfer_in.specs.Standing.{Tells};
+ghost use Rattle.transfer_in.specs.ListState.{Tells};
 ghost use Rattle.transfer_in.specs.Taking.{TellsRead, IsKept, behind, unreadable, records_of_message};
 
 use crate::ended::same_zone;
@@ -48,7 +48,7 @@ impl Progress {
     {
         match self {
             Progress::Nothing => open(alloc, zone, sent),
-            Progress::Opened(first) => begin(alloc, zone, first, sent),
+            Progress::Opened(first) => read_second(alloc, zone, first, sent),
             Progress::Under(reading) => go_on(alloc, zone, reading, sent),
         }
     }
@@ -133,7 +133,7 @@ fn open(alloc: Global, zone: &Zone, sent: &RawRecord) -> Result<Progress, Transf
 }
 
 /// The second record of a list.
-fn begin(
+fn read_second(
     alloc: Global,
     zone: &Zone,
     first: HeldRecord,
@@ -149,7 +149,7 @@ fn begin(
         return Err(TransferFault::NotInZone);
     }
     let one = enter(alloc, sent)?;
-    let reading = Reading::begin(alloc, zone, first, one)?;
+    let reading = Reading::from_second(alloc, zone, first, one)?;
     Ok(Progress::Under(reading))
 }
 

@@ -129,15 +129,15 @@ fn do_one<'m, R: Wait, W: Task>(rt: &R, may: &'m OnceLock<bool>, mut work: W) ->
 }
 
 /// A task whose thread has been started, or one that is given back because its thread was refused.
-type Begun<'m, W> = Result<PromisedHandle<Returned<'m, W>, Given<'m, W>>, Returned<'m, W>>;
+type StartedThread<'m, W> = Result<PromisedHandle<Returned<'m, W>, Given<'m, W>>, Returned<'m, W>>;
 
 /// Starts a thread for a task. Where the thread is refused, no task may be done from then on.
-fn begin<'s, E, R: Threads + Wait + Sync, W: Task + 's>(
+fn start_thread<'s, E, R: Threads + Wait + Sync, W: Task + 's>(
     rt: &'s R,
     scope: &'s Scope<'s, E>,
     may: &'s OnceLock<bool>,
     work: W,
-) -> Begun<'s, W>
+) -> StartedThread<'s, W>
     ensures { MatchResult result
         (λ handle. (handle.promise.may.now.id ≡ may.entry.now.id) × (handle.promise.work.value ≡ work))
         (λ back. IsReturned W.number W.seen W.is_done may.entry.now.id work back.told.of back.told.value back.work) }
@@ -157,13 +157,13 @@ fn begin<'s, E, R: Threads + Wait + Sync, W: Task + 's>(
 }
 
 /// Starts a thread for each task, and appends the started tasks to `begun`, which has room for them.
-fn begin_all<'s, E, R: Threads + Wait + Sync, W: Task + 's>(
+fn start_threads<'s, E, R: Threads + Wait + Sync, W: Task + 's>(
     rt: &'s R,
     scope: &'s Scope<'s, E>,
     may: &'s OnceLock<bool>,
     works: Vec<W>,
-    mut begun: Vec<Begun<'s, W>>,
-) -> Vec<Begun<'s, W>>
+    mut begun: Vec<StartedThread<'s, W>>,
+) -> Vec<StartedThread<'s, W>>
     requires room { vec_len works ≤ vec_capacity begun }
     requires empty { begun.items ≡ [] }
     requires len { vec_len begun ≡ 0 }
@@ -173,13 +173,13 @@ fn begin_all<'s, E, R: Threads + Wait + Sync, W: Task + 's>(
         (λ back. IsReturned W.number W.seen W.is_done may.entry.now.id given back.told.of back.told.value back.work)) works.items result.items }
 {
     for work in works {
-        begun.push_reserved(begin(rt, scope, may, work));
+        begun.push_reserved(start_thread(rt, scope, may, work));
     }
     begun
 }
 
 /// Waits for a task.
-fn end<'s, R: Threads, W: Task>(rt: &R, begun: Begun<'s, W>) -> Returned<'s, W>
+fn end<'s, R: Threads, W: Task>(rt: &R, begun: StartedThread<'s, W>) -> Returned<'s, W>
     ensures { MatchResult begun.entry
         (λ handle. IsReturned W.number W.seen W.is_done handle.promise.may.now.id handle.promise.work.value result.told.of result.told.value result.work)
         (λ back. result ≡ back) }
@@ -193,7 +193,7 @@ fn end<'s, R: Threads, W: Task>(rt: &R, begun: Begun<'s, W>) -> Returned<'s, W>
 /// Waits for each task, and appends what comes back to `returned`, which has room for it.
 fn end_all<'s, R: Threads, W: Task>(
     rt: &R,
-    begun: Vec<Begun<'s, W>>,
+    begun: Vec<StartedThread<'s, W>>,
     mut returned: Vec<Returned<'s, W>>,
 ) -> Vec<Returned<'s, W>>
     requires room { vec_len begun ≤ vec_capacity returned }
@@ -264,7 +264,7 @@ fn do_in<'s, E, R: Threads + Wait + Sync, W: Task + 's, M: MainTask>(
     let Ok(done) = Vec::with_capacity(alloc, count) else {
         return (false, works, meanwhile);
     };
-    let begun = begin_all(rt, scope, may, works, begun);
+    let begun = start_threads(rt, scope, may, works, begun);
     let told = may.init(rt, || true);
     let started = *may.value(&told);
     let beside = do_beside(rt, started, meanwhile);

@@ -59,7 +59,7 @@ use Rattle.world_run.specs.Entries.{later}
 use Rattle.world_run.specs.declared.entries.Entry.{Entry}
 use Rattle.world_run.specs.declared.sending.Seeking.{Seeking}
 use Rattle.world_run.specs.declared.sending.Sending.{Sending}
-use Rattle.world_run.specs.World.{World, started, call_of, without_call, owner_of, is_taken, zone_of, answer_of, asks_sent, ask_start, drop_start, fade_start, copy_start, weak_start, up_start, is_used, is_taken_weakly, seek_start, transfer_asked, transfer_said, transfer_of, transfer_start, none_got, is_barred, can_enter, is_held, oldest_kept, update_start, start, answer_at, step_once, steps_up_to, go_on, most_steps, is_full, all_made, whole, begin, begin_under, stepped, next, turn, onto_replies, play}
+use Rattle.world_run.specs.World.{World, started, call_of, without_call, owner_of, is_taken, zone_of, answer_of, asks_sent, ask_start, drop_start, fade_start, copy_start, weak_start, up_start, is_used, is_taken_weakly, seek_start, transfer_asked, transfer_said, transfer_of, transfer_start, none_got, is_barred, can_enter, is_held, oldest_kept, update_start, start, answer_at, step_once, steps_up_to, go_on, most_steps, is_full, all_made, whole, begin_call, begin_under, stepped, next, turn, onto_replies, play}
 use Rattle.world_laws.proofs.FirstLemmas.{IsOpening, OpeningOf, start_opening}
 use Rattle.world_laws.proofs.HandPlay.{started_hands}
 use Rattle.world_laws.proofs.HandSeats.{Zones}
@@ -531,7 +531,7 @@ pushed words seen calls c given none o = record {
   gone = λ n some. o.gone n (let b = none n in let d = frees_push n calls c in omega (arith, some, b, d));
 }
 
-begin_once : (seen : ℕ → ℕ) (world : World) (name : List ℕ) (call : Call) (how : Start) → IsStill how → OpeningOf how → Once world.words seen world.calls quiet → OnceBehind seen (begin world name call how)
+begin_once : (seen : ℕ → ℕ) (world : World) (name : List ℕ) (call : Call) (how : Start) → IsStill how → OpeningOf how → Once world.words seen world.calls quiet → OnceBehind seen (begin_call world name call how)
 begin_once seen world name call Refused still is o = to_some seen _ (silent world.words seen world.calls NotEnabled (λ n. refl) o)
 begin_once seen world name call (Answers given) still is o = to_if seen (is_full world) _ _ (to_none seen) (to_some seen _ (answered_once world.words seen world.calls given still o))
 begin_once seen world name call (Takes at) still is o =

@@ -46,7 +46,7 @@ use Rattle.world_run.specs.declared.step.WorldStep.{WorldStep}
 use Rattle.world_run.specs.declared.step.WorldStep.TheVariants.{Whole, Begin, Next}
 use Rattle.world_run.specs.Phases.{word_step}
 use Rattle.world_run.specs.World.{fade_start, copy_start, weak_start, up_start, is_used, is_taken_weakly}
-use Rattle.world_run.specs.World.{World, owner_of, call_of, is_taken, zone_of, drop_start, ask_said, ask_start, is_held, publication_start, update_start, oldest_kept, start, answer_at, step_once, steps_up_to, most_steps, is_full, all_made, whole, begin, begin_under, stepped, next, turn}
+use Rattle.world_run.specs.World.{World, owner_of, call_of, is_taken, zone_of, drop_start, ask_said, ask_start, is_held, publication_start, update_start, oldest_kept, start, answer_at, step_once, steps_up_to, most_steps, is_full, all_made, whole, begin_call, begin_under, stepped, next, turn}
 use Rattle.world_laws.proofs.RunLemmas.{one_step}
 use Rattle.world_run.proofs.StepLemmas.{stays_there, goes_further}
 use Rattle.cell_core.proofs.WeakShows.{to_fade}
@@ -555,7 +555,7 @@ whole_refusal world cell call (Takes at) is s few =
     refusal_if world (is_full world) _ _ (nothing world)
     (all_made_refusal world call (steps_up_to most_steps world.words at) (first_by world.words cell at (step_once world.words at) refl is s (λ probe. few)))
 
-begin_refusal : (world : World) (name : List ℕ) (call : Call) (how : Start) → Refusal world (begin world name call how)
+begin_refusal : (world : World) (name : List ℕ) (call : Call) (how : Start) → Refusal world (begin_call world name call how)
 begin_refusal world name call Refused = itself world
 begin_refusal world name call (Answers answer) = refusal_if world (is_full world) _ _ (nothing world) (another world _ _ (no_answered answer))
 begin_refusal world name call (Takes at) = refusal_if world (is_full world) _ _ (nothing world) (another world _ _ (λ e. absurd (let wrong = e in cc)))

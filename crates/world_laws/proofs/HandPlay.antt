@@ -49,7 +49,7 @@ use Rattle.world_run.specs.declared.phase.End.TheVariants.{Owned, OwnedWeakly, T
 use Rattle.transfer_core.specs.Window.{span, fits}
 use Rattle.world_run.specs.declared.sending.Sending.{Sending}
 use Rattle.world_laws.specs.Replays.{IsSentAt}
-use Rattle.world_run.specs.World.{World, loaded_once, noted_once, started, started_within, owner_of, call_of, without_call, is_taken, is_taken_weakly, is_used, is_held, drop_start, fade_start, copy_start, weak_start, up_start, asks_sent, ask_start, seek_start, transfer_asked, transfer_said, transfer_of, transfer_start, none_got, is_barred, can_enter, keeping_for, first_entries, entries_at, oldest_kept, publication_start, update_start, start, zone_of, given_up, weak_given_up, step_once, steps_up_to, most_steps, is_full, all_made, whole, begin, begin_under, stepped, next, turn, onto_replies, play}
+use Rattle.world_run.specs.World.{World, loaded_once, noted_once, started, started_within, owner_of, call_of, without_call, is_taken, is_taken_weakly, is_used, is_held, drop_start, fade_start, copy_start, weak_start, up_start, asks_sent, ask_start, seek_start, transfer_asked, transfer_said, transfer_of, transfer_start, none_got, is_barred, can_enter, keeping_for, first_entries, entries_at, oldest_kept, publication_start, update_start, start, zone_of, given_up, weak_given_up, step_once, steps_up_to, most_steps, is_full, all_made, whole, begin_call, begin_under, stepped, next, turn, onto_replies, play}
 use Rattle.world_laws.proofs.CallReplays.{Script, script, publishes_nothing}
 use Rattle.world_laws.proofs.OtherCalls.{any_update, unbarred}
 use Rattle.world_laws.proofs.FirstLemmas.{EntriesIf, IsProbe, FirstOf, Unchanged, first_by, start_first, turn_refusal}
@@ -334,7 +334,7 @@ to_calls words names weaks store calls name at none o =
     let e = append-nil calls in
     put_back words names weaks store calls [] (record { name = name; phase = at }) (ap (called name) e ∙ none) (subst (λ cs. Open words names weaks store cs (On at)) (sym e) o)
 
-begin_hands : (world : World) (cell : Cell Numbered) (name : List ℕ) (call : Call) (how : Start) → call_of name world.calls ≡ None → Hands world → BeginsOk world cell call how → HandsBehind (begin world name call how)
+begin_hands : (world : World) (cell : Cell Numbered) (name : List ℕ) (call : Call) (how : Start) → call_of name world.calls ≡ None → Hands world → BeginsOk world cell call how → HandsBehind (begin_call world name call how)
 begin_hands world cell name call Refused none h ok = to_some _ h
 begin_hands world cell name call (Answers given) none h ok = to_if (is_full world) _ _ to_none (to_some _ h)
 begin_hands world cell name call (Takes at) none h ok =
@@ -426,7 +426,7 @@ whole_same world call Refused = same_some world _ (refl, refl, λ less few. few)
 whole_same world call (Answers given) = same_if world (is_full world) _ _ (same_none world) (same_some world _ (refl, refl, λ less few. few))
 whole_same world call (Takes at) = same_if world (is_full world) _ _ (same_none world) (same_some world _ (made_same world call (steps_up_to most_steps world.words at)))
 
-begin_same : (world : World) (name : List ℕ) (call : Call) (how : Start) → SameBehind world (begin world name call how)
+begin_same : (world : World) (name : List ℕ) (call : Call) (how : Start) → SameBehind world (begin_call world name call how)
 begin_same world name call Refused = same_some world _ (refl, refl, λ less few. few)
 begin_same world name call (Answers given) = same_if world (is_full world) _ _ (same_none world) (same_some world _ (refl, refl, λ less few. few))
 begin_same world name call (Takes at) = same_if world (is_full world) _ _ (same_none world) (same_some world _ (refl, refl, λ less few. few))

@@ -40,7 +40,7 @@ use Rattle.world_laws.specs.InTurn.{EndsUnder, IsOpen, IsOfCall, GivesAt, IsTold
 use Rattle.world_run.specs.Phases.{step_name, updates}
 use Rattle.world_laws.specs.Replays.{Sends, IsSentAt}
 use Rattle.world_laws.specs.UpdateAnswers.{heading_for, heading_of}
-use Rattle.world_run.specs.World.{World, started, call_of, without_call, code_reply, answer_at, step_once, steps_up_to, most_steps, is_full, all_made, whole, begin, begin_under, start, stepped, next, turn, onto_replies, play}
+use Rattle.world_run.specs.World.{World, started, call_of, without_call, code_reply, answer_at, step_once, steps_up_to, most_steps, is_full, all_made, whole, begin_call, begin_under, start, stepped, next, turn, onto_replies, play}
 use Rattle.world_laws.proofs.CallReplays.{Script, scripted, Placed, updates_in, Zones}
 use Rattle.world_laws.proofs.OtherCalls.{any_update, AtMostOne, found_any, found_alone}
 use Rattle.world_laws.proofs.FirstLemmas.{Unchanged, FirstOf, IsFirst, IsProbe, first_by, start_first}
@@ -240,7 +240,7 @@ whole_fate lines replies top world made (Takes at) name call here found =
     (fate_some lines replies top world (Whole made) name call _ (λ told. inl (ap (call_of name) (made_calls world made (steps_up_to most_steps world.words at)) ∙ found, λ answer. whole_ends_none lines replies top made name answer here)))
 
 begin_fate : (lines : List Line) (replies : List WorldReply) (top : ℕ) (world : World) (begun : List ℕ) (made : Call) (how : Start) (name : List ℕ) (call : UnderWay) → slice_get lines top ≡ Some (Begin begun made) → call_of name world.calls ≡ Some call
-    → FateBehind lines replies top world (Begin begun made) name call (begin world begun made how)
+    → FateBehind lines replies top world (Begin begun made) name call (begin_call world begun made how)
 begin_fate lines replies top world begun made Refused name call here found = fate_some lines replies top world (Begin begun made) name call _ (λ told. inl (found, λ answer. begin_ends_none lines replies top begun made name answer here))
 begin_fate lines replies top world begun made (Answers answer) name call here found =
     fate_if lines replies top world (Begin begun made) name call (is_full world) _ _ (fate_none lines replies top world (Begin begun made) name call)

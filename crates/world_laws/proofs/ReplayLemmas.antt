@@ -59,7 +59,7 @@ use Rattle.world_run.specs.declared.step.WorldReply.TheVariants.{Answered, Begun
 use Rattle.world_laws.proofs.AnswerLemmas.{keeps_head}
 use Rattle.world_laws.proofs.HandSeats.{swapped_in, swapped_at, swaps_now}
 use Rattle.world_laws.specs.Replays.{Sends, IsSentAt, AreSentInTurn}
-use Rattle.world_run.specs.World.{World, loaded_once, started, call_of, without_call, publication_start, update_start, oldest_kept, is_held, start, step_once, steps_up_to, go_on, most_steps, is_full, given_up, all_made, whole, begin, begin_under, stepped, next, turn, onto_replies, play, entries_at, zone_of, owner_of, is_taken, is_taken_weakly, is_used, drop_start, fade_start, copy_start, weak_start, up_start, weak_given_up, ask_start}
+use Rattle.world_run.specs.World.{World, loaded_once, started, call_of, without_call, publication_start, update_start, oldest_kept, is_held, start, step_once, steps_up_to, go_on, most_steps, is_full, given_up, all_made, whole, begin_call, begin_under, stepped, next, turn, onto_replies, play, entries_at, zone_of, owner_of, is_taken, is_taken_weakly, is_used, drop_start, fade_start, copy_start, weak_start, up_start, weak_given_up, ask_start}
 use Rattle.world_laws.specs.Replays.{IsReplayed, IsAnsweredInReplay}
 use Rattle.world_laws.specs.Runs.{IsAnsweredAtLoaded}
 use Rattle.world_run.proofs.JudgeLemmas.{made_by}
@@ -511,7 +511,7 @@ begun_goes S first world name call place at unused g ok =
       further = further_none world.words;
     }
 
-begin_goes : (S : Script) (first : List Record) (world : World) (name : List ℕ) (call : Call) (place : ℕ) (how : Start) → call_of name world.calls ≡ None → (g : Goes S first world) → StartOk S first g.us world.words world.calls place how → TurnedBehind S first world g.us (Begin name call) place (begin world name call how)
+begin_goes : (S : Script) (first : List Record) (world : World) (name : List ℕ) (call : Call) (place : ℕ) (how : Start) → call_of name world.calls ≡ None → (g : Goes S first world) → StartOk S first g.us world.words world.calls place how → TurnedBehind S first world g.us (Begin name call) place (begin_call world name call how)
 begin_goes S first world name call place Refused unused g ok = to_some S first world g.us (Begin name call) place _ (itself S first world g (Begin name call) place NotEnabled)
 begin_goes S first world name call place (Answers given) unused g ok =
     to_if S first world g.us (Begin name call) place (is_full world) _ _ (to_none S first world g.us (Begin name call) place) (to_some S first world g.us (Begin name call) place _ (itself S first world g (Begin name call) place (Answered given)))

@@ -62,7 +62,7 @@ use Rattle.world_run.specs.Phases.{word_step, after, past, gone, leaving_after, 
 use Rattle.world_run.specs.Entries.{most_entries, later}
 use Rattle.world_laws.specs.Runs.{Run, Comes, IsFromLoad, IsShownBy, ShowsReached, IsAnsweredAtLoaded}
 use Rattle.world_laws.specs.Runs.Comes.{loaded, raised, noted}
-use Rattle.world_run.specs.World.{World, loaded_once, noted_once, started, started_within, owner_of, without_name, zone_of, call_of, without_call, is_taken, is_taken_weakly, is_used, drop_start, fade_start, copy_start, weak_start, up_start, asks_sent, ask_said, ask_start, seek_start, transfer_asked, transfer_said, transfer_of, transfer_start, none_got, is_barred, can_enter, is_held, oldest_kept, update_start, start, given_up, weak_given_up, names_at, weak_names_at, step_once, steps_up_to, go_on, most_steps, is_full, all_made, whole, begin, begin_under, stepped, next, turn, onto_replies, play}
+use Rattle.world_run.specs.World.{World, loaded_once, noted_once, started, started_within, owner_of, without_name, zone_of, call_of, without_call, is_taken, is_taken_weakly, is_used, drop_start, fade_start, copy_start, weak_start, up_start, asks_sent, ask_said, ask_start, seek_start, transfer_asked, transfer_said, transfer_of, transfer_start, none_got, is_barred, can_enter, is_held, oldest_kept, update_start, start, given_up, weak_given_up, names_at, weak_names_at, step_once, steps_up_to, go_on, most_steps, is_full, all_made, whole, begin_call, begin_under, stepped, next, turn, onto_replies, play}
 
 -- an owner comes from a load of a run, and has its number
 pub record WasLoaded (run : Run) (owners : List Owner) (owner : ℕ) : Type 0 where
@@ -525,7 +525,7 @@ whole_shown first world call (Takes phase) s was =
     behind_if first (is_full world) _ _ (behind_none first)
     (behind_some first _ (all_made_shown first world call s (steps_up_to most_steps world.words phase) (longer_many most_steps first s.run world.words phase s.runs was)))
 
-begin_shown : (first : List Record) (world : World) (name : List ℕ) (call : Call) (how : Start) (s : Shown first world) → StartLoaded s.run world.words.owners how → ShownBehind first (begin world name call how)
+begin_shown : (first : List Record) (world : World) (name : List ℕ) (call : Call) (how : Start) (s : Shown first world) → StartLoaded s.run world.words.owners how → ShownBehind first (begin_call world name call how)
 begin_shown first world name call Refused s was = behind_some first _ s
 begin_shown first world name call (Answers answer) s was = behind_if first (is_full world) _ _ (behind_none first) (behind_some first _ s)
 begin_shown first world name call (Takes phase) s was =

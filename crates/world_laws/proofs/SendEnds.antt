@@ -17,7 +17,7 @@ use Rattle.transfer_core.specs.Packed.{spelt}
 use Rattle.transfer_core.specs.Take.{take as taken_by}
 use Rattle.zone_tree.specs.Version.{Version as Numbered, zone_serial}
 use Rattle.zone_tree.specs.Zone.{IsZone, soa_of}
-use Rattle.world_run.specs.World.{World, started, version_of, call_of, none_got, answer_at, step_once, steps_up_to, most_steps, is_full, all_made, whole, begin, begin_under, stepped, next, start, turn, play, given_up, weak_given_up}
+use Rattle.world_run.specs.World.{World, started, version_of, call_of, none_got, answer_at, step_once, steps_up_to, most_steps, is_full, all_made, whole, begin_call, begin_under, stepped, next, start, turn, play, given_up, weak_given_up}
 use Rattle.world_run.specs.declared.calls.UnderWay.{UnderWay}
 use Rattle.world_run.specs.declared.entries.Entry.{Entry}
 use Rattle.world_run.specs.declared.phase.End.{End}
@@ -197,7 +197,7 @@ record IsBegun (world : World) (begun : List ℕ) (call : Call) (after : World) 
   how : start world call ≡ Takes at
   there : call_of begun after.calls ≡ Some (record { name = begun; phase = at })
 
-begun_if : (world : World) (begun : List ℕ) (call : Call) (after : World) (how : Start) → start world call ≡ how → call_of begun world.calls ≡ None → begin world begun call how ≡ Some (Begun, after) → IsBegun world begun call after
+begun_if : (world : World) (begun : List ℕ) (call : Call) (after : World) (how : Start) → start world call ≡ how → call_of begun world.calls ≡ None → begin_call world begun call how ≡ Some (Begun, after) → IsBegun world begun call after
 begun_if world begun call after Refused how none e =
     let pair : (NotEnabled, world) ≡ (Begun, after) = (let f = e in cc) in
     absurd (let wrong : NotEnabled ≡ Begun = ap (λ (p : WorldReply × World). p.0) pair in cc)

@@ -170,5 +170,5 @@ pub fn burials_are_told_once()
 /// call takes none.
 pub fn lines_take_one_step()
     ensures next { (world after : World) (name : List ℕ) (reply : WorldReply) → turn world (Next name) ≡ Some (reply, after) → TakesOneStep world reply after }
-    ensures begin { (world after : World) (name : List ℕ) (call : Call) (reply : WorldReply) → turn world (Begin name call) ≡ Some (reply, after) → after.words ≡ world.words }
+    ensures begin_call { (world after : World) (name : List ℕ) (call : Call) (reply : WorldReply) → turn world (Begin name call) ≡ Some (reply, after) → after.words ≡ world.words }
 {}

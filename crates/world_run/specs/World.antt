@@ -371,15 +371,15 @@ whole world call (Takes phase) =
     if is_full world then None else Some (all_made world call (steps_up_to most_steps world.words phase))
 
 -- a call that begins under a name that no call under way has, by how it begins (own)
-abbrev pub begin : World → List ℕ → Call → Start → Option (WorldReply × World)
-begin world name call Refused = Some (NotEnabled, world)
-begin world name call (Answers answer) = if is_full world then None else Some (Answered answer, world)
-begin world name call (Takes phase) =
+abbrev pub begin_call : World → List ℕ → Call → Start → Option (WorldReply × World)
+begin_call world name call Refused = Some (NotEnabled, world)
+begin_call world name call (Answers answer) = if is_full world then None else Some (Answered answer, world)
+begin_call world name call (Takes phase) =
     if is_full world then None
     else Some (Begun, record world { names = given_up call world.names; weak_names = weak_given_up call world.weak_names; calls = world.calls ++ record { name = name; phase = phase } ∷ [] })
 
 abbrev pub begin_under : World → List ℕ → Call → Option UnderWay → Option (WorldReply × World)
-begin_under world name call None = begin world name call (start world call)
+begin_under world name call None = begin_call world name call (start world call)
 begin_under world name call (Some other) = Some (NotEnabled, world)
 
 -- a call under way that takes its next step (own)

@@ -193,8 +193,8 @@ impl<'a, 's, Z: FirstZone, N: ServerName, L: ServiceLog> ConnectionHandler<'a, '
         let Some(place) = self.taken.at(self.asker) else {
             return;
         };
-        let is_handed = self.sender_for(request).is_some();
-        if is_handed && place.from == self.from {
+        let has_sender = self.sender_for(request).is_some();
+        if has_sender && place.from == self.from {
             return;
         }
         self.server.leave(rt, place.ticket);

@@ -3,7 +3,7 @@ use Rattle.std.proofs.lemmas.Result.{err_from_is_err_and}
 use Rattle.zone_tree.specs.Zone.{apex_of}
 use Rattle.transfer_in.proofs.TakingLemmas.{goes_out, goes_fault, goes_on}
 use Rattle.transfer_in.proofs.StepKeeps.{step_keeps}
-use Rattle.transfer_in.specs.Standing.{Within, HasSoa, reading_of}
+use Rattle.transfer_in.specs.ListState.{Within, HasSoa, reading_of}
 use Rattle.transfer_in.proofs.taking.go_on.Goals as goal
 
 pub returns-in_err-one : goal.returns-in_err-one

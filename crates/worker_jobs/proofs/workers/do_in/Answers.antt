@@ -12,7 +12,7 @@ tasks_of-done-requires-clause-told g c κs within =
     let V = g.W.Task.seen in
     let D = g.W.Task.is_done in
     let lock = c.args.may.now.id in
-    let back = each_through _ _ (λ (given : g.row.W.Denot) (back : Returned g.row.W.Denot). IsReturned N V D lock given back.told.of back.told.value back.work) (ended N V D lock (λ h. h.promise.may.now.id) (λ h. h.promise.work.value) (λ b. b.told.of) (λ b. b.told.value) (λ b. b.work)) _ _ _ c.begin_all-begun.ensures.begun c.end_all-returned.ensures.ended in
+    let back = each_through _ _ (λ (given : g.row.W.Denot) (back : Returned g.row.W.Denot). IsReturned N V D lock given back.told.of back.told.value back.work) (ended N V D lock (λ h. h.promise.may.now.id) (λ h. h.promise.work.value) (λ b. b.told.of) (λ b. b.told.value) (λ b. b.work)) _ _ _ c.start_threads-begun.ensures.begun c.end_all-returned.ensures.ended in
     each_second _ (λ (back : Returned g.row.W.Denot). back.told.of ≡ c.init-told.result.of) (λ given back r. r.0 ∙ sym c.init-told.ensures) _ _ back
 
 pub returns-clause-numbers : goal.returns-clause-numbers
@@ -21,7 +21,7 @@ returns-clause-numbers g c =
     let V = g.W.Task.seen in
     let D = g.W.Task.is_done in
     let lock = c.args.may.now.id in
-    let back = each_through _ _ (λ (given : g.row.W.Denot) (back : Returned g.row.W.Denot). IsReturned N V D lock given back.told.of back.told.value back.work) (ended N V D lock (λ h. h.promise.may.now.id) (λ h. h.promise.work.value) (λ b. b.told.of) (λ b. b.told.value) (λ b. b.work)) _ _ _ c.begin_all-begun.ensures.begun c.end_all-returned.ensures.ended in
+    let back = each_through _ _ (λ (given : g.row.W.Denot) (back : Returned g.row.W.Denot). IsReturned N V D lock given back.told.of back.told.value back.work) (ended N V D lock (λ h. h.promise.may.now.id) (λ h. h.promise.work.value) (λ b. b.told.of) (λ b. b.told.value) (λ b. b.work)) _ _ _ c.start_threads-begun.ensures.begun c.end_all-returned.ensures.ended in
     let same = each_through _ _ (λ (given work : g.row.W.Denot). IsGivenBack N V D given c.init-told.result.value work) (λ given back work r w. given_along N V D given back.told.value c.init-told.result.value back.work work w.0 w.1 r.1) _ _ _ back c.tasks_of-done.ensures in
     each_alike _ N N (λ given work r. r.0) _ _ same
 
@@ -31,7 +31,7 @@ returns-clause-seen g c =
     let V = g.W.Task.seen in
     let D = g.W.Task.is_done in
     let lock = c.args.may.now.id in
-    let back = each_through _ _ (λ (given : g.row.W.Denot) (back : Returned g.row.W.Denot). IsReturned N V D lock given back.told.of back.told.value back.work) (ended N V D lock (λ h. h.promise.may.now.id) (λ h. h.promise.work.value) (λ b. b.told.of) (λ b. b.told.value) (λ b. b.work)) _ _ _ c.begin_all-begun.ensures.begun c.end_all-returned.ensures.ended in
+    let back = each_through _ _ (λ (given : g.row.W.Denot) (back : Returned g.row.W.Denot). IsReturned N V D lock given back.told.of back.told.value back.work) (ended N V D lock (λ h. h.promise.may.now.id) (λ h. h.promise.work.value) (λ b. b.told.of) (λ b. b.told.value) (λ b. b.work)) _ _ _ c.start_threads-begun.ensures.begun c.end_all-returned.ensures.ended in
     let same = each_through _ _ (λ (given work : g.row.W.Denot). IsGivenBack N V D given c.init-told.result.value work) (λ given back work r w. given_along N V D given back.told.value c.init-told.result.value back.work work w.0 w.1 r.1) _ _ _ back c.tasks_of-done.ensures in
     each_wider _ _ (λ given work r. r.1) _ _ same
 
@@ -41,7 +41,7 @@ returns-clause-none g c =
     let V = g.W.Task.seen in
     let D = g.W.Task.is_done in
     let lock = c.args.may.now.id in
-    let back = each_through _ _ (λ (given : g.row.W.Denot) (back : Returned g.row.W.Denot). IsReturned N V D lock given back.told.of back.told.value back.work) (ended N V D lock (λ h. h.promise.may.now.id) (λ h. h.promise.work.value) (λ b. b.told.of) (λ b. b.told.value) (λ b. b.work)) _ _ _ c.begin_all-begun.ensures.begun c.end_all-returned.ensures.ended in
+    let back = each_through _ _ (λ (given : g.row.W.Denot) (back : Returned g.row.W.Denot). IsReturned N V D lock given back.told.of back.told.value back.work) (ended N V D lock (λ h. h.promise.may.now.id) (λ h. h.promise.work.value) (λ b. b.told.of) (λ b. b.told.value) (λ b. b.work)) _ _ _ c.start_threads-begun.ensures.begun c.end_all-returned.ensures.ended in
     let same = each_through _ _ (λ (given work : g.row.W.Denot). IsGivenBack N V D given c.init-told.result.value work) (λ given back work r w. given_along N V D given back.told.value c.init-told.result.value back.work work w.0 w.1 r.1) _ _ _ back c.tasks_of-done.ensures in
     λ idle. each_same (λ (given work : g.row.W.Denot). IsGivenBack N V D given c.init-told.result.value work) (λ given work r. r.2 (sym c.value-started.ensures ∙ idle)) _ _ same
 
@@ -51,7 +51,7 @@ returns-clause-done g c =
     let V = g.W.Task.seen in
     let D = g.W.Task.is_done in
     let lock = c.args.may.now.id in
-    let back = each_through _ _ (λ (given : g.row.W.Denot) (back : Returned g.row.W.Denot). IsReturned N V D lock given back.told.of back.told.value back.work) (ended N V D lock (λ h. h.promise.may.now.id) (λ h. h.promise.work.value) (λ b. b.told.of) (λ b. b.told.value) (λ b. b.work)) _ _ _ c.begin_all-begun.ensures.begun c.end_all-returned.ensures.ended in
+    let back = each_through _ _ (λ (given : g.row.W.Denot) (back : Returned g.row.W.Denot). IsReturned N V D lock given back.told.of back.told.value back.work) (ended N V D lock (λ h. h.promise.may.now.id) (λ h. h.promise.work.value) (λ b. b.told.of) (λ b. b.told.value) (λ b. b.work)) _ _ _ c.start_threads-begun.ensures.begun c.end_all-returned.ensures.ended in
     let same = each_through _ _ (λ (given work : g.row.W.Denot). IsGivenBack N V D given c.init-told.result.value work) (λ given back work r w. given_along N V D given back.told.value c.init-told.result.value back.work work w.0 w.1 r.1) _ _ _ back c.tasks_of-done.ensures in
     λ may. each_second (λ (given work : g.row.W.Denot). IsGivenBack N V D given c.init-told.result.value work) D (λ given work r. r.3 (sym c.value-started.ensures ∙ may)) _ _ same
 

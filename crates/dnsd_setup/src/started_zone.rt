@@ -9,11 +9,15 @@ use std::fs::{File, Files};
 use std::sync::Wait;
 use store_compaction::{CompactedStore, StoreWriter, TextWriter};
 use store_files::{FileDisk, StoreLock};
-use store_server::{LoggedStore, ServerStore, Started, StoreLog, StoreNotes, resume_store};
+use store_server::{LoggedCompactions, LoggedStore, ServerStore, Started, StoreLog, resume_store};
 use zone_tree::{Version, Zone, ZoneRead};
 
 /// Where a server's updates are stored; it logs its events to the server's log.
-pub type ZoneStore<'a, R, T, L> = ServerStore<'a, CompactedStore<R, T, StoreNotes<'a, L>>, L>;
+pub type ZoneStore<'a, R, T, L> = ServerStore<
+    'a,
+    CompactedStore<R, T, LoggedCompactions<'a, L>>,
+    L,
+>;
 
 /// A store in which updates survive a restart.
 #[derive(Drop)]
@@ -143,7 +147,7 @@ fn kept_in<'a, R: Files<File = File> + AllocGlobal + Copy + Drop, T: TextWriter,
 ) -> ZoneStore<'a, R, T, L>
     ensures { IsIn writer result }
 {
-    let notes = StoreNotes::new(log);
-    let store = CompactedStore::new(*rt, dir, writer, texts, notes, journal);
+    let compactions = LoggedCompactions::new(log);
+    let store = CompactedStore::new(*rt, dir, writer, texts, compactions, journal);
     ServerStore::Store(LoggedStore::new(store, log))
 }

@@ -11,7 +11,7 @@ use Rattle.transfer_core.specs.declared.fault.TransferFault.{TransferFault}
 use Rattle.transfer_core.specs.declared.fault.TransferFault.TheVariants.{NoMemory}
 use Rattle.transfer_in.specs.declared.reading.Stage.{Stage as Phase}
 use Rattle.transfer_in.specs.declared.reading.Stage.TheVariants.{Gathering, Deleting, Adding, Closed}
-use Rattle.transfer_in.specs.declared.reading.Standing.{Standing}
+use Rattle.transfer_in.specs.declared.reading.ListState.{ListState}
 use Rattle.transfer_core.specs.Take.{Stage, gathering, deleting, adding, closed, Reading, held_cmp}
 
 -- what is told of an outcome: it itself, or that a growth was refused
@@ -33,8 +33,8 @@ HasSoa (Adding soa) records = soa_of records ≡ soa ∷ []
 HasSoa Closed records = Unit {0}
 
 -- where a holder stands and what it holds there, as the definitions have it
-abbrev pub standing_of : Standing → Reading
-standing_of standing = record { stage = stage_of standing.stage; records = standing.records }
+abbrev pub list_state_of : ListState → Reading
+list_state_of state = record { stage = stage_of state.stage; records = state.records }
 
 -- what a holder holds within a list
 pub record Within : Type 0 where

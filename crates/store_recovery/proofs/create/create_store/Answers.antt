@@ -3,7 +3,7 @@ use Rattle.sha2.proofs.Facts256.{length-sha256}
 use Rattle.journal.specs.declared.heads.Head.{Head}
 use Rattle.journal.specs.Head.{IsHead, IsSum, IsText}
 use Rattle.store_recovery.proofs.BegunLemmas.{begun_from}
-use Rattle.store_recovery.proofs.begin.begin_store.Goals as goal
+use Rattle.store_recovery.proofs.create.create_store.Goals as goal
 
 pub returns : goal.returns
 returns c =

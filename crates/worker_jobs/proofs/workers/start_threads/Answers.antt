@@ -3,7 +3,7 @@ use Rattle.std.proofs.Common.{rules, ◌≡◌, [], ◌∷◌, ◌++◌, sym, ap
 use Rattle.std.specs.Vec.Iter.{into_iter_items}
 use Rattle.worker_jobs.specs.GivenBack.{Each, none}
 use Rattle.worker_jobs.proofs.EachLemmas.{each_push, each_along, all_taken}
-use Rattle.worker_jobs.proofs.workers.begin_all.Goals as goal
+use Rattle.worker_jobs.proofs.workers.start_threads.Goals as goal
 
 pub loop-work-init : goal.loop-work-init
 loop-work-init g c = record { left = c.into_iter-work-iterator.ensures.into_iter_gives.0; count = search rules; room = search rules; begun = subst (Each _ _) (sym c.requires.empty) none }
@@ -13,7 +13,7 @@ loop-work-preserved g c = record {
   left = append_assoc c.loop-work.yielded (c.in-Some.work ∷ []) (into_iter_items c.next.new.self) ∙ ap (λ rest. c.loop-work.yielded ++ rest) (sym c.in-Some.ensures.steps.0) ∙ c.loop-work.invariant.left;
   count = search rules;
   room = search rules;
-  begun = subst (Each _ _) (sym c.push_reserved.ensures.items) (each_push _ _ _ _ _ c.loop-work.invariant.begun c.begin.ensures);
+  begun = subst (Each _ _) (sym c.push_reserved.ensures.items) (each_push _ _ _ _ _ c.loop-work.invariant.begun c.start_thread.ensures);
 }
 
 pub returns-clause-begun : goal.returns-clause-begun

@@ -12,12 +12,12 @@ use journal::{Head, Log, SUM, TextSum, write_head};
 use std::alloc::Global;
 use std::fs::{File, Files};
 use store_files::{FIRST_TEXT, FileDisk, KeptPair, begin_pair, write_pair};
-use store_recovery::begin_store;
+use store_recovery::create_store;
 use zone_tree::{Version, Zone};
 
 /// Creates the first store of a directory that has none, with a zone: its zone file of number 0, and a journal without batches. `random` are bytes unknown to anyone else, and
 /// `given` is the text that the zone was read from. It allocates memory.
-pub(crate) fn begin_first<R: Files<File = File>>(
+pub(crate) fn create_first<R: Files<File = File>>(
     rt: &R,
     alloc: Global,
     dir: &str,
@@ -28,7 +28,7 @@ pub(crate) fn begin_first<R: Files<File = File>>(
     ensures begun { IfOk result (λ store. IsBegunStore zone 0 random given.now store) }
     ensures refused { IfErr result IsOwnFault }
 {
-    let (text, head) = begin_store(alloc, &zone, FIRST_TEXT, random, TextSum::of(given))?;
+    let (text, head) = create_store(alloc, &zone, FIRST_TEXT, random, TextSum::of(given))?;
     let (octets, salt) = write_head(alloc, &head)?;
     let disk = begin_pair(rt, alloc, dir, text.as_bytes(), &octets)?;
     let log = empty_log(&head, &salt, &octets, disk)?;
@@ -37,7 +37,7 @@ pub(crate) fn begin_first<R: Files<File = File>>(
 
 /// Creates a store with a zone in place of a directory's store, which is kept already: its zone file of this number, which no journal names yet, and a journal without batches.
 /// `random` are bytes unknown to anyone else, and `given` is the text that the zone was read from. It allocates memory.
-pub(crate) fn begin_over<R: Files<File = File>>(
+pub(crate) fn create_over<R: Files<File = File>>(
     rt: &R,
     alloc: Global,
     dir: &str,
@@ -50,7 +50,7 @@ pub(crate) fn begin_over<R: Files<File = File>>(
     ensures begun { IfOk result (λ store. IsBegunStore zone number random given.now store) }
     ensures refused { IfErr result IsOwnFault }
 {
-    let (text, head) = begin_store(alloc, &zone, number, random, TextSum::of(given))?;
+    let (text, head) = create_store(alloc, &zone, number, random, TextSum::of(given))?;
     let (octets, salt) = write_head(alloc, &head)?;
     let disk = write_pair(rt, alloc, dir, number, text.as_bytes(), &octets)?;
     let log = empty_log(&head, &salt, &octets, disk)?;

@@ -1,5 +1,5 @@
 use Rattle.lookup_core.proofs.AdditionalLemmas.{shown_alone}
-use Rattle.lookup_core.proofs.sections.standing.Goals as goal
+use Rattle.lookup_core.proofs.sections.unchanged_set.Goals as goal
 
 pub returns-clause-records : goal.returns-clause-records
 returns-clause-records c =

@@ -1,6 +1,6 @@
 use Rattle.std.proofs.Common.{ap, ◌∙◌, [], ◌∷◌}
 use Rattle.counted_handles.proofs.MadeLemmas.{took_first, lent_first, offering_of}
-use Rattle.counted_handles.proofs.made.begin.Goals as goal
+use Rattle.counted_handles.proofs.made.make_publisher.Goals as goal
 
 pub slot_mut-room-requires : goal.slot_mut-room-requires
 slot_mut-room-requires g c =

@@ -4,8 +4,8 @@ use Rattle.dns_name.specs.Name.{is_under}
 use Rattle.zone_tree.specs.Zone.{apex_of}
 use Rattle.transfer_in.proofs.TakingLemmas.{begins, begins_out, begins_fault}
 use Rattle.transfer_in.proofs.StepKeeps.{begin_keeps}
-use Rattle.transfer_in.specs.Standing.{reading_of}
-use Rattle.transfer_in.proofs.taking.begin.Goals as goal
+use Rattle.transfer_in.specs.ListState.{reading_of}
+use Rattle.transfer_in.proofs.taking.read_second.Goals as goal
 
 pub returns-in_err-one : goal.returns-in_err-one
 returns-in_err-one c =

@@ -9,7 +9,7 @@ use zone_tree::{Zone, ZoneRead};
 
 /// A store created from a zone: the zone as text, and the head of its journal, which has no batch yet. `number` is the text's, the N of `zone-N`; `random` are
 /// octets that no client knows; and `origin` identifies the text that the store was first created from, as the operator gave it. It allocates memory.
-pub fn begin_store(
+pub fn create_store(
     alloc: Global,
     zone: &Zone,
     number: u64,

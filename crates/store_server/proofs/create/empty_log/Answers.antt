@@ -1,7 +1,7 @@
 use Rattle.std.proofs.Common.{◌≡◌, [], length, refl, sym, ap, ◌∙◌, append-nil}
 use Rattle.journal.specs.Head.{head_of}
 use Rattle.journal.specs.Log.{octets_of}
-use Rattle.store_server.proofs.begin.empty_log.Goals as goal
+use Rattle.store_server.proofs.create.empty_log.Goals as goal
 
 pub returns-clause-empty : goal.returns-clause-empty
 returns-clause-empty c =

@@ -2,7 +2,7 @@
 use Rattle.std.proofs.Common.{◌≡◌, ◌+◌, ◌++◌, ◌≤◌, vec_len, vec_capacity, MatchResult}
 use Rattle.std.specs.Vec.Iter.{into_iter_len, into_iter_items}
 use Rattle.worker_jobs.specs.GivenBack.{Each, IsReturned}
-use Rattle.worker_jobs.proofs.workers.begin_all.Given as goal
+use Rattle.worker_jobs.proofs.workers.start_threads.Given as goal
 
 abbrev pub invariant-loop-work : goal.invariant-loop-work
 invariant-loop-work g l = record {

@@ -1,7 +1,7 @@
 -- So many are taken, in their order, and as much room is left as more are to be.
 use Rattle.std.proofs.Common.{◌≡◌, ◌+◌, ◌≤◌, ◌++◌, take, vec_len, vec_capacity}
-use Rattle.update_batches.specs.Waiting.{items_of, without_first}
-use Rattle.update_batches.proofs.waiting.Waiting.take.Given as goal
+use Rattle.update_batches.specs.BoundedQueue.{items_of, without_first}
+use Rattle.update_batches.proofs.bounded_queue.BoundedQueue.take.Given as goal
 
 abbrev pub invariant-loop-taken : goal.invariant-loop-taken
 invariant-loop-taken g l =

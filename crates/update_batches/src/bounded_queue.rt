@@ -1,6 +1,6 @@
 //! What waits.
 ghost use Rattle.std.specs.Prelude.{◌≡◌, ◌==◌, ◌-◌, ◌≤◌, ◌↔◌, ◌++◌, [], ◌∷◌, length, slice_get, vec_len, vec_capacity, IsOk, IfOk, IfErr, OnOk};
-ghost use Rattle.update_batches.specs.Waiting.{nothing, HasRoom, items_of, with_first, without_first};
+ghost use Rattle.update_batches.specs.BoundedQueue.{nothing, HasRoom, items_of, with_first, without_first};
 
 use circular_buffer::HeapCircularBuffer;
 use std::alloc::{AllocError, Global};
@@ -20,7 +20,7 @@ pub struct Most {
 pub struct Put(());
 
 /// What waits, the first to come first, at most so much.
-pub struct Waiting<T> {
+pub struct BoundedQueue<T> {
     /// Each with how many octets it has.
     items: HeapCircularBuffer<(T, usize)>,
     /// How many octets they have together.
@@ -29,9 +29,9 @@ pub struct Waiting<T> {
     most_octets: usize,
 }
 
-impl<T: Drop> Drop for Waiting<T> {
+impl<T: Drop> Drop for BoundedQueue<T> {
     fn drop(self) {
-        let Waiting {
+        let BoundedQueue {
             items: _,
             octets: _,
             most_octets: _,
@@ -39,9 +39,9 @@ impl<T: Drop> Drop for Waiting<T> {
     }
 }
 
-impl<T> Model for Waiting<T> {
+impl<T> Model for BoundedQueue<T> {
     ghost use Rattle.std.specs.Prelude.{◌≡◌, ◌≤◌, length};
-    ghost use Rattle.update_batches.specs.Waiting.{Line, octets_in};
+    ghost use Rattle.update_batches.specs.BoundedQueue.{Line, octets_in};
 
     ghost Value = { Line T };
 
@@ -50,12 +50,12 @@ impl<T> Model for Waiting<T> {
     ghost invariant = { λ w. (length w.items.items ≤ w.items.capacity) × (w.octets ≡ octets_in w.items.items) × (w.octets ≤ w.most_octets) };
 }
 
-impl<T: Drop> Waiting<T> {
+impl<T: Drop> BoundedQueue<T> {
     /// Nothing waits; at most so much ever does. It takes the memory for as many as may wait.
-    pub fn new(alloc: Global, most: Most) -> Result<Waiting<T>, AllocError>
+    pub fn new(alloc: Global, most: Most) -> Result<BoundedQueue<T>, AllocError>
         ensures { IfOk result (λ waiting. waiting ≡ nothing most.items most.octets) }
     {
-        Ok(Waiting {
+        Ok(BoundedQueue {
             items: HeapCircularBuffer::with_capacity(alloc, most.items)?,
             octets: 0,
             most_octets: most.octets,

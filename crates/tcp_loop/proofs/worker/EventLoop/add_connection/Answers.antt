@@ -4,7 +4,7 @@ use Rattle.std.specs.Net.Socket.{socket_ip}
 use Rattle.std.specs.declared.net.ip_addr.IpAddr.{IpAddr}
 use Rattle.tcp_connections.specs.Group.{IsGroupOf}
 use Rattle.tcp_loop.proofs.StepLemmas.{moves_more}
-use Rattle.tcp_loop.proofs.worker.EventLoop.begin.Goals as goal
+use Rattle.tcp_loop.proofs.worker.EventLoop.add_connection.Goals as goal
 
 pub returns-clause-moves : goal.returns-clause-moves
 returns-clause-moves g c =

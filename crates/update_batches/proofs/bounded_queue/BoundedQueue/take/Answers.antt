@@ -1,8 +1,8 @@
 -- What is taken one by one is what stands in front.
 use Rattle.std.proofs.Common.{rules, ◌∙◌, sym, ap, ◌∷◌, [], ◌++◌, take, append_assoc}
-use Rattle.update_batches.specs.Waiting.{items_of}
+use Rattle.update_batches.specs.BoundedQueue.{items_of}
 use Rattle.update_batches.proofs.TakeLemmas.{first_behind, taken_more, rest_more}
-use Rattle.update_batches.proofs.waiting.Waiting.take.Goals as goal
+use Rattle.update_batches.proofs.bounded_queue.BoundedQueue.take.Goals as goal
 
 pub loop-taken-preserved : goal.loop-taken-preserved
 loop-taken-preserved g c =

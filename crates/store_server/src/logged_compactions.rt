@@ -2,24 +2,24 @@
 use crate::event::{StoreEvent, StoreLog};
 use std::io::ErrorKind;
 use std::sync::Wait;
-use store_compaction::{CompactionEvent, Notes};
+use store_compaction::{CompactionEvent, CompactionLog};
 
 /// Logs the results of compactions: that one has its journal in place, and why one failed, unless that is the reason logged last (own).
-pub struct StoreNotes<'a, L> {
+pub struct LoggedCompactions<'a, L> {
     log: &'a L,
-    told: Option<ErrorKind>,
+    logged: Option<ErrorKind>,
 }
 
-impl<'a, L> Drop for StoreNotes<'a, L> {
+impl<'a, L> Drop for LoggedCompactions<'a, L> {
     fn drop(self) {
-        let StoreNotes { log: _, told: _ } = self;
+        let LoggedCompactions { log: _, logged: _ } = self;
     }
 }
 
-impl<'a, L> StoreNotes<'a, L> {
+impl<'a, L> LoggedCompactions<'a, L> {
     /// One that writes to a log.
-    pub fn new(log: &'a L) -> StoreNotes<'a, L> {
-        StoreNotes { log, told: None }
+    pub fn new(log: &'a L) -> LoggedCompactions<'a, L> {
+        LoggedCompactions { log, logged: None }
     }
 }
 
@@ -35,16 +35,16 @@ fn failure_of(event: &CompactionEvent) -> Option<ErrorKind> {
     }
 }
 
-impl<L: StoreLog> Notes for StoreNotes<'_, L> {
+impl<L: StoreLog> CompactionLog for LoggedCompactions<'_, L> {
     fn note<R: Wait>(&mut self, rt: &R, event: CompactionEvent) {
         if matches!(event, CompactionEvent::Begun(_)) {
             return;
         }
         let failure = failure_of(&event);
-        if failure.is_some() && failure == self.told {
+        if failure.is_some() && failure == self.logged {
             return;
         }
-        self.told = failure;
+        self.logged = failure;
         self.log.tell_store(rt, StoreEvent::Compaction(event));
     }
 }

@@ -8,7 +8,7 @@ const OTHERS: usize = 16;
 
 /// Keys that wait for their turn, each once. All those reported ready get the next turn; of those that had a turn and could go on, at most
 /// [`OTHERS`] do, round robin, so that a client with a new request waits for few of the clients that send requests without end.
-pub(crate) struct Waiting {
+pub(crate) struct RunQueue {
     told: Vec<usize>,
     /// Keys of connections that could go on: in this round, and in the next one.
     others: Vec<usize>,
@@ -17,9 +17,9 @@ pub(crate) struct Waiting {
     is_in: Vec<bool>,
 }
 
-impl Drop for Waiting {
+impl Drop for RunQueue {
     fn drop(self) {
-        let Waiting {
+        let RunQueue {
             told: _,
             others: _,
             after: _,
@@ -28,10 +28,10 @@ impl Drop for Waiting {
     }
 }
 
-impl Waiting {
+impl RunQueue {
     /// No keys; each is to be below `most`.
-    pub(crate) fn new(alloc: Global, most: usize) -> Result<Waiting, AllocError> {
-        Ok(Waiting {
+    pub(crate) fn new(alloc: Global, most: usize) -> Result<RunQueue, AllocError> {
+        Ok(RunQueue {
             told: Vec::with_capacity(alloc, most)?,
             others: Vec::with_capacity(alloc, most)?,
             after: Vec::with_capacity(alloc, most)?,
