@@ -5,7 +5,7 @@ use Rattle.std.proofs.lemmas.Bool.{false≢true}
 use Rattle.std.proofs.lemmas.Bool.Decides.{nat_tests}
 use Rattle.notify.specs.Course.{Sending, sending_of, Course, FollowsOn, InOrder, begins, passes, told, silent, answered}
 use Rattle.notify.specs.Notified.{untold}
-use Rattle.notify.specs.Told.{told_first, told_again, told_next, is_now, is_done_with, due_after, is_due, as_silent, as_told, answered_telling, as_answered}
+use Rattle.notify.specs.Copies.{told_first, told_again, told_next, is_now, is_done_with, due_after, is_due, as_silent, as_told, answered_telling, as_answered}
 use Rattle.notify.specs.declared.secondary.Secondary.{Secondary}
 use Rattle.notify.specs.declared.secondary.Telling.{Telling}
 

@@ -9,7 +9,7 @@ use Rattle.dns_rdata.specs.Record.{Record}
 use Rattle.notify.specs.Course.{Sending, sending_of, Course, begins as starts, passes, told, silent, answered}
 use Rattle.notify.specs.Notified.{Notified, untold, shown}
 use Rattle.notify.specs.Notify.{notify_octets}
-use Rattle.notify.specs.Told.{told_first, told_again, told_next, is_due, falls_silent, as_silent, as_told, is_answered_by, as_answered}
+use Rattle.notify.specs.Copies.{told_first, told_again, told_next, is_due, falls_silent, as_silent, as_told, is_answered_by, as_answered}
 use Rattle.notify.specs.Turns.{IsFirst, TurnsAs, GoesOn, IsAnsweredBy, Hears}
 use Rattle.notify.specs.Runs.{Posted, posted, Run, begins, shows, goes, hears, AreDistinct, IsSentTo, none, its, others, IsNotify, AreNotifies, TakesCourse}
 use Rattle.notify.specs.declared.due.Due.{Due}

@@ -3,7 +3,7 @@ use Rattle.std.specs.Prelude.{◌≡◌, ℕ, ◌+◌, ◌≤◌, true, false, L
 use Rattle.std.specs.declared.net.socket_addr.SocketAddr.{SocketAddr}
 use Rattle.dns_name.specs.Name.{Name}
 use Rattle.notify.specs.Notified.{untold}
-use Rattle.notify.specs.Told.{first_wait, is_due, falls_silent, as_silent, told_next, as_told, is_answered_by, as_answered}
+use Rattle.notify.specs.Copies.{first_wait, is_due, falls_silent, as_silent, told_next, as_told, is_answered_by, as_answered}
 use Rattle.notify.specs.declared.secondary.Secondary.{Secondary}
 use Rattle.notify.specs.declared.secondary.Telling.{Telling}
 

@@ -6,7 +6,7 @@ use Rattle.dns_name.specs.Name.{Name}
 use Rattle.dns_rdata.specs.Record.{Record}
 use Rattle.notify.specs.Notified.{Notified}
 use Rattle.notify.specs.Notify.{notify_octets}
-use Rattle.notify.specs.Told.{is_due, falls_silent, as_silent, told_next, as_told, is_answered_by, as_answered}
+use Rattle.notify.specs.Copies.{is_due, falls_silent, as_silent, told_next, as_told, is_answered_by, as_answered}
 use Rattle.notify.specs.declared.due.Due.{Due}
 use Rattle.notify.specs.declared.due.Due.TheVariants.{Send, Silent}
 use Rattle.notify.specs.declared.due.Heard.{Heard}

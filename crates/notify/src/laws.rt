@@ -5,7 +5,7 @@ ghost use Rattle.std.specs.declared.net.socket_addr.SocketAddr.{SocketAddr};
 ghost use Rattle.notify.specs.Course.{Sending, Course, InOrder};
 ghost use Rattle.notify.specs.Notified.{Notified};
 ghost use Rattle.notify.specs.Runs.{Posted, Run, AreDistinct, TakesCourse};
-ghost use Rattle.notify.specs.Told.{is_due};
+ghost use Rattle.notify.specs.Copies.{is_due};
 ghost use Rattle.notify.specs.declared.secondary.Secondary.{Secondary as Told};
 ghost use Rattle.notify.specs.declared.secondary.Telling.{Telling as Told_so};
 

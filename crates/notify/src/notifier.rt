@@ -1,7 +1,7 @@
 //! All secondaries: what is due to them next, and what they answer.
 ghost use Rattle.std.specs.Prelude.{◌≡◌, ◌≤◌, true, length, map, IfOk};
 ghost use Rattle.notify.specs.Notified.{untold, shown};
-ghost use Rattle.notify.specs.Told.{due_in, is_due, soonest};
+ghost use Rattle.notify.specs.Copies.{due_in, is_due, soonest};
 ghost use Rattle.notify.specs.Turns.{FindsFirst, TurnsAs, GoesOn, IsAnsweredBy, heard_of, Hears};
 
 use crate::due::{Due, Heard};

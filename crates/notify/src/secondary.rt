@@ -1,6 +1,6 @@
 //! What is known of a secondary: what it was told last, and whether it answers.
 ghost use Rattle.std.specs.Prelude.{◌≡◌, ◌↔◌, false, IsTrue};
-ghost use Rattle.notify.specs.Told.{told_next, due_in, is_due, falls_silent, sooner, as_silent, as_told, is_answered_by, as_answered};
+ghost use Rattle.notify.specs.Copies.{told_next, due_in, is_due, falls_silent, sooner, as_silent, as_told, is_answered_by, as_answered};
 ghost use Rattle.notify.specs.Turns.{IsAnsweredBy};
 
 use crate::message::is_answer;

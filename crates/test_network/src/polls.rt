@@ -1,7 +1,7 @@
 //! Simulated polls and listeners.
 ghost use Rattle.std.specs.Prelude.{◌≡◌, IfOk};
 
-use crate::pieces::{After, Pieces, Tape, address};
+use crate::pieces::{After, Output, Pieces, address};
 use std::alloc::{AllocError, Global};
 use std::cell::Cell;
 use std::rc::Rc;
@@ -130,7 +130,7 @@ pub(crate) struct Comers<'a> {
     /// The result once all of them have arrived.
     pub(crate) last: Refusal,
     /// What is written on each of those that have arrived, in their order.
-    pub(crate) tapes: Vec<Tape>,
+    pub(crate) outputs: Vec<Output>,
 }
 
 impl<'a> Comers<'a> {
@@ -148,7 +148,7 @@ impl<'a> Comers<'a> {
             no_room: 0,
             is_odd: false,
             last: Refusal::Blocked,
-            tapes: Vec::new(alloc),
+            outputs: Vec::new(alloc),
         }
     }
 }
@@ -177,10 +177,10 @@ impl<'a> Arrivals for Comers<'a> {
         let Ok(stream) = Pieces::new(self.alloc, octets, self.times) else {
             return Err(Refusal::Room);
         };
-        let Ok(tape) = Rc::clone(&stream.tape) else {
+        let Ok(output) = Rc::clone(&stream.output) else {
             return Err(Refusal::Room);
         };
-        if self.tapes.push(tape).is_err() {
+        if self.outputs.push(output).is_err() {
             return Err(Refusal::Room);
         }
         Ok(Pieces {

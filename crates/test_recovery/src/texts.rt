@@ -3,7 +3,7 @@ ghost use Rattle.std.specs.Prelude.{option_map, IfOk};
 ghost use Rattle.store_compaction.specs.TextWriter.{wanted_of, IsWritten};
 
 use crate::published::Published;
-use crate::updates::{WrittenStore, begin, updates_of};
+use crate::updates::{WrittenStore, new_store, updates_of};
 use journal::Head;
 use std::alloc::Global;
 use std::io;
@@ -135,7 +135,7 @@ pub(crate) fn create_store(
     dir: &'static str,
     slow: u8,
 ) -> Result<Store, Fail> {
-    let WrittenStore { writer, published } = begin(files, dir)?;
+    let WrittenStore { writer, published } = new_store(files, dir)?;
     let texts = TextsWhenAsked {
         files: *files,
         dir,

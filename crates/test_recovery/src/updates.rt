@@ -58,7 +58,7 @@ fn begin_writer(rt: &HostRuntime, dir: &str) -> Result<StoreWriter<FileDisk>, Fa
 }
 
 /// A new store in a directory of its own.
-pub(crate) fn begin(rt: &HostRuntime, dir: &str) -> Result<WrittenStore, Fail> {
+pub(crate) fn new_store(rt: &HostRuntime, dir: &str) -> Result<WrittenStore, Fail> {
     let _ = fs::remove_dir_all(rt, dir);
     fs::create_dir(rt, dir)?;
     let published = Published {

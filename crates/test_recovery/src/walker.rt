@@ -1,7 +1,7 @@
 //! A store whose compactions come in any order, and whose files cannot always be written.
 use crate::found::{found_in, has_published};
 use crate::random::Random;
-use crate::updates::{WrittenStore, begin, check, send};
+use crate::updates::{WrittenStore, check, new_store, send};
 use journal::Head;
 use std::fs;
 use std::sync::Wait;
@@ -44,9 +44,9 @@ pub(crate) struct Walker {
 
 impl Walker {
     /// A new store.
-    pub(crate) fn begin(files: &HostRuntime, seed: u64) -> Result<Walker, Fail> {
+    pub(crate) fn new(files: &HostRuntime, seed: u64) -> Result<Walker, Fail> {
         Ok(Walker {
-            store: begin(files, DIR)?,
+            store: new_store(files, DIR)?,
             random: Random(seed),
             next: 1,
             kept: 0,

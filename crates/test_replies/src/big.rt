@@ -116,7 +116,7 @@ fn by_places<R: Wait, Z: FirstZone, N: ServerName>(
     readers: &mut Vec<VersionReader<N>>,
     peer: Peer,
 ) -> Option<MemoryStream> {
-    let tape = MemoryStream::new(alloc, octets_of(alloc, REQUESTS)?, ROOM, 1_000).ok()?;
+    let stream = MemoryStream::new(alloc, octets_of(alloc, REQUESTS)?, ROOM, 1_000).ok()?;
     let log = Kept::new(alloc);
     let mut replies = ConnectionHandler::new(
         alloc,
@@ -128,17 +128,17 @@ fn by_places<R: Wait, Z: FirstZone, N: ServerName>(
     );
     let mut room = [0u8; 4_096];
     let mut out = [0u8; 65_535];
-    let (_end, tape) = answer_stream(
+    let (_end, stream) = answer_stream(
         rt,
         alloc,
         &mut replies,
-        tape,
+        stream,
         &OpenGate,
         &mut room,
         &mut out,
     );
     readers.push(replies.into_reader()).ok()?;
-    Some(tape)
+    Some(stream)
 }
 
 /// Whether a connection writes the messages that are made all at once, and these are longer than two zones.

@@ -104,8 +104,8 @@ fn a_stream_that_fails_has_what_it_took(rt: HostRuntime) {
 // A write to a stream with room for one octet takes one octet. Each further write takes none and is counted as a failure.
 #[test]
 fn a_write_of_nothing_is_counted(rt: HostRuntime) -> Result<(), Fail> {
-    let tape = MemoryStream::new(rt.alloc(), Vec::new(rt.alloc()), 1, 9)?;
-    let mut stream = Counted::new(tape);
+    let memory = MemoryStream::new(rt.alloc(), Vec::new(rt.alloc()), 1, 9)?;
+    let mut stream = Counted::new(memory);
     let first = (stream.write(b"ab").unwrap_or(0), stream.faults);
     let second = (stream.write(b"b").is_err(), stream.faults);
     let third = (stream.write(b"b").is_err(), stream.faults);

@@ -1,7 +1,7 @@
 //! The order in which a gate is entered, a request is answered and the gate is left.
+use crate::datagrams::{self, TWO_UPDATES};
 use crate::served::{Course, told};
 use crate::streams::{self, ALL, TRANSFER};
-use crate::trays::{self, TWO_UPDATES};
 use dns_engine::{FirstZone, VersionReader};
 use requests::Gate;
 use std::alloc::Global;

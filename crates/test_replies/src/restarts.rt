@@ -103,8 +103,8 @@ fn written<R: Wait, Z: FirstZone, N: ServerName>(
     server: &Server<'_, Z, N>,
     readers: &mut Vec<VersionReader<N>>,
 ) -> Option<Vec<u8>> {
-    let (_end, tape) = streams::serve(rt, alloc, server, readers, &CHANGES, &NoLog, &OpenGate)?;
-    tape.written().to_vec(alloc).ok()
+    let (_end, stream) = streams::serve(rt, alloc, server, readers, &CHANGES, &NoLog, &OpenGate)?;
+    stream.written().to_vec(alloc).ok()
 }
 
 /// The response codes of updates.

@@ -213,8 +213,8 @@ fn stream_of(alloc: Global, row: &Row) -> Option<MemoryStream> {
     if row.step == 0 {
         return None;
     }
-    let tape = MemoryStream::new(alloc, octets_of(alloc, row.input)?, row.room, row.step).ok()?;
-    Some(tape.failing_after(row.calls))
+    let stream = MemoryStream::new(alloc, octets_of(alloc, row.input)?, row.room, row.step).ok()?;
+    Some(stream.failing_after(row.calls))
 }
 
 /// Answers a row's stream from a server, with one of the readers, which it puts back. Returns how the stream ended, and the stream. None if
@@ -228,7 +228,7 @@ pub(crate) fn serve<R: Wait, Z: FirstZone, N: ServerName, L: ServiceLog, G: Gate
     log: &L,
     gate: &G,
 ) -> Option<(StreamEnd, MemoryStream)> {
-    let tape = stream_of(alloc, row)?;
+    let stream = stream_of(alloc, row)?;
     let reader = readers.pop()?;
     let peer = Peer {
         may_update: row.may,
@@ -238,7 +238,7 @@ pub(crate) fn serve<R: Wait, Z: FirstZone, N: ServerName, L: ServiceLog, G: Gate
     let mut replies = ConnectionHandler::new(alloc, server, reader, log, peer, asker(4711));
     let mut room = [0u8; 4_096];
     let mut out = [0u8; 65_535];
-    let served = answer_stream(rt, alloc, &mut replies, tape, gate, &mut room, &mut out);
+    let served = answer_stream(rt, alloc, &mut replies, stream, gate, &mut room, &mut out);
     let _ = readers.push(replies.into_reader());
     Some(served)
 }
@@ -253,8 +253,8 @@ pub(crate) fn go<R: Wait, Z: FirstZone, N: ServerName>(
 ) -> Option<bool> {
     let written = octets_of(alloc, row.written)?;
     let log = Kept::new(alloc);
-    let (end, tape) = serve(rt, alloc, server, readers, row, &log, &OpenGate)?;
-    let is_written = tape.written() == written.as_slice();
+    let (end, stream) = serve(rt, alloc, server, readers, row, &log, &OpenGate)?;
+    let is_written = stream.written() == written.as_slice();
     Some(is_written && end == row.end && log.has(rt, row.told))
 }
 

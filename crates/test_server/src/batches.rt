@@ -191,7 +191,7 @@ impl Play for InOrder {
         readers: Vec<VersionReader<N>>,
         ledgers: ServerLedgers,
     ) -> Played<Z, N> {
-        match TestState::begin(alloc, cell, publisher, readers, ledgers) {
+        match TestState::make(alloc, cell, publisher, readers, ledgers) {
             Ok((mut test, mut right, mut reader)) => {
                 let told = self.run(rt, alloc, &mut test.state, &mut right, &mut reader);
                 test.end(reader, told)

@@ -28,7 +28,7 @@ pub(crate) type NewState<'a, Z, N> = (TestState<'a, Z, N>, PublishRight<N>, Vers
 impl<'a, Z: FirstZone, N: ServerName> TestState<'a, Z, N> {
     /// Makes the server state of a cell, with the right to publish in it, and one more reader. Where there is no server state, the test's
     /// result is None, with the publisher and the readers.
-    pub fn begin(
+    pub fn make(
         alloc: Global,
         cell: &'a VersionCell<Z, N>,
         publisher: VersionPublisher<Z, N>,

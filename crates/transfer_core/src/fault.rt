@@ -1,7 +1,7 @@
 //! Why a transfer isn't taken.
 ghost use Rattle.std.specs.Prelude.{◌≡◌, Some};
 ghost use Rattle.transfer_core.specs.declared.fault.TransferFault.TheVariants.{NoMemory as no_memory};
-ghost use Rattle.transfer_core.specs.Told.{fault_words};
+ghost use Rattle.transfer_core.specs.Words.{fault_words};
 
 use std::alloc::AllocError;
 use std::error::Error;

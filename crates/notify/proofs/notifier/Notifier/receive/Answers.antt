@@ -1,6 +1,6 @@
 use Rattle.std.proofs.Common.{Some, sym, subst}
 use Rattle.notify.specs.Notified.{Notified}
-use Rattle.notify.specs.Told.{as_answered}
+use Rattle.notify.specs.Copies.{as_answered}
 use Rattle.notify.specs.Turns.{Hears, heard_of}
 use Rattle.notify.specs.declared.due.Heard.{Heard}
 use Rattle.notify.specs.declared.secondary.Secondary.{Secondary}

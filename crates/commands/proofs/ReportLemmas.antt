@@ -3,7 +3,7 @@ use Rattle.std.proofs.Common.{ℕ, List, ◌++◌, Option, Result, Ok, Err, OnOk
 use Rattle.std.specs.Io.KnownBytes.{Appends}
 use Rattle.commands.specs.Lines.{Writes}
 use Rattle.commands.proofs.LinesLemmas.{Appends-twice}
-use Rattle.commands.specs.Told.{AppendsSome}
+use Rattle.commands.specs.Report.{AppendsSome}
 
 -- what is written behind something that was written is something with it
 pub AppendsSome-behind : {T E : Type 0} (r : Result T E) (before between after : Option (List ℕ)) (first second : List ℕ) → Appends before between first → Writes r between after second → OnOk r (AppendsSome before after)

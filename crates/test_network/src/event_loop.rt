@@ -1,7 +1,7 @@
 //! A worker's turns over simulated polls.
 
 use crate::echo::Echo;
-use crate::pieces::{After, Pieces, Tape, open_of, repeated, written};
+use crate::pieces::{After, Output, Pieces, open_of, repeated, written};
 use crate::polls::{Comers, Poll, TellingPoll};
 use crate::running::{Running, SECOND};
 use std::alloc::{AllocError, Global};
@@ -243,21 +243,21 @@ const STAGES: [Stage; 18] = [
     },
 ];
 
-/// The tapes of a worker's connections at the beginning of a stage: those of the stage before, where it goes on with its connections.
-fn tapes_for(alloc: Global, stage: &Stage, before: Option<Comers<'static>>) -> Vec<Tape> {
+/// The outputs of a worker's connections at the beginning of a stage: those of the stage before, where it goes on with its connections.
+fn outputs_for(alloc: Global, stage: &Stage, before: Option<Comers<'static>>) -> Vec<Output> {
     match before {
         Some(comers) => {
             if stage.places > 0 {
                 return Vec::new(alloc);
             }
-            comers.tapes
+            comers.outputs
         }
         None => Vec::new(alloc),
     }
 }
 
 /// Prepares a worker for a stage. Without slots of its own, the stage has the connections of the stage before.
-fn begin(
+fn prepare_worker(
     alloc: Global,
     worker: &mut Running<Pieces, Poll, Comers<'static>>,
     stage: &Stage,
@@ -287,7 +287,7 @@ fn begin(
         no_room: stage.no_room,
         is_odd: false,
         last: stage.last,
-        tapes: tapes_for(alloc, stage, before),
+        outputs: outputs_for(alloc, stage, before),
     })?;
     Ok(())
 }
@@ -303,7 +303,7 @@ fn counts_of(worker: &Running<Pieces, Poll, Comers<'static>>) -> [u64; 8] {
         tally.evicted,
         tally.turned_away,
         tally.no_room,
-        open_of(worker.tapes()) as u64,
+        open_of(worker.outputs()) as u64,
     ]
 }
 
@@ -312,10 +312,10 @@ fn turns_go_through_stages(rt: HostRuntime) -> Result<(), Fail> {
     let alloc = rt.alloc();
     let mut worker = Running::new(alloc, Poll::new(alloc, 0), Comers::new(alloc, 0, &[]))?;
     for (at, stage) in STAGES.iter().enumerate() {
-        begin(alloc, &mut worker, stage)?;
+        prepare_worker(alloc, &mut worker, stage)?;
         let end = worker.run(&rt, stage.gone);
         let counts = counts_of(&worker);
-        let gone = written(alloc, worker.tapes())?;
+        let gone = written(alloc, worker.outputs())?;
         let is_written = gone == repeated(alloc, stage.replies, stage.replied)?;
         assert_eq!(rt;
             (end, worker.poll.waits > 0, counts, is_written),
@@ -378,7 +378,7 @@ fn other_connections_go_on(rt: HostRuntime) -> Result<(), Fail> {
         key.set(told);
         begin_row(&mut worker.echo, made);
         worker.turn(&rt, 9)?;
-        let gone = written(alloc, worker.tapes())?;
+        let gone = written(alloc, worker.outputs())?;
         let is_written = REPLIES.get(..len) == Some(gone.as_slice());
         assert_eq!(rt;
             (worker.echo.asked, is_written),

@@ -267,7 +267,7 @@ pub(crate) fn serve<R: Wait, Z: FirstZone, N: ServerName, L: ServiceLog, G: Gate
     log: &L,
     gate: &G,
 ) -> Option<(DatagramsEnd, MemoryDatagrams)> {
-    let tray = datagrams_of(alloc, row)?;
+    let datagrams = datagrams_of(alloc, row)?;
     let reader = readers.pop()?;
     let peer = Peer::over(Transport::Udp, false);
     let mut asked = DatagramHandler::new(alloc, server, reader, log, peer, asker(0));
@@ -278,7 +278,7 @@ pub(crate) fn serve<R: Wait, Z: FirstZone, N: ServerName, L: ServiceLog, G: Gate
     let served = answer_datagrams(
         rt,
         &mut asked,
-        tray,
+        datagrams,
         allowed,
         row.most,
         gate,
@@ -297,9 +297,9 @@ pub(crate) fn go<R: Wait, Z: FirstZone, N: ServerName>(
     readers: &mut Vec<VersionReader<N>>,
     row: &Row,
 ) -> Option<bool> {
-    let (end, tray) = serve(rt, alloc, server, readers, row, &NoLog, &OpenGate)?;
-    let is_sent = is_sent(alloc, tray.sent(), row.sent)?;
-    Some(is_sent && end == row.end && tray.faults() == row.faults)
+    let (end, datagrams) = serve(rt, alloc, server, readers, row, &NoLog, &OpenGate)?;
+    let is_sent = is_sent(alloc, datagrams.sent(), row.sent)?;
+    Some(is_sent && end == row.end && datagrams.faults() == row.faults)
 }
 
 // The replies are in the order of their requests, each to the client that sent the request. A send that fails is counted, and the next request

@@ -1,7 +1,7 @@
 //! How the program reports a fault, and the status for it.
 ghost use Rattle.std.specs.Prelude.{◌≡◌, OnOk, IfErr};
 ghost use Rattle.commands.specs.Run.{EndsBy};
-ghost use Rattle.commands.specs.Told.{IsTold, AppendsSome};
+ghost use Rattle.commands.specs.Report.{IsReported, AppendsSome};
 
 use crate::command::Source;
 use crate::fault::{DONE, FAILED, Fault};
@@ -14,15 +14,20 @@ use std::io::{self, Write};
 /// The status of a command over a zone's text. A fault is first written to `errors` as one line, followed by its meaning if it is a fault of the
 /// zone's text or of a transfer; for a fault of the text with the faulty word and the line of the text. If the fault cannot be written, the status is
 /// that of an I/O error.
-pub fn tell<E: Write>(alloc: Global, done: Result<(), Fault>, text: &[u8], errors: &mut E) -> u8
+pub fn report_fault<E: Write>(
+    alloc: Global,
+    done: Result<(), Fault>,
+    text: &[u8],
+    errors: &mut E,
+) -> u8
     ensures done { OnOk done ((result ≡ 0) × (E.contents errors.new ≡ E.contents errors.old)) }
     ensures fault { IfErr done (λ fault. EndsBy fault result (E.contents errors.old) (E.contents errors.new)) }
 {
-    tell_of(alloc, done, Source::Input, text, errors)
+    report_fault_of(alloc, done, Source::Input, text, errors)
 }
 
 /// The same for a text from a given source, which is named if it is a file.
-pub fn tell_of<E: Write>(
+pub fn report_fault_of<E: Write>(
     alloc: Global,
     done: Result<(), Fault>,
     source: Source<'_>,
@@ -50,7 +55,7 @@ fn write_fault<E: Write>(
     text: &[u8],
     errors: &mut E,
 ) -> io::Result<()>
-    ensures { OnOk result (IsTold fault.now (E.contents errors.old) (E.contents errors.new)) }
+    ensures { OnOk result (IsReported fault.now (E.contents errors.old) (E.contents errors.new)) }
 {
     writeln!(errors, "{fault}")?;
     match fault {

@@ -36,7 +36,7 @@ pub(crate) enum Leak {
 }
 
 /// A cell with its publisher, its readers, and those that aren't given back at its end.
-pub(crate) struct Begun {
+pub(crate) struct CountedCell {
     pub(crate) cell: Cell<Counted, Rising>,
     pub(crate) publisher: Publisher<Counted, Rising>,
     pub(crate) readers: Vec<Reader<Counted>>,
@@ -111,9 +111,9 @@ fn load_by<R: Abort>(
     }
 }
 
-impl Begun {
+impl CountedCell {
     /// A cell that nobody has loaded yet. None where there is no memory: its first value is then dropped.
-    fn tried<R: Abort>(rt: &R, alloc: Global, terms: Terms) -> Option<Begun> {
+    fn tried<R: Abort>(rt: &R, alloc: Global, terms: Terms) -> Option<CountedCell> {
         let tally = Tally::shared(alloc, terms.values, terms.sleeper)?;
         let shared = Arc::try_clone(&tally).ok()?;
         let made: Result<_, _> = new_cell(alloc, terms.readers, terms.grants, shared);
@@ -124,7 +124,7 @@ impl Begun {
                     publisher,
                     readers,
                 },
-            ) => Some(Begun {
+            ) => Some(CountedCell {
                 cell,
                 publisher,
                 readers,
@@ -139,11 +139,11 @@ impl Begun {
     }
 
     /// A cell that nobody has loaded yet, made again where its first making finds no memory.
-    pub(crate) fn of<R: Abort>(rt: &R, alloc: Global, terms: Terms) -> Begun {
-        if let Some(begun) = Begun::tried(rt, alloc, terms) {
-            return begun;
+    pub(crate) fn of<R: Abort>(rt: &R, alloc: Global, terms: Terms) -> CountedCell {
+        if let Some(counted_cell) = CountedCell::tried(rt, alloc, terms) {
+            return counted_cell;
         }
-        Begun::tried(rt, alloc, terms).expect(rt, "memory")
+        CountedCell::tried(rt, alloc, terms).expect(rt, "memory")
     }
 
     /// Publishes the next value; the owner of the version before it is let go.
@@ -187,8 +187,8 @@ impl Begun {
     }
 
     /// The value published last; or all as they were.
-    fn close(self) -> Result<Counted, Begun> {
-        let Begun {
+    fn close(self) -> Result<Counted, CountedCell> {
+        let CountedCell {
             cell,
             publisher,
             readers,
@@ -203,7 +203,7 @@ impl Begun {
                     publisher,
                     readers,
                 },
-            ) => Err(Begun {
+            ) => Err(CountedCell {
                 cell,
                 publisher,
                 readers,
@@ -214,23 +214,23 @@ impl Begun {
     }
 
     /// The cell can't be ended: all come back as they were, no value is dropped, and what is published goes on.
-    pub(crate) fn goes_on<R: Abort>(self, rt: &R) -> Begun {
+    pub(crate) fn goes_on<R: Abort>(self, rt: &R) -> CountedCell {
         let before = (
             self.publisher.last_number(),
             self.readers.len(),
             self.tally.drops(),
         );
-        let Err(mut begun) = self.close() else {
+        let Err(mut counted_cell) = self.close() else {
             panic!(rt; "the cell is ended");
         };
         let after = (
-            begun.publisher.last_number(),
-            begun.readers.len(),
-            begun.tally.drops(),
+            counted_cell.publisher.last_number(),
+            counted_cell.readers.len(),
+            counted_cell.tally.drops(),
         );
         assert!(rt; after == before);
-        begun.publish(rt);
-        begun
+        counted_cell.publish(rt);
+        counted_cell
     }
 
     /// The cell can be ended, and gives the value published last: it alone hasn't been dropped, and then it is.
