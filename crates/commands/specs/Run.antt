@@ -101,10 +101,10 @@ BeginsToDoIn command records input before after = (wants : List Want) × Begins 
 
 -- a command that applies a transfer reports its outcome
 abbrev pub TellsIn : Command → List Record → List ℕ → Result (Unit {0}) Fault → Type 0
-TellsIn (Apply zone origin) records input told = TellsTransfer (taken records input) told
-TellsIn (Answer zone origin transport) records input told = Unit
-TellsIn (Check zone origin) records input told = Unit
-TellsIn (Steps zone origin keep window) records input told = Unit
+TellsIn (Apply zone origin) records input reported = TellsTransfer (taken records input) reported
+TellsIn (Answer zone origin transport) records input reported = Unit
+TellsIn (Check zone origin) records input reported = Unit
+TellsIn (Steps zone origin keep window) records input reported = Unit
 
 -- whether the apex of the zone that was read is the root, if the text is a zone (RFC 1034, 4.2)
 abbrev pub TellsRoot : Result (List Record) FileFault → Bool → Type 0
@@ -125,7 +125,7 @@ zone_for command text = zone_of_text (origin_of command) text
 
 -- the same, if the text is a zone, for the input after it
 abbrev pub TellsOf : Command → List ℕ → List ℕ → Result (Unit {0}) Fault → Type 0
-TellsOf command text input told = IfOk (zone_for command text) (λ zone. TellsIn command zone input told)
+TellsOf command text input reported = IfOk (zone_for command text) (λ zone. TellsIn command zone input reported)
 
 -- a zone-text fault is the text's own fault, or lack of memory; any other fault means that the text is a zone
 abbrev pub IsOfZone : Result (List Record) FileFault → Fault → Type 0

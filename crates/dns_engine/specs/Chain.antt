@@ -40,7 +40,7 @@ pub record HasBroken (versions newer : List Version) (number serial : ℕ) (gone
 -- of the versions that it needs is known to be buried
 pub record TellsSince (first : List Record) (published : List Version) (gone : List ℕ) (version : Version) (held : Option Serial) (changes : Option (List Record)) : Type 0 where
   pub here : IsPublished first published version
-  pub told : (changes ≡ changes_told (here.before ++ version ∷ []) here.newer held)
+  pub reported : (changes ≡ changes_told (here.before ++ version ∷ []) here.newer held)
       ⊎ ((serial : Serial) × (held ≡ Some serial) × (changes ≡ None) × HasBroken (here.before ++ version ∷ []) here.newer version.number serial.0 gone)
 
 -- whether the versions after an asker's are all there, and they, the oldest first (own)

@@ -129,15 +129,15 @@ turned false c e = ap not e
 pub HearsAt-other : (msg : List ℕ) (at rtype next : ℕ) (said : Said) → IsPassed msg at rtype next → not (rtype == type_OPT) ≡ true → HearsAt msg at said said next
 HearsAt-other msg at rtype next said one other = record {
   entry = one.entry;
-  stands = one.stands;
+  is_present = one.is_present;
   says = λ records e. e ∙ other_says one.entry records (is_type rtype false (turned (rtype == type_OPT) true other) one.entry one.rtype_is);
 }
 
 pub HearsAt-more : (msg : List ℕ) (at rtype next : ℕ) (said after : Said) (dnssec_ok : Bool) → IsPassed msg at rtype next → not (rtype == type_OPT) ≡ false → told_do said ≡ Some dnssec_ok → after ≡ refused_do dnssec_ok → HearsAt msg at said after next
-HearsAt-more msg at rtype next said after dnssec_ok one opt told is = record {
+HearsAt-more msg at rtype next said after dnssec_ok one opt reported is = record {
   entry = one.entry;
-  stands = one.stands;
-  says = λ records e. is ∙ more_by (opts records) one.entry dnssec_ok (sym (ap told_do e) ∙ told) ∙ opt_behind one.entry records (is_type rtype true (turned (rtype == type_OPT) false opt) one.entry one.rtype_is);
+  is_present = one.is_present;
+  says = λ records e. is ∙ more_by (opts records) one.entry dnssec_ok (sym (ap told_do e) ∙ reported) ∙ opt_behind one.entry records (is_type rtype true (turned (rtype == type_OPT) false opt) one.entry one.rtype_is);
 }
 
 abbrev alone_at : Entry × ℕ → Said × ℕ
@@ -147,7 +147,7 @@ same_found : (x y : Said × ℕ) → Some x ≡ Some y → x ≡ y
 same_found x y e = cc
 
 pub HearsAt-found : (msg : List ℕ) (at rtype next : ℕ) (said : Said) (found : Option (Said × ℕ)) → IsPassed msg at rtype next → not (rtype == type_OPT) ≡ false → told_do said ≡ None → found ≡ option_map (λ r. (said_alone r.0, r.1)) (record_at msg at) → MatchOption found (record_at msg at ≡ None) (λ r. HearsAt msg at said r.0 r.1)
-HearsAt-found msg at rtype next said found one opt none is = by found (is ∙ ap (option_map alone_at) one.stands)
+HearsAt-found msg at rtype next said found one opt none is = by found (is ∙ ap (option_map alone_at) one.is_present)
   where
     by : (o : Option (Said × ℕ)) → o ≡ Some (said_alone one.entry, next) → MatchOption o (record_at msg at ≡ None) (λ r. HearsAt msg at said r.0 r.1)
     by None e = absurd (cc)
@@ -157,9 +157,9 @@ HearsAt-found msg at rtype next said found one opt none is = by found (is ∙ ap
         let alone : r.0 ≡ said_alone one.entry = ap (λ (t : Said × ℕ). t.0) both in
         record {
           entry = one.entry;
-          stands = one.stands ∙ ap (λ (n : ℕ). Some (one.entry, n)) place;
+          is_present = one.is_present ∙ ap (λ (n : ℕ). Some (one.entry, n)) place;
           says = λ records f. alone ∙ first_by (opts records) one.entry (sym (ap told_do f) ∙ none) ∙ opt_behind one.entry records (is_type rtype true (turned (rtype == type_OPT) false opt) one.entry one.rtype_is);
         }
 
 pub IsHearing-heard : (count : ℕ) (msg : List ℕ) (at done place : ℕ) (said after : Said) (next : ℕ) → IsHearing count msg at done place said → done < count → HearsAt msg place said after next → IsHearing count msg at (done + 1) next after
-IsHearing-heard count msg at done place said after next on more is = IsHearing-one count msg at done place said after is.entry next on more is.stands is.says
+IsHearing-heard count msg at done place said after next on more is = IsHearing-one count msg at done place said after is.entry next on more is.is_present is.says

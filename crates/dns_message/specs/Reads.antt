@@ -74,7 +74,7 @@ typed r = (r.0.rtype, r.1)
 -- a record stands at a position, and so much do OPTs say that have said so much before it
 pub record HearsAt (msg : List ℕ) (at : ℕ) (said heard : Result (Option Edns) OptFault) (next : ℕ) : Type 0 where
   pub entry : Entry
-  pub stands : record_at msg at ≡ Some (entry, next)
+  pub is_present : record_at msg at ≡ Some (entry, next)
   pub says : (records : List Entry) → said ≡ opt_said records → heard ≡ opt_said (records ++ entry ∷ [])
 
 -- so many records, one after another from a position on, and the position behind the last; none where one can't be read

@@ -59,12 +59,12 @@ said_in query (said.Fault head code) = Fault head code
 said_in query (said.BadOpt head code dnssec_ok) = BadOpt head query.question code dnssec_ok
 
 -- memory was wanted while an update was read: so it is told with the update's header
-pub record IsWant (msg : List ℕ) (told : Parsed) : Type 0 where
+pub record IsWant (msg : List ℕ) (reported : Parsed) : Type 0 where
   pub whole : 12 ≤ length msg
   pub asks : is_reply msg ≡ false
   pub update : opcode_of msg ≡ opcode_UPDATE
-  pub is : told ≡ NoMemory (header_of msg)
+  pub is : reported ≡ NoMemory (header_of msg)
 
 -- what is told of octets: how they are read, or that memory was wanted
 abbrev pub Tells : List ℕ → Parsed → Type 0
-Tells msg told = (told ≡ reads msg) ⊎ IsWant msg told
+Tells msg reported = (reported ≡ reads msg) ⊎ IsWant msg reported

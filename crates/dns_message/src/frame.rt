@@ -18,7 +18,7 @@ pub fn take_frame(octets: &[u8]) -> Option<(&[u8], &[u8])>
 /// was. None where the message has over 65,535 octets or its frame doesn't fit the buffer, which then is as it was.
 /// It takes no memory (RFC 1035, 4.2.2).
 pub fn put_frame(message: &[u8], out: &mut [u8]) -> Option<usize>
-    ensures told { result ≡ (if frame_fits message.now (length out.old) then Some (length message.now + 2) else None) }
+    ensures reported { result ≡ (if frame_fits message.now (length out.old) then Some (length message.now + 2) else None) }
     ensures put { out.new ≡ (if frame_fits message.now (length out.old) then with_frame message.now out.old else out.old) }
 {
     let len = u16::try_from(message.len()).ok()?;

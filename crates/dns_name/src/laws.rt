@@ -15,7 +15,7 @@ use crate::stored::MAX_STORED;
 /// What octets are read as is a name, and its octets stand in front of them; a name's octets are read as that name,
 /// whatever stands behind them (RFC 1035, 3.1).
 pub fn one_reading()
-    ensures stands { (octets : List ℕ) (name : Name) → name_in octets ≡ Some name → IsName name × (octets ≡ wire_of name ++ drop (length (wire_of name)) octets) }
+    ensures is_present { (octets : List ℕ) (name : Name) → name_in octets ≡ Some name → IsName name × (octets ≡ wire_of name ++ drop (length (wire_of name)) octets) }
     ensures back { (name : Name) (rest : List ℕ) → IsName name → name_in (wire_of name ++ rest) ≡ Some name }
 {}
 

@@ -112,7 +112,7 @@ fn tell_refusal<R: Env + AllocGlobal + Eprint>(
 ) -> io::Result<u8> {
     let mark = Level::Error.mark_for(rt);
     let status = status_of(&refusal);
-    let told = match refusal {
+    let reported = match refusal {
         Refusal::Text(fault) => return tell_zone(rt, text, fault),
         Refusal::Held => eprintln!(rt; "{mark}error: the store '{dir}' is held by another server"),
         Refusal::NoJournal(number) => eprintln!(rt;
@@ -122,7 +122,7 @@ fn tell_refusal<R: Env + AllocGlobal + Eprint>(
             "{mark}error: the journal of '{dir}' belongs to '{dir}/zone-{number}', which isn't there"
         ),
         Refusal::NoStart(fault) => {
-            let told = ToldFault { dir, fault };
+            let reported = ToldFault { dir, fault };
             eprintln!(rt; "{mark}error: {told}")
         }
         Refusal::Newer { has, given } => {
@@ -145,7 +145,7 @@ fn tell_refusal<R: Env + AllocGlobal + Eprint>(
             eprintln!(rt; "{mark}error: the store '{dir}' can't be read or written: {fault}")
         }
     };
-    told?;
+    reported?;
     Ok(status)
 }
 

@@ -26,7 +26,7 @@ pub fn run_stored<R: Files + Print + Eprint + AllocGlobal>(
         Err(PrintFault::Device(fault)) => Err(fault),
         Err(PrintFault::NoStart(fault)) => {
             let status = status_of(&fault);
-            let told = ToldFault { dir, fault };
+            let reported = ToldFault { dir, fault };
             eprintln!(rt; "error: {told}")?;
             Ok(status)
         }

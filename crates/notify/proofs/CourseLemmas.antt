@@ -3,7 +3,7 @@ use Rattle.std.proofs.Common.{◌≡◌, Bool, ℕ, ◌+◌, ◌-◌, ◌<◌, �
 use Rattle.std.specs.Prelude.{nat_lt, ◌==◌, if◌then◌else◌}
 use Rattle.std.proofs.lemmas.Bool.{false≢true}
 use Rattle.std.proofs.lemmas.Bool.Decides.{nat_tests}
-use Rattle.notify.specs.Course.{Sending, sending_of, Course, FollowsOn, InOrder, begins, passes, told, silent, answered}
+use Rattle.notify.specs.Course.{Sending, sending_of, Course, FollowsOn, InOrder, begins, passes, reported, silent, answered}
 use Rattle.notify.specs.Notified.{untold}
 use Rattle.notify.specs.Copies.{told_first, told_again, told_next, is_now, is_done_with, due_after, is_due, as_silent, as_told, answered_telling, as_answered}
 use Rattle.notify.specs.declared.secondary.Secondary.{Secondary}
@@ -77,7 +77,7 @@ known_of sent time s (begins address none is) =
 known_of sent time s (passes {before = before} course passed) =
     let k = known_of sent before s course in
     (k.0, later_known sent before time s.telling passed k.1)
-known_of sent time s (told {sent = before} {s = was} number id course due speaks more is) =
+known_of sent time s (reported {sent = before} {s = was} number id course due speaks more is) =
     let next : Telling = told_next number id time was.telling in
     subst (λ (ss : List Sending). Knows ss time s) (sym more)
     (known_as (sending_of next time ∷ before) time (as_told next was) s is (next_known before time number id was was.telling (known_of before time was course) due))

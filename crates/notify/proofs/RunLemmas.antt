@@ -6,7 +6,7 @@ use Rattle.std.specs.List.{AllByRecursion}
 use Rattle.std.specs.declared.net.socket_addr.SocketAddr.{SocketAddr}
 use Rattle.dns_name.specs.Name.{Name}
 use Rattle.dns_rdata.specs.Record.{Record}
-use Rattle.notify.specs.Course.{Sending, sending_of, Course, begins as starts, passes, told, silent, answered}
+use Rattle.notify.specs.Course.{Sending, sending_of, Course, begins as starts, passes, reported, silent, answered}
 use Rattle.notify.specs.Notified.{Notified, untold, shown}
 use Rattle.notify.specs.Notify.{notify_octets}
 use Rattle.notify.specs.Copies.{told_first, told_again, told_next, is_due, falls_silent, as_silent, as_told, is_answered_by, as_answered}
@@ -78,7 +78,7 @@ told_course number id zone post sent time s due falls to octets numbered timed c
     let next : Telling = told_next number id time s.telling in
     let sending : Sending = sending_of next time in
     let notify : IsNotify post sending = record { octets = octets; number = numbered ∙ next_number number id time s.telling; time = timed } in
-    (sending ∷ c.0, subst (λ (posts : List Posted). AreNotifies posts (sending ∷ c.0)) (sym parts.1) (notify, c.1), told number id c.2 due falls refl refl)
+    (sending ∷ c.0, subst (λ (posts : List Posted). AreNotifies posts (sending ∷ c.0)) (sym parts.1) (notify, c.1), reported number id c.2 due falls refl refl)
 
 silent_course : (number : ℕ) (sent : List Posted) (time : ℕ) (s : Secondary) → is_due time number s ≡ true → falls_silent s ≡ true → TakesCourse sent time s → TakesCourse sent time (as_silent s)
 silent_course number sent time s due falls course own is = let c = course own is in (c.0, c.1, silent number c.2 due falls refl)

@@ -63,20 +63,20 @@ impl Secondary {
     pub fn due_in(&self, time: u64, number: u64) -> Option<u64>
         ensures { result ≡ due_in time number self.now }
     {
-        let Some(told) = &self.telling else {
+        let Some(sent) = &self.telling else {
             return Some(0);
         };
-        let passed = time.saturating_sub(told.at);
-        if number < told.number {
+        let passed = time.saturating_sub(sent.at);
+        if number < sent.number {
             return None;
         }
-        if told.number < number {
+        if sent.number < number {
             return Some(FIRST_WAIT.saturating_sub(passed));
         }
-        if told.answered || (told.copies >= MAX_COPIES && !self.falls_silent()) {
+        if sent.answered || (sent.copies >= MAX_COPIES && !self.falls_silent()) {
             return None;
         }
-        Some(told.wait.saturating_sub(passed))
+        Some(sent.wait.saturating_sub(passed))
     }
 
     /// Whether something is due to it.
@@ -127,7 +127,7 @@ impl Secondary {
     {
         match &self.telling {
             None => false,
-            Some(told) => !told.answered && is_answer(apex, told.id, octets),
+            Some(sent) => !sent.answered && is_answer(apex, sent.id, octets),
         }
     }
 
@@ -137,9 +137,9 @@ impl Secondary {
     {
         let telling = match self.telling {
             None => None,
-            Some(told) => Some(Telling {
+            Some(sent) => Some(Telling {
                 answered: true,
-                ..told
+                ..sent
             }),
         };
         Secondary {
@@ -177,11 +177,11 @@ pub(crate) fn told_next(telling: Option<Telling>, number: u64, id: u16, time: u6
     };
     match telling {
         None => first,
-        Some(told) if told.number == number => Telling {
-            copies: told.copies.saturating_add(1).min(MAX_COPIES),
-            wait: told.wait.saturating_mul(2).min(LONGEST_WAIT),
+        Some(sent) if sent.number == number => Telling {
+            copies: sent.copies.saturating_add(1).min(MAX_COPIES),
+            wait: sent.wait.saturating_mul(2).min(LONGEST_WAIT),
             at: time,
-            ..told
+            ..sent
         },
         Some(_) => first,
     }

@@ -36,7 +36,7 @@ pub(crate) fn begin_next<W: Wait, T: TextWriter, N: CompactionLog>(
     ensures trail { trail_of writer.new ≡ trail_of writer.old }
     ensures head { head_of writer.new ≡ head_of writer.old }
     ensures log { log_of writer.new ≡ log_of writer.old }
-    ensures stands { (text : List ℕ) (batches : List (List (List ℕ))) (zone : List Record) (updates : List Update) (k : ℕ)
+    ensures is_present { (text : List ℕ) (batches : List (List (List ℕ))) (zone : List Record) (updates : List Update) (k : ℕ)
         → Stands written synced text batches zone updates k writer.old (T.wanted texts.old)
         → Stands written synced text batches zone updates k writer.new (T.wanted texts.new) }
 {

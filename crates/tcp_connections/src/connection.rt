@@ -4,7 +4,7 @@ ghost use Rattle.std.specs.Net.Socket.{socket_ip};
 ghost use Rattle.dns_message.specs.Message.{message_limit};
 ghost use Rattle.tcp_connections.specs.Asked.{EachGrows};
 ghost use Rattle.tcp_connections.specs.Kept.{told_by, nothing_kept};
-ghost use Rattle.tcp_connections.specs.Told.{Writes};
+ghost use Rattle.tcp_connections.specs.StreamOctets.{Writes};
 ghost use Rattle.tcp_connections.specs.Going.{Goes, Stops, IsHeldUp};
 ghost use Rattle.tcp_connections.specs.Group.{IsGroupOf};
 ghost use Rattle.tcp_connections.specs.Deadlines.{patience, is_late, is_over, begun_behind};

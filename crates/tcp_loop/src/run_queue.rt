@@ -9,7 +9,7 @@ const OTHERS: usize = 16;
 /// Keys that wait for their turn, each once. All those reported ready get the next turn; of those that had a turn and could go on, at most
 /// [`OTHERS`] do, round robin, so that a client with a new request waits for few of the clients that send requests without end.
 pub(crate) struct RunQueue {
-    told: Vec<usize>,
+    ready: Vec<usize>,
     /// Keys of connections that could go on: in this round, and in the next one.
     others: Vec<usize>,
     after: Vec<usize>,
@@ -20,7 +20,7 @@ pub(crate) struct RunQueue {
 impl Drop for RunQueue {
     fn drop(self) {
         let RunQueue {
-            told: _,
+            ready: _,
             others: _,
             after: _,
             is_in: _,
@@ -32,7 +32,7 @@ impl RunQueue {
     /// No keys; each is to be below `most`.
     pub(crate) fn new(alloc: Global, most: usize) -> Result<RunQueue, AllocError> {
         Ok(RunQueue {
-            told: Vec::with_capacity(alloc, most)?,
+            ready: Vec::with_capacity(alloc, most)?,
             others: Vec::with_capacity(alloc, most)?,
             after: Vec::with_capacity(alloc, most)?,
             is_in: vec![in alloc; false; most]?,
@@ -41,7 +41,7 @@ impl RunQueue {
 
     /// Whether none waits.
     pub(crate) fn is_empty(&self) -> bool {
-        self.told.is_empty() && self.others.is_empty() && self.after.is_empty()
+        self.ready.is_empty() && self.others.is_empty() && self.after.is_empty()
     }
 
     /// Whether a key is to be added, in which case it is marked as waiting: not if it waits already, or isn't below the most, since then it
@@ -57,7 +57,7 @@ impl RunQueue {
     pub(crate) fn put(&mut self, key: usize) {
         // There is room for as many as may wait.
         if self.enters(key) {
-            let _ = self.told.push(key);
+            let _ = self.ready.push(key);
         }
     }
 
@@ -80,7 +80,7 @@ impl RunQueue {
 
     /// Moves the keys whose turn it is to `taken`, which has to be empty; they then wait no more.
     pub(crate) fn take(&mut self, taken: &mut Vec<usize>) {
-        mem::swap(&mut self.told, taken);
+        mem::swap(&mut self.ready, taken);
         for _other in 0..OTHERS {
             let Some(key) = self.next_other() else {
                 break;

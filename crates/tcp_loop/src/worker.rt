@@ -53,7 +53,7 @@ pub struct EventLoop<S: Drop, M: Messages> {
     places: usize,
     run_queue: RunQueue,
     /// Keys that were reported ready, those that are served, and those that could go on.
-    told: Vec<usize>,
+    ready: Vec<usize>,
     served: Vec<usize>,
     next: Vec<usize>,
     /// For each listener, whether a connection may be waiting there.
@@ -72,7 +72,7 @@ impl<S: Drop, M: Messages> Drop for EventLoop<S, M> {
             connections: _,
             places: _,
             run_queue: _,
-            told: _,
+            ready: _,
             served: _,
             next: _,
             may_come: _,
@@ -99,7 +99,7 @@ impl<S: Blocking + Remote + Drop, M: Messages> EventLoop<S, M> {
             connections: Slab::new(alloc),
             places,
             run_queue: RunQueue::new(alloc, places)?,
-            told: Vec::new(alloc),
+            ready: Vec::new(alloc),
             served: Vec::with_capacity(alloc, places)?,
             next: Vec::with_capacity(alloc, places)?,
             may_come: vec![in alloc; true; arrivals]?,
@@ -133,8 +133,8 @@ impl<S: Blocking + Remote + Drop, M: Messages> EventLoop<S, M> {
         ensures connections { self.new.connections ≡ self.old.connections }
         ensures places { self.new.places ≡ self.old.places }
     {
-        mark_ready(&self.told, &mut self.may_come, &mut self.run_queue);
-        self.told.clear();
+        mark_ready(&self.ready, &mut self.may_come, &mut self.run_queue);
+        self.ready.clear();
     }
 
     /// Whether there is a place for one more connection, of a peer of a group, if need be that of the connection that has gone longest
@@ -362,7 +362,7 @@ impl<S: Blocking + Remote + Drop, M: Messages> EventLoop<S, M> {
         ensures turned { HasTurned S.origin S.octets A.is_reply plan.entry.allowed.addresses.now plan.entry.limits (P.time poll.new) (A.seen handler.old) self.old.connections (A.seen handler.new) self.new.connections }
         ensures going { OnOk result (GoOn S.would_block A.is_later self.new.connections self.new.served.items self.new.next.items) }
     {
-        let Ok(now) = poll.wait(self.patience(), &mut self.told) else {
+        let Ok(now) = poll.wait(self.patience(), &mut self.ready) else {
             return Err(TurnEnd::Device);
         };
         self.mark();
@@ -392,8 +392,8 @@ impl<S: Blocking + Remote + Drop, M: Messages> EventLoop<S, M> {
 }
 
 /// Marks what was reported ready: listeners at which connections may be waiting, the first one under the greatest key, and connections.
-fn mark_ready(told: &[usize], may_come: &mut Vec<bool>, run_queue: &mut RunQueue) {
-    for key in told {
+fn mark_ready(ready: &[usize], may_come: &mut Vec<bool>, run_queue: &mut RunQueue) {
+    for key in ready {
         match may_come.get_mut(usize::MAX - *key) {
             Some(may) => *may = true,
             None => run_queue.put(*key),

@@ -176,9 +176,9 @@ impl<'a, N: Naming> Player<'a, N> {
 
     /// Whether an act goes as a row says.
     fn is_played(&mut self, round: u64, row: Row) -> bool {
-        let (act, at, told, drops) = row;
-        let due = match told {
-            Some(SPENT) | None => told,
+        let (act, at, outcome, drops) = row;
+        let due = match outcome {
+            Some(SPENT) | None => outcome,
             Some(number) => Some(number.wrapping_add(self.first).wrapping_add(round)),
         };
         let before = self.writer.tally.drops();

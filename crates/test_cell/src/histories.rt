@@ -88,8 +88,8 @@ fn are_of<N: Naming>(mut owners: Owners<'_, u64, Any, N>, values: &[u64]) -> boo
 }
 
 /// Whether what is told is what is due.
-fn is_due<N: Naming>(told: Chain<'_, u64, Any, N>, due: Due) -> bool {
-    match (told, due) {
+fn is_due<N: Naming>(outcome: Chain<'_, u64, Any, N>, due: Due) -> bool {
+    match (outcome, due) {
         (Chain::Whole(owners), Due::Whole(values)) => {
             owners.len() == values.len() && are_of(owners, values)
         }

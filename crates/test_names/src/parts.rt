@@ -9,8 +9,8 @@ fn has_parts(alloc: Global) -> Option<bool> {
     let own = name(b"www.example.");
     let parent = own.parent()?;
     let wild = parent.with_asterisk()?;
-    let told = format!(in alloc; "{} {parent:?} {wild:?}", own.labels().count()).ok()?;
-    Some(told.as_str() == "2 example. *.example.")
+    let outcome = format!(in alloc; "{} {parent:?} {wild:?}", own.labels().count()).ok()?;
+    Some(outcome.as_str() == "2 example. *.example.")
 }
 
 /// The numbers in front of `host1.example` and `host12.example` as of names below `example`: eight octets each, the highest first.

@@ -157,7 +157,7 @@ fn told_of_data(alloc: Global, rtype: u16, octets: &[u8]) -> Result<String, Allo
 }
 
 /// What is told of the words of a row: `text` and a text, or `at` or `data`, a number and octets.
-fn told(alloc: Global, words: &str) -> Option<String> {
+fn outcome(alloc: Global, words: &str) -> Option<String> {
     let (kind, rest) = words.split_once(' ')?;
     if kind == "text" {
         return told_of_text(alloc, rest).ok();
@@ -175,7 +175,7 @@ fn told(alloc: Global, words: &str) -> Option<String> {
 /// Whether a row's words are told of as it says.
 fn is_right(alloc: Global, row: &str) -> Option<bool> {
     let (words, want) = row.split_once(" = ")?;
-    Some(told(alloc, words)?.as_str() == want)
+    Some(outcome(alloc, words)?.as_str() == want)
 }
 
 #[test]

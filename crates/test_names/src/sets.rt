@@ -29,11 +29,11 @@ fn put(alloc: Global, set: &mut RRset, low: u8) -> Option<Result<bool, SetFault>
 fn len_with_nine(alloc: Global) -> Option<usize> {
     let mut set = set_of(alloc, [10, 0, 0, 0])?;
     for low in 1..10u8 {
-        let mut told = put(alloc, &mut set, low);
-        if told == Some(Err(SetFault::NoMemory)) && set.data().len() == usize::from(low) {
-            told = put(alloc, &mut set, low);
+        let mut outcome = put(alloc, &mut set, low);
+        if outcome == Some(Err(SetFault::NoMemory)) && set.data().len() == usize::from(low) {
+            outcome = put(alloc, &mut set, low);
         }
-        if told != Some(Ok(true)) {
+        if outcome != Some(Ok(true)) {
             return None;
         }
     }

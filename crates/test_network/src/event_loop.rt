@@ -272,7 +272,7 @@ fn prepare_worker(
         waits: stage.waits,
         step: stage.step,
         now: worker.poll.now,
-        told: Vec::new(alloc),
+        outcome: Vec::new(alloc),
     };
     let before = worker.places.pop();
     worker.places.push(Comers {
@@ -374,8 +374,8 @@ fn other_connections_go_on(rt: HostRuntime) -> Result<(), Fail> {
         ..Comers::new(alloc, 4, &OTHER)
     };
     let mut worker = Running::new(alloc, poll, comers)?;
-    for (at, (told, made, asked, len)) in WAKINGS.into_iter().enumerate() {
-        key.set(told);
+    for (at, (outcome, made, asked, len)) in WAKINGS.into_iter().enumerate() {
+        key.set(outcome);
         begin_row(&mut worker.echo, made);
         worker.turn(&rt, 9)?;
         let gone = written(alloc, worker.outputs())?;

@@ -21,7 +21,7 @@ pub(crate) struct Poll {
     /// By how much its time advances in a wait, at most.
     pub(crate) step: u64,
     pub(crate) now: u64,
-    pub(crate) told: Vec<usize>,
+    pub(crate) outcome: Vec<usize>,
 }
 
 impl Poll {
@@ -34,7 +34,7 @@ impl Poll {
             waits: u32::MAX,
             step: 1,
             now: 0,
-            told: Vec::new(alloc),
+            outcome: Vec::new(alloc),
         }
     }
 
@@ -44,8 +44,8 @@ impl Poll {
             keys.push(key)?;
             keys.push(usize::MAX - key)?;
         }
-        keys.extend_from_slice(&self.told)?;
-        self.told.clear();
+        keys.extend_from_slice(&self.outcome)?;
+        self.outcome.clear();
         Ok(())
     }
 
@@ -65,8 +65,8 @@ impl Poll {
     fn put(&mut self, key: usize) -> Result<(), NotWatched>
         ensures { self.new.now ≡ self.old.now }
     {
-        let told = key.saturating_add(self.beside);
-        if !self.watches || self.told.push(told).is_err() {
+        let outcome = key.saturating_add(self.beside);
+        if !self.watches || self.outcome.push(outcome).is_err() {
             return Err(NotWatched);
         }
         Ok(())

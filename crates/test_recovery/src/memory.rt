@@ -65,7 +65,7 @@ fn begun_and_chosen(alloc: Global) -> Option<bool> {
 // If memory allocation fails, exactly this is reported.
 #[test]
 fn memory_is_refused(rt: HostRuntime) -> Result<(), Fail> {
-    let told = begun_and_chosen(rt.alloc());
-    assert!(rt; told != Some(false));
+    let outcome = begun_and_chosen(rt.alloc());
+    assert!(rt; outcome != Some(false));
     Ok(())
 }

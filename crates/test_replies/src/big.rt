@@ -174,22 +174,24 @@ impl Play for BothWays {
     ) -> Played<Z, N> {
         let Some(reader) = readers.pop() else {
             return Played {
-                told: None,
+                outcome: None,
                 publisher,
                 readers,
             };
         };
-        let (told, publisher, reader) = match server_of(alloc, cell, publisher, reader, ledgers) {
+        let (outcome, publisher, reader) = match server_of(
+            alloc, cell, publisher, reader, ledgers,
+        ) {
             Ok(server) => {
-                let told = is_same(rt, alloc, &server, &mut readers);
+                let outcome = is_same(rt, alloc, &server, &mut readers);
                 let (publisher, reader) = server.finish();
-                (told, publisher, reader)
+                (outcome, publisher, reader)
             }
             Err(refused) => (None, refused.publisher, refused.reader),
         };
         let _ = readers.push(reader);
         Played {
-            told,
+            outcome,
             publisher,
             readers,
         }
@@ -198,9 +200,9 @@ impl Play for BothWays {
 
 #[test]
 fn a_transfer_goes_on_from_its_places(rt: HostRuntime) {
-    let told = match big_zone(rt.alloc()) {
+    let outcome = match big_zone(rt.alloc()) {
         Some(zone) => is_played(&rt, rt.alloc(), zone, &BothWays),
         None => None,
     };
-    assert_eq!(rt; told, Some(true));
+    assert_eq!(rt; outcome, Some(true));
 }

@@ -1,6 +1,6 @@
 //! The order in which a gate is entered, a request is answered and the gate is left.
 use crate::datagrams::{self, TWO_UPDATES};
-use crate::served::{Course, told};
+use crate::served::{Course, outcome};
 use crate::streams::{self, ALL, TRANSFER};
 use dns_engine::{FirstZone, VersionReader};
 use requests::Gate;
@@ -68,7 +68,7 @@ pub(crate) fn go<R: Wait, Z: FirstZone, N: ServerName>(
 #[test]
 fn the_gate_is_entered_before_the_answer(rt: HostRuntime) {
     assert_eq!(rt;
-        told(&rt, rt.alloc(), ALL, 0, &Course::FourUpdates),
+        outcome(&rt, rt.alloc(), ALL, 0, &Course::FourUpdates),
         Some(true)
     );
 }

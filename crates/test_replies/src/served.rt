@@ -62,24 +62,24 @@ impl Play for Served {
     ) -> Played<Z, N> {
         let Some(reader) = readers.pop() else {
             return Played {
-                told: None,
+                outcome: None,
                 publisher,
                 readers,
             };
         };
-        let (told, publisher, reader) = match Server::new(
+        let (outcome, publisher, reader) = match Server::new(
             alloc, cell, publisher, reader, self.keep, ledgers,
         ) {
             Ok(server) => {
-                let told = self.course.go(rt, alloc, &server, &mut readers);
+                let outcome = self.course.go(rt, alloc, &server, &mut readers);
                 let (publisher, reader) = server.finish();
-                (told, publisher, reader)
+                (outcome, publisher, reader)
             }
             Err(refused) => (None, refused.publisher, refused.reader),
         };
         let _ = readers.push(reader);
         Played {
-            told,
+            outcome,
             publisher,
             readers,
         }
@@ -88,7 +88,7 @@ impl Play for Served {
 
 /// Whether a test passes over a server that keeps `keep` versions besides the last, where each reader has `grants` grants. None if memory
 /// allocation fails or there is no server.
-pub(crate) fn told<R: Wait>(
+pub(crate) fn outcome<R: Wait>(
     rt: &R,
     alloc: Global,
     grants: u64,
@@ -113,7 +113,7 @@ pub(crate) fn first_wrong<R: Wait>(
 ) -> Option<usize> {
     let mut at = 0usize;
     for course in courses {
-        if told(rt, alloc, grants, KEPT, course) != Some(true) {
+        if outcome(rt, alloc, grants, KEPT, course) != Some(true) {
             return Some(at);
         }
         at = at.wrapping_add(1);

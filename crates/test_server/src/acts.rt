@@ -64,8 +64,8 @@ impl Play for Acts {
     ) -> Played<Z, N> {
         match TestState::make(alloc, cell, publisher, readers, ledgers) {
             Ok((mut test, _right, reader)) => {
-                let told = self.run(alloc, &mut test.state);
-                test.end(reader, told)
+                let outcome = self.run(alloc, &mut test.state);
+                test.end(reader, outcome)
             }
             Err(played) => played,
         }

@@ -42,8 +42,8 @@ impl Play for Tickets {
     ) -> Played<Z, N> {
         match TestState::make(alloc, cell, publisher, readers, ledgers) {
             Ok((mut test, _right, reader)) => {
-                let told = self.run(alloc, &mut test.state);
-                test.end(reader, told)
+                let outcome = self.run(alloc, &mut test.state);
+                test.end(reader, outcome)
             }
             Err(played) => played,
         }

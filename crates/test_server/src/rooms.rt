@@ -42,8 +42,8 @@ impl Play for NoRoom {
     ) -> Played<Z, N> {
         match TestState::make(alloc, cell, publisher, readers, ledgers) {
             Ok((mut test, mut right, mut reader)) => {
-                let told = self.run(rt, alloc, &mut test.state, &mut right, &mut reader);
-                test.end(reader, told)
+                let outcome = self.run(rt, alloc, &mut test.state, &mut right, &mut reader);
+                test.end(reader, outcome)
             }
             Err(played) => played,
         }
@@ -102,8 +102,8 @@ impl Play for OneByOne {
     ) -> Played<Z, N> {
         match TestState::make(alloc, cell, publisher, readers, ledgers) {
             Ok((mut test, right, mut reader)) => {
-                let told = self.run(rt, alloc, &mut test.state, right, &mut reader);
-                test.end(reader, told)
+                let outcome = self.run(rt, alloc, &mut test.state, right, &mut reader);
+                test.end(reader, outcome)
             }
             Err(played) => played,
         }

@@ -223,11 +223,11 @@ fn goes_on(alloc: Global) -> Option<bool> {
 // With one request for memory refused, whichever it is, each call is made anew, and the tree before it is as it was.
 #[test]
 fn goes_on_where_memory_is_refused(rt: HostRuntime) {
-    let told = match goes_on(rt.alloc()) {
-        Some(told) => Some(told),
+    let outcome = match goes_on(rt.alloc()) {
+        Some(outcome) => Some(outcome),
         None => goes_on(rt.alloc()),
     };
-    assert_eq!(rt; told, Some(true));
+    assert_eq!(rt; outcome, Some(true));
 }
 
 fn goes_between_threads<T: Send + Sync>() {}

@@ -34,12 +34,12 @@ abbrev pub told_steps : List Version → List Record
 told_steps versions = flat_map (λ v. told_step (soa_of v.zone) v.changes) versions
 
 -- the list of what changed, by what versions know: the served SOA, the steps, the served SOA (RFC 1995, 4)
-abbrev pub told : List Record → List Version → List Record
-told soa versions = soa ++ (told_steps versions ++ soa)
+abbrev pub reported : List Record → List Version → List Record
+reported soa versions = soa ++ (told_steps versions ++ soa)
 
 -- what changed, where each version after the one that the asker holds is there
 abbrev pub told_changes : Bool → List Record → List Version → Option (List Record)
-told_changes true soa versions = Some (told soa versions)
+told_changes true soa versions = Some (reported soa versions)
 told_changes false soa versions = None
 
 -- the records of such a list that are left: of sets, of the half of a step that comes then, of versions, of the set that closes the

@@ -6,7 +6,7 @@ use Rattle.zone_tree.specs.Zone.{soa_of}
 use Rattle.zone_tree.specs.From.{records_from}
 use Rattle.zone_tree.specs.Sets.{records_in, sets_in}
 use Rattle.zone_tree.specs.Version.{Version, Changes}
-use Rattle.transfer_core.specs.Chain.{told_steps, told}
+use Rattle.transfer_core.specs.Chain.{told_steps, reported}
 use Rattle.transfer_core.specs.Lists.{full, beside_soa}
 use Rattle.transfer_core.specs.declared.place.Part.{Part}
 use Rattle.transfer_core.specs.declared.place.Part.TheVariants.{Old, New}
@@ -41,7 +41,7 @@ steps_from part sent (v ∷ vs) = step_left part sent (soa_of v.zone) v.changes 
 abbrev pub left_at : List Record → List Version → Place → List Record
 left_at zone versions ZoneStart = full zone
 left_at zone versions (InZone at) = drop at.sent (zone_left zone at.owner at.rtype.0)
-left_at zone versions ChangesStart = told (soa_of zone) versions
+left_at zone versions ChangesStart = reported (soa_of zone) versions
 left_at zone versions (InChanges at) = drop at.step.sent (steps_from at.step.part at.step.set (drop at.version versions) ++ soa_of zone)
 left_at zone versions LastSoa = soa_of zone
 left_at zone versions End = []

@@ -4,7 +4,7 @@ ghost use Rattle.std.specs.Prelude.{◌≡◌, ◌+◌, ◌^◌, ◌<◌, ◌++�
 ghost use Rattle.std.specs.Option.{option_copied};
 ghost use Rattle.dns_rdata.specs.Record.{Record};
 ghost use Rattle.zone_tree.specs.Zone.{soa_of};
-ghost use Rattle.transfer_core.specs.Chain.{zones_of, LeadTo, told_step, told};
+ghost use Rattle.transfer_core.specs.Chain.{zones_of, LeadTo, told_step, reported};
 ghost use Rattle.transfer_core.specs.Lists.{incremental, as_sent, AreVersions};
 ghost use Rattle.transfer_core.specs.Places.{sets_of_part, step_left, steps_from};
 ghost use Rattle.transfer_core.specs.Take.{take};
@@ -143,7 +143,7 @@ impl<'a, C: ChainView> Drop for ChangesList<'a, C> {
 /// sequences, its SOA again (RFC 1995, 4). It takes no memory. A holder of the zone from which the chain leads to the one that
 /// is served holds that one when it has taken the list.
 pub fn steps<'a, Z: ZoneRead, C: ChainView>(served: &'a Z, chain: &'a C) -> ChangesList<'a, C>
-    ensures told { result ≡ told (soa_of (Z.records served.now)) (C.versions chain.now) }
+    ensures reported { result ≡ reported (soa_of (Z.records served.now)) (C.versions chain.now) }
     ensures list { (zone : List Record) → LeadTo zone (C.versions chain.now) (Z.records served.now) → result ≡ incremental zone (zones_of (C.versions chain.now)) }
     ensures taken { (zone : List Record) → LeadTo zone (C.versions chain.now) (Z.records served.now) → AreVersions zone (zones_of (C.versions chain.now)) → take zone (map as_sent result) ≡ Ok (Z.records served.now) }
 {

@@ -3,7 +3,7 @@ ghost use Rattle.std.specs.Prelude.{◌≡◌, ◌≤◌, List, length, drop};
 ghost use Rattle.zone_tree.specs.Version.{Version};
 ghost use Rattle.zone_tree.specs.Zone.{soa_of};
 ghost use Rattle.dns_rdata.specs.Record.{Record};
-ghost use Rattle.transfer_core.specs.Chain.{told};
+ghost use Rattle.transfer_core.specs.Chain.{reported};
 ghost use Rattle.transfer_core.specs.Lists.{full, beside_soa};
 ghost use Rattle.transfer_core.specs.Places.{zone_left, left_at};
 
@@ -115,7 +115,7 @@ fn in_full(zone: &Zone, count: u16) -> Place
 
 /// The place behind so many records of the list of what changed.
 fn in_told<C: ChainView>(zone: &Zone, chain: &C, count: u16) -> Place
-    ensures { left_at zone.now (C.versions chain.now) result ≡ drop count (told (soa_of zone.now) (C.versions chain.now)) }
+    ensures { left_at zone.now (C.versions chain.now) result ≡ drop count (reported (soa_of zone.now) (C.versions chain.now)) }
 {
     if count == 0 {
         return Place::ChangesStart;

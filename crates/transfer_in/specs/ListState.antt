@@ -16,7 +16,7 @@ use Rattle.transfer_core.specs.Take.{Stage, gathering, deleting, adding, closed,
 
 -- what is told of an outcome: it itself, or that a growth was refused
 abbrev pub Tells : {A B : Type 0} → Result A TransferFault → (B → A) → Result B TransferFault → Type 0
-Tells outcome view told = MatchResult told (λ next. outcome ≡ Ok (view next)) (λ fault. (fault ≡ NoMemory) ⊎ (outcome ≡ Err fault))
+Tells outcome view reported = MatchResult reported (λ next. outcome ≡ Ok (view next)) (λ fault. (fault ≡ NoMemory) ⊎ (outcome ≡ Err fault))
 
 -- where a holder stands
 abbrev pub stage_of : Phase → Stage

@@ -52,4 +52,4 @@ pub record IsRefused (zone : List Record) (before : Progress) (sent : List RawRe
 
 -- what is told of records: that they were read, that a growth was refused, or the fault of one of them
 abbrev pub TellsRead : List Record → Progress → List RawRecord → Result Progress TransferFault → Type 0
-TellsRead zone before sent told = MatchResult told (λ after. IsRead zone before after sent) (λ fault. (fault ≡ NoMemory) ⊎ IsRefused zone before sent fault)
+TellsRead zone before sent reported = MatchResult reported (λ after. IsRead zone before after sent) (λ fault. (fault ≡ NoMemory) ⊎ IsRefused zone before sent fault)

@@ -63,7 +63,7 @@ impl Model for Reading {
 /// its set then has so many.
 fn check_limits(fits: bool, records: Holding, size: usize) -> Result<Holding, TransferFault>
     ensures same { IfOk result (λ next. next ≡ records) }
-    ensures told { Tells (if fits && nat_le size max_set && nat_le (length records) max_records then Ok records else Err TransferFault.NotInZone) (λ next. next) result }
+    ensures reported { Tells (if fits && nat_le size max_set && nat_le (length records) max_records then Ok records else Err TransferFault.NotInZone) (λ next. next) result }
     ensures no_memory { IfErr result (λ fault. fault ≡ TransferFault.NotInZone) }
 {
     if fits && size <= MAX_SET && records.len() <= MAX_RECORDS {
@@ -80,7 +80,7 @@ fn check_held(
     records: Holding,
 ) -> Result<Holding, TransferFault>
     ensures same { IfOk result (λ next. next ≡ records) }
-    ensures told { (stage : Stands) → Tells (held apex.now stage one.now records) (λ next. record { stage = stage; records = next }) result }
+    ensures reported { (stage : Stands) → Tells (held apex.now stage one.now records) (λ next. record { stage = stage; records = next }) result }
 {
     let size = records.size_of(&one.key(alloc)?);
     check_limits(one.fits(apex), records, size)
@@ -95,7 +95,7 @@ fn put(
 ) -> Result<Holding, TransferFault>
     requires { is_among records one ≡ false }
     ensures same { IfOk result (λ next. next ≡ inserted one records) }
-    ensures told { (stage : Stands) → Tells (held apex.now stage one (inserted one records)) (λ next. record { stage = stage; records = next }) result }
+    ensures reported { (stage : Stands) → Tells (held apex.now stage one (inserted one records)) (λ next. record { stage = stage; records = next }) result }
 {
     let fits = one.fits(apex);
     let (records, size) = records.with(alloc, one)?;
@@ -126,7 +126,7 @@ fn take_out(
 ) -> Result<Holding, TransferFault>
     requires { is_among records one.now ≡ true }
     ensures same { IfOk result (λ next. next ≡ removed one.now records) }
-    ensures told { (stage : Stands) → Tells (held apex.now stage one.now (removed one.now records)) (λ next. record { stage = stage; records = next }) result }
+    ensures reported { (stage : Stands) → Tells (held apex.now stage one.now (removed one.now records)) (λ next. record { stage = stage; records = next }) result }
 {
     let (records, size) = records.without(alloc, one)?;
     check_limits(one.fits(apex), records, size)
@@ -140,7 +140,7 @@ fn gather(
     records: Holding,
     one: HeldRecord,
 ) -> Result<ListState, TransferFault>
-    ensures told { Tells (step apex.now first.now gathering records one) list_state_of result }
+    ensures reported { Tells (step apex.now first.now gathering records one) list_state_of result }
     ensures soa { IfOk result (λ next. HasSoa next.stage next.records) }
     ensures broken { is_soa one ≡ true → is_same_record first.now one ≡ false → result ≡ Err TransferFault.Broken }
 {
@@ -164,7 +164,7 @@ fn delete(
     one: HeldRecord,
 ) -> Result<ListState, TransferFault>
     requires { soa_of records ≡ [] }
-    ensures told { (first : Record) → Tells (step apex.now first deleting records one) list_state_of result }
+    ensures reported { (first : Record) → Tells (step apex.now first deleting records one) list_state_of result }
     ensures soa { IfOk result (λ next. HasSoa next.stage next.records) }
     ensures wrong_base { is_soa one ≡ false → is_among records one ≡ false → result ≡ Err TransferFault.WrongBase }
 {
@@ -188,7 +188,7 @@ fn end_deletions(
 ) -> Result<ListState, TransferFault>
     requires left { soa_of records ≡ [] }
     requires next { is_soa one ≡ true }
-    ensures told { Tells (held apex.now adding one (inserted one records)) list_state_of result }
+    ensures reported { Tells (held apex.now adding one (inserted one records)) list_state_of result }
     ensures soa { IfOk result (λ next. HasSoa next.stage next.records) }
 {
     let soa = one.copy(alloc)?;
@@ -208,7 +208,7 @@ fn add(
     one: HeldRecord,
 ) -> Result<ListState, TransferFault>
     requires { soa_of records ≡ soa ∷ [] }
-    ensures told { Tells (step apex.now first.now adding records one) list_state_of result }
+    ensures reported { Tells (step apex.now first.now adding records one) list_state_of result }
     ensures soa { IfOk result (λ next. HasSoa next.stage next.records) }
 {
     if !one.is_soa() {
@@ -230,7 +230,7 @@ fn add_one(
 ) -> Result<ListState, TransferFault>
     requires soa { soa_of records ≡ soa ∷ [] }
     requires plain { is_soa one ≡ false }
-    ensures told { (first : Record) → Tells (step apex.now first adding records one) list_state_of result }
+    ensures reported { (first : Record) → Tells (step apex.now first adding records one) list_state_of result }
     ensures soa { IfOk result (λ next. HasSoa next.stage next.records) }
     ensures wrong_base { is_among records one ≡ true → result ≡ Err TransferFault.WrongBase }
 {
@@ -244,7 +244,7 @@ fn add_one(
 
 /// What the first SOA again makes of records to which some came (RFC 1995, 4).
 fn close(records: Holding, one: &HeldRecord) -> Result<ListState, TransferFault>
-    ensures told { Tells (if is_among records one.now then closing records else Err TransferFault.Broken) list_state_of result }
+    ensures reported { Tells (if is_among records one.now then closing records else Err TransferFault.Broken) list_state_of result }
     ensures soa { IfOk result (λ next. HasSoa next.stage next.records) }
     ensures no_memory { IfErr result (λ fault. fault ≡ TransferFault.Broken) }
 {
@@ -265,7 +265,7 @@ fn begin_step(
 ) -> Result<ListState, TransferFault>
     requires soa { soa_of records ≡ soa.now ∷ [] }
     requires old { is_soa one.now ≡ true }
-    ensures told { Tells (old_soa apex.now records one.now) list_state_of result }
+    ensures reported { Tells (old_soa apex.now records one.now) list_state_of result }
     ensures soa { IfOk result (λ next. HasSoa next.stage next.records) }
     ensures wrong_base { (serial_of one.now.rdata == zone_serial records) ≡ false → result ≡ Err TransferFault.WrongBase }
 {
@@ -319,7 +319,7 @@ fn begin_list(
     first: &HeldRecord,
     one: HeldRecord,
 ) -> Result<ListState, TransferFault>
-    ensures told { Tells (step (apex_of zone.now) first.now opened zone.now one) list_state_of result }
+    ensures reported { Tells (step (apex_of zone.now) first.now opened zone.now one) list_state_of result }
     ensures soa { IfOk result (λ next. HasSoa next.stage next.records) }
 {
     if !one.is_soa() {
@@ -339,7 +339,7 @@ fn begin_full(
     one: HeldRecord,
 ) -> Result<ListState, TransferFault>
     requires { is_soa one ≡ false }
-    ensures told { Tells (step (apex_of zone.now) first.now opened zone.now one) list_state_of result }
+    ensures reported { Tells (step (apex_of zone.now) first.now opened zone.now one) list_state_of result }
     ensures soa { IfOk result (λ next. HasSoa next.stage next.records) }
 {
     let alone = alone(alloc, first)?;
@@ -351,7 +351,7 @@ fn begin_full(
 /// What the old SOA of the first step makes of a zone, out of which its SOA goes (RFC 1995, 4).
 fn begin_changes(alloc: Global, zone: &Zone, one: &HeldRecord) -> Result<ListState, TransferFault>
     requires { is_soa one.now ≡ true }
-    ensures told { Tells (old_soa (apex_of zone.now) zone.now one.now) list_state_of result }
+    ensures reported { Tells (old_soa (apex_of zone.now) zone.now one.now) list_state_of result }
     ensures soa { IfOk result (λ next. HasSoa next.stage next.records) }
     ensures wrong_base { (serial_of one.now.rdata == zone_serial zone.now) ≡ false → result ≡ Err TransferFault.WrongBase }
 {
@@ -373,7 +373,7 @@ fn go_on(
     one: HeldRecord,
 ) -> Result<ListState, TransferFault>
     requires { HasSoa state.stage state.records }
-    ensures told { Tells (step apex.now first.now (stage_of state.stage) state.records one) list_state_of result }
+    ensures reported { Tells (step apex.now first.now (stage_of state.stage) state.records one) list_state_of result }
     ensures soa { IfOk result (λ next. HasSoa next.stage next.records) }
 {
     let ListState { stage, records } = state;
@@ -394,7 +394,7 @@ impl Reading {
         first: HeldRecord,
         one: HeldRecord,
     ) -> Result<Reading, TransferFault>
-        ensures told { Tells (step (apex_of zone.now) first opened zone.now one) reading_of result }
+        ensures reported { Tells (step (apex_of zone.now) first opened zone.now one) reading_of result }
         ensures first { IfOk result (λ next. next.first ≡ first) }
     {
         let state = begin_list(alloc, zone, &first, one)?;
@@ -408,7 +408,7 @@ impl Reading {
         apex: &Name,
         one: HeldRecord,
     ) -> Result<Reading, TransferFault>
-        ensures told { Tells (step apex.now self.first (stage_of self.stage) self.records one) reading_of result }
+        ensures reported { Tells (step apex.now self.first (stage_of self.stage) self.records one) reading_of result }
         ensures first { IfOk result (λ next. next.first ≡ self.first) }
     {
         let Reading { first, state } = self;
@@ -421,7 +421,7 @@ impl Reading {
     pub(crate) fn end(self, alloc: Global, apex: &Name) -> Result<Zone, TransferFault>
         requires held { AreHeld apex.now self.records }
         requires folded { apex.now ≡ fold_name apex.now }
-        ensures told { Tells (ended apex.now (stage_of self.stage) self.records) (λ next. next) result }
+        ensures reported { Tells (ended apex.now (stage_of self.stage) self.records) (λ next. next) result }
         ensures lawful { IfOk result IsZone }
         ensures unclosed { (stage_of self.stage ≡ closed → ⊥) → result ≡ Err TransferFault.Broken }
     {

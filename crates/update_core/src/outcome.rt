@@ -68,7 +68,7 @@ struct Made {
 /// An update costs a path of the zone's tree for each owner that it changes: no call goes over the whole zone.
 pub fn apply(alloc: Global, version: &Version, update: &Update, may: bool) -> Outcome
     requires { version.now.number + 1 < 2 ^ 64 }
-    ensures told { IsTold version.now update.now may result }
+    ensures reported { IsTold version.now update.now may result }
     // A rule that is broken is told before any memory is asked for.
     ensures refused { (code : Code) → verdict version.now.zone update.now may ≡ Some code → result ≡ Outcome.Refused code }
 {

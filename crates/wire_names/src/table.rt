@@ -189,7 +189,7 @@ impl Positions {
 
     /// Whether these very octets stand at the position at an index, or, where pointers are followed, the name in them is spelt there.
     #[tactic(auto, using(crate::proofs::LongLemmas::entries_many))]
-    pub(crate) fn stands(&self, msg: &[u8], octets: &[u8], index: usize, follows: bool) -> bool
+    pub(crate) fn is_present(&self, msg: &[u8], octets: &[u8], index: usize, follows: bool) -> bool
         requires table { IsTable msg.now self.now }
         requires whole { IsWhole octets.now }
         ensures { OnTrue result (IsSpelt msg.now self.now (labels_in octets.now) index) }

@@ -186,16 +186,16 @@ impl NameWriter {
             return None;
         }
         let Likely { last, parent } = self.likely;
-        if self.positions.stands(msg, behind, parent, true) {
+        if self.positions.is_present(msg, behind, parent, true) {
             return Some(self.cut_behind(msg, octets, behind, parent));
         }
-        if self.positions.stands(msg, octets, last, false) {
+        if self.positions.is_present(msg, octets, last, false) {
             return Some(self.cut_at(0, 0, last));
         }
-        if self.positions.stands(msg, octets, FIRST, false) {
+        if self.positions.is_present(msg, octets, FIRST, false) {
             return Some(self.cut_at(0, 0, FIRST));
         }
-        if self.positions.stands(msg, behind, last, false) {
+        if self.positions.is_present(msg, behind, last, false) {
             return Some(self.cut_behind(msg, octets, behind, last));
         }
         None

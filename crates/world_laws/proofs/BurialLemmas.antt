@@ -17,7 +17,7 @@ use Rattle.cell_core.specs.declared.words.Owner.TheVariants.{Holding, Twice, Wea
 use Rattle.cell_core.specs.Words.{found_by, found_last, grants}
 use Rattle.cell_core.specs.WordSteps.{Makes}
 use Rattle.cell_core.specs.declared.words.WordEvent.{WordEvent}
-use Rattle.cell_core.specs.declared.words.WordEvent.TheVariants as told
+use Rattle.cell_core.specs.declared.words.WordEvent.TheVariants as reported
 use Rattle.cell_core.specs.declared.words.WordStep.TheVariants as word
 use Rattle.dns_rdata.specs.Record.{Record}
 use Rattle.serve_core.specs.declared.heading.Heading.{Heading}
@@ -32,7 +32,7 @@ use Rattle.zone_tree.specs.Version.{Version as Numbered}
 use Rattle.world_run.specs.declared.judged.Judged.{Judged}
 use Rattle.world_run.specs.declared.judged.Judged.TheVariants as judgement
 use Rattle.world_run.specs.declared.phase.End.{End}
-use Rattle.world_run.specs.declared.phase.End.TheVariants.{Owned, OwnedWeakly, Told, NoSlot, Kept, Sent}
+use Rattle.world_run.specs.declared.phase.End.TheVariants.{Owned, OwnedWeakly, Replied, NoSlot, Kept, Sent}
 use Rattle.world_run.specs.declared.phase.Keeping.{Keeping}
 use Rattle.world_run.specs.declared.phase.Phase.{Phase}
 use Rattle.world_run.specs.declared.phase.Phase.TheVariants as phase
@@ -108,7 +108,7 @@ abbrev pub told_by : ℕ → Progress → ℕ
 told_by n (On at) = freed n at
 told_by n (Done (Owned name owner number)) = 0
 told_by n (Done (OwnedWeakly name owner number)) = 0
-told_by n (Done (Told given)) = buried_in n given
+told_by n (Done (Replied given)) = buried_in n given
 told_by n (Done (Sent sending)) = 0
 told_by n (Done (NoSlot head)) = 0
 told_by n (Done (Kept head owner entry)) = 0
@@ -121,7 +121,7 @@ pub record Once (words : Zones) (seen : ℕ → ℕ) (calls : List UnderWay) (pr
   pub gone : (n : ℕ) → 0 < seen n + (told_by n progress + frees n calls) → cell.buried n ≡ true
 
 abbrev pub quiet : Progress
-quiet = Done (Told answer.Left)
+quiet = Done (Replied answer.Left)
 
 -- a step that buries nothing tells no more
 leaving_none : (n : ℕ) (head : Heading) (kept : ℕ) (entry : Option Entry) (leaving : List ℕ) → told_by n (leaving_after head kept entry leaving) ≡ 0
@@ -144,30 +144,30 @@ past_less n (purpose.Leaves head kept entry leaving) given = let none = leaving_
 past_less n (purpose.Sent sending got) given = let none = sent_none n sending got in omega (arith, none)
 
 load_none : (n : ℕ) (name : List ℕ) (event : WordEvent) → told_by n (load_after name event) ≡ 0
-load_none n name (told.Loaded owner number) = refl
+load_none n name (reported.Loaded owner number) = refl
 load_none n name event = refl
 
 look_none : (n : ℕ) (name : List ℕ) (owner : ℕ) (event : WordEvent) → told_by n (look_after name owner event) ≡ 0
-look_none n name owner told.Alive = refl
-look_none n name owner told.Dead = refl
+look_none n name owner reported.Alive = refl
+look_none n name owner reported.Dead = refl
 look_none n name owner event = refl
 
 raise_none : (n : ℕ) (name : List ℕ) (owner : ℕ) (event : WordEvent) → told_by n (raise_after name owner event) ≡ 0
-raise_none n name owner (told.Raised next number) = refl
-raise_none n name owner told.Dead = refl
+raise_none n name owner (reported.Raised next number) = refl
+raise_none n name owner reported.Dead = refl
 raise_none n name owner event = refl
 
 note_none : (n : ℕ) (name : List ℕ) (owner : ℕ) (event : WordEvent) → told_by n (note_after name owner event) ≡ 0
-note_none n name owner (told.Noted next number) = refl
+note_none n name owner (reported.Noted next number) = refl
 note_none n name owner event = refl
 
 probe_none : (n : ℕ) (version : Numbered) (keeping : Keeping) (event : WordEvent) → told_by n (probe_after version keeping event) ≡ 0
-probe_none n version keeping told.Taken = refl
-probe_none n version keeping told.NoSlot = refl
+probe_none n version keeping reported.Taken = refl
+probe_none n version keeping reported.NoSlot = refl
 probe_none n version keeping event = refl
 
 settle_none : (n : ℕ) (keeping : Keeping) (event : WordEvent) → told_by n (settle_after keeping event) ≡ 0
-settle_none n keeping (told.Settled owner number) = refl
+settle_none n keeping (reported.Settled owner number) = refl
 settle_none n keeping event = refl
 
 entered_none : (n given : ℕ) (keeping : Keeping) (owner : ℕ) (enters : Bool) → told_by n (if enters then On (phase.Enter given owner keeping) else On (phase.Release given (purpose.Publish keeping owner None))) ≡ 0
@@ -175,16 +175,16 @@ entered_none n given keeping owner true = refl
 entered_none n given keeping owner false = refl
 
 keep_none : (n given : ℕ) (keeping : Keeping) (event : WordEvent) → told_by n (keep_after given keeping event) ≡ 0
-keep_none n given keeping (told.Loaded owner number) = entered_none n given keeping owner (is_some keeping.enters)
+keep_none n given keeping (reported.Loaded owner number) = entered_none n given keeping owner (is_some keeping.enters)
 keep_none n given keeping event = refl
 
 enter_none : (n given kept : ℕ) (keeping : Keeping) (event : WordEvent) → told_by n (enter_after given kept keeping event) ≡ 0
-enter_none n given kept keeping (told.Noted owner number) = refl
+enter_none n given kept keeping (reported.Noted owner number) = refl
 enter_none n given kept keeping event = refl
 
 seek_none : (n owner : ℕ) (seeking : Seeking) (event : WordEvent) → told_by n (seek_after owner seeking event) ≡ 0
-seek_none n owner seeking told.Alive = refl
-seek_none n owner seeking told.Dead = sent_none n seeking.sending seeking.owners
+seek_none n owner seeking reported.Alive = refl
+seek_none n owner seeking reported.Dead = sent_none n seeking.sending seeking.owners
 seek_none n owner seeking event = refl
 
 gained_none : (n : ℕ) (seeking : Seeking) (left : List ℕ) → told_by n (gained_after seeking left) ≡ 0
@@ -196,12 +196,12 @@ got_none n owner seeking next_owner None = refl
 got_none n owner seeking next_owner (Some version) = gained_none n (with_got next_owner version seeking) seeking.left
 
 gain_none : (n : ℕ) (words : Zones) (owner : ℕ) (seeking : Seeking) (event : WordEvent) → told_by n (gain_after words owner seeking event) ≡ 0
-gain_none n words owner seeking (told.Raised next_owner number) = got_none n owner seeking next_owner (found_by words next_owner)
-gain_none n words owner seeking told.Dead = sent_none n seeking.sending seeking.owners
+gain_none n words owner seeking (reported.Raised next_owner number) = got_none n owner seeking next_owner (found_by words next_owner)
+gain_none n words owner seeking reported.Dead = sent_none n seeking.sending seeking.owners
 gain_none n words owner seeking event = refl
 
 release_none : (words : Zones) (n owner : ℕ) (for : Purpose) (event : WordEvent) → told_by n (after words (phase.Release owner for) event) ≤ 0
-release_none words n owner for told.Emptied = omega arith
+release_none words n owner for reported.Emptied = omega arith
 release_none words n owner for event = past_less n for answer.Left
 
 gone_less : (n : ℕ) (for : Purpose) (number : Option ℕ) → told_by n (past for (gone number)) ≤ told_of n number
@@ -209,7 +209,7 @@ gone_less n for None = past_less n for answer.Faded
 gone_less n for (Some number) = past_less n for (answer.Buried number)
 
 fade_less : (words : Zones) (n owner : ℕ) (number : Option ℕ) (for : Purpose) (event : WordEvent) → told_by n (after words (phase.Fade owner number for) event) ≤ told_of n number
-fade_less words n owner number for told.Closed = omega arith
+fade_less words n owner number for reported.Closed = omega arith
 fade_less words n owner number for event = gone_less n for number
 
 -- what a step makes of numbers that are to be told
@@ -338,14 +338,14 @@ messages_told n (Some messages) = refl
 end_less : (n : ℕ) (end : End) → one_if (tells_buried n (Answered (answer_at end))) ≤ told_by n (Done end)
 end_less n (Owned name owner number) = omega arith
 end_less n (OwnedWeakly name owner number) = omega arith
-end_less n (Told (answer.Owner name number)) = omega arith
-end_less n (Told answer.Left) = omega arith
-end_less n (Told (answer.Buried number)) = omega arith
-end_less n (Told answer.Faded) = omega arith
-end_less n (Told answer.Nothing) = omega arith
-end_less n (Told (answer.Reply octets)) = omega arith
-end_less n (Told answer.Silent) = omega arith
-end_less n (Told (answer.Messages messages)) = omega arith
+end_less n (Replied (answer.Owner name number)) = omega arith
+end_less n (Replied answer.Left) = omega arith
+end_less n (Replied (answer.Buried number)) = omega arith
+end_less n (Replied answer.Faded) = omega arith
+end_less n (Replied answer.Nothing) = omega arith
+end_less n (Replied (answer.Reply octets)) = omega arith
+end_less n (Replied answer.Silent) = omega arith
+end_less n (Replied (answer.Messages messages)) = omega arith
 end_less n (NoSlot head) = omega arith
 end_less n (Kept head owner entry) = omega arith
 end_less n (Sent sending) = let none = messages_told n (sent_for sending (reads sending.request)) in omega (arith, none)
@@ -457,7 +457,7 @@ transfer_still world request (Some owner) = of_still world owner request (found_
 
 update_still : (world : World) (what : Option Judged) → IsStill (update_start world what)
 update_still world None = tt
-update_still world (Some (judgement.Told head code)) = λ n. refl
+update_still world (Some (judgement.Replied head code)) = λ n. refl
 update_still world (Some (judgement.Makes head version)) = still_if (nat_lt world.words.granted grants && is_held world.words (oldest_kept world.keep world.kept) && can_enter world.words world.window) _ _ tt tt
 
 start_still : (world : World) (call : Call) → IsStill (start world call)

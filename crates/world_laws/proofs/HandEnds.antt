@@ -10,7 +10,7 @@ use Rattle.world_run.specs.declared.phase.Phase.{Phase}
 use Rattle.world_run.specs.declared.phase.Phase.TheVariants as phase
 use Rattle.world_run.specs.declared.phase.Progress.TheVariants.{On, Done}
 use Rattle.world_run.specs.declared.phase.End.{End}
-use Rattle.world_run.specs.declared.phase.End.TheVariants.{Owned, OwnedWeakly, Told, NoSlot, Kept, Sent}
+use Rattle.world_run.specs.declared.phase.End.TheVariants.{Owned, OwnedWeakly, Replied, NoSlot, Kept, Sent}
 use Rattle.world_run.specs.declared.entries.Entry.{Entry}
 use Rattle.world_run.specs.declared.phase.Keeping.{Keeping}
 use Rattle.world_run.specs.declared.sending.Sending.{Sending}
@@ -98,7 +98,7 @@ named_push name [] x = omega arith
 named_push name (n ∷ names) x = let more = named_push name names x in omega (arith, more)
 
 -- a call that gives an answer alone has nothing in hand
-told_closed : (words : Zones) (names weaks : List Named) (store : Store) (calls : List UnderWay) (given : Answer) → Open words names weaks store calls (Done (Told given)) → Open words names weaks store calls nothing_apart
+told_closed : (words : Zones) (names weaks : List Named) (store : Store) (calls : List UnderWay) (given : Answer) → Open words names weaks store calls (Done (Replied given)) → Open words names weaks store calls nothing_apart
 told_closed words names weaks store calls given o = record {
   cell = o.cell;
   shows = o.shows;
@@ -486,7 +486,7 @@ sent_closed words names weaks store calls sending o = record {
 pub closed : (words : Zones) (names weaks : List Named) (store : Store) (calls : List UnderWay) (end : End) → Open words names weaks store calls (Done end) → Open words (names_at end names) (weak_names_at end weaks) (store_at end store) calls nothing_apart
 closed words names weaks store calls (Owned name owner number) o = owned_closed words names weaks store calls name owner number o
 closed words names weaks store calls (OwnedWeakly name owner number) o = weakly_closed words names weaks store calls name owner number o
-closed words names weaks store calls (Told given) o = told_closed words names weaks store calls given o
+closed words names weaks store calls (Replied given) o = told_closed words names weaks store calls given o
 closed words names weaks store calls (NoSlot head) o = no_slot_closed words names weaks store calls head o
 closed words names weaks store calls (Kept head owner entry) o = kept_closed words names weaks store calls head owner entry o
 closed words names weaks store calls (Sent sending) o = sent_closed words names weaks store calls sending o

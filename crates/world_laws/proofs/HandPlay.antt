@@ -13,7 +13,7 @@ use Rattle.cell_core.specs.Cell.{Cell, start as cell_start}
 use Rattle.cell_core.specs.Shows.{Shows}
 use Rattle.cell_core.specs.Words.{begun, first_slot, found_by, found_last, grants}
 use Rattle.cell_core.specs.declared.words.WordStep.TheVariants as word
-use Rattle.cell_core.specs.declared.words.WordEvent.TheVariants as told
+use Rattle.cell_core.specs.declared.words.WordEvent.TheVariants as reported
 use Rattle.dns_rdata.specs.Record.{Record}
 use Rattle.serve_core.specs.declared.heading.Heading.{Heading}
 use Rattle.dns_message.specs.declared.query.Parsed.{Parsed}
@@ -45,7 +45,7 @@ use Rattle.world_run.specs.Phases.{reserves, reserves_weakly}
 use Rattle.world_run.specs.Entries.{most_entries, serials_in, owners_in, entered, enters, later}
 use Rattle.world_run.specs.declared.entries.Entry.{Entry}
 use Rattle.world_run.specs.declared.phase.End.{End}
-use Rattle.world_run.specs.declared.phase.End.TheVariants.{Owned, OwnedWeakly, Told, NoSlot, Kept as Published, Sent}
+use Rattle.world_run.specs.declared.phase.End.TheVariants.{Owned, OwnedWeakly, Replied, NoSlot, Kept as Published, Sent}
 use Rattle.transfer_core.specs.Window.{span, fits}
 use Rattle.world_run.specs.declared.sending.Sending.{Sending}
 use Rattle.world_laws.specs.Replays.{IsSentAt}
@@ -218,7 +218,7 @@ publication_begins world cell request head version none few h =
 judged_begins : (S : Script) (first : List Record) (world : World) (request : List ℕ) (last : Numbered) (what : Option Judged) (g : Goes S first world) → judged last request ≡ what → found_last world.words ≡ Some last → any_update world.calls ≡ false → Hands world
     → BeginsOk world g.tells.cell (Update request) (update_start world what)
 judged_begins S first world request last None g is found none h = tt
-judged_begins S first world request last (Some (judgement.Told head code)) g is found none h = tt
+judged_begins S first world request last (Some (judgement.Replied head code)) g is found none h = tt
 judged_begins S first world request last (Some (judgement.Makes head version)) g is found none h =
     let room = has_room last request (judgement.Makes head version) is in
     let l = last_replay S first world.words g.us last g.tells found in
@@ -392,7 +392,7 @@ entered_few size (e ∷ entries) entry less =
 few_at : (size : ℕ) (end : End) (entries : List Entry) → size ≤ 16 → length entries ≤ 16 → length (entries_at size end entries) ≤ 16
 few_at size (Owned name owner number) entries less few = few
 few_at size (OwnedWeakly name owner number) entries less few = few
-few_at size (Told given) entries less few = few
+few_at size (Replied given) entries less few = few
 few_at size (NoSlot head) entries less few = few
 few_at size (Published head owner None) entries less few = few
 few_at size (Published head owner (Some entry)) entries less few = entered_few size entries entry less
@@ -488,7 +488,7 @@ play_kept sends top first begun_as less few world (line ∷ lines) replies behin
 -- at the start version 0 is kept, and entered where there is a window, and nothing else is in hand
 loaded_hands : (first : List Record) (keep window : ℕ) → nat_lt 0 window ≡ false → Hands (started_within first keep window)
 loaded_hands first keep window e =
-    let shown = step_shows {T = Numbered} (begun (first_version first)) (loaded_once (first_version first)) word.Load (told.Loaded 0 0) (cell_start (first_version first)) (begun_shows (first_version first)) (0, refl, lit< tt, refl, refl) in
+    let shown = step_shows {T = Numbered} (begun (first_version first)) (loaded_once (first_version first)) word.Load (reported.Loaded 0 0) (cell_start (first_version first)) (begun_shows (first_version first)) (0, refl, lit< tt, refl, refl) in
     rw e (record {
       cell = shown.0;
       shows = shown.2;
@@ -517,9 +517,9 @@ loaded_hands first keep window e =
 
 noted_hands : (first : List Record) (keep window : ℕ) → nat_lt 0 window ≡ true → Hands (started_within first keep window)
 noted_hands first keep window e =
-    let once = step_shows {T = Numbered} (begun (first_version first)) (loaded_once (first_version first)) word.Load (told.Loaded 0 0) (cell_start (first_version first)) (begun_shows (first_version first)) (0, refl, lit< tt, refl, refl) in
-    let shown = step_shows {T = Numbered} (loaded_once (first_version first)) (noted_once (first_version first)) (word.Note 0) (told.Noted 1 0) once.0 once.2 (0, 0, first_slot (first_version first), refl, refl, lit< tt, refl, refl) in
-    let same : shown.0.published ≡ once.0.published = publishes_nothing (loaded_once (first_version first)) (noted_once (first_version first)) (word.Note 0) (told.Noted 1 0) once.0 shown.0 tt (0, 0, first_slot (first_version first), refl, refl, lit< tt, refl, refl) shown.1 in
+    let once = step_shows {T = Numbered} (begun (first_version first)) (loaded_once (first_version first)) word.Load (reported.Loaded 0 0) (cell_start (first_version first)) (begun_shows (first_version first)) (0, refl, lit< tt, refl, refl) in
+    let shown = step_shows {T = Numbered} (loaded_once (first_version first)) (noted_once (first_version first)) (word.Note 0) (reported.Noted 1 0) once.0 once.2 (0, 0, first_slot (first_version first), refl, refl, lit< tt, refl, refl) in
+    let same : shown.0.published ≡ once.0.published = publishes_nothing (loaded_once (first_version first)) (noted_once (first_version first)) (word.Note 0) (reported.Noted 1 0) once.0 shown.0 tt (0, 0, first_slot (first_version first), refl, refl, lit< tt, refl, refl) shown.1 in
     rw e (record {
       cell = shown.0;
       shows = shown.2;

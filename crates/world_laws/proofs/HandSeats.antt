@@ -10,7 +10,7 @@ use Rattle.world_run.specs.declared.phase.Phase.TheVariants as phase
 use Rattle.world_run.specs.declared.phase.Purpose.{Purpose}
 use Rattle.world_run.specs.declared.phase.Purpose.TheVariants as purpose
 use Rattle.world_run.specs.declared.phase.End.{End}
-use Rattle.world_run.specs.declared.phase.End.TheVariants.{Owned, OwnedWeakly, Told, NoSlot, Kept, Sent}
+use Rattle.world_run.specs.declared.phase.End.TheVariants.{Owned, OwnedWeakly, Replied, NoSlot, Kept, Sent}
 use Rattle.world_run.specs.declared.entries.Entry.{Entry}
 use Rattle.dns_rdata.specs.declared.numbers.Serial.{Serial}
 use Rattle.world_run.specs.Entries.{leaving, leaving_for}
@@ -104,7 +104,7 @@ phase_seats last before stays (phase.Free owner number for) = seat owner frees �
 abbrev pub end_seats : ℕ → ℕ → Stays → End → List Seat
 end_seats last before stays (Owned name owner number) = seat owner holds ∷ []
 end_seats last before stays (OwnedWeakly name owner number) = seat owner weakly ∷ []
-end_seats last before stays (Told answer) = []
+end_seats last before stays (Replied answer) = []
 end_seats last before stays (NoSlot head) = early_seats before stays stays.oldest
 end_seats last before stays (Kept head owner entry) = seat owner (has last) ∷ late_seats last before stays entry []
 end_seats last before stays (Sent sending) = []
@@ -151,7 +151,7 @@ abbrev pub StaysAt : Stays → Progress → Type 0
 StaysAt stays (On at) = StaysIn stays at
 StaysAt stays (Done (Owned name owner number)) = Unit {0}
 StaysAt stays (Done (OwnedWeakly name owner number)) = Unit {0}
-StaysAt stays (Done (Told answer)) = Unit {0}
+StaysAt stays (Done (Replied answer)) = Unit {0}
 StaysAt stays (Done (NoSlot head)) = Unit {0}
 StaysAt stays (Done (Kept head owner entry)) = EntersIf stays (is_some entry)
 StaysAt stays (Done (Sent sending)) = Unit {0}
@@ -187,7 +187,7 @@ abbrev pub swapped_at : Progress → ℕ
 swapped_at (On at) = swapped_in at
 swapped_at (Done (Owned name owner number)) = 0
 swapped_at (Done (OwnedWeakly name owner number)) = 0
-swapped_at (Done (Told answer)) = 0
+swapped_at (Done (Replied answer)) = 0
 swapped_at (Done (Sent sending)) = 0
 swapped_at (Done (NoSlot head)) = 0
 swapped_at (Done (Kept head owner entry)) = 1
@@ -241,7 +241,7 @@ abbrev pub reserved_at : List ℕ → Progress → ℕ
 reserved_at name (On at) = one_if (reserves name at)
 reserved_at name (Done (Owned other owner number)) = one_if (bytes_eq other name)
 reserved_at name (Done (OwnedWeakly other owner number)) = 0
-reserved_at name (Done (Told answer)) = 0
+reserved_at name (Done (Replied answer)) = 0
 reserved_at name (Done (Sent sending)) = 0
 reserved_at name (Done (NoSlot head)) = 0
 reserved_at name (Done (Kept head owner entry)) = 0
@@ -257,7 +257,7 @@ abbrev pub updates_at : Progress → Bool
 updates_at (On at) = updates at
 updates_at (Done (Owned name owner number)) = false
 updates_at (Done (OwnedWeakly name owner number)) = false
-updates_at (Done (Told answer)) = false
+updates_at (Done (Replied answer)) = false
 updates_at (Done (Sent sending)) = false
 updates_at (Done (NoSlot head)) = true
 updates_at (Done (Kept head owner entry)) = true

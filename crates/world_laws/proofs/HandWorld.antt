@@ -17,7 +17,7 @@ use Rattle.world_run.specs.declared.phase.Phase.{Phase}
 use Rattle.world_run.specs.declared.phase.Phase.TheVariants as phase
 use Rattle.world_run.specs.declared.phase.Progress.{Progress}
 use Rattle.world_run.specs.declared.phase.Progress.TheVariants.{On, Done}
-use Rattle.world_run.specs.declared.phase.End.TheVariants.{Told}
+use Rattle.world_run.specs.declared.phase.End.TheVariants.{Replied}
 use Rattle.world_run.specs.declared.names.Named.{Named}
 use Rattle.world_run.specs.declared.calls.UnderWay.{UnderWay}
 use Rattle.world_run.specs.declared.step.Answer.TheVariants as answer
@@ -139,7 +139,7 @@ pub record Open (words : Zones) (names weaks : List Named) (store : Store) (call
 
 -- no call is apart
 abbrev pub nothing_apart : Progress
-nothing_apart = Done (Told answer.Left)
+nothing_apart = Done (Replied answer.Left)
 
 abbrev pub Hands : World → Type 0
 Hands world = Open world.words world.names world.weak_names (store_of world) world.calls nothing_apart

@@ -52,8 +52,8 @@ next_one world name (Some call) = stepped_one world name call.phase (step_once w
 -- a line that goes on with a call takes one step
 pub next_takes_one : (world after : World) (name : List ℕ) (reply : WorldReply) → turn world (Next name) ≡ Some (reply, after) → TakesOneStep world reply after
 next_takes_one world after name reply e =
-    let told : next world name (call_of name world.calls) ≡ (reply, after) = (let f = e in cc) in
-    subst (λ (t : WorldReply × World). TakesOneStep world t.0 t.1) told (next_one world name (call_of name world.calls))
+    let reported : next world name (call_of name world.calls) ≡ (reply, after) = (let f = e in cc) in
+    subst (λ (t : WorldReply × World). TakesOneStep world t.0 t.1) reported (next_one world name (call_of name world.calls))
 
 -- what a line leaves of the words, where it is played
 abbrev KeepsWords : World → Option (WorldReply × World) → Type 0

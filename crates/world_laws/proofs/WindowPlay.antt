@@ -43,29 +43,29 @@ pub record After (lines : List Line) (first : Zone) (keep window top : ℕ) (ups
   pub further : Further words after.words
 
 -- one line more
-rest_more : (line : Line) (told given : WorldReply) (after : World) (replies : List WorldReply) (world : World) (o p : Option (List WorldReply × World)) → onto_replies told o ≡ Some (replies, world)
-    → ((replies : List WorldReply) (behind : World) → o ≡ Some (replies, behind) → behind ≡ world → (all : List WorldReply) × (p ≡ Some (all, after))) → (all : List WorldReply) × (onto_replies told p ≡ Some (all, after))
-rest_more line told given after replies world None p e more = absurd (let wrong = e in cc)
-rest_more line told given after replies world (Some rest) p e more =
-    let pair : (told ∷ rest.0, rest.1) ≡ (replies, world) = (let i = e in cc) in
+rest_more : (line : Line) (reported given : WorldReply) (after : World) (replies : List WorldReply) (world : World) (o p : Option (List WorldReply × World)) → onto_replies reported o ≡ Some (replies, world)
+    → ((replies : List WorldReply) (behind : World) → o ≡ Some (replies, behind) → behind ≡ world → (all : List WorldReply) × (p ≡ Some (all, after))) → (all : List WorldReply) × (onto_replies reported p ≡ Some (all, after))
+rest_more line reported given after replies world None p e more = absurd (let wrong = e in cc)
+rest_more line reported given after replies world (Some rest) p e more =
+    let pair : (reported ∷ rest.0, rest.1) ≡ (replies, world) = (let i = e in cc) in
     let m = more rest.0 rest.1 refl (ap (λ (t : List WorldReply × World). t.1) pair) in
-    (told ∷ m.0, ap (onto_replies told) m.1)
+    (reported ∷ m.0, ap (onto_replies reported) m.1)
 
 play_more_by : (lines : List Line) (line : Line) (replies : List WorldReply) (between : World) (given : WorldReply) (after : World) (o : Option (WorldReply × World))
-    → ((told : WorldReply) (world : World) (rest : List WorldReply) (behind : World) → play world lines ≡ Some (rest, behind) → behind ≡ between → (all : List WorldReply) × (play world (lines ++ line ∷ []) ≡ Some (all, after)))
-    → option_and_then (λ told. onto_replies told.0 (play told.1 lines)) o ≡ Some (replies, between) → (all : List WorldReply) × (option_and_then (λ told. onto_replies told.0 (play told.1 (lines ++ line ∷ []))) o ≡ Some (all, after))
+    → ((reported : WorldReply) (world : World) (rest : List WorldReply) (behind : World) → play world lines ≡ Some (rest, behind) → behind ≡ between → (all : List WorldReply) × (play world (lines ++ line ∷ []) ≡ Some (all, after)))
+    → option_and_then (λ reported. onto_replies reported.0 (play reported.1 lines)) o ≡ Some (replies, between) → (all : List WorldReply) × (option_and_then (λ reported. onto_replies reported.0 (play reported.1 (lines ++ line ∷ []))) o ≡ Some (all, after))
 play_more_by lines line replies between given after None more e = absurd (let wrong = e in cc)
-play_more_by lines line replies between given after (Some told) more e =
-    rest_more line told.0 given after replies between (play told.1 lines) (play told.1 (lines ++ line ∷ [])) e (λ rest behind p same. more told.0 told.1 rest behind p same)
+play_more_by lines line replies between given after (Some reported) more e =
+    rest_more line reported.0 given after replies between (play reported.1 lines) (play reported.1 (lines ++ line ∷ [])) e (λ rest behind p same. more reported.0 reported.1 rest behind p same)
 
 play_more : (world : World) (lines : List Line) (line : Line) (replies : List WorldReply) (between : World) (given : WorldReply) (after : World) → play world lines ≡ Some (replies, between) → turn between line ≡ Some (given, after)
     → (all : List WorldReply) × (play world (lines ++ line ∷ []) ≡ Some (all, after))
 play_more world [] line replies between given after e t =
     let pair : ([], world) ≡ (replies, between) = (let i = e in cc) in
     let same : world ≡ between = ap (λ (p : List WorldReply × World). p.1) pair in
-    (given ∷ [], ap (option_and_then (λ told. onto_replies told.0 (play told.1 []))) (ap (λ w. turn w line) same ∙ t))
+    (given ∷ [], ap (option_and_then (λ reported. onto_replies reported.0 (play reported.1 []))) (ap (λ w. turn w line) same ∙ t))
 play_more world (one ∷ lines) line replies between given after e t =
-    play_more_by lines line replies between given after (turn world one) (λ told w rest behind p same. play_more w lines line rest behind given after p (ap (λ v. turn v line) same ∙ t)) e
+    play_more_by lines line replies between given after (turn world one) (λ reported w rest behind p same. play_more w lines line rest behind given after p (ap (λ v. turn v line) same ∙ t)) e
 
 taken_more : (lines : List Line) (top : ℕ) (line : Line) → slice_get lines top ≡ Some line → take (top + 1) lines ≡ take top lines ++ line ∷ []
 taken_more lines top line e =
@@ -145,13 +145,13 @@ module _ (lines : List Line) (replies : List WorldReply) (first : Zone) (keep wi
     pub is : track top behind now
 
   abbrev From : List Line → ℕ → Type 0
-  From rest top = (world : World) (n : Now lines first keep window top world) (told : List WorldReply) (behind : World) → At replies told top → track top world n → play world rest ≡ Some (told, behind) → Behind (top + length rest) behind
+  From rest top = (world : World) (n : Now lines first keep window top world) (reported : List WorldReply) (behind : World) → At replies reported top → track top world n → play world rest ≡ Some (reported, behind) → Behind (top + length rest) behind
 
-  further_on : (top : ℕ) (world : World) (line : Line) (rest : List Line) (given : WorldReply) (after : World) (told : List WorldReply) (behind : World) (o : Option (List WorldReply × World)) → slice_get lines top ≡ Some line → turn world line ≡ Some (given, after) → From rest (top + 1) → (n : Now lines first keep window top world)
-      → At replies told top → track top world n → play after rest ≡ o → onto_replies given o ≡ Some (told, behind) → Behind (top + length (line ∷ rest)) behind
-  further_on top world line rest given after told behind None here e all n at so p f = absurd (let wrong = f in cc)
-  further_on top world line rest given after told behind (Some played) here e all n at so p f =
-      let pair : (given ∷ played.0, played.1) ≡ (told, behind) = (let i = f in cc) in
+  further_on : (top : ℕ) (world : World) (line : Line) (rest : List Line) (given : WorldReply) (after : World) (reported : List WorldReply) (behind : World) (o : Option (List WorldReply × World)) → slice_get lines top ≡ Some line → turn world line ≡ Some (given, after) → From rest (top + 1) → (n : Now lines first keep window top world)
+      → At replies reported top → track top world n → play after rest ≡ o → onto_replies given o ≡ Some (reported, behind) → Behind (top + length (line ∷ rest)) behind
+  further_on top world line rest given after reported behind None here e all n at so p f = absurd (let wrong = f in cc)
+  further_on top world line rest given after reported behind (Some played) here e all n at so p f =
+      let pair : (given ∷ played.0, played.1) ≡ (reported, behind) = (let i = f in cc) in
       let same = ap (λ (t : List WorldReply × World). t.0) pair in
       let parts = at_next replies played.0 given top (subst (λ ts. At replies ts top) (sym same) at) in
       let a = line_now lines first keep window top world line given after here e n in
@@ -160,24 +160,24 @@ module _ (lines : List Line) (replies : List WorldReply) (first : Zone) (keep wi
       (subst (λ (w : World). Behind (top + 1 + length rest) w) (ap (λ (t : List WorldReply × World). t.1) pair)
       (all after a.now played.0 played.1 parts.1 (on top world line given after here parts.0 e n a so) p))
 
-  one_on : (top : ℕ) (world : World) (line : Line) (rest : List Line) (told : List WorldReply) (behind : World) (o : Option (WorldReply × World)) → slice_get lines top ≡ Some line → turn world line ≡ o → From rest (top + 1) → (n : Now lines first keep window top world)
-      → At replies told top → track top world n → option_and_then (λ t. onto_replies t.0 (play t.1 rest)) o ≡ Some (told, behind) → Behind (top + length (line ∷ rest)) behind
-  one_on top world line rest told behind None here e all n at so f = absurd (let wrong = f in cc)
-  one_on top world line rest told behind (Some t) here e all n at so f = further_on top world line rest t.0 t.1 told behind (play t.1 rest) here e all n at so refl f
+  one_on : (top : ℕ) (world : World) (line : Line) (rest : List Line) (reported : List WorldReply) (behind : World) (o : Option (WorldReply × World)) → slice_get lines top ≡ Some line → turn world line ≡ o → From rest (top + 1) → (n : Now lines first keep window top world)
+      → At replies reported top → track top world n → option_and_then (λ t. onto_replies t.0 (play t.1 rest)) o ≡ Some (reported, behind) → Behind (top + length (line ∷ rest)) behind
+  one_on top world line rest reported behind None here e all n at so f = absurd (let wrong = f in cc)
+  one_on top world line rest reported behind (Some t) here e all n at so f = further_on top world line rest t.0 t.1 reported behind (play t.1 rest) here e all n at so refl f
 
   pub play_on : (rest : List Line) (top : ℕ) → At lines rest top → From rest top
-  play_on [] top at_lines world n told behind at so e =
-      let pair : ([], world) ≡ (told, behind) = (let i = e in cc) in
+  play_on [] top at_lines world n reported behind at so e =
+      let pair : ([], world) ≡ (reported, behind) = (let i = e in cc) in
       let here : top ≡ top + length {A = Line} [] = omega arith in
       subst (λ (w : World). Behind (top + 0) w) (ap (λ (t : List WorldReply × World). t.1) pair) (subst (λ k. Behind k world) here (record { now = n; is = so }))
-  play_on (line ∷ rest) top at_lines world n told behind at so e =
+  play_on (line ∷ rest) top at_lines world n reported behind at so e =
       let parts = at_next lines rest line top at_lines in
-      one_on top world line rest told behind (turn world line) parts.0 refl (play_on rest (top + 1) parts.1) n at so e
+      one_on top world line rest reported behind (turn world line) parts.0 refl (play_on rest (top + 1) parts.1) n at so e
 
 -- behind all lines
 pub played_now : (lines : List Line) (replies : List WorldReply) (first : Zone) (keep window : ℕ) (world : World) → play (started first keep window) lines ≡ Some (replies, world) → Now lines first keep window (length lines) world
 played_now lines replies first keep window world e =
-    let b = play_on lines replies first keep window (λ top world n. Unit {0}) (λ top world line given after here told t n a so. tt) lines 0 (at_all lines) (started first keep window) (started_now lines first keep window) replies world (at_all replies) tt e in
+    let b = play_on lines replies first keep window (λ top world n. Unit {0}) (λ top world line given after here reported t n a so. tt) lines 0 (at_all lines) (started first keep window) (started_now lines first keep window) replies world (at_all replies) tt e in
     let all : 0 + length lines ≡ length lines = omega arith in
     subst (λ k. Now lines first keep window k world) all b.now
 

@@ -60,7 +60,7 @@ LeavesPublished words later = (cell : Cell Numbered) → Shows words cell → (n
 -- as they were (RFC 2136, 3; own)
 pub record AreToldInTurn (first : List Record) (keep window : ℕ) (lines : List WorldStep) (replies : List WorldReply) (world : World) : Type 0 where
   pub replayed : IsReplayed first lines world
-  pub told : (k : ℕ) (update : DynamicUpdate) → slice_get replayed.updates k ≡ Some update → IsToldNoError lines replies world (replayed.in_turn.place k) update
+  pub reported : (k : ℕ) (update : DynamicUpdate) → slice_get replayed.updates k ≡ Some update → IsToldNoError lines replies world (replayed.in_turn.place k) update
   pub others : (place : ℕ) (line : WorldStep) (earlier : List WorldReply) (before : World) (reply : WorldReply) (after : World) → slice_get lines place ≡ Some line
       → play (started first keep window) (take place lines) ≡ Some (earlier, before) → turn before line ≡ Some (reply, after)
       → LeavesPublished before.words after.words ⊎ ((k : ℕ) × (k < length replayed.updates) × IsOfCall lines replies (replayed.in_turn.place k) place)

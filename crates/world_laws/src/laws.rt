@@ -11,7 +11,7 @@ ghost use Rattle.zone_tree.specs.Version.{Version as Numbered};
 ghost use Rattle.world_run.specs.Numbered.{first_version, changes_between};
 ghost use Rattle.world_run.specs.Phases.{after};
 ghost use Rattle.world_laws.specs.UpdateAnswers.{heading_of, KeepsHeading, got_alone};
-ghost use Rattle.world_run.specs.declared.judged.Judged.TheVariants.{Told, Makes};
+ghost use Rattle.world_run.specs.declared.judged.Judged.TheVariants.{Code, Makes};
 ghost use Rattle.world_run.specs.declared.phase.End.TheVariants.{NoSlot, Kept};
 ghost use Rattle.world_run.specs.declared.entries.Entry.{Entry};
 ghost use Rattle.world_run.specs.declared.phase.Phase.{Phase};
@@ -81,7 +81,7 @@ pub fn updates_are_told_in_turn()
 /// An update that is told a code at once, or makes a version, gets that code, or NOERROR and the version's zone, in the version that
 /// is last when it begins; one that makes a version ends with NOERROR, or with SERVFAIL where each of the 64 slots was seen in use.
 pub fn updates_are_told()
-    ensures told { (last : Numbered) (request : List ℕ) (heading : Heading) (code : Rcode) → judged last request ≡ Some (Told heading code)
+    ensures reported { (last : Numbered) (request : List ℕ) (heading : Heading) (code : Rcode) → judged last request ≡ Some (Code heading code)
         → got Udp true ForNothing last.zone request ≡ got_alone heading code last.zone }
     ensures made { (last : Numbered) (request : List ℕ) (heading : Heading) (version : Numbered) → judged last request ≡ Some (Makes heading version)
         → got Udp true ForNothing last.zone request ≡ got_alone heading NoError version.zone }

@@ -331,7 +331,7 @@ impl<'a> Play<'a> {
         ensures refused { IfErr result (λ fault. fault ≡ WorldFault.NoMemory) }
     {
         match end {
-            End::Told(answer) => Ok(answer),
+            End::Replied(answer) => Ok(answer),
             End::Owned(name, owner, number) => {
                 put_owner(alloc, &mut self.names, name, owner, number)
             }

@@ -27,7 +27,7 @@ pub(crate) struct Reading<'a> {
     some: bool,
     ghost small: { lines + length rest.now < 2 ^ 64 },
     ghost from: { start ≤ lines },
-    ghost told: { some ≡ true → start + 1 + length rest.now < 2 ^ 64 },
+    ghost reported: { some ≡ true → start + 1 + length rest.now < 2 ^ 64 },
 }
 
 /// What an item makes of the entry.

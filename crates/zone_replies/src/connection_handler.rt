@@ -207,12 +207,12 @@ impl<'a, 's, Z: FirstZone, N: ServerName, L: ServiceLog> ConnectionHandler<'a, '
         ensures bound { (result ≤ message_limit) × (result ≤ length out.new) }
         ensures octets { IsWritten self.now.peer place done (take result out.new) }
     {
-        let told = told_at(place, &done);
-        tell_update(rt, self.log, self.peer, self.from, told);
+        let reported = told_at(place, &done);
+        tell_update(rt, self.log, self.peer, self.from, reported);
         write_done(
             &mut NameWriter::new(),
             &done.asked,
-            told.code,
+            reported.code,
             self.peer,
             out,
         )
@@ -255,8 +255,8 @@ impl<'a, 's, Z: FirstZone, N: ServerName, L: ServiceLog> ConnectionHandler<'a, '
             request,
             out,
         ) {
-            Submitted::Told(len, told) => {
-                tell_update(rt, self.log, peer, self.from, told);
+            Submitted::Replied(len, reported) => {
+                tell_update(rt, self.log, peer, self.from, reported);
                 Reply::One(len)
             }
             Submitted::Waits {
@@ -327,7 +327,7 @@ impl<'a, 's, Z: FirstZone, N: ServerName, L: ServiceLog> ConnectionHandler<'a, '
     {
         let peer = self.peer;
         tell_signed(rt, self.log, self.from, request);
-        let (len, told) = serve_update(
+        let (len, reported) = serve_update(
             rt,
             self.alloc,
             self.server,
@@ -336,7 +336,7 @@ impl<'a, 's, Z: FirstZone, N: ServerName, L: ServiceLog> ConnectionHandler<'a, '
             request,
             out,
         );
-        tell_update(rt, self.log, peer, self.from, told);
+        tell_update(rt, self.log, peer, self.from, reported);
         len
     }
 

@@ -157,7 +157,7 @@ impl PendingReplies {
 
     /// Puts a result at a ticket whose reply is pending, and gives the receipt for it. A ticket that was abandoned becomes free instead.
     pub fn tell(&mut self, at: usize, done: UpdateResult) -> AtTicket
-        ensures told { TellsOf (slice_get self.old.tickets.items at) self.old.tickets.items at done self.new.tickets.items }
+        ensures reported { TellsOf (slice_get self.old.tickets.items at) self.old.tickets.items at done self.new.tickets.items }
         ensures receipt { result ≡ receipt_for at done }
     {
         let outcome = UpdateOutcome::of(&done);

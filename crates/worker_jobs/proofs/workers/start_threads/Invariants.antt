@@ -9,5 +9,5 @@ invariant-loop-work g l = record {
   left : l.yielded ++ into_iter_items l.work-iterator ≡ l.fn.works.items;
   count : vec_len l.begun + into_iter_len l.work-iterator ≡ vec_len l.fn.works;
   room : vec_len l.fn.works ≤ vec_capacity l.begun;
-  begun : Each (λ given one. MatchResult one (λ handle. (handle.promise.may.now.id ≡ l.may.id) × (handle.promise.work.value ≡ given)) (λ back. IsReturned g.W.Task.number g.W.Task.seen g.W.Task.is_done l.may.id given back.told.of back.told.value back.work)) l.yielded l.begun.items;
+  begun : Each (λ given one. MatchResult one (λ handle. (handle.promise.may.now.id ≡ l.may.id) × (handle.promise.work.value ≡ given)) (λ back. IsReturned g.W.Task.number g.W.Task.seen g.W.Task.is_done l.may.id given back.reported.of back.reported.value back.work)) l.yielded l.begun.items;
 }

@@ -2,8 +2,8 @@
 use Rattle.world_laws.proofs.AnswerLemmas.{told_got, made_is_got, keeps_head}
 use Rattle.world_laws.proofs.laws.updates_are_told.Goals as goal
 
-pub returns-clause-told : goal.returns-clause-told
-returns-clause-told c = told_got
+pub returns-clause-reported : goal.returns-clause-reported
+returns-clause-reported c = told_got
 
 pub returns-clause-made : goal.returns-clause-made
 returns-clause-made c = made_is_got

@@ -3,7 +3,7 @@ use Rattle.dns_rdata.specs.Raw.{RawRecord, ttl_in_zone}
 use Rattle.zone_tree.specs.Zone.{rrset_of}
 use Rattle.update_core.proofs.NoEffects.{if_true, if_both}
 use Rattle.update_core.proofs.RowEffects.{own_rtype, joined_is}
-use Rattle.update_core.proofs.additions.stands.Goals as goal
+use Rattle.update_core.proofs.additions.is_present.Goals as goal
 
 pub has_record-requires : goal.has_record-requires
 has_record-requires c =

@@ -12,7 +12,7 @@ use Rattle.update_core.specs.Verdict.{verdict, permission, check, prescan}
 use Rattle.update_core.specs.Applied.{IsTold, code_told, next_of}
 use Rattle.dns_engine.specs.Held.{EngineState}
 use Rattle.dns_engine.specs.declared.judged.Judged.{Judged}
-use Rattle.dns_engine.specs.Told.{IsJudged, IsJudgedAs, IsTold as IsToldOf, refused, unchanged, starved}
+use Rattle.dns_engine.specs.Outcomes.{IsJudged, IsJudgedAs, IsTold as IsToldOf, refused, unchanged, starved}
 use Rattle.dns_engine.specs.Versions.{Makes}
 
 permitted : (front behind : Option Rcode) (may : Bool) → option_or front (option_or (permission may) behind) ≡ None → option_or front (option_or (permission true) behind) ≡ None
@@ -26,17 +26,17 @@ taken_may zone update may h = permitted (check zone update) (prescan zone update
 
 -- the version that is told of is made by the update
 pub made_of : (version next : Version) (update : Update) (may : Bool) → IsTold version update may (Next next) → Makes update version next
-made_of version next update may told = record { taken = taken_may version.zone update may told.0; zone = told.1; changed = told.2; number = told.3; changes = told.4 }
+made_of version next update may reported = record { taken = taken_may version.zone update may reported.0; zone = reported.1; changed = reported.2; number = reported.3; changes = reported.4 }
 
 -- what becomes of an update that makes a version is that version, and its code is NOERROR
 pub next_told : (version next : Version) (update : Update) (may : Bool) (outcome : Outcome) → IsTold version update may outcome → next_of outcome ≡ Some next → IsTold version update may (Next next)
-next_told version next update may (Refused code) told is = cc
-next_told version next update may Unchanged told is = cc
-next_told version next update may (Next own) told is = subst (λ (v : Version). IsTold version update may (Next v)) (some_same own next is) told
+next_told version next update may (Refused code) reported is = cc
+next_told version next update may Unchanged reported is = cc
+next_told version next update may (Next own) reported is = subst (λ (v : Version). IsTold version update may (Next v)) (some_same own next is) reported
   where
     some_same : (a b : Version) → Some a ≡ Some b → a ≡ b
     some_same a b e = cc
-next_told version next update may NoMemory told is = cc
+next_told version next update may NoMemory reported is = cc
 
 pub next_code : (next : Version) (outcome : Outcome) → next_of outcome ≡ Some next → code_told outcome ≡ NoError
 next_code next (Refused code) is = cc
@@ -46,17 +46,17 @@ next_code next NoMemory is = cc
 
 -- an update that makes no version changes nothing
 pub none_told : (state : EngineState) (update : Update) (may : Bool) (outcome : Outcome) → IsTold state.held.last update may outcome → next_of outcome ≡ None → IsToldOf state update may (code_told outcome) state
-none_told state update may (Refused code) told is = refused told refl
-none_told state update may Unchanged told is = unchanged told.0 told.1 refl refl
-none_told state update may (Next own) told is = cc
-none_told state update may NoMemory told is = starved told refl refl
+none_told state update may (Refused code) reported is = refused reported refl
+none_told state update may Unchanged reported is = unchanged reported.0 reported.1 refl refl
+none_told state update may (Next own) reported is = cc
+none_told state update may NoMemory reported is = starved reported refl refl
 
 -- what is told of what becomes of an update is so
 pub judged_as : (version : Version) (update : Update) (may : Bool) (outcome : Outcome) (judged : Judged) → IsTold version update may outcome → IsJudgedAs outcome judged → IsJudged version update may judged
-judged_as version update may (Refused code) judged told is = subst (IsJudged version update may) (sym is) (inl told)
-judged_as version update may Unchanged judged told is = subst (IsJudged version update may) (sym is) (inr (inl (told.0, told.1, refl)))
-judged_as version update may (Next next) judged told is = elim is [
-  | inl made ↦ subst (IsJudged version update may) (sym made) (told.0, made_of version next update may told)
-  | inr none ↦ subst (IsJudged version update may) (sym none) told.0
+judged_as version update may (Refused code) judged reported is = subst (IsJudged version update may) (sym is) (inl reported)
+judged_as version update may Unchanged judged reported is = subst (IsJudged version update may) (sym is) (inr (inl (reported.0, reported.1, refl)))
+judged_as version update may (Next next) judged reported is = elim is [
+  | inl made ↦ subst (IsJudged version update may) (sym made) (reported.0, made_of version next update may reported)
+  | inr none ↦ subst (IsJudged version update may) (sym none) reported.0
 ]
-judged_as version update may NoMemory judged told is = subst (IsJudged version update may) (sym is) told
+judged_as version update may NoMemory judged reported is = subst (IsJudged version update may) (sym is) reported

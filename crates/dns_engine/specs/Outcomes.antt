@@ -10,7 +10,7 @@ use Rattle.update_core.specs.Verdict.{verdict}
 use Rattle.update_core.specs.Act.{act}
 use Rattle.update_core.specs.Applied.{code_of}
 use Rattle.dns_engine.specs.declared.judged.Judged.{Judged}
-use Rattle.dns_engine.specs.declared.judged.Judged.TheVariants.{Told, Made, Starved}
+use Rattle.dns_engine.specs.declared.judged.Judged.TheVariants.{Code, Made, Starved}
 use Rattle.dns_engine.specs.Versions.{Makes}
 use Rattle.dns_engine.specs.Held.{EngineState, state_with}
 
@@ -35,14 +35,14 @@ Tells version update may code =
 
 -- what is told of an update in a version is so: its code; the version that it makes; or that no rule gives it a code (RFC 2136, 3; own)
 abbrev pub IsJudged : Version → Update → Bool → Judged → Type 0
-IsJudged version update may (Told code) = Tells version update may code
+IsJudged version update may (Code code) = Tells version update may code
 IsJudged version update may (Made next) = (verdict version.zone update may ≡ None) × Makes update version next
 IsJudged version update may Starved = verdict version.zone update may ≡ None
 
 -- what becomes of an update is told as it is: the code, NOERROR where it changes nothing, that memory is wanted, or the version that it makes, for which memory may be
 -- wanted too (RFC 2136, 3; own)
 abbrev pub IsJudgedAs : Outcome → Judged → Type 0
-IsJudgedAs (Refused code) judged = judged ≡ Told code
-IsJudgedAs Unchanged judged = judged ≡ Told NoError
+IsJudgedAs (Refused code) judged = judged ≡ Code code
+IsJudgedAs Unchanged judged = judged ≡ Code NoError
 IsJudgedAs NoMemory judged = judged ≡ Starved
 IsJudgedAs (Next next) judged = (judged ≡ Made next) ⊎ (judged ≡ Starved)

@@ -4,7 +4,7 @@ use Rattle.requests.specs.Octets.{Gives, Takes, IsAtEnd, IsTorn, frames_of}
 use Rattle.requests.specs.declared.stream_end.StreamEnd.{StreamEnd}
 use Rattle.requests.specs.declared.stream_end.StreamEnd.TheVariants.{Clean, Torn, Device, Spent, NoMemory}
 use Rattle.tcp_connections.specs.Kept.{Kept, due, told_by, nothing_kept, IsWaiting}
-use Rattle.tcp_connections.specs.Told.{Stays, Writes, EndsTold, EndCounted}
+use Rattle.tcp_connections.specs.StreamOctets.{Stays, Writes, EndsTold, EndCounted}
 
 pub stays_itself : (a : Option (List ℕ × List ℕ)) → Stays a a
 stays_itself None = tt

@@ -17,11 +17,11 @@ Writes old new = IfSome old (λ o. (left front : List ℕ) × (new ≡ Some (lef
 -- how a connection ends whose octets are known: with nothing left to be answered, or a torn frame, and all written; otherwise with a prefix
 -- written of what was written or is to be
 abbrev pub EndsTold : StreamEnd → Option (List ℕ × List ℕ) → Option (List ℕ × List ℕ) → Type 0
-EndsTold Clean told new = IfSome told (λ o. (o.0 ≡ []) × (new ≡ Some ([], o.1)))
-EndsTold Torn told new = IfSome told (λ o. IsTorn o.0 × (new ≡ Some ([], o.1)))
-EndsTold Device told new = IfSome told (λ o. (left front back : List ℕ) × (o.1 ≡ front ++ back) × (new ≡ Some (left, front)))
-EndsTold Spent told new = IfSome told (λ o. (left front back : List ℕ) × (o.1 ≡ front ++ back) × (new ≡ Some (left, front)))
-EndsTold NoMemory told new = IfSome told (λ o. (left front back : List ℕ) × (o.1 ≡ front ++ back) × (new ≡ Some (left, front)))
+EndsTold Clean reported new = IfSome reported (λ o. (o.0 ≡ []) × (new ≡ Some ([], o.1)))
+EndsTold Torn reported new = IfSome reported (λ o. IsTorn o.0 × (new ≡ Some ([], o.1)))
+EndsTold Device reported new = IfSome reported (λ o. (left front back : List ℕ) × (o.1 ≡ front ++ back) × (new ≡ Some (left, front)))
+EndsTold Spent reported new = IfSome reported (λ o. (left front back : List ℕ) × (o.1 ≡ front ++ back) × (new ≡ Some (left, front)))
+EndsTold NoMemory reported new = IfSome reported (λ o. (left front back : List ℕ) × (o.1 ≡ front ++ back) × (new ≡ Some (left, front)))
 
 -- a fault and the count of failures: a stream that would block hasn't failed, and a failure is counted, up to 2^64 - 1 of them
 abbrev pub IsCounted : Fault → ℕ → ℕ → Type 0

@@ -4,7 +4,7 @@ use Rattle.wire_names.specs.declared.table.Head.{Head}
 use Rattle.wire_names.specs.Table.{Entry}
 use Rattle.wire_names.proofs.IndexLemmas.{no_entry, spelt_there}
 use Rattle.wire_names.proofs.LongLemmas.{entries_many}
-use Rattle.wire_names.proofs.table.Positions.stands.Goals as goal
+use Rattle.wire_names.proofs.table.Positions.is_present.Goals as goal
 
 where_there : (b : Bool) (P Q : Type 0) → (P → Q) → OnTrue b P → OnTrue b Q
 where_there true P Q f h = f h
