@@ -43,7 +43,7 @@ pub(crate) struct CountedCell {
     pub(crate) missing: Vec<Reader<Counted>>,
     pub(crate) tally: Arc<Tally>,
     ghost publishes: { publisher.cell ≡ cell },
-    ghost outcome: { publisher.value.number ≡ publisher.number },
+    ghost numbered: { publisher.value.number ≡ publisher.number },
     ghost reads: { All (λ r. r.cell ≡ cell) readers.items },
     ghost misses: { All (λ r. r.cell ≡ cell) missing.items },
 }

@@ -22,7 +22,7 @@ pub(crate) struct Named<N: Naming> {
     pub(crate) publisher: NamedPublisher<Counted, Rising, N>,
     pub(crate) readers: Vec<NamedReader<Counted, N>>,
     pub(crate) tally: Arc<Tally>,
-    ghost outcome: { publisher.value.number ≡ publisher.number },
+    ghost numbered: { publisher.value.number ≡ publisher.number },
 }
 
 /// Readers of the cell of this name.
@@ -136,7 +136,7 @@ pub(crate) struct CellWriter<'a, N: Naming> {
     pub(crate) tally: Arc<Tally>,
     pub(crate) due: Option<Counted>,
     pub(crate) rings: Vec<Producer<NamedWeak<'a, Counted, Rising, N>>>,
-    ghost outcome: { publisher.value.number ≡ publisher.number },
+    ghost numbered: { publisher.value.number ≡ publisher.number },
 }
 
 /// Whether the weak owner goes into the ring, when there is room.

@@ -207,12 +207,12 @@ impl<'a, 's, Z: FirstZone, N: ServerName, L: ServiceLog> ConnectionHandler<'a, '
         ensures bound { (result ≤ message_limit) × (result ≤ length out.new) }
         ensures octets { IsWritten self.now.peer place done (take result out.new) }
     {
-        let reported = told_at(place, &done);
-        tell_update(rt, self.log, self.peer, self.from, reported);
+        let outcome = told_at(place, &done);
+        tell_update(rt, self.log, self.peer, self.from, outcome);
         write_done(
             &mut NameWriter::new(),
             &done.asked,
-            reported.code,
+            outcome.code,
             self.peer,
             out,
         )
@@ -255,8 +255,8 @@ impl<'a, 's, Z: FirstZone, N: ServerName, L: ServiceLog> ConnectionHandler<'a, '
             request,
             out,
         ) {
-            Submitted::Replied(len, reported) => {
-                tell_update(rt, self.log, peer, self.from, reported);
+            Submitted::Replied(len, outcome) => {
+                tell_update(rt, self.log, peer, self.from, outcome);
                 Reply::One(len)
             }
             Submitted::Waits {
@@ -327,7 +327,7 @@ impl<'a, 's, Z: FirstZone, N: ServerName, L: ServiceLog> ConnectionHandler<'a, '
     {
         let peer = self.peer;
         tell_signed(rt, self.log, self.from, request);
-        let (len, reported) = serve_update(
+        let (len, outcome) = serve_update(
             rt,
             self.alloc,
             self.server,
@@ -336,7 +336,7 @@ impl<'a, 's, Z: FirstZone, N: ServerName, L: ServiceLog> ConnectionHandler<'a, '
             request,
             out,
         );
-        tell_update(rt, self.log, peer, self.from, reported);
+        tell_update(rt, self.log, peer, self.from, outcome);
         len
     }
 

@@ -110,10 +110,10 @@ fn refuse(heading: &Heading, peer: Peer, out: &mut [u8]) -> (usize, UpdateOutcom
     ensures code { result.1.code ≡ ServFail }
     ensures serials { result.1.serials ≡ None }
 {
-    let reported = UpdateOutcome::code(Rcode::ServFail);
+    let outcome = UpdateOutcome::code(Rcode::ServFail);
     (
-        write_code(heading, reported.code, peer.transport, out),
-        reported,
+        write_code(heading, outcome.code, peer.transport, out),
+        outcome,
     )
 }
 
@@ -137,18 +137,18 @@ pub fn submit_stream<R: Wait, Z: FirstZone, N: ServerName>(
 {
     let update = match read_update(alloc, request) {
         Ok(update) => update,
-        Err((heading, reported)) => {
+        Err((heading, outcome)) => {
             return Submitted::Replied(
-                write_code(&heading, reported.code, peer.transport, out),
-                reported,
+                write_code(&heading, outcome.code, peer.transport, out),
+                outcome,
             );
         }
     };
     let heading = Heading::of_update(&update);
     let Some(sender) = sender else {
         server.meet(rt, reader);
-        let (len, reported) = refuse(&heading, peer, out);
-        return Submitted::Replied(len, reported);
+        let (len, outcome) = refuse(&heading, peer, out);
+        return Submitted::Replied(len, outcome);
     };
     let (number, opened) = server.open(rt, reader);
     if let Some(opened) = opened {
@@ -168,8 +168,8 @@ pub fn submit_stream<R: Wait, Z: FirstZone, N: ServerName>(
         }
         server.close(rt, opened);
     }
-    let (len, reported) = refuse(&heading, peer, out);
-    Submitted::Replied(len, reported)
+    let (len, outcome) = refuse(&heading, peer, out);
+    Submitted::Replied(len, outcome)
 }
 
 /// Submits an update of a peer that may update, which came by datagram. It is answered at once in the same cases as by [`submit_stream`].
@@ -191,9 +191,9 @@ pub fn submit_datagram<R: Wait, Z: FirstZone, N: ServerName>(
 {
     let update = match read_update(alloc, request) {
         Ok(update) => update,
-        Err((heading, reported)) => {
-            let len = write_code(&heading, reported.code, peer.transport, out);
-            return DatagramSubmitted::Replied(len, reported);
+        Err((heading, outcome)) => {
+            let len = write_code(&heading, outcome.code, peer.transport, out);
+            return DatagramSubmitted::Replied(len, outcome);
         }
     };
     let heading = Heading::of_update(&update);
@@ -203,8 +203,8 @@ pub fn submit_datagram<R: Wait, Z: FirstZone, N: ServerName>(
         return DatagramSubmitted::Waits(put);
     }
     server.meet(rt, reader);
-    let (len, reported) = refuse(&heading, peer, out);
-    DatagramSubmitted::Replied(len, reported)
+    let (len, outcome) = refuse(&heading, peer, out);
+    DatagramSubmitted::Replied(len, outcome)
 }
 
 /// Writes the reply to an update that has waited to the front of `out`, with a name writer that the caller keeps, and gives its length in bytes (RFC 2136, 3.8).
