@@ -61,8 +61,8 @@ use Rattle.world_run.specs.declared.sending.Seeking.{Seeking}
 use Rattle.world_run.specs.declared.sending.Sending.{Sending}
 use Rattle.world_run.specs.World.{World, started, call_of, without_call, owner_of, is_taken, zone_of, answer_of, asks_sent, ask_start, drop_start, fade_start, copy_start, weak_start, up_start, is_used, is_taken_weakly, seek_start, transfer_asked, transfer_said, transfer_of, transfer_start, none_got, is_barred, can_enter, is_held, oldest_kept, update_start, start, answer_at, step_once, steps_up_to, go_on, most_steps, is_full, all_made, whole, begin_call, begin_under, stepped, next, turn, onto_replies, play}
 use Rattle.world_laws.proofs.FirstLemmas.{IsOpening, OpeningOf, start_opening}
-use Rattle.world_laws.proofs.HandPlay.{started_hands}
-use Rattle.world_laws.proofs.HandSeats.{Zones}
+use Rattle.world_laws.proofs.UsePlay.{started_in_use}
+use Rattle.world_laws.proofs.UseLists.{Zones}
 use Rattle.world_laws.proofs.SwapLemmas.{step_by}
 
 -- a number that is to be told
@@ -221,7 +221,7 @@ grows : (words : Zones) (at : Phase) (event : WordEvent) (cell next : Cell Numbe
 grows words at event cell next s n e = let short = step_runs words (word_step at) event cell next s in (run_grows cell next short.steps short.runs).buried n e
 
 bury_goes : (words new : Zones) (owner : ℕ) (for : Purpose) (event : WordEvent) (cell next : Cell Numbered) → Makes {T = Numbered} words (word.Bury owner) event new → ShowsStep {T = Numbered} words (word.Bury owner) event cell next → Goes cell next (phase.Bury owner for) (after new (phase.Bury owner for) event)
-bury_goes words new owner for event cell next (place, there, seat, found, m) s =
+bury_goes words new owner for event cell next (place, there, use_of, found, m) s =
     elim (cases_Bool (there.shares == 0)) [
       | inl none ↦ (
           let h = rw none at m in
@@ -649,7 +649,7 @@ play_told seen world (line ∷ lines) replies behind o e =
 -- what is told, from the first line on
 told_from : (first : List Record) (keep window : ℕ) (lines : List Line) (replies : List WorldReply) (world : World) → play (started first keep window) lines ≡ Some (replies, world) → ToldOnce (λ n. 0) replies world
 told_from first keep window lines replies world e =
-    let h = started_hands first keep window in
+    let h = started_in_use first keep window in
     play_told (λ n. 0) (started first keep window) lines replies world (record { cell = h.cell; shows = h.shows; few = λ n. omega arith; gone = λ n some. absurd (omega (arith, some)) }) e
 
 -- whatever lines were played, each number is told as buried once at most

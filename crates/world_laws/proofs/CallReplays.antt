@@ -46,7 +46,7 @@ use Rattle.world_run.specs.Phases.{word_step, after, past, gone, leaving_after, 
 use Rattle.world_laws.specs.InTurn.{LeavesPublished}
 use Rattle.world_laws.specs.Leads.{IsBuriedIn}
 use Rattle.world_run.specs.World.{next}
-use Rattle.world_laws.proofs.HandSeats.{serial_of_entry, swaps_now, swapped_in}
+use Rattle.world_laws.proofs.UseLists.{serial_of_entry, swaps_now, swapped_in}
 pub use Rattle.world_laws.proofs.TellLemmas.{replay_more, MakesNext, Script, scripted, script, Ever, Placed, updates_in, IsFresh, IsNext, placed_next, AreInTurn, Zones, Tells, NoSwap, publishes_nothing, tells_same, SwapsNext, tells_swapped}
 
 -- where a version is entered, it is with this serial
@@ -160,7 +160,7 @@ abbrev StillThere : Zones → Zones → Type 0
 StillThere words new = (new.publisher ≡ words.publisher) × ((place : ℕ) → words.publisher ≡ Swapping place → version_in new place ≡ version_in words place)
 
 bury_keeps_swap : (words new : Zones) (cell : Cell Numbered) (owner : ℕ) (event : WordEvent) → Shows words cell → Makes {T = Numbered} words (word.Bury owner) event new → StillThere words new
-bury_keeps_swap words new cell owner event s (at, there, seat, found, m) =
+bury_keeps_swap words new cell owner event s (at, there, use_of, found, m) =
     elim (eqb_tells there.shares 0) [
       | inl none ↦ (
           let h = rw none.0 at m in
@@ -177,7 +177,7 @@ bury_keeps_swap words new cell owner event s (at, there, seat, found, m) =
     ]
 
 release_keeps_swap : (words new : Zones) (owner : ℕ) (event : WordEvent) → Makes {T = Numbered} words (word.Release owner) event new → StillThere words new
-release_keeps_swap words new owner event (number, at, there, seat, found, m) =
+release_keeps_swap words new owner event (number, at, there, use_of, found, m) =
     elim (cases_Bool (fetch_sub there.shares 1 == 0)) [
       | inl none ↦ (
           let h = rw none at m in
@@ -219,14 +219,14 @@ owner_keeps_swap words new cell word.Swap event of s m = absurd of
 owner_keeps_swap words new cell word.Settle event of s m = absurd of
 owner_keeps_swap words new cell (word.Release owner) event of s m = release_keeps_swap words new owner event m
 owner_keeps_swap words new cell (word.Bury owner) event of s m = bury_keeps_swap words new cell owner event s m
-owner_keeps_swap words new cell (word.Free owner) event of s (at, there, seat, found, told_is, new_is) =
+owner_keeps_swap words new cell (word.Free owner) event of s (at, there, use_of, found, told_is, new_is) =
     ((ap (λ (w : Zones). w.publisher) new_is), λ place publisher. version_stays words new place at there (with_shares free_word there) found (ap (λ (w : Zones). w.table) new_is) refl)
 owner_keeps_swap words new cell (word.Look owner) event of s m = look_keeps_swap words new owner event m
 owner_keeps_swap words new cell (word.Raise owner) event of s m = raise_keeps_swap words new owner event m
-owner_keeps_swap words new cell (word.Note owner) event of s (number, at, there, seat, found, room, told_is, new_is) =
+owner_keeps_swap words new cell (word.Note owner) event of s (number, at, there, use_of, found, room, told_is, new_is) =
     ((ap (λ (w : Zones). w.publisher) new_is), λ place publisher. version_stays words new place at there (with_weak_word (fetch_add there.weak 1) there) found (ap (λ (w : Zones). w.table) new_is) refl)
 owner_keeps_swap words new cell (word.Fade owner) event of s m = fade_keeps_swap words new owner event m
-owner_keeps_swap words new cell (word.Reset owner) event of s (at, there, seat, found, told_is, new_is) =
+owner_keeps_swap words new cell (word.Reset owner) event of s (at, there, use_of, found, told_is, new_is) =
     ((ap (λ (w : Zones). w.publisher) new_is), λ place publisher. version_stays words new place at there (with_weak_word 1 there) found (ap (λ (w : Zones). w.table) new_is) refl)
 
 owner_keeps : (S : Script) (first : List Record) (us : List Placed) (words new : Zones) (cell : Cell Numbered) (step : WordStep Numbered) (event : WordEvent) (other : Phase) → OfOwner step → Shows words cell → Makes words step event new → Coherent S first us words other → Coherent S first us new other

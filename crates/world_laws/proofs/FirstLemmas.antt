@@ -165,16 +165,16 @@ raise_done left words new name from event enough (number, place, there, own, fou
     ]
 
 note_done : (left : ℕ) (words new : Zones) (name : List ℕ) (from : ℕ) (event : WordEvent) → 1 ≤ left → Makes words (word.Note from) event new → IsDone (steps_up_to left words (phase.Note name from)).0
-note_done left words new name from event enough (number, place, there, seat, found, room, told_is, new_is) =
-    let made_here : Makes words (word.Note from) (reported.Noted (length words.owners) number) new = (number, place, there, seat, found, room, refl, new_is) in
+note_done left words new name from event enough (number, place, there, use_of, found, room, told_is, new_is) =
+    let made_here : Makes words (word.Note from) (reported.Noted (length words.owners) number) new = (number, place, there, use_of, found, room, refl, new_is) in
     done_by left words new (phase.Note name from) _ (omega (arith, enough)) (went words new (phase.Note name from) (reported.Noted (length words.owners) number) _ made_here refl) tt
 
 -- a weak owner's release
 weak_done : (words new : Zones) (cell : Cell Numbered) (owner : ℕ) (event : WordEvent) → Shows words cell → Makes words (word.Fade owner) event new → IsDone (steps_up_to most_steps words (phase.Fade owner None purpose.Drop)).0
 weak_done words new cell owner event s (place, there, fades, found, m) =
     elim (to_fade words owner place fades) [
-      | inl seat ↦ fade_ends most_steps words cell owner place (Weakly seat.0 place) None purpose.Drop (drop_passes owner) (omega arith) s seat.1 refl tt
-      | inr seat ↦ fade_ends most_steps words cell owner place (Fading place) None purpose.Drop (drop_passes owner) (omega arith) s seat refl tt
+      | inl use_of ↦ fade_ends most_steps words cell owner place (Weakly use_of.0 place) None purpose.Drop (drop_passes owner) (omega arith) s use_of.1 refl tt
+      | inr use_of ↦ fade_ends most_steps words cell owner place (Fading place) None purpose.Drop (drop_passes owner) (omega arith) s use_of refl tt
     ]
 
 -- a raise behind a look is made, or nothing has changed
@@ -220,8 +220,8 @@ first_then words new cell (phase.Swap keeping) event is s few m = absurd is
 first_then words new cell (phase.Settle keeping) event is s few m = absurd is
 first_then words new cell (phase.Keep given keeping) event is s few m = absurd is
 first_then words new cell (phase.Enter given kept keeping) event is s few m = absurd is
-first_then words new cell (phase.Release owner purpose.Drop) event is s few (number, place, there, seat, found, m) =
-    done_unchanged words (steps_up_to most_steps words (phase.Release owner purpose.Drop)) (release_ends most_steps words cell owner number place purpose.Drop (drop_passes owner) (omega arith) s seat tt)
+first_then words new cell (phase.Release owner purpose.Drop) event is s few (number, place, there, use_of, found, m) =
+    done_unchanged words (steps_up_to most_steps words (phase.Release owner purpose.Drop)) (release_ends most_steps words cell owner number place purpose.Drop (drop_passes owner) (omega arith) s use_of tt)
 first_then words new cell (phase.Release owner (purpose.Publish keeping kept entry)) event is s few m = absurd is
 first_then words new cell (phase.Release owner (purpose.Oldest head kept entry leaving)) event is s few m = absurd is
 first_then words new cell (phase.Release owner (purpose.Leaves head kept entry leaving)) event is s few m = absurd is

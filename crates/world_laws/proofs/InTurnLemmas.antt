@@ -44,9 +44,9 @@ use Rattle.world_run.specs.World.{World, started, call_of, without_call, code_re
 use Rattle.world_laws.proofs.CallReplays.{Script, scripted, Placed, updates_in, Zones}
 use Rattle.world_laws.proofs.OtherCalls.{any_update, AtMostOne, found_any, found_alone}
 use Rattle.world_laws.proofs.FirstLemmas.{Unchanged, FirstOf, IsFirst, IsProbe, first_by, start_first}
-use Rattle.world_laws.proofs.HandPlay.{BeginsOk, start_begins, entries_ok, turn_hands, turn_same, started_hands, started_less, started_few}
-use Rattle.world_laws.proofs.HandSeats.{swapped_in, swapped_at}
-use Rattle.world_laws.proofs.HandWorld.{Hands}
+use Rattle.world_laws.proofs.UsePlay.{BeginsOk, start_begins, entries_ok, turn_in_use, turn_same, started_in_use, started_less, started_few}
+use Rattle.world_laws.proofs.UseLists.{swapped_in, swapped_at}
+use Rattle.world_laws.proofs.UseWorld.{AllInUse}
 use Rattle.world_laws.proofs.HeldLemmas.{same_length}
 use Rattle.world_laws.proofs.ReplayLemmas.{Goes, found_here, found_behind, found_new, by_after, AddedBy, Turned, turn_comes, goes_as, AllSent, all_sent, start_goes, no_updates, place_in, update_at, goes_replayed, replayed_us}
 use Rattle.world_laws.proofs.SwapLemmas.{HeadEnd, HeadAt, step_keeps}
@@ -402,7 +402,7 @@ own_open lines replies top world name call sent head one found is by =
 -- what is so at each line
 record Now (lines : List Line) (replies : List WorldReply) (first : List Record) (top : ℕ) (world : World) : Type 0 where
   goes : Goes (scripted (IsSentAt lines) top (BeganBy lines replies top world.calls)) first world
-  hands : Hands world
+  all_in_use : AllInUse world
   less : world.window ≤ 16
   few : length world.entries ≤ 16
   reported : (k : ℕ) (one : Placed) → slice_get goes.us k ≡ Some one → IsToldSo lines replies top world.calls one
@@ -420,8 +420,8 @@ told_new : (lines : List Line) (replies : List WorldReply) (first : List Record)
     → IsToldSo lines replies (top + 1) after.calls one × IsOfCall lines replies one.place top
 told_new lines replies first top world (Whole call) given after one t e n turned added by =
     let how : start world call ≡ Takes by.1 = by.2 in
-    let begins = start_begins (scripted (IsSentAt lines) top (BeganBy lines replies top world.calls)) first world call n.goes n.hands in
-    let firsts = taken_first world n.goes.tells.cell call by.1 (start world call) how (start_first world call (entries_ok world n.hands n.few)) begins in
+    let begins = start_begins (scripted (IsSentAt lines) top (BeganBy lines replies top world.calls)) first world call n.goes n.all_in_use in
+    let firsts = taken_first world n.goes.tells.cell call by.1 (start world call) how (start_first world call (entries_ok world n.all_in_use n.few)) begins in
     let same = first_by world.words n.goes.tells.cell by.1 (step_once world.words by.1) refl firsts.0 n.goes.tells.shows firsts.1 in
     let changed = words_change _ _ first world after one n.goes turned.goes added in
     let played : (if is_full world then None else Some (all_made world call (steps_up_to most_steps world.words by.1))) ≡ Some (given, after) = ap (whole world call) (sym how) ∙ e in
@@ -447,7 +447,7 @@ line_now lines replies first top world line given after t sent e n =
     let turned : TurnOf lines replies first top world n line given after = turn_comes (scripted (IsSentAt lines) top (BeganBy lines replies top world.calls)) first world line sent n.goes given after e in
     let goes = goes_as (scripted (IsSentAt lines) (top + 1) (by_after (scripted (IsSentAt lines) (top + 1) (BeganBy lines replies top world.calls)) top line given after)) (top + 1) (BeganBy lines replies (top + 1) after.calls) first after (omega arith)
     (λ some sent head by. began_on lines replies top world line given after t e n.goes.one some sent head by) turned.goes in
-    let hands = turn_hands (scripted (IsSentAt lines) top (BeganBy lines replies top world.calls)) first world line n.goes n.hands n.few given after e in
+    let all_in_use = turn_in_use (scripted (IsSentAt lines) top (BeganBy lines replies top world.calls)) first world line n.goes n.all_in_use n.few given after e in
     let same_on = turn_same world line given after e in
     elim turned.comes [
       | inl same ↦ (
@@ -455,7 +455,7 @@ line_now lines replies first top world line given after t sent e n =
           record {
             now = record {
               goes = goes.0;
-              hands = hands;
+              all_in_use = all_in_use;
               less = subst (λ w. w ≤ 16) (sym same_on.1) n.less;
               few = same_on.2 n.less n.few;
               reported = λ k one at. told_on lines replies top world line given after one t e (n.reported k one (ap (λ us. slice_get us k) (sym is) ∙ at));
@@ -471,7 +471,7 @@ line_now lines replies first top world line given after t sent e n =
           record {
             now = record {
               goes = goes.0;
-              hands = hands;
+              all_in_use = all_in_use;
               less = subst (λ w. w ≤ 16) (sym same_on.1) n.less;
               few = same_on.2 n.less n.few;
               reported = λ k one at. elim (push_cases n.goes.us adds.0 one k (ap (λ us. slice_get us k) (sym is) ∙ at)) [
@@ -611,7 +611,7 @@ told_out lines replies last world one update end is s =
 started_now : (lines : List Line) (replies : List WorldReply) (first : List Record) (keep window : ℕ) → Now lines replies first 0 (started first keep window)
 started_now lines replies first keep window = record {
   goes = start_goes (scripted (IsSentAt lines) 0 (BeganBy lines replies 0 [])) first keep window;
-  hands = started_hands first keep window;
+  all_in_use = started_in_use first keep window;
   less = started_less first keep window;
   few = started_few first keep window;
   reported = λ k one at. absurd (no_updates (scripted (IsSentAt lines) 0 (BeganBy lines replies 0 [])) first keep window k one at);

@@ -57,7 +57,7 @@ use Rattle.world_laws.specs.InTurn.{LeavesPublished}
 use Rattle.world_laws.specs.UpdateAnswers.{heading_of}
 use Rattle.world_run.specs.declared.step.WorldReply.TheVariants.{Answered, Begun, NotEnabled}
 use Rattle.world_laws.proofs.AnswerLemmas.{keeps_head}
-use Rattle.world_laws.proofs.HandSeats.{swapped_in, swapped_at, swaps_now}
+use Rattle.world_laws.proofs.UseLists.{swapped_in, swapped_at, swaps_now}
 use Rattle.world_laws.specs.Replays.{Sends, IsSentAt, AreSentInTurn}
 use Rattle.world_run.specs.World.{World, loaded_once, started, call_of, without_call, publication_start, update_start, oldest_kept, is_held, start, step_once, steps_up_to, go_on, most_steps, is_full, given_up, all_made, whole, begin_call, begin_under, stepped, next, turn, onto_replies, play, entries_at, zone_of, owner_of, is_taken, is_taken_weakly, is_used, drop_start, fade_start, copy_start, weak_start, up_start, weak_given_up, ask_start}
 use Rattle.world_laws.specs.Replays.{IsReplayed, IsAnsweredInReplay}

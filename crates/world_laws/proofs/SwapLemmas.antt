@@ -28,7 +28,7 @@ use Rattle.world_run.specs.declared.phase.Purpose.TheVariants as purpose
 use Rattle.world_run.specs.declared.step.Answer.{Answer}
 use Rattle.world_run.specs.declared.step.Answer.TheVariants as answer
 use Rattle.world_laws.proofs.AnswerLemmas.{keeps_head}
-use Rattle.world_laws.proofs.HandSeats.{swapped_for, swapped_in, swapped_at, swaps_now}
+use Rattle.world_laws.proofs.UseLists.{swapped_for, swapped_in, swapped_at, swaps_now}
 use Rattle.world_run.specs.World.{step_once, next}
 use Rattle.world_laws.proofs.CallReplays.{Script, Placed, Zones, Tells, Coherent, Behind, behind}
 

@@ -17,8 +17,8 @@ use Rattle.world_laws.specs.Leads.{HaveSerials}
 use Rattle.world_laws.specs.Replays.{IsSentAt, IsReplayed}
 use Rattle.world_laws.proofs.CallReplays.{script, Placed, updates_in, Zones, Further}
 use Rattle.world_laws.proofs.ChainLists.{Zone}
-use Rattle.world_laws.proofs.HandPlay.{Kept, turn_hands, turn_same, started_hands, started_less, started_few}
-use Rattle.world_laws.proofs.HandWorld.{Hands}
+use Rattle.world_laws.proofs.UsePlay.{Kept, turn_in_use, turn_same, started_in_use, started_less, started_few}
+use Rattle.world_laws.proofs.UseWorld.{AllInUse}
 use Rattle.world_laws.proofs.HeldLemmas.{held_by_kept, held_us}
 use Rattle.world_laws.proofs.LeadLemmas.{zone_at}
 use Rattle.world_laws.proofs.OtherCalls.{moved}
@@ -28,7 +28,7 @@ use Rattle.world_laws.proofs.WindowSerials.{Serials, serial_at, serials_on, wind
 -- a world behind so many of the lines
 pub record Now (lines : List Line) (first : Zone) (keep window top : ℕ) (world : World) : Type 0 where
   pub goes : Goes (script (IsSentAt lines) top) first world
-  pub hands : Hands world
+  pub all_in_use : AllInUse world
   pub less : world.window ≤ 16
   pub few : length world.entries ≤ 16
   pub serials : Serials first (updates_in goes.us) world.window world.entries
@@ -76,7 +76,7 @@ pub line_now : (lines : List Line) (first : Zone) (keep window top : ℕ) (world
 line_now lines first keep window top world line given after here e n =
     let t = turn_comes (script (IsSentAt lines) top) first world line (λ request sends. (line, here, sends)) n.goes given after e in
     let goes = goes_as (moved (script (IsSentAt lines) (top + 1)) (top + 1) (by_after (script (IsSentAt lines) (top + 1)) top line given after)) (top + 1) (λ place head. Unit {0}) first after (omega arith) (λ some place head by. tt) t.goes in
-    let hands = turn_hands (script (IsSentAt lines) top) first world line n.goes n.hands n.few given after e in
+    let all_in_use = turn_in_use (script (IsSentAt lines) top) first world line n.goes n.all_in_use n.few given after e in
     let same_on = turn_same world line given after e in
     let same_us : updates_in t.goes.us ≡ updates_in goes.0.us = ap updates_in (sym goes.1) in
     let grown : (more : List DynamicUpdate) × (updates_in goes.0.us ≡ updates_in n.goes.us ++ more) = elim t.comes [
@@ -87,10 +87,10 @@ line_now lines first keep window top world line given after here e n =
     record {
       now = record {
         goes = goes.0;
-        hands = hands;
+        all_in_use = all_in_use;
         less = subst (λ w. w ≤ 16) (sym same_on.1) n.less;
         few = same_on.2 n.less n.few;
-        serials = serials_on (script (IsSentAt lines) (top + 1)) first world after (updates_in n.goes.us) grown.0 t.goes.us goes.0 hands same_on.1 grown.1 same_us t.window n.serials;
+        serials = serials_on (script (IsSentAt lines) (top + 1)) first world after (updates_in n.goes.us) grown.0 t.goes.us goes.0 all_in_use same_on.1 grown.1 same_us t.window n.serials;
         earlier = reached.0;
         reached = ap (play (started first keep window)) (taken_more lines top line here) ∙ reached.1;
       };
@@ -114,7 +114,7 @@ started_now lines first keep window =
     let none : updates_in goes.us ≡ [] = none_us goes.us (no_updates (script (IsSentAt lines) 0) first keep window) in
     record {
       goes = goes;
-      hands = started_hands first keep window;
+      all_in_use = started_in_use first keep window;
       less = started_less first keep window;
       few = started_few first keep window;
       serials = subst (λ u. Serials first u (min window most_entries) (first_entries first (min window most_entries))) (sym none) (first_serials first (min window most_entries) (nat_lt 0 (min window most_entries)) refl);
@@ -187,7 +187,7 @@ known_replayed lines first keep window top world n = (goes_replayed first lines 
 
 pub known_held : (lines : List Line) (first : Zone) (keep window top : ℕ) (world : World) (n : Now lines first keep window top world) → (h : HoldVersions first lines world) × (h.replayed.updates ≡ updates_in n.goes.us)
 known_held lines first keep window top world n =
-    let k : Kept (script (IsSentAt lines) top) first world world = record { goes = n.goes; hands = n.hands; same = (refl, refl, λ less few. few) } in
+    let k : Kept (script (IsSentAt lines) top) first world world = record { goes = n.goes; all_in_use = n.all_in_use; same = (refl, refl, λ less few. few) } in
     (held_by_kept first lines top world world k, held_us first lines top world world k)
 
 -- whatever lines were played, the window's entries have the serials of their versions
@@ -199,7 +199,7 @@ played_serials first keep window lines replies world e =
       replayed = r.0;
       serials = λ place entry at. subst (λ u. (entry.number ≤ length u) × (entry.serial.0 ≡ zone_serial (zone_at first u entry.number))) (sym r.1) (serial_at first (updates_in n.goes.us) world.entries place entry n.serials.each at);
       newest = λ none place entry at. (
-          let m = window_numbers world.words.owners (length (updates_in n.goes.us) + 1) world.entries place entry (window_fits (script (IsSentAt lines) (length lines)) first world n.goes n.hands none) at in
+          let m = window_numbers world.words.owners (length (updates_in n.goes.us) + 1) world.entries place entry (window_fits (script (IsSentAt lines) (length lines)) first world n.goes n.all_in_use none) at in
           let same : length r.0.updates ≡ length (updates_in n.goes.us) = ap length r.1 in
           omega (arith, m, same)
           );

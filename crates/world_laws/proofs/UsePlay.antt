@@ -57,12 +57,12 @@ use Rattle.world_laws.proofs.EndLemmas.{IsApart, AreAll}
 use Rattle.world_laws.proofs.ReplayLemmas.{Goes, AllSent, turn_goes, all_sent, start_goes, last_replay}
 use Rattle.cell_core.specs.declared.words.Owner.{Owner}
 use Rattle.cell_core.specs.declared.words.Owner.TheVariants.{Holding, Twice, Weakly, Both, Burying, Fading, Resetting, Freeing, Spent}
-use Rattle.world_laws.proofs.HandLemmas.{AllFit, times, times_append, fit_back, lives, other_equal}
-use Rattle.world_laws.proofs.HandSeats.{Zones, seat, window_seats}
-use Rattle.world_laws.proofs.HandLemmas.Hand.{has, notes}
-use Rattle.world_laws.proofs.HandWorld.{Store, store_of, stays_of, both_seats, kept_seats, call_seats, reserved_by, weak_reserved_by, called, named_by, Open, Hands, nothing_apart, step_open, many_open}
-use Rattle.world_laws.proofs.HandTurns.{times_four, fits_four, taken_out, put_back, Among, among}
-use Rattle.world_laws.proofs.HandEnds.{closed, load_open, look_open, raise_open, note_open, drop_open, fade_open, update_open, seek_open}
+use Rattle.world_laws.proofs.UseLemmas.{AllFit, times, times_append, fit_back, lives, other_equal}
+use Rattle.world_laws.proofs.UseLists.{Zones, use_of, window_uses}
+use Rattle.world_laws.proofs.UseLemmas.UseKind.{has, notes}
+use Rattle.world_laws.proofs.UseWorld.{Store, store_of, stays_of, both_uses, kept_uses, call_uses, reserved_by, weak_reserved_by, called, named_by, Open, AllInUse, nothing_apart, step_open, many_open}
+use Rattle.world_laws.proofs.UseTurns.{times_four, fits_four, taken_out, put_back, Among, among}
+use Rattle.world_laws.proofs.UseEnds.{closed, load_open, look_open, raise_open, note_open, drop_open, fade_open, update_open, seek_open}
 
 -- a call that begins has in hand what it is to give up
 abbrev pub BeginsOk : World → Cell Numbered → Call → Start → Type 0
@@ -108,37 +108,37 @@ untaken world name e =
     let parts = or_false (list_any (λ (named : Named). bytes_eq named.name name) world.names) (list_any (λ (call : UnderWay). reserves name call.phase) world.calls) e in
     (none_named name world.names parts.0, none_reserved name world.calls parts.1)
 
-load_begins : (world : World) (cell : Cell Numbered) (name : List ℕ) → Hands world → is_taken name world ≡ false → BeginsOk world cell (Load name) (Takes (phase.Load name))
+load_begins : (world : World) (cell : Cell Numbered) (name : List ℕ) → AllInUse world → is_taken name world ≡ false → BeginsOk world cell (Load name) (Takes (phase.Load name))
 load_begins world cell name h e =
     let t = untaken world name e in
     (load_open world.words world.names world.weak_names (store_of world) world.calls name t.0 t.1 h, λ p. absurd p)
 
-drop_begins : (world : World) (cell : Cell Numbered) (name : List ℕ) (o : Option ℕ) → owner_of name world.names ≡ o → Hands world → BeginsOk world cell (Drop name) (drop_start world.calls o)
+drop_begins : (world : World) (cell : Cell Numbered) (name : List ℕ) (o : Option ℕ) → owner_of name world.names ≡ o → AllInUse world → BeginsOk world cell (Drop name) (drop_start world.calls o)
 drop_begins world cell name None e h = tt
 drop_begins world cell name (Some owner) e h =
     begins_if world cell (Drop name) (is_used world.calls owner) _ _ (λ used. tt)
     (λ unused. (drop_open world.words world.names world.weak_names (store_of world) world.calls name owner e h, λ p. absurd p))
 
-fade_begins : (world : World) (cell : Cell Numbered) (name : List ℕ) (o : Option ℕ) → owner_of name world.weak_names ≡ o → Hands world → BeginsOk world cell (Fade name) (fade_start world.calls o)
+fade_begins : (world : World) (cell : Cell Numbered) (name : List ℕ) (o : Option ℕ) → owner_of name world.weak_names ≡ o → AllInUse world → BeginsOk world cell (Fade name) (fade_start world.calls o)
 fade_begins world cell name None e h = tt
 fade_begins world cell name (Some owner) e h =
     begins_if world cell (Fade name) (is_used world.calls owner) _ _ (λ used. tt)
     (λ unused. (fade_open world.words world.names world.weak_names (store_of world) world.calls name owner e h, λ p. absurd p))
 
-copy_begins : (world : World) (cell : Cell Numbered) (given name : List ℕ) (o : Option ℕ) → Hands world → is_taken name world ≡ false → BeginsOk world cell (Copy given name) (copy_start name o)
+copy_begins : (world : World) (cell : Cell Numbered) (given name : List ℕ) (o : Option ℕ) → AllInUse world → is_taken name world ≡ false → BeginsOk world cell (Copy given name) (copy_start name o)
 copy_begins world cell given name None h e = tt
 copy_begins world cell given name (Some owner) h e =
     let t = untaken world name e in
     (raise_open world.words world.names world.weak_names (store_of world) world.calls name owner t.0 t.1 h, λ p. absurd p)
 
-up_begins : (world : World) (cell : Cell Numbered) (weak name : List ℕ) (o : Option ℕ) → Hands world → is_taken name world ≡ false → BeginsOk world cell (Up weak name) (up_start world.calls name o)
+up_begins : (world : World) (cell : Cell Numbered) (weak name : List ℕ) (o : Option ℕ) → AllInUse world → is_taken name world ≡ false → BeginsOk world cell (Up weak name) (up_start world.calls name o)
 up_begins world cell weak name None h e = tt
 up_begins world cell weak name (Some owner) h e =
     let t = untaken world name e in
     begins_if world cell (Up weak name) (is_used world.calls owner) _ _ (λ used. tt)
     (λ unused. (look_open world.words world.names world.weak_names (store_of world) world.calls name owner t.0 t.1 h, λ p. absurd p))
 
-weak_begins : (world : World) (cell : Cell Numbered) (given name : List ℕ) (o : Option ℕ) → Hands world → (is_taken_weakly name world || is_barred world.calls) ≡ false → BeginsOk world cell (Weak given name) (weak_start name o)
+weak_begins : (world : World) (cell : Cell Numbered) (given name : List ℕ) (o : Option ℕ) → AllInUse world → (is_taken_weakly name world || is_barred world.calls) ≡ false → BeginsOk world cell (Weak given name) (weak_start name o)
 weak_begins world cell given name None h e = tt
 weak_begins world cell given name (Some owner) h e =
     let taken = (or_false (is_taken_weakly name world) (is_barred world.calls) e).0 in
@@ -164,19 +164,19 @@ ask_still : (zone : Option (List Record)) (request : List ℕ) → IsStill (ask_
 ask_still None request = tt
 ask_still (Some zone) request = still_if (asks_update (reads request) || asks_sent Udp zone (reads request)) _ _ tt tt
 
-seek_begins : (world : World) (cell : Cell Numbered) (name request : List ℕ) (sending : Sending) (owners : List ℕ) → Hands world → BeginsOk world cell (Transfer name request) (seek_start world.words sending owners)
+seek_begins : (world : World) (cell : Cell Numbered) (name request : List ℕ) (sending : Sending) (owners : List ℕ) → AllInUse world → BeginsOk world cell (Transfer name request) (seek_start world.words sending owners)
 seek_begins world cell name request sending [] h = tt
 seek_begins world cell name request sending (owner ∷ left) h =
     begins_if world cell (Transfer name request) (nat_le (world.words.granted + length (owner ∷ left)) grants) _ _
     (λ e. (seek_open world.words world.names world.weak_names (store_of world) world.calls owner sending left h, λ p. absurd p)) (λ e. tt)
 
-asked_begins : (world : World) (cell : Cell Numbered) (name request : List ℕ) (sending : Sending) (query : QueryAsked) → Hands world → BeginsOk world cell (Transfer name request) (transfer_asked world sending query)
+asked_begins : (world : World) (cell : Cell Numbered) (name request : List ℕ) (sending : Sending) (query : QueryAsked) → AllInUse world → BeginsOk world cell (Transfer name request) (transfer_asked world sending query)
 asked_begins world cell name request sending query h =
     begins_if world cell (Transfer name request) (not (is_permitted sending.version.zone (peer_over Tcp true) query)) _ _ (λ e. tt)
     (λ e. begins_if world cell (Transfer name request) (is_some query.serial && is_barred world.calls) _ _ (λ f. tt)
     (λ f. seek_begins world cell name request sending (later sending.version.number query.serial world.entries) h))
 
-said_begins : (world : World) (cell : Cell Numbered) (name request : List ℕ) (sending : Sending) (said : Parsed) → Hands world → BeginsOk world cell (Transfer name request) (transfer_said world sending said)
+said_begins : (world : World) (cell : Cell Numbered) (name request : List ℕ) (sending : Sending) (said : Parsed) → AllInUse world → BeginsOk world cell (Transfer name request) (transfer_said world sending said)
 said_begins world cell name request sending parsed.Silent h = tt
 said_begins world cell name request sending (parsed.Fault head code) h = tt
 said_begins world cell name request sending (parsed.BadOpt head question code dnssec_ok) h = tt
@@ -184,11 +184,11 @@ said_begins world cell name request sending (parsed.Query query) h = asked_begin
 said_begins world cell name request sending (parsed.Update update) h = tt
 said_begins world cell name request sending (parsed.NoMemory head) h = tt
 
-of_begins : (world : World) (cell : Cell Numbered) (name request : List ℕ) (owner : ℕ) (version : Option Numbered) → Hands world → BeginsOk world cell (Transfer name request) (transfer_of world owner request version)
+of_begins : (world : World) (cell : Cell Numbered) (name request : List ℕ) (owner : ℕ) (version : Option Numbered) → AllInUse world → BeginsOk world cell (Transfer name request) (transfer_of world owner request version)
 of_begins world cell name request owner None h = tt
 of_begins world cell name request owner (Some version) h = said_begins world cell name request (none_got owner version request) (reads request) h
 
-transfer_begins : (world : World) (cell : Cell Numbered) (name request : List ℕ) (owner : Option ℕ) → Hands world → BeginsOk world cell (Transfer name request) (transfer_start world request owner)
+transfer_begins : (world : World) (cell : Cell Numbered) (name request : List ℕ) (owner : Option ℕ) → AllInUse world → BeginsOk world cell (Transfer name request) (transfer_start world request owner)
 transfer_begins world cell name request None h = tt
 transfer_begins world cell name request (Some owner) h = of_begins world cell name request owner (found_by world.words owner) h
 
@@ -210,12 +210,12 @@ has_room last request what e =
 enters_if : (size serial : ℕ) → is_some (enters size serial) ≡ nat_lt 0 size
 enters_if size serial = elim (cases_Bool (nat_lt 0 size)) [ inl some ↦ rw some refl | inr none ↦ rw none refl ]
 
-publication_begins : (world : World) (cell : Cell Numbered) (request : List ℕ) (head : Heading) (version : Numbered) → any_update world.calls ≡ false → length cell.published < 2 ^ 64 → Hands world → BeginsOk world cell (Update request) (publication_start world head version)
+publication_begins : (world : World) (cell : Cell Numbered) (request : List ℕ) (head : Heading) (version : Numbered) → any_update world.calls ≡ false → length cell.published < 2 ^ 64 → AllInUse world → BeginsOk world cell (Update request) (publication_start world head version)
 publication_begins world cell request head version none few h =
     begins_if world cell (Update request) (nat_lt world.words.granted grants && is_held world.words (oldest_kept world.keep world.kept) && can_enter world.words world.window) _ _
     (λ e. (update_open world.words world.names world.weak_names (store_of world) world.calls version (keeping_for world head version) (refl, refl, enters_if world.window (zone_serial version.zone)) none h, λ p. few)) (λ e. tt)
 
-judged_begins : (S : Script) (first : List Record) (world : World) (request : List ℕ) (last : Numbered) (what : Option Judged) (g : Goes S first world) → judged last request ≡ what → found_last world.words ≡ Some last → any_update world.calls ≡ false → Hands world
+judged_begins : (S : Script) (first : List Record) (world : World) (request : List ℕ) (last : Numbered) (what : Option Judged) (g : Goes S first world) → judged last request ≡ what → found_last world.words ≡ Some last → any_update world.calls ≡ false → AllInUse world
     → BeginsOk world g.tells.cell (Update request) (update_start world what)
 judged_begins S first world request last None g is found none h = tt
 judged_begins S first world request last (Some (judgement.Replied head code)) g is found none h = tt
@@ -224,12 +224,12 @@ judged_begins S first world request last (Some (judgement.Makes head version)) g
     let l = last_replay S first world.words g.us last g.tells found in
     publication_begins world g.tells.cell request head version none (omega (arith, room, l.0, g.tells.replays.counted)) h
 
-found_begins : (S : Script) (first : List Record) (world : World) (request : List ℕ) (o : Option Numbered) (g : Goes S first world) → found_last world.words ≡ o → any_update world.calls ≡ false → Hands world
+found_begins : (S : Script) (first : List Record) (world : World) (request : List ℕ) (o : Option Numbered) (g : Goes S first world) → found_last world.words ≡ o → any_update world.calls ≡ false → AllInUse world
     → BeginsOk world g.tells.cell (Update request) (update_start world (option_and_then (λ last. judged last request) o))
 found_begins S first world request None g found none h = tt
 found_begins S first world request (Some last) g found none h = judged_begins S first world request last (judged last request) g refl found none h
 
-pub start_begins : (S : Script) (first : List Record) (world : World) (call : Call) (g : Goes S first world) → Hands world → BeginsOk world g.tells.cell call (start world call)
+pub start_begins : (S : Script) (first : List Record) (world : World) (call : Call) (g : Goes S first world) → AllInUse world → BeginsOk world g.tells.cell call (start world call)
 start_begins S first world (Load name) g h = begins_if world g.tells.cell (Load name) (is_taken name world) _ _ (λ e. tt) (λ e. load_begins world g.tells.cell name h e)
 start_begins S first world (Drop name) g h = drop_begins world g.tells.cell name (owner_of name world.names) refl h
 start_begins S first world (Copy given name) g h = begins_if world g.tells.cell (Copy given name) (is_taken name world) _ _ (λ e. tt) (λ e. copy_begins world g.tells.cell given name (owner_of given world.names) h e)
@@ -254,31 +254,31 @@ lives_few (Some (Resetting place)) = omega arith
 lives_few (Some (Freeing place)) = omega arith
 lives_few (Some Spent) = omega arith
 
-none_apart : (owner total : ℕ) (entries : List Entry) → times owner (window_seats total entries) ≡ 0 → IsApart owner (owners_in entries)
+none_apart : (owner total : ℕ) (entries : List Entry) → times owner (window_uses total entries) ≡ 0 → IsApart owner (owners_in entries)
 none_apart owner total [] none = tt
 none_apart owner total (x ∷ entries) none = (
   λ e. (let one : one_if (x.owner == owner) ≡ 1 = elim (eqb_tells x.owner owner) [ inl same ↦ rw same.0 refl | inr other ↦ absurd (other.1 e) ] in absurd (omega (arith, none, one))),
   none_apart owner total entries (omega (arith, none)),
 )
 
-weak_all : (owners : List Owner) (total : ℕ) (entries : List Entry) → AllFit owners (window_seats total entries) → ((i : ℕ) → times i (window_seats total entries) ≤ 1) → AreAll Weakly owners (owners_in entries)
+weak_all : (owners : List Owner) (total : ℕ) (entries : List Entry) → AllFit owners (window_uses total entries) → ((i : ℕ) → times i (window_uses total entries) ≤ 1) → AreAll Weakly owners (owners_in entries)
 weak_all owners total [] fits few = tt
 weak_all owners total (x ∷ entries) fits few =
     let once = few x.owner in
     let one : one_if (x.owner == x.owner) ≡ 1 = elim (eqb_tells x.owner x.owner) [ inl same ↦ rw same.0 refl | inr other ↦ absurd (other.1 refl) ] in
     ((x.number, fits.0.1, fits.0.2), none_apart x.owner total entries (omega (arith, once, one)), weak_all owners total entries fits.1 (λ i. (let less = few i in omega (arith, less))))
 
-pub entries_ok : (world : World) → Hands world → length world.entries ≤ 16 → EntriesIf world
+pub entries_ok : (world : World) → AllInUse world → length world.entries ≤ 16 → EntriesIf world
 entries_ok world h few e =
     let none = unbarred world.calls e in
-    let s = rw none at h.seated in
-    let kept_ones = kept_seats h.from world.kept in
-    let window = window_seats (h.from + length world.kept) world.entries in
-    let all = fits_four world.words.owners [] (both_seats world.names world.weak_names) (kept_ones ++ window) (call_seats h.last h.from (stays_of (store_of world)) world.calls) s.fit in
+    let s = rw none at h.in_use in
+    let kept_ones = kept_uses h.from world.kept in
+    let window = window_uses (h.from + length world.kept) world.entries in
+    let all = fits_four world.words.owners [] (both_uses world.names world.weak_names) (kept_ones ++ window) (call_uses h.last h.from (stays_of (store_of world)) world.calls) s.fit in
     record {
       weak = weak_all world.words.owners (h.from + length world.kept) world.entries (fit_back world.words.owners kept_ones window all.2)
           (λ i. (
-          let four = times_four i [] (both_seats world.names world.weak_names) (kept_ones ++ window) (call_seats h.last h.from (stays_of (store_of world)) world.calls) in
+          let four = times_four i [] (both_uses world.names world.weak_names) (kept_ones ++ window) (call_uses h.last h.from (stays_of (store_of world)) world.calls) in
           let two = times_append i kept_ones window in
           let exact = s.exact i in
           let less = lives_few (slice_get world.words.owners i) in
@@ -288,31 +288,31 @@ entries_ok world h few e =
     }
 
 -- a world behind a line, where that is played
-abbrev pub HandsBehind : Option (WorldReply × World) → Type 0
-HandsBehind o = (given : WorldReply) (world : World) → o ≡ Some (given, world) → Hands world
+abbrev pub InUseAfter : Option (WorldReply × World) → Type 0
+InUseAfter o = (given : WorldReply) (world : World) → o ≡ Some (given, world) → AllInUse world
 
-to_some : (played : WorldReply × World) → Hands played.1 → HandsBehind (Some played)
+to_some : (played : WorldReply × World) → AllInUse played.1 → InUseAfter (Some played)
 to_some played h given world e =
     let pair : played ≡ (given, world) = (let i = e in cc) in
-    subst (λ (w : World). Hands w) (ap (λ (p : WorldReply × World). p.1) pair) h
+    subst (λ (w : World). AllInUse w) (ap (λ (p : WorldReply × World). p.1) pair) h
 
-to_none : HandsBehind None
+to_none : InUseAfter None
 to_none given world e = absurd (let wrong = e in cc)
 
-to_if : (test : Bool) (one two : Option (WorldReply × World)) → HandsBehind one → HandsBehind two → HandsBehind (if test then one else two)
+to_if : (test : Bool) (one two : Option (WorldReply × World)) → InUseAfter one → InUseAfter two → InUseAfter (if test then one else two)
 to_if true one two a b = a
 to_if false one two a b = b
 
-made_hands : (world : World) (call : Call) (came : Progress × Zones) → Hands world → Unchanged world.words came → Open came.1 (given_up call world.names) (weak_given_up call world.weak_names) (store_of world) world.calls came.0 → Hands (all_made world call came).1
-made_hands world call (On at, words) h same o = subst (λ (w : Zones). Open w world.names world.weak_names (store_of world) world.calls nothing_apart) (sym same) h
-made_hands world call (Done end, words) h same o = closed words (given_up call world.names) (weak_given_up call world.weak_names) (store_of world) world.calls end o
+made_in_use : (world : World) (call : Call) (came : Progress × Zones) → AllInUse world → Unchanged world.words came → Open came.1 (given_up call world.names) (weak_given_up call world.weak_names) (store_of world) world.calls came.0 → AllInUse (all_made world call came).1
+made_in_use world call (On at, words) h same o = subst (λ (w : Zones). Open w world.names world.weak_names (store_of world) world.calls nothing_apart) (sym same) h
+made_in_use world call (Done end, words) h same o = closed words (given_up call world.names) (weak_given_up call world.weak_names) (store_of world) world.calls end o
 
-whole_hands : (world : World) (cell : Cell Numbered) (call : Call) (how : Start) → Hands world → Shows world.words cell → FirstOf world.words how → BeginsOk world cell call how → HandsBehind (whole world call how)
-whole_hands world cell call Refused h s is ok = to_some _ h
-whole_hands world cell call (Answers given) h s is ok = to_if (is_full world) _ _ to_none (to_some _ h)
-whole_hands world cell call (Takes at) h s is ok =
+whole_in_use : (world : World) (cell : Cell Numbered) (call : Call) (how : Start) → AllInUse world → Shows world.words cell → FirstOf world.words how → BeginsOk world cell call how → InUseAfter (whole world call how)
+whole_in_use world cell call Refused h s is ok = to_some _ h
+whole_in_use world cell call (Answers given) h s is ok = to_if (is_full world) _ _ to_none (to_some _ h)
+whole_in_use world cell call (Takes at) h s is ok =
     to_if (is_full world) _ _ to_none
-    (to_some _ (made_hands world call (steps_up_to most_steps world.words at) h
+    (to_some _ (made_in_use world call (steps_up_to most_steps world.words at) h
     (first_by world.words cell at (step_once world.words at) refl is s ok.1)
     (many_open most_steps (given_up call world.names) (weak_given_up call world.weak_names) (store_of world) world.calls world.words at ok.0)))
 
@@ -334,41 +334,41 @@ to_calls words names weaks store calls name at none o =
     let e = append-nil calls in
     put_back words names weaks store calls [] (record { name = name; phase = at }) (ap (called name) e ∙ none) (subst (λ cs. Open words names weaks store cs (On at)) (sym e) o)
 
-begin_hands : (world : World) (cell : Cell Numbered) (name : List ℕ) (call : Call) (how : Start) → call_of name world.calls ≡ None → Hands world → BeginsOk world cell call how → HandsBehind (begin_call world name call how)
-begin_hands world cell name call Refused none h ok = to_some _ h
-begin_hands world cell name call (Answers given) none h ok = to_if (is_full world) _ _ to_none (to_some _ h)
-begin_hands world cell name call (Takes at) none h ok =
+begin_in_use : (world : World) (cell : Cell Numbered) (name : List ℕ) (call : Call) (how : Start) → call_of name world.calls ≡ None → AllInUse world → BeginsOk world cell call how → InUseAfter (begin_call world name call how)
+begin_in_use world cell name call Refused none h ok = to_some _ h
+begin_in_use world cell name call (Answers given) none h ok = to_if (is_full world) _ _ to_none (to_some _ h)
+begin_in_use world cell name call (Takes at) none h ok =
     to_if (is_full world) _ _ to_none (to_some _ (to_calls world.words (given_up call world.names) (weak_given_up call world.weak_names) (store_of world) world.calls name at (none_called name world.calls none) ok.0))
 
-under_hands : (S : Script) (first : List Record) (world : World) (name : List ℕ) (call : Call) (other : Option UnderWay) → call_of name world.calls ≡ other → Goes S first world → Hands world → HandsBehind (begin_under world name call other)
-under_hands S first world name call None e g h = begin_hands world g.tells.cell name call (start world call) e h (start_begins S first world call g h)
-under_hands S first world name call (Some other) e g h = to_some _ h
+under_in_use : (S : Script) (first : List Record) (world : World) (name : List ℕ) (call : Call) (other : Option UnderWay) → call_of name world.calls ≡ other → Goes S first world → AllInUse world → InUseAfter (begin_under world name call other)
+under_in_use S first world name call None e g h = begin_in_use world g.tells.cell name call (start world call) e h (start_begins S first world call g h)
+under_in_use S first world name call (Some other) e g h = to_some _ h
 
 -- the call of a name, apart from the others
-apart : (world : World) (name : List ℕ) (call : UnderWay) → Among name world.calls call → Hands world → Open world.words world.names world.weak_names (store_of world) (without_call name world.calls) (On call.phase)
+apart : (world : World) (name : List ℕ) (call : UnderWay) → Among name world.calls call → AllInUse world → Open world.words world.names world.weak_names (store_of world) (without_call name world.calls) (On call.phase)
 apart world name call a h =
     subst (λ cs. Open world.words world.names world.weak_names (store_of world) cs (On call.phase)) (sym a.rest)
     (taken_out world.words world.names world.weak_names (store_of world) a.front a.back call (subst (λ cs. Open world.words world.names world.weak_names (store_of world) cs nothing_apart) a.whole h))
 
-stepped_hands : (world : World) (name : List ℕ) (call : UnderWay) (o : Option (Progress × Zones)) → call_of name world.calls ≡ Some call → step_once world.words call.phase ≡ o → Hands world → Hands (stepped world name call.phase o).1
-stepped_hands world name call None found is h = h
-stepped_hands world name call (Some (On further, words)) found is h =
+stepped_in_use : (world : World) (name : List ℕ) (call : UnderWay) (o : Option (Progress × Zones)) → call_of name world.calls ≡ Some call → step_once world.words call.phase ≡ o → AllInUse world → AllInUse (stepped world name call.phase o).1
+stepped_in_use world name call None found is h = h
+stepped_in_use world name call (Some (On further, words)) found is h =
     let a = among name world.calls call (h.calls_once name) found in
     to_calls words world.names world.weak_names (store_of world) (without_call name world.calls) name further (ap (called name) a.rest ∙ a.none)
     (step_open world.words words world.names world.weak_names (store_of world) (without_call name world.calls) call.phase (On further) is (apart world name call a h))
-stepped_hands world name call (Some (Done end, words)) found is h =
+stepped_in_use world name call (Some (Done end, words)) found is h =
     let a = among name world.calls call (h.calls_once name) found in
     closed words world.names world.weak_names (store_of world) (without_call name world.calls) end
     (step_open world.words words world.names world.weak_names (store_of world) (without_call name world.calls) call.phase (Done end) is (apart world name call a h))
 
-next_hands : (world : World) (name : List ℕ) (o : Option UnderWay) → call_of name world.calls ≡ o → Hands world → Hands (next world name o).1
-next_hands world name None found h = h
-next_hands world name (Some call) found h = stepped_hands world name call (step_once world.words call.phase) found refl h
+next_in_use : (world : World) (name : List ℕ) (o : Option UnderWay) → call_of name world.calls ≡ o → AllInUse world → AllInUse (next world name o).1
+next_in_use world name None found h = h
+next_in_use world name (Some call) found h = stepped_in_use world name call (step_once world.words call.phase) found refl h
 
-pub turn_hands : (S : Script) (first : List Record) (world : World) (line : Line) → Goes S first world → Hands world → length world.entries ≤ 16 → HandsBehind (turn world line)
-turn_hands S first world (Whole call) g h few = whole_hands world g.tells.cell call (start world call) h g.tells.shows (start_first world call (entries_ok world h few)) (start_begins S first world call g h)
-turn_hands S first world (Begin name call) g h few = under_hands S first world name call (call_of name world.calls) refl g h
-turn_hands S first world (Next name) g h few = to_some _ (next_hands world name (call_of name world.calls) refl h)
+pub turn_in_use : (S : Script) (first : List Record) (world : World) (line : Line) → Goes S first world → AllInUse world → length world.entries ≤ 16 → InUseAfter (turn world line)
+turn_in_use S first world (Whole call) g h few = whole_in_use world g.tells.cell call (start world call) h g.tells.shows (start_first world call (entries_ok world h few)) (start_begins S first world call g h)
+turn_in_use S first world (Begin name call) g h few = under_in_use S first world name call (call_of name world.calls) refl g h
+turn_in_use S first world (Next name) g h few = to_some _ (next_in_use world name (call_of name world.calls) refl h)
 
 -- an update leaves no more entries than there can be
 entered_few : (size : ℕ) (entries : List Entry) (entry : Entry) → size ≤ 16 → length (entered size entries entry) ≤ 16
@@ -452,7 +452,7 @@ turn_same world (Next name) = same_some world _ (next_same world name (call_of n
 -- a world whose versions are replays, with all that is in hand
 pub record Kept (S : Script) (first : List Record) (begun_as world : World) : Type 0 where
   pub goes : Goes S first world
-  pub hands : Hands world
+  pub all_in_use : AllInUse world
   pub same : Same begun_as world
 
 abbrev pub KeptOn : (ℕ → List ℕ → Type 0) → List Record → World → World → Type 0
@@ -480,14 +480,14 @@ play_kept sends top first begun_as less few world (line ∷ lines) replies behin
     line_kept sends (top + 1) first begun_as world behind lines replies (turn world line)
     (λ given between is. record {
       goes = turn_goes sends top first world line sent.0 k.goes given between is;
-      hands = turn_hands (script sends top) first world line k.goes k.hands (k.same.2 less few) given between is;
+      all_in_use = turn_in_use (script sends top) first world line k.goes k.all_in_use (k.same.2 less few) given between is;
       same = (let s = turn_same world line given between is in (s.0 ∙ k.same.0, s.1 ∙ k.same.1, λ l f. s.2 (subst (λ n. n ≤ 16) (sym k.same.1) l) (k.same.2 l f)));
     })
     (λ given between kept more last p. play_kept sends (top + 1) first begun_as less few between lines more last sent.1 kept p) e
 
 -- at the start version 0 is kept, and entered where there is a window, and nothing else is in hand
-loaded_hands : (first : List Record) (keep window : ℕ) → nat_lt 0 window ≡ false → Hands (started_within first keep window)
-loaded_hands first keep window e =
+loaded_in_use : (first : List Record) (keep window : ℕ) → nat_lt 0 window ≡ false → AllInUse (started_within first keep window)
+loaded_in_use first keep window e =
     let shown = step_shows {T = Numbered} (begun (first_version first)) (loaded_once (first_version first)) word.Load (reported.Loaded 0 0) (cell_start (first_version first)) (begun_shows (first_version first)) (0, refl, lit< tt, refl, refl) in
     rw e (record {
       cell = shown.0;
@@ -504,19 +504,19 @@ loaded_hands first keep window e =
       one = tt;
       still = tt;
       stills = tt;
-      seated = record { fit = ((0, refl), tt); exact = λ i. first_exact i };
+      in_use = record { fit = ((0, refl), tt); exact = λ i. first_exact i };
       publisher = λ e f. refl;
       names_once = λ name. omega arith;
       weak_once = λ name. omega arith;
       calls_once = λ name. omega arith;
     })
   where
-    first_exact : (i : ℕ) → times i (seat 0 (has 0) ∷ []) ≡ lives (slice_get (Holding 0 0 ∷ []) i)
+    first_exact : (i : ℕ) → times i (use_of 0 (has 0) ∷ []) ≡ lives (slice_get (Holding 0 0 ∷ []) i)
     first_exact zero = refl
     first_exact (suc i) = let none = other_equal 0 (suc i) (λ e. absurd (omega (arith, e))) in omega (arith, none)
 
-noted_hands : (first : List Record) (keep window : ℕ) → nat_lt 0 window ≡ true → Hands (started_within first keep window)
-noted_hands first keep window e =
+noted_in_use : (first : List Record) (keep window : ℕ) → nat_lt 0 window ≡ true → AllInUse (started_within first keep window)
+noted_in_use first keep window e =
     let once = step_shows {T = Numbered} (begun (first_version first)) (loaded_once (first_version first)) word.Load (reported.Loaded 0 0) (cell_start (first_version first)) (begun_shows (first_version first)) (0, refl, lit< tt, refl, refl) in
     let shown = step_shows {T = Numbered} (loaded_once (first_version first)) (noted_once (first_version first)) (word.Note 0) (reported.Noted 1 0) once.0 once.2 (0, 0, first_slot (first_version first), refl, refl, lit< tt, refl, refl) in
     let same : shown.0.published ≡ once.0.published = publishes_nothing (loaded_once (first_version first)) (noted_once (first_version first)) (word.Note 0) (reported.Noted 1 0) once.0 shown.0 tt (0, 0, first_slot (first_version first), refl, refl, lit< tt, refl, refl) shown.1 in
@@ -535,14 +535,14 @@ noted_hands first keep window e =
       one = tt;
       still = tt;
       stills = tt;
-      seated = record { fit = ((0, refl), ((omega arith, 0, refl), tt)); exact = λ i. first_exact i };
+      in_use = record { fit = ((0, refl), ((omega arith, 0, refl), tt)); exact = λ i. first_exact i };
       publisher = λ e f. refl;
       names_once = λ name. omega arith;
       weak_once = λ name. omega arith;
       calls_once = λ name. omega arith;
     })
   where
-    first_exact : (i : ℕ) → times i (seat 0 (has 0) ∷ (seat 1 (notes 0 1 1) ∷ [])) ≡ lives (slice_get (Holding 0 0 ∷ (Weakly 0 0 ∷ [])) i)
+    first_exact : (i : ℕ) → times i (use_of 0 (has 0) ∷ (use_of 1 (notes 0 1 1) ∷ [])) ≡ lives (slice_get (Holding 0 0 ∷ (Weakly 0 0 ∷ [])) i)
     first_exact zero = refl
     first_exact (suc zero) = refl
     first_exact (suc (suc i)) =
@@ -550,12 +550,12 @@ noted_hands first keep window e =
         let nor = other_equal 1 (suc (suc i)) (λ e. absurd (omega (arith, e))) in
         omega (arith, none, nor)
 
-started_by : (first : List Record) (keep window : ℕ) (some : Bool) → nat_lt 0 window ≡ some → Hands (started_within first keep window)
-started_by first keep window true e = noted_hands first keep window e
-started_by first keep window false e = loaded_hands first keep window e
+started_by : (first : List Record) (keep window : ℕ) (some : Bool) → nat_lt 0 window ≡ some → AllInUse (started_within first keep window)
+started_by first keep window true e = noted_in_use first keep window e
+started_by first keep window false e = loaded_in_use first keep window e
 
-pub started_hands : (first : List Record) (keep window : ℕ) → Hands (started first keep window)
-started_hands first keep window = started_by first keep (min window most_entries) (nat_lt 0 (min window most_entries)) refl
+pub started_in_use : (first : List Record) (keep window : ℕ) → AllInUse (started first keep window)
+started_in_use first keep window = started_by first keep (min window most_entries) (nat_lt 0 (min window most_entries)) refl
 
 pub started_less : (first : List Record) (keep window : ℕ) → (started first keep window).window ≤ 16
 started_less first keep window = omega arith
@@ -570,11 +570,11 @@ started_few first keep window = few_by first (min window most_entries) (nat_lt 0
 pub played_kept : (first : List Record) (keep window : ℕ) (lines : List Line) (replies : List WorldReply) (world : World) → play (started first keep window) lines ≡ Some (replies, world) → KeptOn (IsSentAt lines) first (started first keep window) world
 played_kept first keep window lines replies world e =
     play_kept (IsSentAt lines) 0 first (started first keep window) (started_less first keep window) (started_few first keep window) (started first keep window) lines replies world (all_sent lines)
-    (record { goes = start_goes (script (IsSentAt lines) 0) first keep window; hands = started_hands first keep window; same = (refl, refl, λ less few. few) }) e
+    (record { goes = start_goes (script (IsSentAt lines) 0) first keep window; all_in_use = started_in_use first keep window; same = (refl, refl, λ less few. few) }) e
 
 -- whatever lines were played, a line that isn't enabled changes nothing
 pub played_refusal : (first : List Record) (keep window : ℕ) (lines : List Line) (replies : List WorldReply) (world after_line : World) (line : Line) (cell : Cell Numbered) → play (started first keep window) lines ≡ Some (replies, world)
     → Shows world.words cell → length cell.published < 2 ^ 64 → turn world line ≡ Some (NotEnabled, after_line) → after_line ≡ world
 played_refusal first keep window lines replies world after_line line cell e s few_published refused =
     let k = played_kept first keep window lines replies world e in
-    turn_refusal world after_line line cell (entries_ok world k.1.hands (k.1.same.2 (started_less first keep window) (started_few first keep window))) s few_published refused
+    turn_refusal world after_line line cell (entries_ok world k.1.all_in_use (k.1.same.2 (started_less first keep window) (started_few first keep window))) s few_published refused

@@ -18,14 +18,14 @@ use Rattle.world_run.specs.declared.phase.Progress.{Progress}
 use Rattle.world_run.specs.declared.phase.Progress.TheVariants.{On, Done}
 use Rattle.zone_tree.specs.Version.{Version as Numbered}
 use Rattle.world_run.specs.Phases.{reserves, reserves_weakly, updates}
-use Rattle.world_laws.proofs.HandLemmas.{Hand, Seat, Seated}
-use Rattle.world_laws.proofs.HandLemmas.Hand.{holds, has, weakly, notes, buries, fades, resets, frees}
+use Rattle.world_laws.proofs.UseLemmas.{UseKind, Use, InUse}
+use Rattle.world_laws.proofs.UseLemmas.UseKind.{holds, has, weakly, notes, buries, fades, resets, frees}
 
 abbrev pub Zones : Type 0
 Zones = State Numbered
 
-abbrev pub seat : ℕ → Hand → Seat
-seat owner hand = record { owner = owner; hand = hand }
+abbrev pub use_of : ℕ → UseKind → Use
+use_of owner use_kind = record { owner = owner; use_kind = use_kind }
 
 -- what stays for an update under way as it is: which of the versions that are kept is to be given up, how many they are, and the window
 pub record Stays : Type 0 where
@@ -35,28 +35,28 @@ pub record Stays : Type 0 where
   pub entries : List Entry
 
 -- the oldest version that is kept, where it is to be given up, in an update's hand
-abbrev pub oldest_seats : ℕ → Option ℕ → List Seat
-oldest_seats before None = []
-oldest_seats before (Some owner) = seat owner (has before) ∷ []
+abbrev pub oldest_uses : ℕ → Option ℕ → List Use
+oldest_uses before None = []
+oldest_uses before (Some owner) = use_of owner (has before) ∷ []
 
 -- weak owners, and strong ones, which are alike
-abbrev pub weak_seats : List ℕ → List Seat
-weak_seats [] = []
-weak_seats (o ∷ os) = seat o weakly ∷ weak_seats os
+abbrev pub weak_uses : List ℕ → List Use
+weak_uses [] = []
+weak_uses (o ∷ os) = use_of o weakly ∷ weak_uses os
 
-abbrev pub holding_seats : List ℕ → List Seat
-holding_seats [] = []
-holding_seats (o ∷ os) = seat o holds ∷ holding_seats os
+abbrev pub holding_uses : List ℕ → List Use
+holding_uses [] = []
+holding_uses (o ∷ os) = use_of o holds ∷ holding_uses os
 
 -- the window's weak owners: its entries are of the last of so many versions, in turn
-abbrev pub window_seats : ℕ → List Entry → List Seat
-window_seats total [] = []
-window_seats total (entry ∷ entries) = seat entry.owner (notes entry.number (length (entry ∷ entries)) total) ∷ window_seats total entries
+abbrev pub window_uses : ℕ → List Entry → List Use
+window_uses total [] = []
+window_uses total (entry ∷ entries) = use_of entry.owner (notes entry.number (length (entry ∷ entries)) total) ∷ window_uses total entries
 
 -- the weak owner of a new entry, which is of the last version
-abbrev pub entry_seats : ℕ → Option Entry → List Seat
-entry_seats last None = []
-entry_seats last (Some entry) = seat entry.owner (notes entry.number 1 (last + 1)) ∷ []
+abbrev pub entry_uses : ℕ → Option Entry → List Use
+entry_uses last None = []
+entry_uses last (Some entry) = use_of entry.owner (notes entry.number 1 (last + 1)) ∷ []
 
 abbrev pub serial_of_entry : Option Entry → Option Serial
 serial_of_entry None = None
@@ -68,50 +68,50 @@ staying stays None = stays.entries
 staying stays (Some serial) = drop (length (leaving stays.window stays.entries serial.0)) stays.entries
 
 -- an update has these in hand up to its end, or those of them that haven't left
-abbrev pub early_seats : ℕ → Stays → Option ℕ → List Seat
-early_seats before stays oldest = oldest_seats before oldest ++ window_seats (before + stays.count) stays.entries
+abbrev pub early_uses : ℕ → Stays → Option ℕ → List Use
+early_uses before stays oldest = oldest_uses before oldest ++ window_uses (before + stays.count) stays.entries
 
-abbrev pub late_seats : ℕ → ℕ → Stays → Option Entry → List ℕ → List Seat
-late_seats last before stays entry leaving = entry_seats last entry ++ (weak_seats leaving ++ window_seats (before + stays.count) (staying stays (serial_of_entry entry)))
+abbrev pub late_uses : ℕ → ℕ → Stays → Option Entry → List ℕ → List Use
+late_uses last before stays entry leaving = entry_uses last entry ++ (weak_uses leaving ++ window_uses (before + stays.count) (staying stays (serial_of_entry entry)))
 
-abbrev pub for_seats : ℕ → ℕ → Stays → Purpose → List Seat
-for_seats last before stays purpose.Drop = []
-for_seats last before stays (purpose.Publish keeping kept entry) = seat kept (has last) ∷ (entry_seats last entry ++ early_seats before stays keeping.oldest)
-for_seats last before stays (purpose.Oldest head kept entry leaving) = seat kept (has last) ∷ late_seats last before stays entry leaving
-for_seats last before stays (purpose.Leaves head kept entry leaving) = seat kept (has last) ∷ late_seats last before stays entry leaving
-for_seats last before stays (purpose.Sent sending owners) = holding_seats owners
+abbrev pub for_uses : ℕ → ℕ → Stays → Purpose → List Use
+for_uses last before stays purpose.Drop = []
+for_uses last before stays (purpose.Publish keeping kept entry) = use_of kept (has last) ∷ (entry_uses last entry ++ early_uses before stays keeping.oldest)
+for_uses last before stays (purpose.Oldest head kept entry leaving) = use_of kept (has last) ∷ late_uses last before stays entry leaving
+for_uses last before stays (purpose.Leaves head kept entry leaving) = use_of kept (has last) ∷ late_uses last before stays entry leaving
+for_uses last before stays (purpose.Sent sending owners) = holding_uses owners
 
-abbrev pub phase_seats : ℕ → ℕ → Stays → Phase → List Seat
-phase_seats last before stays (phase.Load name) = []
-phase_seats last before stays (phase.Look name owner) = []
-phase_seats last before stays (phase.Raise name owner) = []
-phase_seats last before stays (phase.Note name owner) = []
-phase_seats last before stays (phase.Seek owner seeking) = holding_seats seeking.owners
-phase_seats last before stays (phase.Gain owner seeking) = holding_seats seeking.owners
-phase_seats last before stays (phase.Probe version keeping) = early_seats before stays keeping.oldest
-phase_seats last before stays (phase.Prepare version keeping) = early_seats before stays keeping.oldest
-phase_seats last before stays (phase.Swap keeping) = early_seats before stays keeping.oldest
-phase_seats last before stays (phase.Settle keeping) = early_seats before stays keeping.oldest
-phase_seats last before stays (phase.Keep given keeping) = seat given holds ∷ early_seats before stays keeping.oldest
-phase_seats last before stays (phase.Enter given kept keeping) = seat given holds ∷ (seat kept (has last) ∷ early_seats before stays keeping.oldest)
-phase_seats last before stays (phase.Release owner for) = seat owner holds ∷ for_seats last before stays for
-phase_seats last before stays (phase.Bury owner for) = seat owner buries ∷ for_seats last before stays for
-phase_seats last before stays (phase.Fade owner None for) = seat owner weakly ∷ for_seats last before stays for
-phase_seats last before stays (phase.Fade owner (Some number) for) = seat owner fades ∷ for_seats last before stays for
-phase_seats last before stays (phase.Reset owner number for) = seat owner resets ∷ for_seats last before stays for
-phase_seats last before stays (phase.Free owner number for) = seat owner frees ∷ for_seats last before stays for
+abbrev pub phase_uses : ℕ → ℕ → Stays → Phase → List Use
+phase_uses last before stays (phase.Load name) = []
+phase_uses last before stays (phase.Look name owner) = []
+phase_uses last before stays (phase.Raise name owner) = []
+phase_uses last before stays (phase.Note name owner) = []
+phase_uses last before stays (phase.Seek owner seeking) = holding_uses seeking.owners
+phase_uses last before stays (phase.Gain owner seeking) = holding_uses seeking.owners
+phase_uses last before stays (phase.Probe version keeping) = early_uses before stays keeping.oldest
+phase_uses last before stays (phase.Prepare version keeping) = early_uses before stays keeping.oldest
+phase_uses last before stays (phase.Swap keeping) = early_uses before stays keeping.oldest
+phase_uses last before stays (phase.Settle keeping) = early_uses before stays keeping.oldest
+phase_uses last before stays (phase.Keep given keeping) = use_of given holds ∷ early_uses before stays keeping.oldest
+phase_uses last before stays (phase.Enter given kept keeping) = use_of given holds ∷ (use_of kept (has last) ∷ early_uses before stays keeping.oldest)
+phase_uses last before stays (phase.Release owner for) = use_of owner holds ∷ for_uses last before stays for
+phase_uses last before stays (phase.Bury owner for) = use_of owner buries ∷ for_uses last before stays for
+phase_uses last before stays (phase.Fade owner None for) = use_of owner weakly ∷ for_uses last before stays for
+phase_uses last before stays (phase.Fade owner (Some number) for) = use_of owner fades ∷ for_uses last before stays for
+phase_uses last before stays (phase.Reset owner number for) = use_of owner resets ∷ for_uses last before stays for
+phase_uses last before stays (phase.Free owner number for) = use_of owner frees ∷ for_uses last before stays for
 
-abbrev pub end_seats : ℕ → ℕ → Stays → End → List Seat
-end_seats last before stays (Owned name owner number) = seat owner holds ∷ []
-end_seats last before stays (OwnedWeakly name owner number) = seat owner weakly ∷ []
-end_seats last before stays (Replied answer) = []
-end_seats last before stays (NoSlot head) = early_seats before stays stays.oldest
-end_seats last before stays (Kept head owner entry) = seat owner (has last) ∷ late_seats last before stays entry []
-end_seats last before stays (Sent sending) = []
+abbrev pub end_uses : ℕ → ℕ → Stays → End → List Use
+end_uses last before stays (Owned name owner number) = use_of owner holds ∷ []
+end_uses last before stays (OwnedWeakly name owner number) = use_of owner weakly ∷ []
+end_uses last before stays (Replied answer) = []
+end_uses last before stays (NoSlot head) = early_uses before stays stays.oldest
+end_uses last before stays (Kept head owner entry) = use_of owner (has last) ∷ late_uses last before stays entry []
+end_uses last before stays (Sent sending) = []
 
-abbrev pub hand_seats : ℕ → ℕ → Stays → Progress → List Seat
-hand_seats last before stays (On at) = phase_seats last before stays at
-hand_seats last before stays (Done end) = end_seats last before stays end
+abbrev pub kind_uses : ℕ → ℕ → Stays → Progress → List Use
+kind_uses last before stays (On at) = phase_uses last before stays at
+kind_uses last before stays (Done end) = end_uses last before stays end
 
 -- a version is entered where there is a window
 abbrev pub EntersIf : Stays → Bool → Type 0
@@ -263,8 +263,8 @@ updates_at (Done (NoSlot head)) = true
 updates_at (Done (Kept head owner entry)) = true
 
 -- what a step of a call makes of what it has in hand, beside others
-pub record Went (old new : Zones) (at : Phase) (progress : Progress) (last before : ℕ) (stays : Stays) (rest : List Seat) : Type 0 where
-  pub seated : Seated new.owners (hand_seats last before stays progress ++ rest)
+pub record Went (old new : Zones) (at : Phase) (progress : Progress) (last before : ℕ) (stays : Stays) (rest : List Use) : Type 0 where
+  pub in_use : InUse new.owners (kind_uses last before stays progress ++ rest)
   pub still : StaysAt stays progress
   pub swapped : swapped_at progress ≡ swapped_in at + swaps_now at
   pub publisher : publishes_at progress ≡ false → (publishes_in at ≡ true → new.publisher ≡ Probing 0) × (publishes_in at ≡ false → new.publisher ≡ old.publisher)

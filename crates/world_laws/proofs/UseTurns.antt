@@ -11,43 +11,43 @@ use Rattle.world_run.specs.declared.calls.UnderWay.{UnderWay}
 use Rattle.world_run.specs.Phases.{reserves, reserves_weakly, updates}
 use Rattle.world_run.specs.World.{call_of, without_call}
 use Rattle.world_laws.proofs.OtherCalls.{any_update, AtMostOne}
-use Rattle.world_laws.proofs.HandLemmas.{Seat, AllFit, Seated, times, times_append, fit_append, fit_front, fit_back, seated_as}
-use Rattle.world_laws.proofs.HandSeats.{Zones, Stays, phase_seats, StaysIn, swapped_in, publishes_in}
-use Rattle.world_laws.proofs.HandWorld.{Store, stays_of, both_seats, store_left, call_seats, AllStay, swaps_of, any_publishes, reserved_by, weak_reserved_by, called, rest_seats, Open, nothing_apart}
+use Rattle.world_laws.proofs.UseLemmas.{Use, AllFit, InUse, times, times_append, fit_append, fit_front, fit_back, in_use_as}
+use Rattle.world_laws.proofs.UseLists.{Zones, Stays, phase_uses, StaysIn, swapped_in, publishes_in}
+use Rattle.world_laws.proofs.UseWorld.{Store, stays_of, both_uses, store_left, call_uses, AllStay, swaps_of, any_publishes, reserved_by, weak_reserved_by, called, rest_uses, Open, nothing_apart}
 
 -- four lists of those in hand, one behind the other
-pub times_four : (i : ℕ) (a b c d : List Seat) → times i (a ++ (b ++ (c ++ d))) ≡ times i a + (times i b + (times i c + times i d))
+pub times_four : (i : ℕ) (a b c d : List Use) → times i (a ++ (b ++ (c ++ d))) ≡ times i a + (times i b + (times i c + times i d))
 times_four i a b c d = let x = times_append i a (b ++ (c ++ d)) in let y = times_append i b (c ++ d) in let z = times_append i c d in omega (arith, x, y, z)
 
-pub fit_four : (owners : List Owner) (a b c d : List Seat) → AllFit owners a → AllFit owners b → AllFit owners c → AllFit owners d → AllFit owners (a ++ (b ++ (c ++ d)))
+pub fit_four : (owners : List Owner) (a b c d : List Use) → AllFit owners a → AllFit owners b → AllFit owners c → AllFit owners d → AllFit owners (a ++ (b ++ (c ++ d)))
 fit_four owners a b c d f g h k = fit_append owners a (b ++ (c ++ d)) f (fit_append owners b (c ++ d) g (fit_append owners c d h k))
 
-pub fits_four : (owners : List Owner) (a b c d : List Seat) → AllFit owners (a ++ (b ++ (c ++ d))) → AllFit owners a × AllFit owners b × AllFit owners c × AllFit owners d
+pub fits_four : (owners : List Owner) (a b c d : List Use) → AllFit owners (a ++ (b ++ (c ++ d))) → AllFit owners a × AllFit owners b × AllFit owners c × AllFit owners d
 fits_four owners a b c d f =
     let g = fit_back owners a (b ++ (c ++ d)) f in
     let h = fit_back owners b (c ++ d) g in
     (fit_front owners a (b ++ (c ++ d)) f, fit_front owners b (c ++ d) g, fit_front owners c d h, fit_back owners c d h)
 
 -- a call among others
-call_times : (i last from : ℕ) (stays : Stays) (front back : List UnderWay) (c : UnderWay) → times i (call_seats last from stays (front ++ c ∷ back)) ≡ times i (phase_seats last from stays c.phase) + times i (call_seats last from stays (front ++ back))
-call_times i last from stays [] back c = times_append i (phase_seats last from stays c.phase) (call_seats last from stays back)
+call_times : (i last from : ℕ) (stays : Stays) (front back : List UnderWay) (c : UnderWay) → times i (call_uses last from stays (front ++ c ∷ back)) ≡ times i (phase_uses last from stays c.phase) + times i (call_uses last from stays (front ++ back))
+call_times i last from stays [] back c = times_append i (phase_uses last from stays c.phase) (call_uses last from stays back)
 call_times i last from stays (x ∷ front) back c =
     let more = call_times i last from stays front back c in
-    let one = times_append i (phase_seats last from stays x.phase) (call_seats last from stays (front ++ c ∷ back)) in
-    let two = times_append i (phase_seats last from stays x.phase) (call_seats last from stays (front ++ back)) in
+    let one = times_append i (phase_uses last from stays x.phase) (call_uses last from stays (front ++ c ∷ back)) in
+    let two = times_append i (phase_uses last from stays x.phase) (call_uses last from stays (front ++ back)) in
     omega (arith, more, one, two)
 
-call_fits : (owners : List Owner) (last from : ℕ) (stays : Stays) (front back : List UnderWay) (c : UnderWay) → AllFit owners (call_seats last from stays (front ++ c ∷ back)) → AllFit owners (phase_seats last from stays c.phase) × AllFit owners (call_seats last from stays (front ++ back))
-call_fits owners last from stays [] back c f = (fit_front owners (phase_seats last from stays c.phase) (call_seats last from stays back) f, fit_back owners (phase_seats last from stays c.phase) (call_seats last from stays back) f)
+call_fits : (owners : List Owner) (last from : ℕ) (stays : Stays) (front back : List UnderWay) (c : UnderWay) → AllFit owners (call_uses last from stays (front ++ c ∷ back)) → AllFit owners (phase_uses last from stays c.phase) × AllFit owners (call_uses last from stays (front ++ back))
+call_fits owners last from stays [] back c f = (fit_front owners (phase_uses last from stays c.phase) (call_uses last from stays back) f, fit_back owners (phase_uses last from stays c.phase) (call_uses last from stays back) f)
 call_fits owners last from stays (x ∷ front) back c f =
-    let more = call_fits owners last from stays front back c (fit_back owners (phase_seats last from stays x.phase) (call_seats last from stays (front ++ c ∷ back)) f) in
-    (more.0, fit_append owners (phase_seats last from stays x.phase) (call_seats last from stays (front ++ back)) (fit_front owners (phase_seats last from stays x.phase) (call_seats last from stays (front ++ c ∷ back)) f) more.1)
+    let more = call_fits owners last from stays front back c (fit_back owners (phase_uses last from stays x.phase) (call_uses last from stays (front ++ c ∷ back)) f) in
+    (more.0, fit_append owners (phase_uses last from stays x.phase) (call_uses last from stays (front ++ back)) (fit_front owners (phase_uses last from stays x.phase) (call_uses last from stays (front ++ c ∷ back)) f) more.1)
 
-calls_fit : (owners : List Owner) (last from : ℕ) (stays : Stays) (front back : List UnderWay) (c : UnderWay) → AllFit owners (phase_seats last from stays c.phase) → AllFit owners (call_seats last from stays (front ++ back)) → AllFit owners (call_seats last from stays (front ++ c ∷ back))
-calls_fit owners last from stays [] back c f g = fit_append owners (phase_seats last from stays c.phase) (call_seats last from stays back) f g
+calls_fit : (owners : List Owner) (last from : ℕ) (stays : Stays) (front back : List UnderWay) (c : UnderWay) → AllFit owners (phase_uses last from stays c.phase) → AllFit owners (call_uses last from stays (front ++ back)) → AllFit owners (call_uses last from stays (front ++ c ∷ back))
+calls_fit owners last from stays [] back c f g = fit_append owners (phase_uses last from stays c.phase) (call_uses last from stays back) f g
 calls_fit owners last from stays (x ∷ front) back c f g =
-    fit_append owners (phase_seats last from stays x.phase) (call_seats last from stays (front ++ c ∷ back)) (fit_front owners (phase_seats last from stays x.phase) (call_seats last from stays (front ++ back)) g)
-    (calls_fit owners last from stays front back c f (fit_back owners (phase_seats last from stays x.phase) (call_seats last from stays (front ++ back)) g))
+    fit_append owners (phase_uses last from stays x.phase) (call_uses last from stays (front ++ c ∷ back)) (fit_front owners (phase_uses last from stays x.phase) (call_uses last from stays (front ++ back)) g)
+    (calls_fit owners last from stays front back c f (fit_back owners (phase_uses last from stays x.phase) (call_uses last from stays (front ++ back)) g))
 
 swaps_split : (front back : List UnderWay) (c : UnderWay) → swaps_of (front ++ c ∷ back) ≡ swapped_in c.phase + swaps_of (front ++ back)
 swaps_split [] back c = refl
@@ -122,19 +122,19 @@ pub taken_out : (words : Zones) (names weaks : List Named) (store : Store) (fron
 taken_out words names weaks store front back c o =
     let flag = any_split front back c in
     let kept_ones = store_left o.from store (any_update (front ++ c ∷ back)) in
-    let all = fits_four words.owners [] (both_seats names weaks) kept_ones (call_seats o.last o.from (stays_of store) (front ++ c ∷ back)) o.seated.fit in
+    let all = fits_four words.owners [] (both_uses names weaks) kept_ones (call_uses o.last o.from (stays_of store) (front ++ c ∷ back)) o.in_use.fit in
     let parts = call_fits words.owners o.last o.from (stays_of store) front back c all.3 in
     let one = one_split front back c o.one in
     let olds = stays_split (stays_of store) front back c o.stills in
-    let s : Seated words.owners (phase_seats o.last o.from (stays_of store) c.phase ++ rest_seats o.last o.from names weaks store (front ++ back) (any_update (front ++ c ∷ back))) =
-    seated_as words.owners _ (phase_seats o.last o.from (stays_of store) c.phase ++ rest_seats o.last o.from names weaks store (front ++ back) (any_update (front ++ c ∷ back)))
-    (fit_four words.owners (phase_seats o.last o.from (stays_of store) c.phase) (both_seats names weaks) kept_ones (call_seats o.last o.from (stays_of store) (front ++ back)) parts.0 all.1 all.2 parts.1)
+    let s : InUse words.owners (phase_uses o.last o.from (stays_of store) c.phase ++ rest_uses o.last o.from names weaks store (front ++ back) (any_update (front ++ c ∷ back))) =
+    in_use_as words.owners _ (phase_uses o.last o.from (stays_of store) c.phase ++ rest_uses o.last o.from names weaks store (front ++ back) (any_update (front ++ c ∷ back)))
+    (fit_four words.owners (phase_uses o.last o.from (stays_of store) c.phase) (both_uses names weaks) kept_ones (call_uses o.last o.from (stays_of store) (front ++ back)) parts.0 all.1 all.2 parts.1)
     (λ i. (
-    let a = times_four i (phase_seats o.last o.from (stays_of store) c.phase) (both_seats names weaks) kept_ones (call_seats o.last o.from (stays_of store) (front ++ back)) in
-    let b = times_four i [] (both_seats names weaks) kept_ones (call_seats o.last o.from (stays_of store) (front ++ c ∷ back)) in
+    let a = times_four i (phase_uses o.last o.from (stays_of store) c.phase) (both_uses names weaks) kept_ones (call_uses o.last o.from (stays_of store) (front ++ back)) in
+    let b = times_four i [] (both_uses names weaks) kept_ones (call_uses o.last o.from (stays_of store) (front ++ c ∷ back)) in
     let d = call_times i o.last o.from (stays_of store) front back c in
     omega (arith, a, b, d)
-    )) o.seated in
+    )) o.in_use in
     let swaps = swaps_split front back c in
     record {
       cell = o.cell;
@@ -151,7 +151,7 @@ taken_out words names weaks store front back c o =
       one = one.0;
       still = olds.0;
       stills = olds.1;
-      seated = subst (λ b. Seated words.owners (phase_seats o.last o.from (stays_of store) c.phase ++ rest_seats o.last o.from names weaks store (front ++ back) b)) flag s;
+      in_use = subst (λ b. InUse words.owners (phase_uses o.last o.from (stays_of store) c.phase ++ rest_uses o.last o.from names weaks store (front ++ back) b)) flag s;
       publisher = λ e f. o.publisher refl (publishes_split front back c ∙ rw e f);
       names_once = λ name. (let n = o.names_once name in let r = reserved_split name front back c in omega (arith, n, r));
       weak_once = λ name. (let n = o.weak_once name in let r = weak_reserved_split name front back c in omega (arith, n, r));
@@ -163,16 +163,16 @@ pub put_back : (words : Zones) (names weaks : List Named) (store : Store) (front
 put_back words names weaks store front back c none o =
     let flag = any_split front back c in
     let kept_ones = store_left o.from store (updates c.phase || any_update (front ++ back)) in
-    let all = fits_four words.owners (phase_seats o.last o.from (stays_of store) c.phase) (both_seats names weaks) kept_ones (call_seats o.last o.from (stays_of store) (front ++ back)) o.seated.fit in
-    let s : Seated words.owners (rest_seats o.last o.from names weaks store (front ++ c ∷ back) (updates c.phase || any_update (front ++ back))) =
-    seated_as words.owners _ (rest_seats o.last o.from names weaks store (front ++ c ∷ back) (updates c.phase || any_update (front ++ back)))
-    (fit_four words.owners [] (both_seats names weaks) kept_ones (call_seats o.last o.from (stays_of store) (front ++ c ∷ back)) tt all.1 all.2 (calls_fit words.owners o.last o.from (stays_of store) front back c all.0 all.3))
+    let all = fits_four words.owners (phase_uses o.last o.from (stays_of store) c.phase) (both_uses names weaks) kept_ones (call_uses o.last o.from (stays_of store) (front ++ back)) o.in_use.fit in
+    let s : InUse words.owners (rest_uses o.last o.from names weaks store (front ++ c ∷ back) (updates c.phase || any_update (front ++ back))) =
+    in_use_as words.owners _ (rest_uses o.last o.from names weaks store (front ++ c ∷ back) (updates c.phase || any_update (front ++ back)))
+    (fit_four words.owners [] (both_uses names weaks) kept_ones (call_uses o.last o.from (stays_of store) (front ++ c ∷ back)) tt all.1 all.2 (calls_fit words.owners o.last o.from (stays_of store) front back c all.0 all.3))
     (λ i. (
-    let a = times_four i (phase_seats o.last o.from (stays_of store) c.phase) (both_seats names weaks) kept_ones (call_seats o.last o.from (stays_of store) (front ++ back)) in
-    let b = times_four i [] (both_seats names weaks) kept_ones (call_seats o.last o.from (stays_of store) (front ++ c ∷ back)) in
+    let a = times_four i (phase_uses o.last o.from (stays_of store) c.phase) (both_uses names weaks) kept_ones (call_uses o.last o.from (stays_of store) (front ++ back)) in
+    let b = times_four i [] (both_uses names weaks) kept_ones (call_uses o.last o.from (stays_of store) (front ++ c ∷ back)) in
     let d = call_times i o.last o.from (stays_of store) front back c in
     omega (arith, a, b, d)
-    )) o.seated in
+    )) o.in_use in
     let swaps = swaps_split front back c in
     record {
       cell = o.cell;
@@ -189,7 +189,7 @@ put_back words names weaks store front back c none o =
       one = one_join front back c o.one o.alone;
       still = tt;
       stills = stays_join (stays_of store) front back c o.still o.stills;
-      seated = subst (λ b. Seated words.owners (rest_seats o.last o.from names weaks store (front ++ c ∷ back) b)) (sym flag) s;
+      in_use = subst (λ b. InUse words.owners (rest_uses o.last o.from names weaks store (front ++ c ∷ back) b)) (sym flag) s;
       publisher = λ e f. (let parts = or_false (publishes_in c.phase) (any_publishes (front ++ back)) (sym (publishes_split front back c) ∙ f) in o.publisher parts.0 parts.1);
       names_once = λ name. (let n = o.names_once name in let r = reserved_split name front back c in omega (arith, n, r));
       weak_once = λ name. (let n = o.weak_once name in let r = weak_reserved_split name front back c in omega (arith, n, r));

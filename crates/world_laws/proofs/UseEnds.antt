@@ -24,24 +24,24 @@ use Rattle.world_run.specs.declared.phase.Purpose.{Purpose}
 use Rattle.world_run.specs.Phases.{is_for_update, updates}
 use Rattle.world_run.specs.World.{owner_of, without_name, names_at, weak_names_at, kept_at, entries_at}
 use Rattle.world_laws.proofs.OtherCalls.{any_update}
-use Rattle.world_laws.proofs.HandLemmas.{Hand, Seat, HandIs, AllFit, Seated, times, times_append, fit_append, fit_front, fit_back, seated_as}
-use Rattle.world_laws.proofs.HandLemmas.Hand.{holds, has, weakly}
-use Rattle.world_laws.proofs.HandSeats.{Zones, Stays, AsStays, EntersIf, seat, phase_seats, window_seats, entry_seats, serial_of_entry, staying, early_seats, late_seats, StaysIn, swapped_for, swapped_in}
-use Rattle.world_laws.proofs.HandTurns.{times_four, fit_four, fits_four}
-use Rattle.world_laws.proofs.HandWorld.{Store, stays_of, store_left, seats_as, both_seats, kept_seats, kept_left, call_seats, AllStay, swaps_of, reserved_by, weak_reserved_by, named_by, rest_seats, Open, nothing_apart}
-use Rattle.world_laws.proofs.HandStore.{seated_kept, seated_given}
+use Rattle.world_laws.proofs.UseLemmas.{UseKind, Use, IsOfKind, AllFit, InUse, times, times_append, fit_append, fit_front, fit_back, in_use_as}
+use Rattle.world_laws.proofs.UseLemmas.UseKind.{holds, has, weakly}
+use Rattle.world_laws.proofs.UseLists.{Zones, Stays, AsStays, EntersIf, use_of, phase_uses, window_uses, entry_uses, serial_of_entry, staying, early_uses, late_uses, StaysIn, swapped_for, swapped_in}
+use Rattle.world_laws.proofs.UseTurns.{times_four, fit_four, fits_four}
+use Rattle.world_laws.proofs.UseWorld.{Store, stays_of, store_left, uses_as, both_uses, kept_uses, kept_left, call_uses, AllStay, swaps_of, reserved_by, weak_reserved_by, named_by, rest_uses, Open, nothing_apart}
+use Rattle.world_laws.proofs.UseStore.{in_use_kept, in_use_given}
 
 -- one version more is kept, behind the others
-kept_push : (from : ℕ) (kept : List ℕ) (owner : ℕ) → kept_seats from (kept ++ owner ∷ []) ≡ kept_seats from kept ++ seat owner (has (from + length kept)) ∷ []
-kept_push from [] owner = let e : from ≡ from + 0 = omega arith in ap (λ n. seat owner (has n) ∷ []) e
-kept_push from (o ∷ os) owner = let e : from + 1 + length os ≡ from + length (o ∷ os) = omega arith in ap (λ ss. seat o (has from) ∷ ss) (kept_push (from + 1) os owner ∙ ap (λ n. kept_seats (from + 1) os ++ seat owner (has n) ∷ []) e)
+kept_push : (from : ℕ) (kept : List ℕ) (owner : ℕ) → kept_uses from (kept ++ owner ∷ []) ≡ kept_uses from kept ++ use_of owner (has (from + length kept)) ∷ []
+kept_push from [] owner = let e : from ≡ from + 0 = omega arith in ap (λ n. use_of owner (has n) ∷ []) e
+kept_push from (o ∷ os) owner = let e : from + 1 + length os ≡ from + length (o ∷ os) = omega arith in ap (λ ss. use_of o (has from) ∷ ss) (kept_push (from + 1) os owner ∙ ap (λ n. kept_uses (from + 1) os ++ use_of owner (has n) ∷ []) e)
 
 -- the versions that are kept where an update has made one
 pub record KeptNow (from keep : ℕ) (kept : List ℕ) (owner last : ℕ) : Type 0 where
   pub first : ℕ
   pub now : List ℕ
   pub now_is : now ≡ (if nat_lt keep (length kept) then remove kept 0 else kept) ++ owner ∷ []
-  pub seats : kept_seats first now ≡ kept_left from keep kept true ++ seat owner (has last) ∷ []
+  pub uses : kept_uses first now ≡ kept_left from keep kept true ++ use_of owner (has last) ∷ []
   pub count : first + length now ≡ last + 1
   pub first_is : first ≡ last + 1 - (keep + 1)
 
@@ -56,7 +56,7 @@ kept_now from keep [] owner last count is =
         first = from;
         now = owner ∷ [];
         now_is = rw all refl;
-        seats = rw all (let e : from ≡ last = omega (arith, count) in ap (λ n. seat owner (has n) ∷ []) e);
+        uses = rw all (let e : from ≡ last = omega (arith, count) in ap (λ n. use_of owner (has n) ∷ []) e);
         count = omega (arith, count);
         first_is = omega (arith, count, is);
       }
@@ -70,7 +70,7 @@ kept_now from keep (o ∷ os) owner last count is =
             first = from + 1;
             now = os ++ owner ∷ [];
             now_is = rw more refl;
-            seats = rw more (kept_push (from + 1) os owner ∙ ap (λ n. kept_seats (from + 1) os ++ seat owner (has n) ∷ []) e);
+            uses = rw more (kept_push (from + 1) os owner ∙ ap (λ n. kept_uses (from + 1) os ++ use_of owner (has n) ∷ []) e);
             count = omega (arith, e, length-append os (owner ∷ []));
             first_is = omega (arith, count, is, l);
           }
@@ -81,7 +81,7 @@ kept_now from keep (o ∷ os) owner last count is =
             first = from;
             now = (o ∷ os) ++ owner ∷ [];
             now_is = rw all refl;
-            seats = rw all (kept_push from (o ∷ os) owner ∙ ap (λ n. kept_seats from (o ∷ os) ++ seat owner (has n) ∷ []) count);
+            uses = rw all (kept_push from (o ∷ os) owner ∙ ap (λ n. kept_uses from (o ∷ os) ++ use_of owner (has n) ∷ []) count);
             count = omega (arith, count, length-append (o ∷ os) (owner ∷ []));
             first_is = omega (arith, count, is, few);
           }
@@ -89,9 +89,9 @@ kept_now from keep (o ∷ os) owner last count is =
     ]
 
 -- one name more
-name_push : (hand : Hand) (names : List Named) (x : Named) → seats_as hand (names ++ x ∷ []) ≡ seats_as hand names ++ seat x.owner hand ∷ []
-name_push hand [] x = refl
-name_push hand (n ∷ names) x = ap (λ ss. seat n.owner hand ∷ ss) (name_push hand names x)
+name_push : (use_kind : UseKind) (names : List Named) (x : Named) → uses_as use_kind (names ++ x ∷ []) ≡ uses_as use_kind names ++ use_of x.owner use_kind ∷ []
+name_push use_kind [] x = refl
+name_push use_kind (n ∷ names) x = ap (λ ss. use_of n.owner use_kind ∷ ss) (name_push use_kind names x)
 
 named_push : (name : List ℕ) (names : List Named) (x : Named) → named_by name (names ++ x ∷ []) ≡ named_by name names + one_if (bytes_eq x.name name)
 named_push name [] x = omega arith
@@ -114,7 +114,7 @@ told_closed words names weaks store calls given o = record {
   one = o.one;
   still = tt;
   stills = o.stills;
-  seated = o.seated;
+  in_use = o.in_use;
   publisher = o.publisher;
   names_once = o.names_once;
   weak_once = o.weak_once;
@@ -122,14 +122,14 @@ told_closed words names weaks store calls given o = record {
 }
 
 -- an owner more among those of names
-both_push : (i : ℕ) (a b : List Seat) (x : Seat) → times i ((a ++ x ∷ []) ++ b) ≡ times i (x ∷ []) + times i (a ++ b)
+both_push : (i : ℕ) (a b : List Use) (x : Use) → times i ((a ++ x ∷ []) ++ b) ≡ times i (x ∷ []) + times i (a ++ b)
 both_push i a b x =
     let one = times_append i (a ++ x ∷ []) b in
     let two = times_append i a (x ∷ []) in
     let three = times_append i a b in
     omega (arith, one, two, three)
 
-weak_push : (i : ℕ) (a b : List Seat) (x : Seat) → times i (a ++ (b ++ x ∷ [])) ≡ times i (x ∷ []) + times i (a ++ b)
+weak_push : (i : ℕ) (a b : List Use) (x : Use) → times i (a ++ (b ++ x ∷ [])) ≡ times i (x ∷ []) + times i (a ++ b)
 weak_push i a b x =
     let one = times_append i a (b ++ x ∷ []) in
     let two = times_append i b (x ∷ []) in
@@ -137,10 +137,10 @@ weak_push i a b x =
     omega (arith, one, two, three)
 
 -- it moves from a call's hand to the names
-given_seats : (owners : List Owner) (x : Seat) (more both kept_ones calls : List Seat) → AllFit owners more → ((i : ℕ) → times i more ≡ times i (x ∷ []) + times i both) → Seated owners ((x ∷ []) ++ (both ++ (kept_ones ++ calls))) → Seated owners (more ++ (kept_ones ++ calls))
-given_seats owners x more both kept_ones calls fits count s =
+given_uses : (owners : List Owner) (x : Use) (more both kept_ones calls : List Use) → AllFit owners more → ((i : ℕ) → times i more ≡ times i (x ∷ []) + times i both) → InUse owners ((x ∷ []) ++ (both ++ (kept_ones ++ calls))) → InUse owners (more ++ (kept_ones ++ calls))
+given_uses owners x more both kept_ones calls fits count s =
     let all = fits_four owners (x ∷ []) both kept_ones calls s.fit in
-    seated_as owners _ (more ++ (kept_ones ++ calls)) (fit_four owners [] more kept_ones calls tt fits all.2 all.3)
+    in_use_as owners _ (more ++ (kept_ones ++ calls)) (fit_four owners [] more kept_ones calls tt fits all.2 all.3)
     (λ i. (
     let a = times_four i (x ∷ []) both kept_ones calls in
     let b = times_four i [] more kept_ones calls in
@@ -153,9 +153,9 @@ owned_closed words names weaks store calls name owner number o =
     let x : Named = record { name = name; owner = owner } in
     let kept_ones = store_left o.from store (any_update calls) in
     let push = name_push holds names x in
-    let all = fits_four words.owners (seat owner holds ∷ []) (both_seats names weaks) kept_ones (call_seats o.last o.from (stays_of store) calls) o.seated.fit in
-    let front = fit_front words.owners (seats_as holds names) (seats_as weakly weaks) all.1 in
-    let behind = fit_back words.owners (seats_as holds names) (seats_as weakly weaks) all.1 in
+    let all = fits_four words.owners (use_of owner holds ∷ []) (both_uses names weaks) kept_ones (call_uses o.last o.from (stays_of store) calls) o.in_use.fit in
+    let front = fit_front words.owners (uses_as holds names) (uses_as weakly weaks) all.1 in
+    let behind = fit_back words.owners (uses_as holds names) (uses_as weakly weaks) all.1 in
     record {
       cell = o.cell;
       shows = o.shows;
@@ -171,9 +171,9 @@ owned_closed words names weaks store calls name owner number o =
       one = o.one;
       still = tt;
       stills = o.stills;
-      seated = given_seats words.owners (seat owner holds) (both_seats (names ++ x ∷ []) weaks) (both_seats names weaks) kept_ones (call_seats o.last o.from (stays_of store) calls)
-          (subst (λ ss. AllFit words.owners (ss ++ seats_as weakly weaks)) (sym push) (fit_append words.owners (seats_as holds names ++ seat owner holds ∷ []) (seats_as weakly weaks) (fit_append words.owners (seats_as holds names) (seat owner holds ∷ []) front all.0) behind))
-          (λ i. subst (λ ss. times i (ss ++ seats_as weakly weaks) ≡ times i (seat owner holds ∷ []) + times i (both_seats names weaks)) (sym push) (both_push i (seats_as holds names) (seats_as weakly weaks) (seat owner holds))) o.seated;
+      in_use = given_uses words.owners (use_of owner holds) (both_uses (names ++ x ∷ []) weaks) (both_uses names weaks) kept_ones (call_uses o.last o.from (stays_of store) calls)
+          (subst (λ ss. AllFit words.owners (ss ++ uses_as weakly weaks)) (sym push) (fit_append words.owners (uses_as holds names ++ use_of owner holds ∷ []) (uses_as weakly weaks) (fit_append words.owners (uses_as holds names) (use_of owner holds ∷ []) front all.0) behind))
+          (λ i. subst (λ ss. times i (ss ++ uses_as weakly weaks) ≡ times i (use_of owner holds ∷ []) + times i (both_uses names weaks)) (sym push) (both_push i (uses_as holds names) (uses_as weakly weaks) (use_of owner holds))) o.in_use;
       publisher = o.publisher;
       names_once = λ n. (let once = o.names_once n in let more = named_push n names x in omega (arith, once, more));
       weak_once = o.weak_once;
@@ -185,9 +185,9 @@ weakly_closed words names weaks store calls name owner number o =
     let x : Named = record { name = name; owner = owner } in
     let kept_ones = store_left o.from store (any_update calls) in
     let push = name_push weakly weaks x in
-    let all = fits_four words.owners (seat owner weakly ∷ []) (both_seats names weaks) kept_ones (call_seats o.last o.from (stays_of store) calls) o.seated.fit in
-    let front = fit_front words.owners (seats_as holds names) (seats_as weakly weaks) all.1 in
-    let behind = fit_back words.owners (seats_as holds names) (seats_as weakly weaks) all.1 in
+    let all = fits_four words.owners (use_of owner weakly ∷ []) (both_uses names weaks) kept_ones (call_uses o.last o.from (stays_of store) calls) o.in_use.fit in
+    let front = fit_front words.owners (uses_as holds names) (uses_as weakly weaks) all.1 in
+    let behind = fit_back words.owners (uses_as holds names) (uses_as weakly weaks) all.1 in
     record {
       cell = o.cell;
       shows = o.shows;
@@ -203,9 +203,9 @@ weakly_closed words names weaks store calls name owner number o =
       one = o.one;
       still = tt;
       stills = o.stills;
-      seated = given_seats words.owners (seat owner weakly) (both_seats names (weaks ++ x ∷ [])) (both_seats names weaks) kept_ones (call_seats o.last o.from (stays_of store) calls)
-          (subst (λ ss. AllFit words.owners (seats_as holds names ++ ss)) (sym push) (fit_append words.owners (seats_as holds names) (seats_as weakly weaks ++ seat owner weakly ∷ []) front (fit_append words.owners (seats_as weakly weaks) (seat owner weakly ∷ []) behind all.0)))
-          (λ i. subst (λ ss. times i (seats_as holds names ++ ss) ≡ times i (seat owner weakly ∷ []) + times i (both_seats names weaks)) (sym push) (weak_push i (seats_as holds names) (seats_as weakly weaks) (seat owner weakly))) o.seated;
+      in_use = given_uses words.owners (use_of owner weakly) (both_uses names (weaks ++ x ∷ [])) (both_uses names weaks) kept_ones (call_uses o.last o.from (stays_of store) calls)
+          (subst (λ ss. AllFit words.owners (uses_as holds names ++ ss)) (sym push) (fit_append words.owners (uses_as holds names) (uses_as weakly weaks ++ use_of owner weakly ∷ []) front (fit_append words.owners (uses_as weakly weaks) (use_of owner weakly ∷ []) behind all.0)))
+          (λ i. subst (λ ss. times i (uses_as holds names ++ ss) ≡ times i (use_of owner weakly ∷ []) + times i (both_uses names weaks)) (sym push) (weak_push i (uses_as holds names) (uses_as weakly weaks) (use_of owner weakly))) o.in_use;
       publisher = o.publisher;
       names_once = o.names_once;
       weak_once = λ n. (let once = o.weak_once n in let more = named_push n weaks x in omega (arith, once, more));
@@ -230,7 +230,7 @@ no_slot_closed words names weaks store calls head o =
       one = o.one;
       still = tt;
       stills = o.stills;
-      seated = rw none (seated_given words.owners o.last o.from names weaks store calls o.seated);
+      in_use = rw none (in_use_given words.owners o.last o.from names weaks store calls o.in_use);
       publisher = o.publisher;
       names_once = o.names_once;
       weak_once = o.weak_once;
@@ -238,7 +238,7 @@ no_slot_closed words names weaks store calls head o =
     }
 
 -- where no update is under way nothing goes by what is kept, nor by the last number
-same_phase : (at : Phase) (one two from first : ℕ) (stays later : Stays) → updates at ≡ false → phase_seats one from stays at ≡ phase_seats two first later at
+same_phase : (at : Phase) (one two from first : ℕ) (stays later : Stays) → updates at ≡ false → phase_uses one from stays at ≡ phase_uses two first later at
 same_phase (phase.Load name) one two from first stays later e = refl
 same_phase (phase.Look name owner) one two from first stays later e = refl
 same_phase (phase.Seek owner seeking) one two from first stays later e = refl
@@ -322,11 +322,11 @@ or_false : (a b : Bool) → (a || b) ≡ false → (a ≡ false) × (b ≡ false
 or_false true b e = absurd (let wrong = e in cc)
 or_false false b e = (refl, e)
 
-same_calls : (calls : List UnderWay) (one two from first : ℕ) (stays later : Stays) → any_update calls ≡ false → call_seats one from stays calls ≡ call_seats two first later calls
+same_calls : (calls : List UnderWay) (one two from first : ℕ) (stays later : Stays) → any_update calls ≡ false → call_uses one from stays calls ≡ call_uses two first later calls
 same_calls [] one two from first stays later e = refl
 same_calls (c ∷ cs) one two from first stays later e =
     let parts = or_false (updates c.phase) (any_update cs) e in
-    ap (λ ss. ss ++ call_seats one from stays cs) (same_phase c.phase one two from first stays later parts.0) ∙ ap (λ ss. phase_seats two first later c.phase ++ ss) (same_calls cs one two from first stays later parts.1)
+    ap (λ ss. ss ++ call_uses one from stays cs) (same_phase c.phase one two from first stays later parts.0) ∙ ap (λ ss. phase_uses two first later c.phase ++ ss) (same_calls cs one two from first stays later parts.1)
 
 old_calls : (calls : List UnderWay) (stays : Stays) → any_update calls ≡ false → AllStay stays calls
 old_calls [] stays e = tt
@@ -372,28 +372,28 @@ abbrev pub store_at : End → Store → Store
 store_at end store = record { kept = kept_at store.keep end store.kept; keep = store.keep; entries = entries_at store.window end store.entries; window = store.window }
 
 -- what stays of the window, with what is entered, is the window of one version more
-window_more : (owners : List Owner) (total last : ℕ) (entries : List Entry) (entry : Entry) → total ≡ last → AllFit owners (window_seats total entries) → AllFit owners (entry_seats last (Some entry)) → AllFit owners (window_seats (last + 1) (entries ++ entry ∷ []))
+window_more : (owners : List Owner) (total last : ℕ) (entries : List Entry) (entry : Entry) → total ≡ last → AllFit owners (window_uses total entries) → AllFit owners (entry_uses last (Some entry)) → AllFit owners (window_uses (last + 1) (entries ++ entry ∷ []))
 window_more owners total last [] entry same f g = g
 window_more owners total last (e ∷ entries) entry same f g =
     let count = length-append entries (entry ∷ []) in
     let numbered = f.0.0 in
     ((omega (arith, count, numbered, same), f.0.1, f.0.2), window_more owners total last entries entry same f.1 g)
 
-window_now : (owners : List Owner) (store : Store) (head : Heading) (owner total last : ℕ) (entry : Option Entry) → EntersIf (stays_of store) (is_some entry) → (nat_lt 0 store.window ≡ false → store.entries ≡ []) → total ≡ last → AllFit owners (window_seats total (staying (stays_of store) (serial_of_entry entry))) → AllFit owners (entry_seats last entry)
-    → AllFit owners (window_seats (last + 1) (entries_at store.window (Kept head owner entry) store.entries))
-window_now owners store head owner total last None is shut same f g = subst (λ es. AllFit owners (window_seats (last + 1) es)) (sym (shut (sym is))) tt
+window_now : (owners : List Owner) (store : Store) (head : Heading) (owner total last : ℕ) (entry : Option Entry) → EntersIf (stays_of store) (is_some entry) → (nat_lt 0 store.window ≡ false → store.entries ≡ []) → total ≡ last → AllFit owners (window_uses total (staying (stays_of store) (serial_of_entry entry))) → AllFit owners (entry_uses last entry)
+    → AllFit owners (window_uses (last + 1) (entries_at store.window (Kept head owner entry) store.entries))
+window_now owners store head owner total last None is shut same f g = subst (λ es. AllFit owners (window_uses (last + 1) es)) (sym (shut (sym is))) tt
 window_now owners store head owner total last (Some entry) is shut same f g = window_more owners total last (drop (length (leaving store.window store.entries entry.serial.0)) store.entries) entry same f g
 
 -- whatever the total is
-window_times : (i one two : ℕ) (entries : List Entry) → times i (window_seats one entries) ≡ times i (window_seats two entries)
+window_times : (i one two : ℕ) (entries : List Entry) → times i (window_uses one entries) ≡ times i (window_uses two entries)
 window_times i one two [] = refl
 window_times i one two (e ∷ entries) = let more = window_times i one two entries in omega (arith, more)
 
-window_push : (i one two : ℕ) (entries : List Entry) (entry : Entry) → times i (window_seats one (entries ++ entry ∷ [])) ≡ times i (window_seats two entries) + one_if (entry.owner == i)
+window_push : (i one two : ℕ) (entries : List Entry) (entry : Entry) → times i (window_uses one (entries ++ entry ∷ [])) ≡ times i (window_uses two entries) + one_if (entry.owner == i)
 window_push i one two [] entry = omega arith
 window_push i one two (e ∷ entries) entry = let more = window_push i one two entries entry in omega (arith, more)
 
-window_count : (i one two last : ℕ) (store : Store) (head : Heading) (owner : ℕ) (entry : Option Entry) → times i (window_seats one (entries_at store.window (Kept head owner entry) store.entries)) ≡ times i (window_seats two (staying (stays_of store) (serial_of_entry entry))) + times i (entry_seats last entry)
+window_count : (i one two last : ℕ) (store : Store) (head : Heading) (owner : ℕ) (entry : Option Entry) → times i (window_uses one (entries_at store.window (Kept head owner entry) store.entries)) ≡ times i (window_uses two (staying (stays_of store) (serial_of_entry entry))) + times i (entry_uses last entry)
 window_count i one two last store head owner None = let same = window_times i one two store.entries in omega (arith, same)
 window_count i one two last store head owner (Some entry) = let push = window_push i one two (drop (length (leaving store.window store.entries entry.serial.0)) store.entries) entry in omega (arith, push)
 
@@ -412,30 +412,30 @@ kept_closed words names weaks store calls head owner entry o =
     let others = same_calls calls o.last o.last o.from k.first (stays_of store) (stays_of next) none in
     let total : ℕ = o.from + length store.kept in
     let settled : total ≡ o.last = omega (arith, o.swapped, swaps, o.kept_count) in
-    let mine = seat owner (has o.last) ∷ late_seats o.last o.from (stays_of store) entry [] in
-    let stay = window_seats total (staying (stays_of store) (serial_of_entry entry)) in
-    let all = fits_four words.owners mine (both_seats names weaks) (store_left o.from store true) (call_seats o.last o.from (stays_of store) calls) o.seated.fit in
-    let entry_fit = fit_front words.owners (entry_seats o.last entry) stay all.0.1 in
-    let stay_fit = fit_back words.owners (entry_seats o.last entry) stay all.0.1 in
-    let kept_fit = subst (λ ss. AllFit words.owners ss) (sym k.seats) (fit_append words.owners (kept_left o.from store.keep store.kept true) (seat owner (has o.last) ∷ []) (fit_front words.owners (kept_left o.from store.keep store.kept true) [] all.2) (all.0.0, tt)) in
-    let window_fit = subst (λ n. AllFit words.owners (window_seats n entries)) (sym k.count) (window_now words.owners store head owner total o.last entry o.still o.shut settled stay_fit entry_fit) in
-    let s : Seated words.owners (rest_seats o.last k.first names weaks next calls false) =
-    seated_as words.owners _ (rest_seats o.last k.first names weaks next calls false)
-    (fit_four words.owners [] (both_seats names weaks) (store_left k.first next false) (call_seats o.last k.first (stays_of next) calls) tt all.1
-    (fit_append words.owners (kept_seats k.first k.now) (window_seats (k.first + length k.now) entries) kept_fit window_fit)
+    let mine = use_of owner (has o.last) ∷ late_uses o.last o.from (stays_of store) entry [] in
+    let stay = window_uses total (staying (stays_of store) (serial_of_entry entry)) in
+    let all = fits_four words.owners mine (both_uses names weaks) (store_left o.from store true) (call_uses o.last o.from (stays_of store) calls) o.in_use.fit in
+    let entry_fit = fit_front words.owners (entry_uses o.last entry) stay all.0.1 in
+    let stay_fit = fit_back words.owners (entry_uses o.last entry) stay all.0.1 in
+    let kept_fit = subst (λ ss. AllFit words.owners ss) (sym k.uses) (fit_append words.owners (kept_left o.from store.keep store.kept true) (use_of owner (has o.last) ∷ []) (fit_front words.owners (kept_left o.from store.keep store.kept true) [] all.2) (all.0.0, tt)) in
+    let window_fit = subst (λ n. AllFit words.owners (window_uses n entries)) (sym k.count) (window_now words.owners store head owner total o.last entry o.still o.shut settled stay_fit entry_fit) in
+    let s : InUse words.owners (rest_uses o.last k.first names weaks next calls false) =
+    in_use_as words.owners _ (rest_uses o.last k.first names weaks next calls false)
+    (fit_four words.owners [] (both_uses names weaks) (store_left k.first next false) (call_uses o.last k.first (stays_of next) calls) tt all.1
+    (fit_append words.owners (kept_uses k.first k.now) (window_uses (k.first + length k.now) entries) kept_fit window_fit)
     (subst (λ ss. AllFit words.owners ss) others all.3))
     (λ i. (
-    let a = times_four i mine (both_seats names weaks) (store_left o.from store true) (call_seats o.last o.from (stays_of store) calls) in
-    let b = times_four i [] (both_seats names weaks) (store_left k.first next false) (call_seats o.last k.first (stays_of next) calls) in
-    let c = times_append i (kept_seats k.first k.now) (window_seats (k.first + length k.now) entries) in
-    let d : times i (kept_seats k.first k.now) ≡ times i (kept_left o.from store.keep store.kept true ++ seat owner (has o.last) ∷ []) = ap (times i) k.seats in
-    let f = times_append i (kept_left o.from store.keep store.kept true) (seat owner (has o.last) ∷ []) in
-    let g : times i (call_seats o.last o.from (stays_of store) calls) ≡ times i (call_seats o.last k.first (stays_of next) calls) = ap (times i) others in
+    let a = times_four i mine (both_uses names weaks) (store_left o.from store true) (call_uses o.last o.from (stays_of store) calls) in
+    let b = times_four i [] (both_uses names weaks) (store_left k.first next false) (call_uses o.last k.first (stays_of next) calls) in
+    let c = times_append i (kept_uses k.first k.now) (window_uses (k.first + length k.now) entries) in
+    let d : times i (kept_uses k.first k.now) ≡ times i (kept_left o.from store.keep store.kept true ++ use_of owner (has o.last) ∷ []) = ap (times i) k.uses in
+    let f = times_append i (kept_left o.from store.keep store.kept true) (use_of owner (has o.last) ∷ []) in
+    let g : times i (call_uses o.last o.from (stays_of store) calls) ≡ times i (call_uses o.last k.first (stays_of next) calls) = ap (times i) others in
     let h = window_count i (k.first + length k.now) total o.last store head owner entry in
-    let l = times_append i (entry_seats o.last entry) stay in
+    let l = times_append i (entry_uses o.last entry) stay in
     let m = times_append i (kept_left o.from store.keep store.kept true) [] in
     omega (arith, a, b, c, d, f, g, h, l, m)
-    )) o.seated in
+    )) o.in_use in
     let later : Open words names weaks next calls nothing_apart = record {
       cell = o.cell;
       shows = o.shows;
@@ -451,7 +451,7 @@ kept_closed words names weaks store calls head owner entry o =
       one = o.one;
       still = tt;
       stills = old_calls calls (stays_of next) none;
-      seated = rw none s;
+      in_use = rw none s;
       publisher = o.publisher;
       names_once = o.names_once;
       weak_once = o.weak_once;
@@ -475,7 +475,7 @@ sent_closed words names weaks store calls sending o = record {
   one = o.one;
   still = tt;
   stills = o.stills;
-  seated = o.seated;
+  in_use = o.in_use;
   publisher = o.publisher;
   names_once = o.names_once;
   weak_once = o.weak_once;
@@ -522,7 +522,7 @@ load_open words names weaks store calls name unnamed unreserved o = record {
   one = o.one;
   still = tt;
   stills = o.stills;
-  seated = o.seated;
+  in_use = o.in_use;
   publisher = o.publisher;
   names_once = λ n. once_more name n (λ m. named_by m names) (λ m. reserved_by m calls) unnamed unreserved (o.names_once n);
   weak_once = o.weak_once;
@@ -546,7 +546,7 @@ look_open words names weaks store calls name owner unnamed unreserved o = record
   one = o.one;
   still = tt;
   stills = o.stills;
-  seated = o.seated;
+  in_use = o.in_use;
   publisher = o.publisher;
   names_once = λ n. once_more name n (λ m. named_by m names) (λ m. reserved_by m calls) unnamed unreserved (o.names_once n);
   weak_once = o.weak_once;
@@ -570,7 +570,7 @@ raise_open words names weaks store calls name owner unnamed unreserved o = recor
   one = o.one;
   still = tt;
   stills = o.stills;
-  seated = o.seated;
+  in_use = o.in_use;
   publisher = o.publisher;
   names_once = λ n. once_more name n (λ m. named_by m names) (λ m. reserved_by m calls) unnamed unreserved (o.names_once n);
   weak_once = o.weak_once;
@@ -594,7 +594,7 @@ note_open words names weaks store calls name owner unnamed unreserved o = record
   one = o.one;
   still = tt;
   stills = o.stills;
-  seated = o.seated;
+  in_use = o.in_use;
   publisher = o.publisher;
   names_once = o.names_once;
   weak_once = λ n. once_more name n (λ m. named_by m weaks) (λ m. weak_reserved_by m calls) unnamed unreserved (o.weak_once n);
@@ -625,14 +625,14 @@ without_other name x names rest other e = rw other (ap (λ ns. x ∷ ns) e)
 without_this : (name : List ℕ) (x : Named) (names rest : List Named) → bytes_eq x.name name ≡ true → without_name name names ≡ rest → without_name name (x ∷ names) ≡ rest
 without_this name x names rest same e = rw same e
 
-record OwnerApart (owners : List Owner) (hand : Hand) (name : List ℕ) (names : List Named) (owner : ℕ) : Type 0 where
-  fit : HandIs owners owner hand
-  others : AllFit owners (seats_as hand (without_name name names))
-  count : (i : ℕ) → times i (seats_as hand names) ≡ one_if (owner == i) + times i (seats_as hand (without_name name names))
+record OwnerApart (owners : List Owner) (use_kind : UseKind) (name : List ℕ) (names : List Named) (owner : ℕ) : Type 0 where
+  fit : IsOfKind owners owner use_kind
+  others : AllFit owners (uses_as use_kind (without_name name names))
+  count : (i : ℕ) → times i (uses_as use_kind names) ≡ one_if (owner == i) + times i (uses_as use_kind (without_name name names))
 
-owner_apart : (owners : List Owner) (hand : Hand) (name : List ℕ) (names : List Named) (owner : ℕ) → named_by name names ≤ 1 → AllFit owners (seats_as hand names) → owner_of name names ≡ Some owner → OwnerApart owners hand name names owner
-owner_apart owners hand name [] owner few fits e = absurd (let wrong = e in cc)
-owner_apart owners hand name (x ∷ names) owner few fits e =
+owner_apart : (owners : List Owner) (use_kind : UseKind) (name : List ℕ) (names : List Named) (owner : ℕ) → named_by name names ≤ 1 → AllFit owners (uses_as use_kind names) → owner_of name names ≡ Some owner → OwnerApart owners use_kind name names owner
+owner_apart owners use_kind name [] owner few fits e = absurd (let wrong = e in cc)
+owner_apart owners use_kind name (x ∷ names) owner few fits e =
     elim (cases_Bool (bytes_eq x.name name)) [
       | inl same ↦ (
           let found = rw same at e in
@@ -641,10 +641,10 @@ owner_apart owners hand name (x ∷ names) owner few fits e =
           let none : named_by name names ≡ 0 = omega (arith, few, g) in
           let rest : without_name name (x ∷ names) ≡ names = without_this name x names names same (none_named name names none) in
           record {
-            fit = subst (λ o. HandIs owners o hand) it fits.0;
-            others = subst (λ ns. AllFit owners (seats_as hand ns)) (sym rest) fits.1;
+            fit = subst (λ o. IsOfKind owners o use_kind) it fits.0;
+            others = subst (λ ns. AllFit owners (uses_as use_kind ns)) (sym rest) fits.1;
             count = λ i. (
-                let a : times i (seats_as hand (without_name name (x ∷ names))) ≡ times i (seats_as hand names) = ap (λ ns. times i (seats_as hand ns)) rest in
+                let a : times i (uses_as use_kind (without_name name (x ∷ names))) ≡ times i (uses_as use_kind names) = ap (λ ns. times i (uses_as use_kind ns)) rest in
                 let b : one_if (x.owner == i) ≡ one_if (owner == i) = ap (λ o. one_if (o == i)) it in
                 omega (arith, a, b)
                 );
@@ -653,13 +653,13 @@ owner_apart owners hand name (x ∷ names) owner few fits e =
       | inr other ↦ (
           let g : one_if (bytes_eq x.name name) ≡ 0 = rw other refl in
           let there : owner_of name names ≡ Some owner = rw other at e in
-          let more = owner_apart owners hand name names owner (omega (arith, few, g)) fits.1 there in
+          let more = owner_apart owners use_kind name names owner (omega (arith, few, g)) fits.1 there in
           let rest : without_name name (x ∷ names) ≡ x ∷ without_name name names = without_other name x names (without_name name names) other refl in
           record {
             fit = more.fit;
-            others = subst (λ ns. AllFit owners (seats_as hand ns)) (sym rest) (fits.0, more.others);
+            others = subst (λ ns. AllFit owners (uses_as use_kind ns)) (sym rest) (fits.0, more.others);
             count = λ i. (
-                let a : times i (seats_as hand (without_name name (x ∷ names))) ≡ one_if (x.owner == i) + times i (seats_as hand (without_name name names)) = ap (λ ns. times i (seats_as hand ns)) rest in
+                let a : times i (uses_as use_kind (without_name name (x ∷ names))) ≡ one_if (x.owner == i) + times i (uses_as use_kind (without_name name names)) = ap (λ ns. times i (uses_as use_kind ns)) rest in
                 let b = more.count i in
                 omega (arith, a, b)
                 );
@@ -671,10 +671,10 @@ owner_apart owners hand name (x ∷ names) owner few fits e =
 pub drop_open : (words : Zones) (names weaks : List Named) (store : Store) (calls : List UnderWay) (name : List ℕ) (owner : ℕ) → owner_of name names ≡ Some owner → Open words names weaks store calls nothing_apart → Open words (without_name name names) weaks store calls (On (phase.Release owner purpose.Drop))
 drop_open words names weaks store calls name owner e o =
     let kept_ones = store_left o.from store (any_update calls) in
-    let all = fits_four words.owners [] (both_seats names weaks) kept_ones (call_seats o.last o.from (stays_of store) calls) o.seated.fit in
+    let all = fits_four words.owners [] (both_uses names weaks) kept_ones (call_uses o.last o.from (stays_of store) calls) o.in_use.fit in
     let few : named_by name names ≤ 1 = (let n = o.names_once name in omega (arith, n)) in
-    let apart = owner_apart words.owners holds name names owner few (fit_front words.owners (seats_as holds names) (seats_as weakly weaks) all.1) e in
-    let behind = fit_back words.owners (seats_as holds names) (seats_as weakly weaks) all.1 in
+    let apart = owner_apart words.owners holds name names owner few (fit_front words.owners (uses_as holds names) (uses_as weakly weaks) all.1) e in
+    let behind = fit_back words.owners (uses_as holds names) (uses_as weakly weaks) all.1 in
     record {
       cell = o.cell;
       shows = o.shows;
@@ -690,16 +690,16 @@ drop_open words names weaks store calls name owner e o =
       one = o.one;
       still = tt;
       stills = o.stills;
-      seated = seated_as words.owners _ (seat owner holds ∷ ([] ++ rest_seats o.last o.from (without_name name names) weaks store calls (any_update calls)))
-          (fit_four words.owners (seat owner holds ∷ []) (both_seats (without_name name names) weaks) kept_ones (call_seats o.last o.from (stays_of store) calls) (apart.fit, tt) (fit_append words.owners (seats_as holds (without_name name names)) (seats_as weakly weaks) apart.others behind) all.2 all.3)
+      in_use = in_use_as words.owners _ (use_of owner holds ∷ ([] ++ rest_uses o.last o.from (without_name name names) weaks store calls (any_update calls)))
+          (fit_four words.owners (use_of owner holds ∷ []) (both_uses (without_name name names) weaks) kept_ones (call_uses o.last o.from (stays_of store) calls) (apart.fit, tt) (fit_append words.owners (uses_as holds (without_name name names)) (uses_as weakly weaks) apart.others behind) all.2 all.3)
           (λ i. (
-          let a = times_four i (seat owner holds ∷ []) (both_seats (without_name name names) weaks) kept_ones (call_seats o.last o.from (stays_of store) calls) in
-          let b = times_four i [] (both_seats names weaks) kept_ones (call_seats o.last o.from (stays_of store) calls) in
-          let f = times_append i (seats_as holds names) (seats_as weakly weaks) in
-          let g = times_append i (seats_as holds (without_name name names)) (seats_as weakly weaks) in
+          let a = times_four i (use_of owner holds ∷ []) (both_uses (without_name name names) weaks) kept_ones (call_uses o.last o.from (stays_of store) calls) in
+          let b = times_four i [] (both_uses names weaks) kept_ones (call_uses o.last o.from (stays_of store) calls) in
+          let f = times_append i (uses_as holds names) (uses_as weakly weaks) in
+          let g = times_append i (uses_as holds (without_name name names)) (uses_as weakly weaks) in
           let d = apart.count i in
           omega (arith, a, b, d, f, g)
-          )) o.seated;
+          )) o.in_use;
       publisher = o.publisher;
       names_once = λ n. (let once = o.names_once n in let less = less_named n name names in omega (arith, once, less));
       weak_once = o.weak_once;
@@ -709,10 +709,10 @@ drop_open words names weaks store calls name owner e o =
 pub fade_open : (words : Zones) (names weaks : List Named) (store : Store) (calls : List UnderWay) (name : List ℕ) (owner : ℕ) → owner_of name weaks ≡ Some owner → Open words names weaks store calls nothing_apart → Open words names (without_name name weaks) store calls (On (phase.Fade owner None purpose.Drop))
 fade_open words names weaks store calls name owner e o =
     let kept_ones = store_left o.from store (any_update calls) in
-    let all = fits_four words.owners [] (both_seats names weaks) kept_ones (call_seats o.last o.from (stays_of store) calls) o.seated.fit in
+    let all = fits_four words.owners [] (both_uses names weaks) kept_ones (call_uses o.last o.from (stays_of store) calls) o.in_use.fit in
     let few : named_by name weaks ≤ 1 = (let n = o.weak_once name in omega (arith, n)) in
-    let apart = owner_apart words.owners weakly name weaks owner few (fit_back words.owners (seats_as holds names) (seats_as weakly weaks) all.1) e in
-    let front = fit_front words.owners (seats_as holds names) (seats_as weakly weaks) all.1 in
+    let apart = owner_apart words.owners weakly name weaks owner few (fit_back words.owners (uses_as holds names) (uses_as weakly weaks) all.1) e in
+    let front = fit_front words.owners (uses_as holds names) (uses_as weakly weaks) all.1 in
     record {
       cell = o.cell;
       shows = o.shows;
@@ -728,16 +728,16 @@ fade_open words names weaks store calls name owner e o =
       one = o.one;
       still = tt;
       stills = o.stills;
-      seated = seated_as words.owners _ (seat owner weakly ∷ ([] ++ rest_seats o.last o.from names (without_name name weaks) store calls (any_update calls)))
-          (fit_four words.owners (seat owner weakly ∷ []) (both_seats names (without_name name weaks)) kept_ones (call_seats o.last o.from (stays_of store) calls) (apart.fit, tt) (fit_append words.owners (seats_as holds names) (seats_as weakly (without_name name weaks)) front apart.others) all.2 all.3)
+      in_use = in_use_as words.owners _ (use_of owner weakly ∷ ([] ++ rest_uses o.last o.from names (without_name name weaks) store calls (any_update calls)))
+          (fit_four words.owners (use_of owner weakly ∷ []) (both_uses names (without_name name weaks)) kept_ones (call_uses o.last o.from (stays_of store) calls) (apart.fit, tt) (fit_append words.owners (uses_as holds names) (uses_as weakly (without_name name weaks)) front apart.others) all.2 all.3)
           (λ i. (
-          let a = times_four i (seat owner weakly ∷ []) (both_seats names (without_name name weaks)) kept_ones (call_seats o.last o.from (stays_of store) calls) in
-          let b = times_four i [] (both_seats names weaks) kept_ones (call_seats o.last o.from (stays_of store) calls) in
-          let f = times_append i (seats_as holds names) (seats_as weakly weaks) in
-          let g = times_append i (seats_as holds names) (seats_as weakly (without_name name weaks)) in
+          let a = times_four i (use_of owner weakly ∷ []) (both_uses names (without_name name weaks)) kept_ones (call_uses o.last o.from (stays_of store) calls) in
+          let b = times_four i [] (both_uses names weaks) kept_ones (call_uses o.last o.from (stays_of store) calls) in
+          let f = times_append i (uses_as holds names) (uses_as weakly weaks) in
+          let g = times_append i (uses_as holds names) (uses_as weakly (without_name name weaks)) in
           let d = apart.count i in
           omega (arith, a, b, d, f, g)
-          )) o.seated;
+          )) o.in_use;
       publisher = o.publisher;
       names_once = o.names_once;
       weak_once = λ n. (let once = o.weak_once n in let less = less_named n name weaks in omega (arith, once, less));
@@ -762,7 +762,7 @@ update_open words names weaks store calls version keeping is none o = record {
   one = o.one;
   still = is;
   stills = o.stills;
-  seated = subst (λ oldest. Seated words.owners (early_seats o.from (stays_of store) oldest ++ rest_seats o.last o.from names weaks store calls true)) (sym is.0) (seated_kept words.owners o.last o.from names weaks store calls (let s = o.seated in rw none at s));
+  in_use = subst (λ oldest. InUse words.owners (early_uses o.from (stays_of store) oldest ++ rest_uses o.last o.from names weaks store calls true)) (sym is.0) (in_use_kept words.owners o.last o.from names weaks store calls (let s = o.in_use in rw none at s));
   publisher = λ e. absurd (let wrong = e in cc);
   names_once = o.names_once;
   weak_once = o.weak_once;
@@ -786,7 +786,7 @@ seek_open words names weaks store calls owner sending left o = record {
   one = o.one;
   still = tt;
   stills = o.stills;
-  seated = o.seated;
+  in_use = o.in_use;
   publisher = o.publisher;
   names_once = o.names_once;
   weak_once = o.weak_once;

@@ -31,37 +31,37 @@ use Rattle.world_laws.proofs.CallReplays.{publishes_nothing}
 use Rattle.world_laws.proofs.OtherCalls.{any_update, AtMostOne}
 use Rattle.world_laws.proofs.SwapLemmas.{step_by}
 use Rattle.cell_core.specs.Made.{made}
-use Rattle.world_laws.proofs.HandLemmas.{Hand, Seat, Seated}
-use Rattle.world_laws.proofs.HandLemmas.Hand.{holds, has, weakly, buries, fades, resets, frees}
-use Rattle.world_laws.proofs.HandSeats.{Zones, Stays, seat, window_seats, for_seats, phase_seats, hand_seats, StaysIn, StaysAt, swapped_in, swapped_at, swaps_now, publishes_in, publishes_at, reserved_at, weak_reserved_at, updates_at}
-use Rattle.world_laws.proofs.HandSteps.{went}
+use Rattle.world_laws.proofs.UseLemmas.{UseKind, Use, InUse}
+use Rattle.world_laws.proofs.UseLemmas.UseKind.{holds, has, weakly, buries, fades, resets, frees}
+use Rattle.world_laws.proofs.UseLists.{Zones, Stays, use_of, window_uses, for_uses, phase_uses, kind_uses, StaysIn, StaysAt, swapped_in, swapped_at, swaps_now, publishes_in, publishes_at, reserved_at, weak_reserved_at, updates_at}
+use Rattle.world_laws.proofs.UseSteps.{went}
 
 -- the owners of names, which are alike
-abbrev pub seats_as : Hand → List Named → List Seat
-seats_as hand [] = []
-seats_as hand (n ∷ ns) = seat n.owner hand ∷ seats_as hand ns
+abbrev pub uses_as : UseKind → List Named → List Use
+uses_as use_kind [] = []
+uses_as use_kind (n ∷ ns) = use_of n.owner use_kind ∷ uses_as use_kind ns
 
 -- the strong ones, and behind them the weak ones
-abbrev pub both_seats : List Named → List Named → List Seat
-both_seats names weaks = seats_as holds names ++ seats_as weakly weaks
+abbrev pub both_uses : List Named → List Named → List Use
+both_uses names weaks = uses_as holds names ++ uses_as weakly weaks
 
 -- the versions that are kept have numbers in turn
-abbrev pub kept_seats : ℕ → List ℕ → List Seat
-kept_seats from [] = []
-kept_seats from (o ∷ os) = seat o (has from) ∷ kept_seats (from + 1) os
+abbrev pub kept_uses : ℕ → List ℕ → List Use
+kept_uses from [] = []
+kept_uses from (o ∷ os) = use_of o (has from) ∷ kept_uses (from + 1) os
 
-abbrev pub left_if : Bool → List Seat → List Seat
+abbrev pub left_if : Bool → List Use → List Use
 left_if true ss = drop 1 ss
 left_if false ss = ss
 
 -- an update that is to give up the oldest of them has that in its own hand
-abbrev pub kept_left : ℕ → ℕ → List ℕ → Bool → List Seat
-kept_left from keep kept update = left_if (update && nat_lt keep (length kept)) (kept_seats from kept)
+abbrev pub kept_left : ℕ → ℕ → List ℕ → Bool → List Use
+kept_left from keep kept update = left_if (update && nat_lt keep (length kept)) (kept_uses from kept)
 
 -- and the window
-abbrev pub entries_left : ℕ → List Entry → Bool → List Seat
+abbrev pub entries_left : ℕ → List Entry → Bool → List Use
 entries_left total entries true = []
-entries_left total entries false = window_seats total entries
+entries_left total entries false = window_uses total entries
 
 -- the versions that are kept, and the window
 pub record Store : Type 0 where
@@ -76,12 +76,12 @@ store_of world = record { kept = world.kept; keep = world.keep; entries = world.
 abbrev pub stays_of : Store → Stays
 stays_of store = record { oldest = oldest_kept store.keep store.kept; count = length store.kept; window = store.window; entries = store.entries }
 
-abbrev pub store_left : ℕ → Store → Bool → List Seat
+abbrev pub store_left : ℕ → Store → Bool → List Use
 store_left from store update = kept_left from store.keep store.kept update ++ entries_left (from + length store.kept) store.entries update
 
-abbrev pub call_seats : ℕ → ℕ → Stays → List UnderWay → List Seat
-call_seats last from stays [] = []
-call_seats last from stays (c ∷ cs) = phase_seats last from stays c.phase ++ call_seats last from stays cs
+abbrev pub call_uses : ℕ → ℕ → Stays → List UnderWay → List Use
+call_uses last from stays [] = []
+call_uses last from stays (c ∷ cs) = phase_uses last from stays c.phase ++ call_uses last from stays cs
 
 abbrev pub AllStay : Stays → List UnderWay → Type 0
 AllStay stays [] = Unit {0}
@@ -112,8 +112,8 @@ named_by name [] = 0
 named_by name (n ∷ ns) = one_if (bytes_eq n.name name) + named_by name ns
 
 -- all that is in hand, beside a call apart
-abbrev pub rest_seats : ℕ → ℕ → List Named → List Named → Store → List UnderWay → Bool → List Seat
-rest_seats last from names weaks store calls update = both_seats names weaks ++ (store_left from store update ++ call_seats last from (stays_of store) calls)
+abbrev pub rest_uses : ℕ → ℕ → List Named → List Named → Store → List UnderWay → Bool → List Use
+rest_uses last from names weaks store calls update = both_uses names weaks ++ (store_left from store update ++ call_uses last from (stays_of store) calls)
 
 -- the words with names, versions kept and calls under way, and a call apart: each owner that isn't spent is in one hand
 pub record Open (words : Zones) (names weaks : List Named) (store : Store) (calls : List UnderWay) (progress : Progress) : Type 0 where
@@ -131,7 +131,7 @@ pub record Open (words : Zones) (names weaks : List Named) (store : Store) (call
   pub one : AtMostOne calls
   pub still : StaysAt (stays_of store) progress
   pub stills : AllStay (stays_of store) calls
-  pub seated : Seated words.owners (hand_seats last from (stays_of store) progress ++ rest_seats last from names weaks store calls (updates_at progress || any_update calls))
+  pub in_use : InUse words.owners (kind_uses last from (stays_of store) progress ++ rest_uses last from names weaks store calls (updates_at progress || any_update calls))
   pub publisher : publishes_at progress ≡ false → any_publishes calls ≡ false → words.publisher ≡ Probing 0
   pub names_once : (name : List ℕ) → named_by name names + (reserved_at name progress + reserved_by name calls) ≤ 1
   pub weak_once : (name : List ℕ) → named_by name weaks + (weak_reserved_at name progress + weak_reserved_by name calls) ≤ 1
@@ -141,8 +141,8 @@ pub record Open (words : Zones) (names weaks : List Named) (store : Store) (call
 abbrev pub nothing_apart : Progress
 nothing_apart = Done (Replied answer.Left)
 
-abbrev pub Hands : World → Type 0
-Hands world = Open world.words world.names world.weak_names (store_of world) world.calls nothing_apart
+abbrev pub AllInUse : World → Type 0
+AllInUse world = Open world.words world.names world.weak_names (store_of world) world.calls nothing_apart
 
 -- what is published behind a step
 record Counted (new : Zones) (at : Phase) (cell : Cell Numbered) : Type 0 where
@@ -184,14 +184,14 @@ or_false : (a b : Bool) → (a || b) ≡ false → (a ≡ false) × (b ≡ false
 or_false true b e = absurd (let wrong = e in cc)
 or_false false b e = (refl, e)
 
-same_for : (for : Purpose) (one two from : ℕ) (stays : Stays) → is_for_update for ≡ false → for_seats one from stays for ≡ for_seats two from stays for
+same_for : (for : Purpose) (one two from : ℕ) (stays : Stays) → is_for_update for ≡ false → for_uses one from stays for ≡ for_uses two from stays for
 same_for purpose.Drop one two from stays e = refl
 same_for (purpose.Sent sending owners) one two from stays e = refl
 same_for (purpose.Publish keeping kept entry) one two from stays e = absurd (let wrong = e in cc)
 same_for (purpose.Oldest head kept entry leaving) one two from stays e = absurd (let wrong = e in cc)
 same_for (purpose.Leaves head kept entry leaving) one two from stays e = absurd (let wrong = e in cc)
 
-same_phase : (at : Phase) (one two from : ℕ) (stays : Stays) → updates at ≡ false → phase_seats one from stays at ≡ phase_seats two from stays at
+same_phase : (at : Phase) (one two from : ℕ) (stays : Stays) → updates at ≡ false → phase_uses one from stays at ≡ phase_uses two from stays at
 same_phase (phase.Load name) one two from stays e = refl
 same_phase (phase.Look name owner) one two from stays e = refl
 same_phase (phase.Seek owner seeking) one two from stays e = refl
@@ -204,21 +204,21 @@ same_phase (phase.Swap keeping) one two from stays e = refl
 same_phase (phase.Settle keeping) one two from stays e = refl
 same_phase (phase.Keep given keeping) one two from stays e = refl
 same_phase (phase.Enter given kept keeping) one two from stays e = absurd (let wrong = e in cc)
-same_phase (phase.Release owner for) one two from stays e = ap (λ ss. seat owner holds ∷ ss) (same_for for one two from stays e)
-same_phase (phase.Bury owner for) one two from stays e = ap (λ ss. seat owner buries ∷ ss) (same_for for one two from stays e)
-same_phase (phase.Fade owner None for) one two from stays e = ap (λ ss. seat owner weakly ∷ ss) (same_for for one two from stays e)
-same_phase (phase.Fade owner (Some number) for) one two from stays e = ap (λ ss. seat owner fades ∷ ss) (same_for for one two from stays e)
-same_phase (phase.Reset owner number for) one two from stays e = ap (λ ss. seat owner resets ∷ ss) (same_for for one two from stays e)
-same_phase (phase.Free owner number for) one two from stays e = ap (λ ss. seat owner frees ∷ ss) (same_for for one two from stays e)
+same_phase (phase.Release owner for) one two from stays e = ap (λ ss. use_of owner holds ∷ ss) (same_for for one two from stays e)
+same_phase (phase.Bury owner for) one two from stays e = ap (λ ss. use_of owner buries ∷ ss) (same_for for one two from stays e)
+same_phase (phase.Fade owner None for) one two from stays e = ap (λ ss. use_of owner weakly ∷ ss) (same_for for one two from stays e)
+same_phase (phase.Fade owner (Some number) for) one two from stays e = ap (λ ss. use_of owner fades ∷ ss) (same_for for one two from stays e)
+same_phase (phase.Reset owner number for) one two from stays e = ap (λ ss. use_of owner resets ∷ ss) (same_for for one two from stays e)
+same_phase (phase.Free owner number for) one two from stays e = ap (λ ss. use_of owner frees ∷ ss) (same_for for one two from stays e)
 
-same_calls : (calls : List UnderWay) (one two from : ℕ) (stays : Stays) → any_update calls ≡ false → call_seats one from stays calls ≡ call_seats two from stays calls
+same_calls : (calls : List UnderWay) (one two from : ℕ) (stays : Stays) → any_update calls ≡ false → call_uses one from stays calls ≡ call_uses two from stays calls
 same_calls [] one two from stays e = refl
 same_calls (c ∷ cs) one two from stays e =
     let parts = or_false (updates c.phase) (any_update cs) e in
-    ap (λ ss. ss ++ call_seats one from stays cs) (same_phase c.phase one two from stays parts.0) ∙ ap (λ ss. phase_seats two from stays c.phase ++ ss) (same_calls cs one two from stays parts.1)
+    ap (λ ss. ss ++ call_uses one from stays cs) (same_phase c.phase one two from stays parts.0) ∙ ap (λ ss. phase_uses two from stays c.phase ++ ss) (same_calls cs one two from stays parts.1)
 
 -- the call apart takes a step
-swap_is : (at : Phase) → (swaps_now at ≡ 0) ⊎ ((updates at ≡ true) × (swaps_now at ≡ 1) × ((one two from : ℕ) (stays : Stays) → phase_seats one from stays at ≡ phase_seats two from stays at))
+swap_is : (at : Phase) → (swaps_now at ≡ 0) ⊎ ((updates at ≡ true) × (swaps_now at ≡ 1) × ((one two from : ℕ) (stays : Stays) → phase_uses one from stays at ≡ phase_uses two from stays at))
 swap_is (phase.Load name) = inl refl
 swap_is (phase.Look name owner) = inl refl
 swap_is (phase.Seek owner seeking) = inl refl
@@ -238,16 +238,16 @@ swap_is (phase.Reset owner number for) = inl refl
 swap_is (phase.Free owner number for) = inl refl
 
 -- the same in hand, by the number that is last behind a step
-seats_behind : (words : Zones) (names weaks : List Named) (store : Store) (calls : List UnderWay) (at : Phase) (o : Open words names weaks store calls (On at)) (later : ℕ) → later ≡ o.last + swaps_now at
-    → Seated words.owners (phase_seats later o.from (stays_of store) at ++ rest_seats later o.from names weaks store calls (updates at || any_update calls))
-seats_behind words names weaks store calls at o later is =
+uses_after : (words : Zones) (names weaks : List Named) (store : Store) (calls : List UnderWay) (at : Phase) (o : Open words names weaks store calls (On at)) (later : ℕ) → later ≡ o.last + swaps_now at
+    → InUse words.owners (phase_uses later o.from (stays_of store) at ++ rest_uses later o.from names weaks store calls (updates at || any_update calls))
+uses_after words names weaks store calls at o later is =
     elim (swap_is at) [
-      | inl none ↦ (let e : o.last ≡ later = omega (arith, is, none) in subst (λ l. Seated words.owners (phase_seats l o.from (stays_of store) at ++ rest_seats l o.from names weaks store calls (updates at || any_update calls))) e o.seated)
+      | inl none ↦ (let e : o.last ≡ later = omega (arith, is, none) in subst (λ l. InUse words.owners (phase_uses l o.from (stays_of store) at ++ rest_uses l o.from names weaks store calls (updates at || any_update calls))) e o.in_use)
       | inr swap ↦ (
           let e = swap.2 o.last later o.from (stays_of store) in
           let f = same_calls calls o.last later o.from (stays_of store) (o.alone swap.0) in
-          subst (λ ss. Seated words.owners (ss ++ rest_seats later o.from names weaks store calls (updates at || any_update calls))) e
-          (subst (λ ss. Seated words.owners (phase_seats o.last o.from (stays_of store) at ++ (both_seats names weaks ++ (store_left o.from store (updates at || any_update calls) ++ ss)))) f o.seated)
+          subst (λ ss. InUse words.owners (ss ++ rest_uses later o.from names weaks store calls (updates at || any_update calls))) e
+          (subst (λ ss. InUse words.owners (phase_uses o.last o.from (stays_of store) at ++ (both_uses names weaks ++ (store_left o.from store (updates at || any_update calls) ++ ss)))) f o.in_use)
           )
     ]
 
@@ -255,11 +255,11 @@ step_open_by : (words new : Zones) (names weaks : List Named) (store : Store) (c
 step_open_by words new names weaks store calls at event m o =
     let c = count_step words new at event o.cell o.shows m in
     let later : ℕ = o.last + swaps_now at in
-    let rest = rest_seats later o.from names weaks store calls (updates at || any_update calls) in
+    let rest = rest_uses later o.from names weaks store calls (updates at || any_update calls) in
     let w = went words new at event later o.from (stays_of store) rest o.still
     (λ none number found. (let is = latest_number words o.cell o.shows number found in let l = o.shows.numbers.last in omega (arith, is, l, o.counted, none)))
     (λ owner number place held. (let found = owner_finds new c.next owner number place c.shows held in (found.0, owner_is_given new c.next owner number place c.shows held ∙ found.2))) m
-    (seats_behind words names weaks store calls at o later refl) in
+    (uses_after words names weaks store calls at o later refl) in
     record {
       cell = c.next;
       shows = c.shows;
@@ -275,7 +275,7 @@ step_open_by words new names weaks store calls at event m o =
       one = o.one;
       still = w.still;
       stills = o.stills;
-      seated = subst (λ b. Seated new.owners (hand_seats later o.from (stays_of store) (after new at event) ++ rest_seats later o.from names weaks store calls (b || any_update calls))) (sym w.update) w.seated;
+      in_use = subst (λ b. InUse new.owners (kind_uses later o.from (stays_of store) (after new at event) ++ rest_uses later o.from names weaks store calls (b || any_update calls))) (sym w.update) w.in_use;
       publisher = λ e f. elim (cases_Bool (publishes_in at)) [
         | inl it ↦ (w.publisher e).0 it
         | inr other ↦ (w.publisher e).1 other ∙ o.publisher other f
