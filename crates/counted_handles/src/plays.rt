@@ -139,7 +139,7 @@ impl<T> Play<Room<T>, View<T>> for Ends {
     ghost then = { λ _ me found new. EndTells me.0 found new };
 }
 
-/// The look behind it, which gives the last version's place back.
+/// The look after it, which gives the last version's place back.
 pub struct Shuts;
 
 impl<T> Play<Room<T>, View<T>> for Shuts {

@@ -112,7 +112,7 @@ fn opt_among(octets: &Message<'_>, at: usize, count: u16) -> Option<Result<Optio
     Some(said)
 }
 
-/// What the OPTs among records say, where the record at a position stands behind them, and the position behind that one; None where
+/// What the OPTs among records say, where the record at a position stands after them, and the position after that one; None where
 /// it can't be read. Of an OPT alone that is the first the owner is read, and others are passed over.
 fn heard_at(
     octets: &Message<'_>,
@@ -150,7 +150,7 @@ fn too_many(dnssec_ok: bool) -> Result<Option<Edns>, OptFault>
     Err(OptFault { rcode, dnssec_ok })
 }
 
-/// What the OPT at a position says that is the only one, and the position behind it; None where it can't be read.
+/// What the OPT at a position says that is the only one, and the position after it; None where it can't be read.
 fn heard_first(octets: &Message<'_>, at: usize) -> Option<(Result<Option<Edns>, OptFault>, usize)>
     ensures { result ≡ option_map (λ r. (said_alone r.0, r.1)) (record_at octets.now at) }
 {

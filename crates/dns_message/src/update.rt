@@ -116,7 +116,7 @@ impl Drop for Update {
     }
 }
 
-/// The update behind a header, which the update has as its head, or that its OPT isn't obeyed; None where none can be read: where
+/// The update after a header, which the update has as its head, or that its OPT isn't obeyed; None where none can be read: where
 /// the zone section has other than one entry, where a record of another section can't be read,
 /// and where the data of one haven't their type's form (RFC 2136, 2; RFC 6891, 7; own). An `Err` only where a growth was refused.
 pub(crate) fn read_update(
@@ -201,7 +201,7 @@ fn update_made(
     }
 }
 
-/// The entry of the zone section, of whatever type, and the position behind it; None of another number of entries than one, and
+/// The entry of the zone section, of whatever type, and the position after it; None of another number of entries than one, and
 /// where it can't be read (RFC 2136, 2.3).
 fn zone_at(octets: &Message<'_>) -> Option<(ZoneEntry, usize)>
     requires { HEADER ≤ length octets.now }

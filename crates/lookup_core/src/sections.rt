@@ -32,7 +32,7 @@ pub struct Answer<'z> {
     pub below_cut: bool,
 }
 
-/// An answer in front of its additional section, which these sections tell.
+/// An answer before its additional section, which these sections tell.
 #[derive(Drop)]
 pub struct Front<'z> {
     /// The reply code (RFC 1035, 4.1.1).

@@ -36,7 +36,7 @@ pub(crate) enum Sought {
     Conflict,
 }
 
-/// The records of a text, in its order, and the fault behind them.
+/// The records of a text, in its order, and the fault after them.
 pub(crate) fn read_all(
     alloc: Global,
     text: &[u8],
@@ -142,7 +142,7 @@ fn is_shown(
     }
 }
 
-/// A place between two: the likely one, or the one behind it, or else the middle.
+/// A place between two: the likely one, or the one after it, or else the middle.
 fn place_between(low: usize, high: usize, likely: usize) -> usize
     requires { low + 1 < high }
     ensures low { low < result }

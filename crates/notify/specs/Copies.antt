@@ -17,7 +17,7 @@ longest_wait = 60000
 abbrev pub most_copies : ℕ
 most_copies = 11
 
--- the wait behind the one that has ended: twice as long, up to the longest
+-- the wait after the one that has ended: twice as long, up to the longest
 abbrev pub next_wait : ℕ → ℕ
 next_wait wait = min (2 * wait) longest_wait
 

@@ -13,7 +13,7 @@ use Rattle.notify.specs.declared.due.Heard.{Heard}
 use Rattle.notify.specs.declared.due.Heard.TheVariants.{Answered, Again}
 use Rattle.notify.specs.declared.secondary.Secondary.{Secondary}
 
--- the first of a list that passes, with what stands in front of it, where none does, and behind it
+-- the first of a list that passes, with what stands before it, where none does, and after it
 pub record IsFirst {A : Type 0} (Passes : A → Type 0) (all front : List A) (first : A) (back : List A) : Type 0 where
   pub parts : all ≡ front ++ first ∷ back
   pub passes : Passes first

@@ -25,7 +25,7 @@ pub struct Telling {
     pub id: u16,
     /// How many copies of the NOTIFY were sent; at most [`MAX_COPIES`] are counted.
     pub copies: u8,
-    /// How long the wait behind the last copy is, in milliseconds.
+    /// How long the wait after the last copy is, in milliseconds.
     pub wait: u64,
     /// When the last copy was sent, in milliseconds.
     pub at: u64,

@@ -34,7 +34,7 @@ const RFC: &str = "\
     0000000000000000000000000000000000000000014603495349044152504100000000000000000003464f4fc014\
     000000000000000000000000000000000000c01a000000000000000000000000000000000000000000000000000000";
 
-/// Positions in that message and in others, and the name there as it is printed (RFC 1035, 5.1) with the position behind it, or what is
+/// Positions in that message and in others, and the name there as it is printed (RFC 1035, 5.1) with the position after it, or what is
 /// wrong with it (RFC 1035, 4.1.4).
 const OCTETS: &str = r#"at 20 RFC = F.ISI.ARPA. 32
 at 40 RFC = FOO.F.ISI.ARPA. 46

@@ -24,7 +24,7 @@ fn put(alloc: Global, set: &mut RRset, low: u8) -> Option<Result<bool, SetFault>
     Some(set.insert(data))
 }
 
-/// How many addresses a set of one has behind nine more, of which each is tried again where there was no memory, and the set was as
+/// How many addresses a set of one has after nine more, of which each is tried again where there was no memory, and the set was as
 /// before; None where one isn't taken.
 fn len_with_nine(alloc: Global) -> Option<usize> {
     let mut set = set_of(alloc, [10, 0, 0, 0])?;

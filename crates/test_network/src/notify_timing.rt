@@ -20,7 +20,7 @@ const ANSWERED: &[Step] = &[
     Quiet(Some(1000)),
 ];
 
-/// Nobody answers: copies behind waits of 1, 2, 4, 8, 16, 32 and 60 seconds, ten of them, then it is told of; a newer version is sent
+/// Nobody answers: copies after waits of 1, 2, 4, 8, 16, 32 and 60 seconds, ten of them, then it is told of; a newer version is sent
 /// again as before, and an answer is told.
 const LOST: &[Step] = &[
     Sent(1, 1),

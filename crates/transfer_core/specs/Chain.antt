@@ -1,4 +1,4 @@
--- Versions behind the one that an asker holds, and what they tell of what changed since then (RFC 1995, 4).
+-- Versions after the one that an asker holds, and what they tell of what changed since then (RFC 1995, 4).
 use Rattle.std.specs.Prelude.{◌≡◌, ◌≢◌, Bool, true, false, List, [], ◌∷◌, ◌++◌, map, Option, Some, None, unwrap_or}
 use Rattle.std.specs.List.{flat_map}
 use Rattle.dns_rdata.specs.Record.{Record}
@@ -11,7 +11,7 @@ use Rattle.transfer_core.specs.Lists.{newest}
 abbrev pub zones_of : List Version → List (List Record)
 zones_of versions = map (λ v. v.zone) versions
 
--- versions one behind the other, from a zone: each knows what it changed of the one before it
+-- versions one after the other, from a zone: each knows what it changed of the one before it
 abbrev pub AreBehind : List Record → List Version → Type 0
 AreBehind zone [] = Unit {0}
 AreBehind zone (v ∷ vs) = KnowsChanges zone v × AreBehind v.zone vs
@@ -29,7 +29,7 @@ abbrev pub told_step : List Record → Option Changes → List Record
 told_step soa None = soa
 told_step soa (Some c) = (c.old_soa ++ c.deletions) ++ (soa ++ c.additions)
 
--- the steps of versions, one behind the other
+-- the steps of versions, one after the other
 abbrev pub told_steps : List Version → List Record
 told_steps versions = flat_map (λ v. told_step (soa_of v.zone) v.changes) versions
 

@@ -25,12 +25,12 @@ sets_of_part Old soa (Some c) = c.old_soa ∷ sets_in c.deletions
 sets_of_part New soa None = []
 sets_of_part New soa (Some c) = soa ∷ sets_in c.additions
 
--- a difference sequence behind so many sets of a part
+-- a difference sequence after so many sets of a part
 abbrev pub step_left : Part → ℕ → List Record → Option Changes → List Record
 step_left Old sent soa changes = records_in (drop sent (sets_of_part Old soa changes)) ++ records_in (sets_of_part New soa changes)
 step_left New sent soa changes = records_in (drop sent (sets_of_part New soa changes))
 
--- the difference sequences of versions, the first one's behind so many sets of a part
+-- the difference sequences of versions, the first one's after so many sets of a part
 abbrev pub steps_from : Part → ℕ → List Version → List Record
 steps_from part sent [] = []
 steps_from part sent (v ∷ vs) = step_left part sent (soa_of v.zone) v.changes ++ told_steps vs

@@ -176,8 +176,8 @@ impl<'a, C: ChainView> Iterator for ChangesList<'a, C> {
     }
 }
 
-/// A part of a difference sequence behind so many of its sets, of which its SOA is the first: that SOA, where it is left, and the sets
-/// behind it that are left.
+/// A part of a difference sequence after so many of its sets, of which its SOA is the first: that SOA, where it is left, and the sets
+/// after it that are left.
 fn part_behind<'a>(soa: &'a RRset, sets: &'a [RRset], sent: usize) -> (SetRecords<'a>, &'a [RRset])
     ensures { result.0 ++ records_in result.1.now ≡ records_in (drop sent (soa.now ∷ sets.now)) }
 {
@@ -197,7 +197,7 @@ fn part_left(version: &Version, part: Part, sent: usize) -> (SetRecords<'_>, &[R
     }
 }
 
-/// The part behind a part of a version's difference sequence; None where there is none.
+/// The part after a part of a version's difference sequence; None where there is none.
 fn part_after(version: &Version, part: Part) -> Option<Half<'_>>
     ensures { (sent : ℕ) → records_in (drop sent (sets_of_part part (soa_of version.now.zone) version.now.changes)) ++ unwrap_or result [] ≡ step_left part sent (soa_of version.now.zone) version.now.changes }
 {
@@ -210,7 +210,7 @@ fn part_after(version: &Version, part: Part) -> Option<Half<'_>>
     }
 }
 
-/// The list of what changed behind all versions: the SOA that is served (RFC 1995, 4).
+/// The list of what changed after all versions: the SOA that is served (RFC 1995, 4).
 fn closing_list<'a, C: ChainView>(served: &'a Zone, chain: &'a C) -> ChangesList<'a, C>
     ensures { result ≡ soa_of served.now }
 {
@@ -254,7 +254,7 @@ fn begun_list<'a, C: ChainView>(
 }
 
 /// The list of what changed from a set of a part of a version's difference sequence on: what is left of that, the difference sequences of
-/// the versions behind it, the SOA that is served (RFC 1995, 4). It takes no memory.
+/// the versions after it, the SOA that is served (RFC 1995, 4). It takes no memory.
 pub(crate) fn changes_from<'a, C: ChainView>(
     served: &'a Zone,
     chain: &'a C,

@@ -12,7 +12,7 @@ use std::fmt;
 #[derive(Clone, Copy, Debug, PartialEq, Eq)]
 pub enum TransferFault {
     /// It isn't such a list: a record of another class, of a metatype, or of data without its type's form; no SOA
-    /// first, none that closes the list or another one, records behind it.
+    /// first, none that closes the list or another one, records after it.
     Broken,
     /// It begins at another zone: an old SOA has another serial than the zone, a deletion isn't there, an addition is
     /// there, or an SOA alone has another serial.

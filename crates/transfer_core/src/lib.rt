@@ -1,5 +1,5 @@
 //! Transfers of a zone: the lists of records by which it is sent, in whole (RFC 5936) or as what changed since an older
-//! version (RFC 1995), and what a holder of a zone holds behind such a list.
+//! version (RFC 1995), and what a holder of a zone holds after such a list.
 //!
 //! Contracts see a zone as the list of its records. `full` and `incremental` are the lists, `take` is what they make of
 //! what is held, or the fault of the first record that has one. Laws and worked examples tell of them.

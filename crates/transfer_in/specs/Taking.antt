@@ -42,11 +42,11 @@ IsKept apex Nothing = Unit {0}
 IsKept apex (Opened first) = (is_soa first ≡ true) × IsLawful first
 IsKept apex (Under within) = AreHeld apex within.records
 
--- so many more records were read, and those behind them make what all made
+-- so many more records were read, and those after them make what all made
 pub record IsRead (zone : List Record) (before after : Progress) (sent : List RawRecord) : Type 0 where
   pub reads : (list : List RawRecord) → behind zone before (sent ++ list) ≡ behind zone after list
 
--- or one of them has a fault, whatever comes behind them
+-- or one of them has a fault, whatever comes after them
 pub record IsRefused (zone : List Record) (before : Progress) (sent : List RawRecord) (fault : TransferFault) : Type 0 where
   pub refuses : (list : List RawRecord) → behind zone before (sent ++ list) ≡ Err fault
 

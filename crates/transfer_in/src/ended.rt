@@ -1,4 +1,4 @@
-//! What is held behind the last record, as a zone (RFC 1995, 4; RFC 5936, 2.2).
+//! What is held after the last record, as a zone (RFC 1995, 4; RFC 5936, 2.2).
 ghost use Rattle.std.specs.Prelude.{◌≡◌, ◌⊎◌, true, false, IfOk, IfErr};
 ghost use Rattle.dns_name.specs.Name.{fold_name};
 ghost use Rattle.zone_tree.specs.Zone.{IsZone};

@@ -27,11 +27,11 @@ use zone_tree::{MAX_RECORDS, Zone, ZoneRead};
 pub(crate) enum Stage {
     /// Among the records of a full list.
     Gathering,
-    /// Behind an old SOA: records go.
+    /// After an old SOA: records go.
     Deleting,
-    /// Behind a next SOA, which is this: records come.
+    /// After a next SOA, which is this: records come.
     Adding(HeldRecord),
-    /// Behind the SOA that closes the list.
+    /// After the SOA that closes the list.
     Closed,
 }
 
@@ -42,7 +42,7 @@ pub(crate) struct ListState {
     records: Holding,
 }
 
-/// What is held within a list, behind its second record.
+/// What is held within a list, after its second record.
 #[derive(Drop)]
 pub(crate) struct Reading {
     first: HeldRecord,
@@ -197,7 +197,7 @@ fn end_deletions(
     Ok(ListState { stage, records })
 }
 
-/// What a record makes of records to which some come, behind this SOA: the first SOA again closes the list, another one
+/// What a record makes of records to which some come, after this SOA: the first SOA again closes the list, another one
 /// begins a step.
 fn add(
     alloc: Global,
@@ -220,7 +220,7 @@ fn add(
     close(records, &one)
 }
 
-/// What a record that isn't an SOA makes of records to which it comes, behind this SOA.
+/// What a record that isn't an SOA makes of records to which it comes, after this SOA.
 fn add_one(
     alloc: Global,
     apex: &Name,
@@ -311,7 +311,7 @@ fn alone(alloc: Global, one: &HeldRecord) -> Result<Holding, AllocError>
     Ok(records)
 }
 
-/// What the second record of a list makes of a zone, behind this SOA: an SOA makes it an incremental list, another record a full
+/// What the second record of a list makes of a zone, after this SOA: an SOA makes it an incremental list, another record a full
 /// one (RFC 1995, 4).
 fn begin_list(
     alloc: Global,
@@ -386,7 +386,7 @@ fn go_on(
 }
 
 impl Reading {
-    /// What the second record of a list makes of a zone, behind the SOA that opens the list: an SOA makes it an incremental
+    /// What the second record of a list makes of a zone, after the SOA that opens the list: an SOA makes it an incremental
     /// list, another record a full one (RFC 1995, 4).
     pub(crate) fn from_second(
         alloc: Global,

@@ -23,7 +23,7 @@ pub(crate) enum Progress {
     Nothing,
     /// The SOA that opens the list was.
     Opened(HeldRecord),
-    /// Others were, behind it.
+    /// Others were, after it.
     Under(Reading),
 }
 

@@ -90,7 +90,7 @@ impl<T: Drop> BoundedQueue<T> {
         Some(item)
     }
 
-    /// Takes the first that wait, in their order, and puts them behind `taken`, as many as this has room for.
+    /// Takes the first that wait, in their order, and puts them after `taken`, as many as this has room for.
     pub fn take(&mut self, taken: &mut Vec<T>)
         ensures taken { taken.new.items ≡ with_first (vec_capacity taken.old - vec_len taken.old) taken.old.items self.old }
         ensures rest { self.new ≡ without_first (vec_capacity taken.old - vec_len taken.old) self.old }

@@ -62,7 +62,7 @@ impl<T: Drop> Queue<T> {
         put
     }
 
-    /// Waits until something waits or the queue is ended, and takes the first that wait, in their order, behind `taken`, as many as this has room for:
+    /// Waits until something waits or the queue is ended, and takes the first that wait, in their order, after `taken`, as many as this has room for:
     /// false where none is left, and none comes any more.
     pub fn take<R: Wait>(&self, rt: &R, taken: &mut Vec<T>) -> bool
         ensures begins { BeginsWith taken.new.items taken.old.items }

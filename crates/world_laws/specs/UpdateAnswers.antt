@@ -52,6 +52,6 @@ abbrev pub KeepsHeading : Heading → WordEvent → Progress → Type 0
 KeepsHeading heading event (On next) = heading_of next ≡ Some heading
 KeepsHeading heading event (Done end) = ((end ≡ NoSlot heading) × (event ≡ reported.NoSlot)) ⊎ ((owner : ℕ) × (entry : Option Entry) × (end ≡ Kept heading owner entry))
 
--- a request gets a code, and this zone stands behind it (RFC 2136, 3.8)
+-- a request gets a code, and this zone stands after it (RFC 2136, 3.8)
 abbrev pub got_alone : Heading → Rcode → List Record → Got
 got_alone heading code zone = record { reply = Some (fit (coded heading code) (limit_of Udp None)); zone = zone }

@@ -139,7 +139,7 @@ pub fn versions_before_the_kept_are_buried()
 
 /// Whatever lines were played from a zone on, an IXFR gets the SOA alone where its serial isn't less than that of the version which its
 /// name holds, or held where it was begun; else what changed since the version whose serial it tells, which leads there from that one; or,
-/// where no entry of the window tells of that serial, or a version behind it is buried, the version in whole, which leads there from any. So
+/// where no entry of the window tells of that serial, or a version after it is buried, the version in whole, which leads there from any. So
 /// it is where it is answered at once, in one line, or step by step. The window's entries have the serials of their versions (RFC 1995, 2
 /// to 5; RFC 5936, 2.2).
 pub fn transfers_lead_to_the_served()

@@ -1,4 +1,4 @@
-//! Versions of a zone: the zones that it becomes, one behind the other.
+//! Versions of a zone: the zones that it becomes, one after the other.
 ghost use Rattle.std.specs.Prelude.{◌≡◌, ◌+◌, ◌<◌, ◌^◌, length, Some, None};
 ghost use Rattle.std.specs.Option.{option_copied};
 ghost use Rattle.dns_rdata.specs.Numbers.{type_SOA};

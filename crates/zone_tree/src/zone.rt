@@ -232,7 +232,7 @@ fn first_sets(owners: &Owners) -> &[RRset]
     }
 }
 
-/// The first owner behind a name, with its sets.
+/// The first owner after a name, with its sets.
 fn owner_behind<'a>(owners: &'a Owners, name: &SoughtName) -> Option<&'a Owned>
     ensures { option_copied result ≡ pair_after canonical_cmp name.now owners.now.pairs }
 {
