@@ -123,7 +123,7 @@ fn tell_refusal<R: Env + AllocGlobal + Eprint>(
         ),
         Refusal::NoStart(fault) => {
             let reported = ToldFault { dir, fault };
-            eprintln!(rt; "{mark}error: {told}")
+            eprintln!(rt; "{mark}error: {reported}")
         }
         Refusal::Newer { has, given } => {
             let (has, given) = (has.0, given.0);

@@ -27,7 +27,7 @@ pub fn run_stored<R: Files + Print + Eprint + AllocGlobal>(
         Err(PrintFault::NoStart(fault)) => {
             let status = status_of(&fault);
             let reported = ToldFault { dir, fault };
-            eprintln!(rt; "error: {told}")?;
+            eprintln!(rt; "error: {reported}")?;
             Ok(status)
         }
     }

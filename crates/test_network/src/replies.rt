@@ -90,6 +90,6 @@ fn answers(alloc: Global, text: &str) -> Option<bool> {
 #[test]
 fn replies(rt: HostRuntime) {
     for (outcome, text, want) in REPLIES {
-        assert!(rt; answers(rt.alloc(), text) == Some(want), "{told}");
+        assert!(rt; answers(rt.alloc(), text) == Some(want), "{outcome}");
     }
 }
