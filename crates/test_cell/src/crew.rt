@@ -111,16 +111,16 @@ fn gather<'a, R: Abort, N: Naming>(
     all: Vec<Option<Back<'a, N>>>,
 ) -> Players<'a, N> {
     let mut readers = Vec::new(alloc);
-    let mut writer = None;
+    let mut last = None;
     for back in all {
         match back.expect(rt, "each played as it should") {
-            Back::Writer(writer) => writer = Some(writer),
+            Back::Writer(writer) => last = Some(writer),
             Back::Read(reader) => readers.push(reader).ok().expect(rt, "memory"),
             Back::Released => {}
         }
     }
     Players {
-        writer: writer.expect(rt, "a publisher"),
+        writer: last.expect(rt, "a publisher"),
         readers,
     }
 }
