@@ -16,9 +16,9 @@ returns-in-Code c requests verdicts so_far =
     let updates = c.args.updates.now.items in
     let code = c.in-Code.code in
     let newest = c.newest_of-newest.ensures ∙ ap (λ us. newest_of first (versions_in us)) c.deref.ensures.value in
-    told_more first c.args.room requests verdicts updates c.args.one.now code c.reported.result so_far
+    told_more first c.args.room requests verdicts updates c.args.one.now code c.with_code.result so_far
     (same_three (λ (v : Version) (u : Update) (m : Bool). Tells v u m code) _ _ _ _ _ _ newest c.update.ensures.update c.may.ensures c.in-Code.ensures)
-    (c.reported.ensures ∙ ap (λ n. told_verdict n code) (c.serial-before.ensures ∙ ap (λ v. serial_in v) (c.get.ensures ∙ newest)))
+    (c.with_code.ensures ∙ ap (λ n. told_verdict n code) (c.serial-before.ensures ∙ ap (λ v. serial_in v) (c.get.ensures ∙ newest)))
 
 pub returns-in-Starved : goal.returns-in-Starved
 returns-in-Starved c requests verdicts so_far =
