@@ -40,10 +40,10 @@ said_alone opt =
     else Ok (Some (record { size = opt.class; dnssec_ok = dnssec_ok_of opt }))
 
 -- the DO of the first OPT, by what OPTs say; none where there is no OPT
-abbrev pub told_do : Result (Option Edns) OptFault → Option Bool
-told_do (Ok None) = None
-told_do (Ok (Some edns)) = Some edns.dnssec_ok
-told_do (Err fault) = Some fault.dnssec_ok
+abbrev pub do_bit_of : Result (Option Edns) OptFault → Option Bool
+do_bit_of (Ok None) = None
+do_bit_of (Ok (Some edns)) = Some edns.dnssec_ok
+do_bit_of (Err fault) = Some fault.dnssec_ok
 
 -- what more OPTs than one say, of which the first has this DO (RFC 6891, 6.1.1)
 abbrev pub refused_do : Bool → Result (Option Edns) OptFault

@@ -5,7 +5,7 @@ ghost use Rattle.store_server.specs.Resumed.{IsGiven};
 
 use crate::started_zone::{StartedStore, StartedZone};
 use crate::zone_file::tell_zone;
-use command_line::{Serve, StorePlan, ToldFault};
+use command_line::{PrintedFault, Serve, StorePlan};
 use commands::{FAILED, REFUSED};
 use log_lines::Level;
 use std::fs::{File, Files};
@@ -122,7 +122,7 @@ fn tell_refusal<R: Env + AllocGlobal + Eprint>(
             "{mark}error: the journal of '{dir}' belongs to '{dir}/zone-{number}', which isn't there"
         ),
         Refusal::NoStart(fault) => {
-            let reported = ToldFault { dir, fault };
+            let reported = PrintedFault { dir, fault };
             eprintln!(rt; "{mark}error: {reported}")
         }
         Refusal::Newer { has, given } => {

@@ -1,5 +1,5 @@
 //! Printing the zone of a store.
-use command_line::{PrintFault, Stored, ToldFault, print_store};
+use command_line::{PrintFault, PrintedFault, Stored, print_store};
 use commands::{DONE, FAILED, REFUSED};
 use std::io::{self, BufWriter};
 use std::rt::Files;
@@ -26,7 +26,7 @@ pub fn run_stored<R: Files + Print + Eprint + AllocGlobal>(
         Err(PrintFault::Device(fault)) => Err(fault),
         Err(PrintFault::NoStart(fault)) => {
             let status = status_of(&fault);
-            let reported = ToldFault { dir, fault };
+            let reported = PrintedFault { dir, fault };
             eprintln!(rt; "error: {reported}")?;
             Ok(status)
         }

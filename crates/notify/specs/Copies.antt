@@ -30,9 +30,9 @@ abbrev pub told_again : ℕ → Telling → Telling
 told_again time t = record t { copies = min (t.copies + 1) most_copies; wait = next_wait t.wait; at = time }
 
 -- what is told where a version of this number is served: the next copy where it was told already, else the first
-abbrev pub told_next : ℕ → ℕ → ℕ → Option Telling → Telling
-told_next number id time None = told_first number id time
-told_next number id time (Some t) = if t.number == number then told_again time t else told_first number id time
+abbrev pub next_notify : ℕ → ℕ → ℕ → Option Telling → Telling
+next_notify number id time None = told_first number id time
+next_notify number id time (Some t) = if t.number == number then told_again time t else told_first number id time
 
 -- whether what is due is to tell of it as one that doesn't answer: it hasn't answered so many NOTIFYs in a row, and wasn't told of
 -- yet
@@ -82,8 +82,8 @@ abbrev pub as_silent : Secondary → Secondary
 as_silent s = record s { silent = true }
 
 -- it is sent a NOTIFY, and told so
-abbrev pub as_told : Telling → Secondary → Secondary
-as_told telling s = record s { telling = Some telling; unanswered = min (s.unanswered + 1) most_copies }
+abbrev pub as_notified : Telling → Secondary → Secondary
+as_notified telling s = record s { telling = Some telling; unanswered = min (s.unanswered + 1) most_copies }
 
 -- whether octets from it answer what it was told last, and it hasn't answered that yet
 abbrev pub answers_told : Name → List ℕ → Option Telling → Bool

@@ -1,6 +1,6 @@
 //! What is known of a secondary: what it was told last, and whether it answers.
 ghost use Rattle.std.specs.Prelude.{◌≡◌, ◌↔◌, false, IsTrue};
-ghost use Rattle.notify.specs.Copies.{told_next, due_in, is_due, falls_silent, sooner, as_silent, as_told, is_answered_by, as_answered};
+ghost use Rattle.notify.specs.Copies.{next_notify, due_in, is_due, falls_silent, sooner, as_silent, as_notified, is_answered_by, as_answered};
 ghost use Rattle.notify.specs.Turns.{IsAnsweredBy};
 
 use crate::message::is_answer;
@@ -104,8 +104,8 @@ impl Secondary {
     }
 
     /// The same, once it is sent a NOTIFY, and told so.
-    pub(crate) fn as_told(self, telling: Telling) -> Secondary
-        ensures { result ≡ as_told telling self }
+    pub(crate) fn as_notified(self, telling: Telling) -> Secondary
+        ensures { result ≡ as_notified telling self }
     {
         Secondary {
             telling: Some(telling),
@@ -164,8 +164,8 @@ pub(crate) fn sooner(a: Option<u64>, b: Option<u64>) -> Option<u64>
 
 /// What is told next, where a version of this number is served: another copy where the version was told already, else its first, of
 /// this ID.
-pub(crate) fn told_next(telling: Option<Telling>, number: u64, id: u16, time: u64) -> Telling
-    ensures { result ≡ told_next number id time telling }
+pub(crate) fn next_notify(telling: Option<Telling>, number: u64, id: u16, time: u64) -> Telling
+    ensures { result ≡ next_notify number id time telling }
 {
     let first = Telling {
         number,

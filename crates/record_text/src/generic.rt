@@ -61,7 +61,7 @@ fn generic_octets(alloc: Global, words: &[Word<'_>]) -> Result<Vec<u8>, Cause>
     let Some((first, behind)) = words.split_first() else {
         return Err(Cause::BadData);
     };
-    let size = told_size(*first)?;
+    let size = stated_size(*first)?;
     let mut octets = Vec::new(alloc);
     put_hexes(alloc, &mut octets, behind)?;
     if octets.len() == size {
@@ -73,7 +73,7 @@ fn generic_octets(alloc: Global, words: &[Word<'_>]) -> Result<Vec<u8>, Cause>
 
 /// How many octets a word says that there are.
 #[tactic(auto, unfolding(crate::specs::Number::decimal_of))]
-fn told_size(word: Word<'_>) -> Result<usize, Cause>
+fn stated_size(word: Word<'_>) -> Result<usize, Cause>
     ensures size { result ≡ size_of (written word.entry) }
     ensures within { IfOk result (λ size. size ≤ max_data) }
 {

@@ -54,7 +54,7 @@ fn devices(rt: HostRuntime) {
 const NOTHING: &[u8] = b"line 0: M11 Apex\nthe zone has no SOA, or no NS at the owner of its SOA\n";
 
 /// The status of a refusal where the device of errors has so much room; None where some of it is left.
-fn status_untold(alloc: Global, room: usize) -> Option<u8> {
+fn status_unreported(alloc: Global, room: usize) -> Option<u8> {
     let output = Device::new(alloc, 0, true);
     let errors = Device::new(alloc, room, true);
     let result = run_over(alloc, Kind::Steps, b"%\n", output, errors)?;
@@ -66,8 +66,8 @@ fn status_untold(alloc: Global, room: usize) -> Option<u8> {
 
 // A refusal that can't be told is a device's fault.
 #[test]
-fn untold_refusal(rt: HostRuntime) {
+fn unreported_refusal(rt: HostRuntime) {
     for (room, want) in [(71, 1), (70, 3), (17, 3), (16, 3), (0, 3)] {
-        assert_eq!(rt; status_untold(rt.alloc(), room), Some(want));
+        assert_eq!(rt; status_unreported(rt.alloc(), room), Some(want));
     }
 }

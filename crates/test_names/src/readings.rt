@@ -133,7 +133,7 @@ data 2 4000 = A1 BadLength\n\
 ";
 
 /// What is told of a text.
-fn told_of_text(alloc: Global, text: &str) -> Result<String, AllocError> {
+fn reading_of_text(alloc: Global, text: &str) -> Result<String, AllocError> {
     match Name::from_text(text.as_bytes(), &name(b"example.")) {
         Ok(name) => hex::encode(alloc, name.wire()),
         Err(fault) => format!(in alloc; "{fault}"),
@@ -141,7 +141,7 @@ fn told_of_text(alloc: Global, text: &str) -> Result<String, AllocError> {
 }
 
 /// What is told of the name at a position.
-fn told_at(alloc: Global, at: u16, octets: &[u8]) -> Result<String, AllocError> {
+fn reading_at(alloc: Global, at: u16, octets: &[u8]) -> Result<String, AllocError> {
     match read_name(octets, usize::from(at)) {
         Ok((name, behind)) => format!(in alloc; "{name:?} {behind}"),
         Err(fault) => format!(in alloc; "{fault}"),
@@ -149,7 +149,7 @@ fn told_at(alloc: Global, at: u16, octets: &[u8]) -> Result<String, AllocError> 
 }
 
 /// What is told of the octets of a type.
-fn told_of_data(alloc: Global, rtype: u16, octets: &[u8]) -> Result<String, AllocError> {
+fn reading_of_data(alloc: Global, rtype: u16, octets: &[u8]) -> Result<String, AllocError> {
     match read(alloc, RType(rtype), octets) {
         Ok(data) => hex::encode(alloc, data.octets()),
         Err(fault) => format!(in alloc; "{fault}"),
@@ -160,15 +160,15 @@ fn told_of_data(alloc: Global, rtype: u16, octets: &[u8]) -> Result<String, Allo
 fn outcome(alloc: Global, words: &str) -> Option<String> {
     let (kind, rest) = words.split_once(' ')?;
     if kind == "text" {
-        return told_of_text(alloc, rest).ok();
+        return reading_of_text(alloc, rest).ok();
     }
     let (number, spelt) = rest.split_once(' ')?;
     let number = number.parse::<u16>().ok()?;
     let octets = hex::decode(alloc, if spelt == "RFC" { RFC } else { spelt }).ok()?;
     if kind == "at" {
-        told_at(alloc, number, &octets).ok()
+        reading_at(alloc, number, &octets).ok()
     } else {
-        told_of_data(alloc, number, &octets).ok()
+        reading_of_data(alloc, number, &octets).ok()
     }
 }
 
@@ -179,7 +179,7 @@ fn is_right(alloc: Global, row: &str) -> Option<bool> {
 }
 
 #[test]
-fn what_is_told(rt: HostRuntime) -> Result<(), &'static str> {
+fn what_is_read(rt: HostRuntime) -> Result<(), &'static str> {
     for rows in [TEXTS, OCTETS, LONG, DATA] {
         for row in rows.lines() {
             if is_right(rt.alloc(), row) != Some(true) {

@@ -64,7 +64,7 @@ pub(crate) fn go<R: Wait, Z: FirstZone, N: ServerName>(
 
 // The transfer is incremental while the versions are there, whatever owns them, and full once one of them has gone (RFC 1995, 4).
 #[test]
-fn a_version_is_told_as_long_as_it_is_there(rt: HostRuntime) {
+fn a_version_is_sent_as_long_as_it_is_there(rt: HostRuntime) {
     assert_eq!(rt;
         outcome(&rt, rt.alloc(), ALL, 0, &Course::OwnedAWhile),
         Some(true)

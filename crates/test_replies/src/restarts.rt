@@ -251,7 +251,7 @@ fn written_after<R: Wait + Abort>(rt: &R, alloc: Global, journal: &[u8], updates
 // serial 3, the SOAs that start and end the reply, and three records for each of eight versions; 4190 octets for all clients. A client that is
 // nine versions behind gets a full transfer from the next server: two SOAs, NS, the address of its host, and ten addresses at `new`.
 #[test]
-fn what_changed_is_told_after_a_restart(rt: HostRuntime) {
+fn what_changed_is_sent_after_a_restart(rt: HostRuntime) {
     let alloc = rt.alloc();
     let none = journal_of(alloc, &[HEAD]).expect(&rt, "memory");
     let all = journal_of(alloc, &[HEAD, LEAD, UPDATES, SUM]).expect(&rt, "memory");

@@ -82,7 +82,7 @@ impl Place {
                 let passed = sum(at.sent, count);
                 in_zone(zone, &at.owner, at.rtype, passed)
             }
-            Place::ChangesStart => in_told(zone, chain, count),
+            Place::ChangesStart => in_list(zone, chain, count),
             Place::InChanges(at) => {
                 let sent = sum(at.step.sent, count);
                 in_changes(zone, chain, at.version, at.step.part, at.step.set, sent)
@@ -114,7 +114,7 @@ fn in_full(zone: &Zone, count: u16) -> Place
 }
 
 /// The place after so many records of the list of what changed.
-fn in_told<C: ChainView>(zone: &Zone, chain: &C, count: u16) -> Place
+fn in_list<C: ChainView>(zone: &Zone, chain: &C, count: u16) -> Place
     ensures { left_at zone.now (C.versions chain.now) result ≡ drop count (reported (soa_of zone.now) (C.versions chain.now)) }
 {
     if count == 0 {

@@ -33,7 +33,7 @@ pub struct ConnectionsJob<'a, S: Drop, P, L, C> {
     clock: &'a C,
     /// The losses when they were last logged, and the time of that.
     logged: Losses,
-    told_at: Duration,
+    logged_at: Duration,
     /// How many ended connections are counted in the work limit.
     counted: u64,
     end: Option<JobEnd>,
@@ -51,7 +51,7 @@ impl<'a, S: Drop, P: Drop, L: Drop, C> Drop for ConnectionsJob<'a, S, P, L, C> {
             stop: _,
             clock: _,
             logged: _,
-            told_at: _,
+            logged_at: _,
             counted: _,
             end: _,
             scratch: _,
@@ -140,7 +140,7 @@ impl<
             stop,
             clock,
             logged: Losses::default(),
-            told_at: Duration::from_secs(0),
+            logged_at: Duration::from_secs(0),
             counted: 0,
             end: None,
             scratch: CachePadded::new(scratch),
@@ -189,13 +189,13 @@ impl<
         if lost == self.logged {
             return;
         }
-        let now = self.clock.monotonic().unwrap_or(self.told_at);
-        if now.saturating_sub(self.told_at) < Duration::from_secs(SILENCE) {
+        let now = self.clock.monotonic().unwrap_or(self.logged_at);
+        if now.saturating_sub(self.logged_at) < Duration::from_secs(SILENCE) {
             return;
         }
         let losses = losses_since(self.logged, lost);
         self.logged = lost;
-        self.told_at = now;
+        self.logged_at = now;
         let worker = self.number;
         log.tell(rt, Event::Lost { worker, losses });
     }

@@ -73,14 +73,14 @@ pub fn versions_are_replays()
 
 /// Whatever lines were played, each update that made a version is told NOERROR at its end, or it is under way still; and each line is of the
 /// call of one of these updates, or leaves the versions that are published as they were (RFC 2136, 3; own).
-pub fn updates_are_told_in_turn()
+pub fn updates_are_answered_in_turn()
     ensures { (first : List Record) (keep window : ℕ) (lines : List WorldStep) (replies : List WorldReply) (world : World)
         → play (started first keep window) lines ≡ Some (replies, world) → AreToldInTurn first keep window lines replies world }
 {}
 
 /// An update that is told a code at once, or makes a version, gets that code, or NOERROR and the version's zone, in the version that
 /// is last when it begins; one that makes a version ends with NOERROR, or with SERVFAIL where each of the 64 slots was seen in use.
-pub fn updates_are_told()
+pub fn updates_are_answered()
     ensures reported { (last : Numbered) (request : List ℕ) (heading : Heading) (code : Rcode) → judged last request ≡ Some (Code heading code)
         → got Udp true ForNothing last.zone request ≡ got_alone heading code last.zone }
     ensures made { (last : Numbered) (request : List ℕ) (heading : Heading) (version : Numbered) → judged last request ≡ Some (Makes heading version)
@@ -159,7 +159,7 @@ pub fn transfers_lead_to_the_served()
 
 /// Whatever lines were played, at most one of them is told that it has buried a number; nobody owns that number then, and it isn't the
 /// last.
-pub fn burials_are_told_once()
+pub fn burials_are_reported_once()
     ensures once { (first : List Record) (keep window : ℕ) (lines : List WorldStep) (replies : List WorldReply) (world : World) (number : ℕ)
         → play (started first keep window) lines ≡ Some (replies, world) → length (filter (tells_buried number) replies) ≤ 1 }
     ensures gone { (first : List Record) (keep window : ℕ) (lines : List WorldStep) (replies : List WorldReply) (world : World) (number : ℕ)

@@ -17,7 +17,7 @@ ghost use Rattle.requests.specs.Served.{Grows};
 ghost use Rattle.zone_server.specs.Known.{learned_by, HasTooFew};
 ghost use Rattle.zone_replies.specs.PendingUpdates.{known_at, place_in, IsLater, IsWritten};
 
-use crate::pending_updates::{PendingUpdate, PendingUpdates, Place, told_at};
+use crate::pending_updates::{PendingUpdate, PendingUpdates, Place, outcome_at};
 use crate::transfer::Transfer;
 use dns_engine::{FirstZone, SharedVersion, VersionChain, VersionOwner, VersionReader};
 use dns_message::{Query, is_update};
@@ -201,13 +201,13 @@ impl<'a, 's, Z: FirstZone, N: ServerName, L: ServiceLog> ConnectionHandler<'a, '
         self.taken.remove(self.asker);
     }
 
-    /// Writes the reply to a pending update at the front of `out`, with the code of [`told_at`], and logs it. Gives its length in octets.
+    /// Writes the reply to a pending update at the front of `out`, with the code of [`outcome_at`], and logs it. Gives its length in octets.
     fn reply_done<R: Wait>(&self, rt: &R, place: Place, done: UpdateResult, out: &mut [u8]) -> usize
         requires room { message_limit ≤ length out.old }
         ensures bound { (result ≤ message_limit) × (result ≤ length out.new) }
         ensures octets { IsWritten self.now.peer place done (take result out.new) }
     {
-        let outcome = told_at(place, &done);
+        let outcome = outcome_at(place, &done);
         tell_update(rt, self.log, self.peer, self.from, outcome);
         write_done(
             &mut NameWriter::new(),

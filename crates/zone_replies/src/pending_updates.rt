@@ -56,7 +56,7 @@ pub(crate) struct Place {
 
 /// The outcome of a pending update: that of its result, or SERVFAIL where it was judged in a version older than the last that was published when it was
 /// submitted, which never happens.
-pub(crate) fn told_at(place: Place, done: &UpdateResult) -> UpdateOutcome
+pub(crate) fn outcome_at(place: Place, done: &UpdateResult) -> UpdateOutcome
     ensures { IsToldAt place done.now result }
 {
     if place.number <= done.least {

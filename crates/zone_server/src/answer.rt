@@ -132,13 +132,13 @@ pub fn serve_update<R: Wait, Z: FirstZone, N: ServerName>(
     ensures replied { IsReplied Z.zone peer (learned_by reader.old) (learned_by reader.new) request.now (take result.0 out.new ∷ []) }
     ensures reported { IsUpdateTold Z.zone peer request.now reader.old reader.new (take result.0 out.new) result.1 }
 {
-    let (heading, reported) = told_of(rt, alloc, server, reader, peer.may_update, request);
+    let (heading, reported) = outcome_of(rt, alloc, server, reader, peer.may_update, request);
     let len = write_code(&heading, reported.code, peer.transport, out);
     (len, reported)
 }
 
 /// The outcome of a request that asks for an update, and what its reply repeats of it: the judged outcome of one that is read, otherwise what [`read_update`] gives.
-fn told_of<R: Wait, Z: FirstZone, N: ServerName>(
+fn outcome_of<R: Wait, Z: FirstZone, N: ServerName>(
     rt: &R,
     alloc: Global,
     server: &Server<'_, Z, N>,

@@ -22,7 +22,7 @@ use crate::right::{PublishRight, ServerLedgers, ServerName};
 use crate::server_state::{BatchStart, ServerState};
 use crate::update_result::{Poll, QueuedResult};
 use dns_engine::{
-    Engine, FirstZone, NoEngine, SharedVersion, ToldChain, VersionCell, VersionPublisher,
+    Engine, FirstZone, NoEngine, SharedChain, SharedVersion, VersionCell, VersionPublisher,
     VersionReader,
 };
 use dns_message::Update;
@@ -154,7 +154,7 @@ impl<'a, Z: FirstZone, N: ServerName> Server<'a, Z, N> {
         reader: &mut VersionReader<N>,
         from: Serial,
         upto: u64,
-    ) -> ToldChain<'a, Z, N>
+    ) -> SharedChain<'a, Z, N>
         ensures { MeetsAndAsks Z.zone from.0 upto reader.old reader.new result }
     {
         let mut state = self.state.lock(rt);

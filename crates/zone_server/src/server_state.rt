@@ -20,7 +20,7 @@ use crate::pending_replies::PendingReplies;
 use crate::right::{PublishRight, Published, Reserved, ServerLedgers, ServerName};
 use crate::update_result::{Poll, QueuedResult};
 use dns_engine::{
-    Engine, FirstZone, Judged, SharedVersion, ToldChain, VersionCell, VersionReader, judge,
+    Engine, FirstZone, Judged, SharedChain, SharedVersion, VersionCell, VersionReader, judge,
 };
 use dns_message::Update;
 use dns_rdata::{Rcode, Serial};
@@ -240,7 +240,7 @@ impl<'a, Z: FirstZone, N: ServerName> ServerState<'a, Z, N> {
         from: Serial,
         upto: u64,
         reader: &mut VersionReader<N>,
-    ) -> ToldChain<'a, Z, N>
+    ) -> SharedChain<'a, Z, N>
         ensures chain { IsChain (entries_of self.old.held.published) from.0 upto reader.old reader.new result }
         ensures same { self.new ≡ self.old }
     {

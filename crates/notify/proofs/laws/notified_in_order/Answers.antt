@@ -1,5 +1,5 @@
 use Rattle.notify.proofs.CourseLemmas.{in_order, newer_alone}
-use Rattle.notify.proofs.laws.told_in_order.Goals as goal
+use Rattle.notify.proofs.laws.notified_in_order.Goals as goal
 
 pub returns-clause-ordered : goal.returns-clause-ordered
 returns-clause-ordered c = in_order

@@ -1,6 +1,6 @@
 -- An update gets what it comes to, and its call ends so.
 use Rattle.world_laws.proofs.AnswerLemmas.{told_got, made_is_got, keeps_head}
-use Rattle.world_laws.proofs.laws.updates_are_told.Goals as goal
+use Rattle.world_laws.proofs.laws.updates_are_answered.Goals as goal
 
 pub returns-clause-reported : goal.returns-clause-reported
 returns-clause-reported c = told_got

@@ -2,7 +2,7 @@
 use Rattle.std.proofs.Common.{◌-◌, length, sym, ap, ◌∙◌}
 use Rattle.zone_tree.specs.Zone.{soa_of}
 use Rattle.transfer_core.proofs.PlaceLemmas.{told_begins, one_more}
-use Rattle.transfer_core.proofs.place.in_told.Goals as goal
+use Rattle.transfer_core.proofs.place.in_list.Goals as goal
 
 pub returns : goal.returns
 returns g c =
