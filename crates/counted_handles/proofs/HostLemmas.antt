@@ -1,5 +1,5 @@
 -- What the rule allows a reader that takes an owner in, and a publisher that notes one, for seats whose view is known by an equation.
-use Rattle.std.proofs.Common.{◌≡◌, refl, sym, ap, ◌∙◌, subst, ℕ, suc, ◌+◌, ◌-◌, ◌%◌, ◌^◌, ◌<◌, Bool, true, false, List, [], Option, Some, None}
+use Rattle.std.proofs.Common.{◌≡◌, refl, sym, ap, ◌∙◌, subst, ℕ, suc, ◌+◌, ◌-◌, ◌%◌, ◌^◌, ◌<◌, true, false, List, [], Option, Some, None}
 use Rattle.atomic_table.specs.Table.{Allows, Splits, Joins, carried_after}
 use Rattle.cell_core.specs.Words.{slots, notes}
 use Rattle.counted_handles.specs.declared.view.Mark.{Mark}
