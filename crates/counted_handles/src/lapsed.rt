@@ -57,7 +57,7 @@ impl Model for Lapsing {
 
 /// The token of a weak owner. It can't be dropped: nothing but a release takes it apart.
 pub(crate) struct WeakToken<T> {
-    pub(crate) badge: Badge<View<T>>,
+    badge: Badge<View<T>>,
 }
 
 impl<T> WeakToken<T> {

@@ -202,6 +202,7 @@ impl Begun {
                     cell,
                     publisher,
                     readers,
+                    in_use: _,
                 },
             ) => Err(Begun {
                 cell,
