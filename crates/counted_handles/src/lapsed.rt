@@ -55,7 +55,7 @@ impl Model for Lapsing {
     ghost view = { λ a. a.steps };
 }
 
-/// The token of a weak owner. It can't be dropped: nothing but a release takes it apart.
+/// The token of a weak owner. It can't be dropped: who has one gives it to a release.
 pub(crate) struct WeakToken<T> {
     badge: Badge<View<T>>,
 }
