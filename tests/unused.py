@@ -16,7 +16,7 @@ import re
 import sys
 
 ROOT = os.path.dirname(os.path.dirname(os.path.abspath(__file__)))
-DEVICES = {"told_disks", "memory_devices"}  # in memory, for crates of tests
+DEVICES = {"memory_devices"}  # in memory, for crates of tests
 
 # What is there to be called by others than the program, each with why: `crate::Item`, `crate::Type::method`.
 PUBLIC = {

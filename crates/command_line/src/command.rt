@@ -5,13 +5,13 @@ ghost use Rattle.std.specs.Result.{IsOkAnd};
 use crate::fault::CommandFault;
 use crate::options::{Serve, serve_of};
 use crate::program::program;
+use crate::stored_zone::Part;
 use clap::ArgMatches;
 use commands::{Command, Source};
 use dns_name::Name;
 use serve_core::Transport;
 use std::alloc::{AllocError, Global};
 use std::convert::AsStr;
-use stored_zone::Part;
 
 /// The task that a command line requests.
 #[derive(Drop)]

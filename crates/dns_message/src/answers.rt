@@ -43,21 +43,22 @@ pub trait RecordList {
 }
 
 /// Writes a message with as many records from the front of a list as fit into `out`, with a question or without one, and with an
-/// OPT or without one, and gives how many octets it has; the list is left behind these records. AA is 1 and the code NOERROR
-/// (RFC 5936, 2.2; RFC 6891, 6.1.1). It takes no memory.
+/// OPT or without one, and gives how many octets it has and how many records its answer section has; the list is left behind
+/// these records. AA is 1 and the code NOERROR (RFC 5936, 2.2; RFC 6891, 6.1.1). It takes no memory.
 pub fn write_answers<L: RecordList>(
     head: Head,
     question: Option<&Question>,
     opt: Option<Opt>,
     records: &mut L,
     out: &mut [u8],
-) -> usize
+) -> (usize, u16)
     requires least { MIN_LIMIT ≤ length out.old }
     requires most { length out.old ≤ MAX_LIMIT }
-    ensures octets { take result out.new
+    ensures octets { take result.0 out.new
         ≡ reply_octets (answers head (option_copied question.entry) opt (filled head (option_copied question.entry) opt (length out.old) [] (L.left records.old)).0) }
     ensures left { L.left records.new ≡ (filled head (option_copied question.entry) opt (length out.old) [] (L.left records.old)).1 }
-    ensures len { result ≤ length out.old }
+    ensures count { result.1 ≡ length (filled head (option_copied question.entry) opt (length out.old) [] (L.left records.old)).0 }
+    ensures len { result.0 ≤ length out.old }
 {
     let (at, count) = put_body(out, question, opt, records);
     let at = put_opt(out, at, Rcode::NoError, opt).unwrap();
@@ -75,7 +76,7 @@ pub fn write_answers<L: RecordList>(
     let asked = u16::from(question.is_some());
     let counts = [asked, count, 0, u16::from(opt.is_some())];
     let _ = put_header(out, &reply, false, counts);
-    at
+    (at, count)
 }
 
 /// Writes the question behind the place of a header, and behind it as many records from the front of a list as leave room for the

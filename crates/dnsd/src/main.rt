@@ -2,7 +2,7 @@
 //!
 //! `command_line` parses the command line. Commands over a zone's text, standard input and standard output are in `commands`: `answer` replies to
 //! each request that it reads, `check` prints the zone's text in its canonical form, `apply` prints the text of the zone after a transfer's messages,
-//! and `steps` plays a script. `zone` prints the zone of a store, by `stored_zone`, and `change` what changes from one zone to another, by
+//! and `steps` plays a script. `zone` prints the zone of a store, by `command_line`, and `change` what changes from one zone to another, by
 //! `change_command`. `serve` answers on sockets, by the workers of `serve_workers`, with what `dnsd_setup` reads, locks and binds.
 #![tactic(auto)]
 
@@ -12,10 +12,9 @@ pub mod thread_specs;
 
 use command_line::{Task, parse_words, tell_fault};
 use commands::{Command, FAILED};
-use dnsd_setup::{run_change, run_on_streams, run_stored};
+use dnsd_setup::{ROOT_APEX, run_change, run_on_streams, run_stored};
 use log_lines::Level;
 use serve::run_serve;
-use server_log::ROOT_APEX;
 use std::fs::{File, Files};
 use std::net::{Net, TcpListener, TcpStream};
 use std::process::ExitCode;

@@ -8,8 +8,8 @@ use crate::thread_specs::{thread_specs_for, work_limits_of};
 use command_line::{MAX_THREADS, Serve, StorePlan, is_routed};
 use commands::{DONE, FAILED};
 use dnsd_setup::{
-    BoundSockets, ServedZone, StartedZone, WorkerSockets, ZoneStore, bind_sockets, descriptors,
-    read_text_for, start_store_for, text_for,
+    BoundSockets, Entries, Listening, Log, LogLine, ServedZone, StartedZone, WorkerSockets,
+    ZoneStore, bind_sockets, descriptors, read_text_for, start_entries, start_store_for, text_for,
 };
 use notify::large_in;
 use requests::Allowed;
@@ -17,7 +17,6 @@ use serve_workers::{
     ConnectionPlan, Most, Plan, ServeFault, Shutdown, ThreadSpec, UpdateConfig, WorkLimit,
     serve_zone,
 };
-use server_log::{Entries, Listening, Log, LogLine, start_entries};
 use std::alloc::Global;
 use std::fs::{File, Files};
 use std::marker::Brand;

@@ -5,7 +5,7 @@ ghost use Rattle.store_server.specs.Resumed.{IsGiven};
 
 use crate::begin::{StartedStore, StartedZone};
 use crate::zone_file::tell_zone;
-use command_line::{Serve, StorePlan};
+use command_line::{Serve, StorePlan, ToldFault};
 use commands::{FAILED, REFUSED};
 use log_lines::Level;
 use std::fs::{File, Files};
@@ -13,7 +13,6 @@ use std::io;
 use std::random::RandomSource;
 use std::rt::Env;
 use store_server::{Given, Refusal, Served, Started, start_store};
-use stored_zone::ToldFault;
 
 /// The number of secret octets at the start of a new journal.
 const SALT: usize = 16;

@@ -1,5 +1,8 @@
 //! What `dnsd` does without serving: it runs commands over a zone's text, prints the zone of a store and what changes from one zone to
 //! another, and reads, locks and binds what a server serves with.
+//!
+//! The log of a running server is here too: its lines and their levels, and the thread that writes them to standard error and notifies a service
+//! manager.
 #![tactic(auto)]
 
 mod begin;
@@ -7,14 +10,22 @@ mod bound;
 mod change;
 pub mod descriptors;
 mod kept;
+mod levels;
+mod lines;
+mod log;
+mod peer_lines;
 mod stored;
 mod streams;
+mod writer;
 mod zone_file;
 
 pub use begin::{ServedZone, StartedStore, StartedZone, ZoneStore};
 pub use bound::{BoundSockets, WorkerSockets, bind_sockets};
 pub use change::run_change;
 pub use kept::start_store_for;
+pub use lines::{LogLine, ROOT_APEX};
+pub use log::{Listening, Log};
 pub use stored::run_stored;
 pub use streams::run_on_streams;
+pub use writer::{Entries, Entry, start_entries};
 pub use zone_file::{read_text_for, text_for};

@@ -1,11 +1,10 @@
 //! Printing the zone of a store.
-use command_line::Stored;
+use command_line::{PrintFault, Stored, ToldFault, print_store};
 use commands::{DONE, FAILED, REFUSED};
 use std::io::{self, BufWriter};
 use std::rt::Files;
 use store_files::read_store;
 use store_recovery::StartFault;
-use stored_zone::{PrintFault, ToldFault, print_store};
 
 /// Prints the zone of a store on standard output, and returns the program's status. Errors go to standard error.
 pub fn run_stored<R: Files + Print + Eprint + AllocGlobal>(

@@ -1,2 +1,3 @@
 pub mod MemoryStream
 pub mod MemoryDatagrams
+pub mod MemoryDisk

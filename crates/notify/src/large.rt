@@ -24,12 +24,17 @@ pub enum Many {
 }
 
 /// An owner that has more than BIND takes as a secondary where nothing else is configured.
-#[derive(Drop)]
 pub struct Large {
     /// The owner.
     pub owner: Name,
     /// Of what it has more.
     pub many: Many,
+}
+
+impl Drop for Large {
+    fn drop(self) {
+        let Large { owner: _, many: _ } = self;
+    }
 }
 
 impl Display for Large {

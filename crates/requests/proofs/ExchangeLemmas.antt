@@ -4,9 +4,8 @@ use Rattle.std.specs.declared.net.ip_addr.IpAddr.{IpAddr}
 use Rattle.std.specs.declared.net.socket_addr.SocketAddr.{SocketAddr}
 use Rattle.serve_core.specs.declared.peer.Peer.{Peer}
 use Rattle.serve_core.specs.declared.transport.Transport.TheVariants.{Udp}
-use Rattle.requests.specs.Allowed.{IsPeer}
 use Rattle.requests.specs.Datagrams.{Datagram, Receives, Sends, SendsOrFails, none, sent, failed, count_of}
-use Rattle.requests.specs.Exchanged.{RepliesTo, Exchanged, TurnMade, TurnsBy, EndsBy}
+use Rattle.requests.specs.Exchanged.{RepliesTo, AnswersFrom, Exchanged, TurnMade, TurnsBy, EndsBy}
 use Rattle.requests.specs.Exchanged.{none as no_exchange, next}
 use Rattle.requests.specs.Datagrams.{by_datagram}
 use Rattle.requests.specs.Served.{Learned, Grows}
@@ -166,24 +165,25 @@ module _ {T : Type 0} (IsReply : Peer → Learned T → Learned T → List ℕ �
   all_flushed end start later (Some o) c d faults most more all same counted e = ends_flushed end start later o c d faults most more all same counted e
 
   -- a datagram that is received and answered
-  pub turn_made : (seen before later : Learned T) (peer : Peer) (request : List ℕ) (from : SocketAddr) (a b c : Option (List Datagram × List Datagram)) (faults mid more : ℕ) → Grows before seen → Grows later before → IsPeer addresses Udp from peer → Receives a b (request, from) → mid ≡ faults
-      → RepliesTo IsReply peer before request from later b mid c more → IfSome a (λ o. TurnsBy IsReply addresses None seen o faults later c more)
-  turn_made seen before later peer request from None b c faults mid more begun grows asks gives same r = tt
-  turn_made seen before later peer request from (Some o) b c faults mid more begun grows asks gives same r =
+  pub turn_made : (seen later : Learned T) (request : List ℕ) (from : SocketAddr) (a b c : Option (List Datagram × List Datagram)) (faults mid more : ℕ) → Receives a b (request, from) → mid ≡ faults → AnswersFrom IsReply addresses seen request from later b mid c more
+      → IfSome a (λ o. TurnsBy IsReply addresses None seen o faults later c more)
+  turn_made seen later request from None b c faults mid more gives same answers = tt
+  turn_made seen later request from (Some o) b c faults mid more gives same answers =
+      let r = answers.5 in
       let out = subst (λ m. Sends m c r.datagrams) gives.2 r.output in (
         (gives.0, o.1 ++ r.datagrams),
         out,
         record {
           request = request;
           from = from;
-          peer = peer;
+          peer = answers.0;
           messages = r.messages;
           datagrams = r.datagrams;
           failed = r.failed;
-          before = before;
-          begun = begun;
-          grows = grows;
-          asks = asks;
+          before = answers.1;
+          begun = answers.2;
+          grows = answers.3;
+          asks = answers.4;
           reply = r.reply;
           sent = r.sent;
           input = gives.1;

@@ -45,6 +45,11 @@ module _ {T : Type 0} (IsReply : Peer → Learned T → Learned T → List ℕ �
     pub number : length received ≡ done
     pub counted : more ≡ count_of faults failed
 
+  -- a request from an address is answered as that of a peer that sends from there, by what is known then; its reply goes to that address
+  abbrev pub AnswersFrom : Learned T → List ℕ → SocketAddr → Learned T → Option (List Datagram × List Datagram) → ℕ → Option (List Datagram × List Datagram) → ℕ → Type 0
+  AnswersFrom seen request from later old faults new more =
+      (peer : Peer) × (before : Learned T) × Grows before seen × Grows later before × IsPeer addresses Udp from peer × RepliesTo IsReply peer before request from later old faults new more
+
   -- one datagram is received and answered
   pub record TurnMade (seen : Learned T) (old : List Datagram × List Datagram) (faults : ℕ) (later : Learned T) (new : List Datagram × List Datagram) (more : ℕ) : Type 0 where
     pub request : List ℕ

@@ -9,13 +9,3 @@ pub trait Gate {
     /// The reply, if any, is made; for a datagram, it is sent or its send has failed.
     fn leave(&self);
 }
-
-/// A gate that holds nothing.
-#[derive(Clone, Copy)]
-pub struct OpenGate;
-
-impl Gate for OpenGate {
-    fn enter(&self) {}
-
-    fn leave(&self) {}
-}

@@ -1,6 +1,6 @@
 //! Requests and replies on streams and by datagrams (RFC 1035, 4.2), with no device and no zone.
 //!
-//! [`serve_udp`] answers requests in datagrams one after another. For a device that reports its datagrams, its contract says what is sent:
+//! [`serve_datagrams`] answers requests in datagrams one after another, and [`serve_udp`] the same through a [`Gate`]. For a device that reports its datagrams, its contract says what is sent:
 //! the replies, in order, each to the client that sent the request (`EndsBy`). A [`Handler`] says what a reply is. For streams, this crate
 //! has their octets, the count of their failures ([`Counted`]), and what is written on a stream by the time it ends: the frames of the
 //! replies, in order, all of them or a prefix (`EndsAs`). `tcp_connections` serves streams.
@@ -10,6 +10,7 @@ mod allowed;
 mod counted;
 mod datagrams;
 mod gate;
+mod gated;
 mod handler;
 mod stream_end;
 mod udp;
@@ -17,7 +18,8 @@ mod udp;
 pub use allowed::Allowed;
 pub use counted::{Counted, DeviceFailed, Stream};
 pub use datagrams::Datagrams;
-pub use gate::{Gate, OpenGate};
+pub use gate::Gate;
+pub use gated::serve_udp;
 pub use handler::Handler;
 pub use stream_end::StreamEnd;
-pub use udp::{DatagramsEnd, serve_udp};
+pub use udp::{DatagramsEnd, serve_datagrams};

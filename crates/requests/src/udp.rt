@@ -2,12 +2,10 @@
 ghost use Rattle.std.specs.Prelude.{◌≡◌, ◌≤◌, length, IfSome, OnOk, OnErr};
 ghost use Rattle.dns_message.specs.Message.{message_limit};
 ghost use Rattle.requests.specs.Served.{Grows};
-ghost use Rattle.requests.specs.Exchanged.{RepliesTo, TurnsBy, EndsBy};
-ghost use Rattle.requests.specs.Datagrams.{by_datagram};
+ghost use Rattle.requests.specs.Exchanged.{AnswersFrom, EndsBy};
 
 use crate::allowed::Allowed;
 use crate::datagrams::Datagrams;
-use crate::gate::Gate;
 use crate::handler::Handler;
 use serve_core::Transport;
 use snapshot_cell::Spent;
@@ -25,22 +23,24 @@ pub enum DatagramsEnd {
     Spent,
 }
 
-/// Answers a request that came as a datagram: its reply goes to the sender, and a send that fails is counted. [`Spent`] if no version can
-/// be loaded; then nothing is sent.
-fn reply<R: Wait, A: Handler, D: Datagrams>(
+/// Answers a request that came as a datagram: its reply goes to the sender, which may update and transfer according to its own address,
+/// and a send that fails is counted. [`Spent`] if no version can be loaded; then nothing is sent.
+pub(crate) fn answer_from<R: Wait, A: Handler, D: Datagrams>(
     rt: &R,
     handler: &mut A,
     datagrams: &mut D,
+    allowed: Allowed<'_>,
     request: &[u8],
     from: SocketAddr,
     out: &mut [u8],
 ) -> Result<(), Spent>
     requires { message_limit ≤ length out.old }
     ensures grows { Grows (A.seen handler.new) (A.seen handler.old) }
-    ensures replied { OnOk result (RepliesTo A.is_reply (by_datagram (A.peer handler.old)) (A.seen handler.old) request.now from (A.seen handler.new) (D.datagrams datagrams.old) (D.failed datagrams.old) (D.datagrams datagrams.new) (D.failed datagrams.new)) }
+    ensures answered { OnOk result (AnswersFrom A.is_reply allowed.entry.addresses.now (A.seen handler.old) request.now from (A.seen handler.new) (D.datagrams datagrams.old) (D.failed datagrams.old) (D.datagrams datagrams.new) (D.failed datagrams.new)) }
     ensures spent { OnErr result (D.datagrams datagrams.new ≡ D.datagrams datagrams.old) }
     ensures same { OnErr result (D.failed datagrams.new ≡ D.failed datagrams.old) }
 {
+    handler.turn_to(allowed.peer(from, Transport::Udp), from);
     match handler.answer(rt, request, out) {
         Ok(Some(len)) => {
             datagrams.send(&out[..len], from);
@@ -51,43 +51,13 @@ fn reply<R: Wait, A: Handler, D: Datagrams>(
     }
 }
 
-/// Receives a datagram and answers it. Returns how the answering ends, if it ends with this datagram.
-fn turn<R: Wait, A: Handler, D: Datagrams, G: Gate>(
-    rt: &R,
-    handler: &mut A,
-    datagrams: &mut D,
-    allowed: Allowed<'_>,
-    gate: &G,
-    request: &mut [u8],
-    out: &mut [u8],
-) -> Option<DatagramsEnd>
-    requires request_room { message_limit ≤ length request.old }
-    requires reply_room { message_limit ≤ length out.old }
-    ensures grows { Grows (A.seen handler.new) (A.seen handler.old) }
-    ensures turns { IfSome (D.datagrams datagrams.old) (λ o. TurnsBy A.is_reply allowed.entry.addresses.now result (A.seen handler.old) o (D.failed datagrams.old) (A.seen handler.new) (D.datagrams datagrams.new) (D.failed datagrams.new)) }
-{
-    let Some((len, from)) = datagrams.receive(request) else {
-        return Some(DatagramsEnd::Device);
-    };
-    handler.turn_to(allowed.peer(from, Transport::Udp), from);
-    gate.enter();
-    let replied = reply(rt, handler, datagrams, &request[..len], from, out);
-    gate.leave();
-    match replied {
-        Ok(()) => {}
-        Err(_) => return Some(DatagramsEnd::Spent),
-    }
-    None
-}
-
 /// Answers at most `most` requests that come as datagrams, one after another; fewer if one can't be received, or no version can be loaded.
-fn answer_all<R: Wait, A: Handler, D: Datagrams, G: Gate>(
+fn answer_all<R: Wait, A: Handler, D: Datagrams>(
     rt: &R,
     handler: &mut A,
     datagrams: &mut D,
     allowed: Allowed<'_>,
     most: u64,
-    gate: &G,
     request: &mut [u8],
     out: &mut [u8],
 ) -> DatagramsEnd
@@ -97,9 +67,12 @@ fn answer_all<R: Wait, A: Handler, D: Datagrams, G: Gate>(
     ensures answered { IfSome (D.datagrams datagrams.old) (λ o. EndsBy A.is_reply allowed.entry.addresses.now result (A.seen handler.old) o (D.failed datagrams.old) most (A.seen handler.new) (D.datagrams datagrams.new) (D.failed datagrams.new)) }
 {
     for _done in 0..most {
-        match turn(rt, handler, datagrams, allowed, gate, request, out) {
-            Some(end) => return end,
-            None => {}
+        let Some((len, from)) = datagrams.receive(request) else {
+            return DatagramsEnd::Device;
+        };
+        match answer_from(rt, handler, datagrams, allowed, &request[..len], from, out) {
+            Ok(()) => {}
+            Err(_) => return DatagramsEnd::Spent,
         }
     }
     DatagramsEnd::Done
@@ -109,13 +82,12 @@ fn answer_all<R: Wait, A: Handler, D: Datagrams, G: Gate>(
 /// For a device that reports its datagrams, the replies are sent in the order of the requests, each to the sender of the request, which may
 /// update and transfer according to its own address. Replies that fail to be sent are left out, and are counted (RFC 1035, 4.2.1). None is
 /// kept unsent at the end.
-pub fn serve_udp<R: Wait, A: Handler, D: Datagrams, G: Gate>(
+pub fn serve_datagrams<R: Wait, A: Handler, D: Datagrams>(
     rt: &R,
     handler: &mut A,
     datagrams: &mut D,
     allowed: Allowed<'_>,
     most: u64,
-    gate: &G,
     request: &mut [u8],
     out: &mut [u8],
 ) -> DatagramsEnd
@@ -124,7 +96,7 @@ pub fn serve_udp<R: Wait, A: Handler, D: Datagrams, G: Gate>(
     ensures grows { Grows (A.seen handler.new) (A.seen handler.old) }
     ensures answered { IfSome (D.datagrams datagrams.old) (λ o. EndsBy A.is_reply allowed.entry.addresses.now result (A.seen handler.old) o (D.failed datagrams.old) most (A.seen handler.new) (D.datagrams datagrams.new) (D.failed datagrams.new)) }
 {
-    let end = answer_all(rt, handler, datagrams, allowed, most, gate, request, out);
+    let end = answer_all(rt, handler, datagrams, allowed, most, request, out);
     datagrams.flush();
     end
 }

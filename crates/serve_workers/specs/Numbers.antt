@@ -3,8 +3,8 @@ use Rattle.std.specs.Prelude.{◌≡◌, ℕ, Bool, true, false, List, Option, N
 use Rattle.std.specs.declared.net.ip_addr.IpAddr.{IpAddr}
 use Rattle.zone_server.specs.declared.service_log.JobEnd.{JobEnd}
 use Rattle.zone_server.specs.declared.service_log.JobEnd.TheVariants.{Done, Device, Spent, NoMemory}
-use Rattle.serve_workers.specs.declared.service.ServeFault.{ServeFault}
-use Rattle.serve_workers.specs.declared.service.ServeFault.TheVariants.{Device as HasFailed, Spent as IsSpent, NoMemory as IsStarved}
+use Rattle.worker_jobs.specs.declared.serve_fault.ServeFault.{ServeFault}
+use Rattle.worker_jobs.specs.declared.serve_fault.ServeFault.TheVariants.{Device as HasFailed, Spent as IsSpent, NoMemory as IsStarved}
 use Rattle.serve_workers.specs.declared.service.Sockets.{Sockets}
 use Rattle.serve_workers.specs.declared.service.Sockets.TheVariants.{Datagrams as OfDatagrams, Connections as OfConnections, Secondaries as OfSecondaries}
 use Rattle.serve_workers.specs.declared.threads.SocketJob.{SocketJob}

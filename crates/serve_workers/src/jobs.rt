@@ -2,10 +2,10 @@
 ghost use Rattle.std.specs.Prelude.{◌≡◌, ◌⊎◌, ◌↔◌, map, vec_len, IfOk, IfErr};
 ghost use Rattle.std.specs.List.{All};
 ghost use Rattle.std.specs.IoError.{error_kind};
-ghost use Rattle.serve_workers.specs.declared.service.ServeFault.{ServeFault as Fault};
+ghost use Rattle.worker_jobs.specs.declared.serve_fault.ServeFault.{ServeFault as Fault};
 ghost use Rattle.serve_workers.specs.Numbers.{number_of, takes_datagrams, are_datagrams, HasRights};
 
-use crate::service::{Plan, ServeFault, Sockets, ThreadSpec};
+use crate::service::{Plan, Sockets, ThreadSpec};
 use crate::threads::{SocketJob, TcpJob};
 use crate::updates::Updates;
 use sockets::{TcpPlace, Watch};
@@ -17,7 +17,7 @@ use std::sync::Wait;
 use std::time::Clock;
 use tcp_loop::EventLoop;
 use worker_jobs::{
-    ConnectionsJob, DatagramsJob, NotifyJob, Scratch, StopFlag, WakeList, WorkerSocket,
+    ConnectionsJob, DatagramsJob, NotifyJob, Scratch, ServeFault, StopFlag, WakeList, WorkerSocket,
 };
 
 /// The place at which a listener's connections come in. It is watched under its number.

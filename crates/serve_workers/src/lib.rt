@@ -14,7 +14,7 @@ mod threads;
 mod updates;
 
 pub use judge::UpdateConfig;
-pub use service::{Plan, ServeFault, Sockets, ThreadSpec, serve_zone};
+pub use service::{Plan, Sockets, ThreadSpec, serve_zone};
 pub use tcp_loop::Plan as ConnectionPlan;
 pub use update_batches::Most;
-pub use worker_jobs::{NotifySocket, Secondaries, Shutdown, WorkLimit};
+pub use worker_jobs::{NotifySocket, Secondaries, ServeFault, Shutdown, WorkLimit};

@@ -27,9 +27,8 @@ use std::sync::Wait;
 use std::thread::Threads;
 use std::time::Clock;
 use tcp_loop::Plan as ConnectionPlan;
-use thiserror::Error;
 use update_batches::{Most, UpdateStore};
-use worker_jobs::{MainTask, Secondaries, Shutdown, WorkLimit};
+use worker_jobs::{MainTask, Secondaries, ServeFault, Shutdown, WorkLimit};
 use zone_server::{JobEnd, PublishRight, Server, ServerLedgers, ServerName, ServiceLog};
 
 /// How a zone is served.
@@ -65,23 +64,6 @@ pub struct ThreadSpec<'a> {
     pub progress: &'a WorkLimit,
     /// What the thread serves.
     pub sockets: Sockets,
-}
-
-/// Why a zone is no longer served.
-#[derive(Clone, Copy, Debug, Error)]
-pub enum ServeFault {
-    /// A thread could not be started.
-    #[error("cannot start a thread")]
-    NotStarted,
-    /// A socket has failed.
-    #[error("a socket failed")]
-    Device,
-    /// No version could be loaded, or the zone's later versions could not be published at the start.
-    #[error("no version could be loaded")]
-    Spent,
-    /// An allocation failed.
-    #[error("out of memory")]
-    NoMemory,
 }
 
 impl<C: Clock> SocketJob<'_, C> {

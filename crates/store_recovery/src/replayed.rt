@@ -23,8 +23,8 @@ fn read_update(alloc: Global, octets: &[u8]) -> Result<Option<Update>, AllocErro
     }
 }
 
-/// The version that a message from a peer that may update makes after another; or why it makes none (RFC 2136, 3).
-fn next_version(
+/// The version that a message from a peer that may update makes after another; or why it makes none (RFC 2136, 3). It allocates memory.
+pub fn next_version(
     alloc: Global,
     version: &Version,
     octets: &[u8],

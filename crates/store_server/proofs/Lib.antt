@@ -1,4 +1,5 @@
 pub mod ChainLemmas
+pub mod LawLemmas
 pub mod RecoveredLemmas
 pub mod ResumedLemmas
 pub mod ServedLemmas

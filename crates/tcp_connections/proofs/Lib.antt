@@ -8,5 +8,6 @@ pub mod OwnLemmas
 pub mod PassLemmas
 pub mod PlaceLemmas
 pub mod QueueLemmas
+pub mod SurveyLemmas
 pub mod SweepLemmas
 pub mod ToldLemmas

@@ -4,11 +4,11 @@ use Rattle.std.specs.List.{count_by}
 use Rattle.std.proofs.lemmas.Bool.{cases_lt}
 use Rattle.std.proofs.lemmas.List.{get_or_past, take_all, length-take}
 use Rattle.std.proofs.lemmas.List.Sums.{count_by_more_yes, count_by_more_no, count_by-le-length}
-use Rattle.peer_groups.specs.Group.{is_same, is_group}
-use Rattle.peer_groups.specs.Survey.{IsSurvey}
-use Rattle.peer_groups.specs.declared.group.PeerGroup.{PeerGroup}
-use Rattle.peer_groups.specs.declared.survey.Survey.{Survey}
-use Rattle.peer_groups.proofs.SurveyLemmas.{same_equal}
+use Rattle.tcp_connections.specs.Group.{is_same, is_group}
+use Rattle.tcp_connections.specs.Survey.{IsSurvey}
+use Rattle.tcp_connections.specs.declared.group.PeerGroup.{PeerGroup}
+use Rattle.tcp_connections.specs.declared.survey.Survey.{Survey}
+use Rattle.tcp_connections.proofs.SurveyLemmas.{same_equal}
 use Rattle.tcp_connections.specs.Kept.{awaited}
 use Rattle.slab.specs.Slab.{Slab, get}
 use Rattle.tcp_connections.specs.Deadlines.{IsLeast}

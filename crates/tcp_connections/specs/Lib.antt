@@ -2,8 +2,10 @@ pub mod Asked
 pub mod Deadlines
 pub mod Ends
 pub mod Going
+pub mod Group
 pub mod Kept
 pub mod Links
 pub mod Places
 pub mod Rate
+pub mod Survey
 pub mod Told

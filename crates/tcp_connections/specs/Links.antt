@@ -2,7 +2,7 @@
 use Rattle.std.specs.Prelude.{◌≡◌, ◌⊎◌, ℕ, List, Option, None, Some, IfSome, ⊤, if◌then◌else◌}
 use Rattle.std.specs.declared.net.socket_addr.SocketAddr.{SocketAddr}
 use Rattle.serve_core.specs.declared.peer.Peer.{Peer}
-use Rattle.peer_groups.specs.declared.group.PeerGroup.{PeerGroup}
+use Rattle.tcp_connections.specs.declared.group.PeerGroup.{PeerGroup}
 use Rattle.requests.specs.Served.{Learned, Grows}
 use Rattle.requests.specs.declared.stream_end.StreamEnd.{StreamEnd}
 use Rattle.tcp_connections.specs.Kept.{Kept, told_by, awaited}

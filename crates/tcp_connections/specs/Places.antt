@@ -3,8 +3,8 @@ use Rattle.std.specs.Prelude.{◌≡◌, ℕ, ◌/◌, ◌<◌, ◌≤◌, Bool,
 use Rattle.tcp_connections.specs.Kept.{awaited}
 use Rattle.tcp_connections.specs.declared.waiting.Waiting.{Waiting}
 use Rattle.tcp_connections.specs.declared.waiting.Waiting.TheVariants.{Request, Rest, Answer, Taking}
-use Rattle.peer_groups.specs.Group.{is_same, has_group}
-use Rattle.peer_groups.specs.declared.group.PeerGroup.{PeerGroup}
+use Rattle.tcp_connections.specs.Group.{is_same, has_group}
+use Rattle.tcp_connections.specs.declared.group.PeerGroup.{PeerGroup}
 use Rattle.slab.specs.Slab.{Slab, get, slab_len}
 use Rattle.tcp_connections.specs.Deadlines.{IsLeast}
 use Rattle.tcp_connections.specs.declared.connection.Connection.{Connection}

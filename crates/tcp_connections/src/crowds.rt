@@ -1,13 +1,14 @@
 //! Groups of peers that have many connections.
 ghost use Rattle.std.specs.Prelude.{◌≡◌, ◌≤◌, ◌↔◌, IsTrue, true, false, if◌then◌else◌};
-ghost use Rattle.peer_groups.specs.Group.{has_group};
-ghost use Rattle.peer_groups.specs.declared.group.PeerGroup.{PeerGroup as Group};
+ghost use Rattle.tcp_connections.specs.Group.{has_group};
+ghost use Rattle.tcp_connections.specs.declared.group.PeerGroup.{PeerGroup as Group};
 ghost use Rattle.slab.specs.Slab.{get, slab_len};
 ghost use Rattle.tcp_connections.specs.Places.{is_of, held, quarter, is_crowd, crowd_of};
 
 use crate::connection::Connection;
+use crate::group::{Groups, PeerGroup};
 use crate::handler::Messages;
-use peer_groups::{Groups, PeerGroup, Survey};
+use crate::survey::Survey;
 use slab::Slab;
 
 /// Whether there is a connection under a key, and its peer is of a group.

@@ -9,6 +9,9 @@
 //! each: each by its own peer's rights, on its own stream, and none is removed except those that end. [`sweep`] ends those whose peers take
 //! too long or too slowly, and [`make_room`] the one that has gone longest without a whole request when there is no place for one more.
 //! There is no clock here: each call is given the time.
+//!
+//! When places are scarce, peers of one [`PeerGroup`] count as one: those at an IPv4 address, or at IPv6 addresses whose first 64 bits are the
+//! same (own).
 #![tactic(auto)]
 
 mod blocking;
@@ -16,6 +19,7 @@ mod connection;
 mod crowds;
 mod deadlines;
 mod ends;
+mod group;
 mod handler;
 mod limits;
 mod machine;
@@ -25,6 +29,7 @@ mod serve;
 mod serve_each;
 mod step;
 mod stream;
+mod survey;
 mod waiting;
 mod window;
 
@@ -32,6 +37,7 @@ pub use blocking::{Blocking, Fault};
 pub use connection::Connection;
 pub use deadlines::sweep;
 pub use ends::Ends;
+pub use group::PeerGroup;
 pub use handler::{Handler, Messages, Reply};
 pub use limits::Limits;
 pub use machine::ConnectionState;

@@ -1,6 +1,6 @@
 //! Places for newcomers.
 ghost use Rattle.std.specs.Prelude.{◌≡◌, ◌≢◌, ◌+◌, ◌<◌, ◌≤◌, ℕ, Option, None, Some};
-ghost use Rattle.peer_groups.specs.Group.{has_group};
+ghost use Rattle.tcp_connections.specs.Group.{has_group};
 ghost use Rattle.slab.specs.Slab.{get, slab_len};
 ghost use Rattle.tcp_connections.specs.Deadlines.{IsLeastBelow};
 ghost use Rattle.tcp_connections.specs.Places.{among_has, waits_by, waits_in, IsLongest, IsGiver};
@@ -8,9 +8,9 @@ ghost use Rattle.tcp_connections.specs.declared.room.Room.{Room as RoomFor};
 
 use crate::connection::Connection;
 use crate::crowds::{crowds, has_quarter};
+use crate::group::{Groups, PeerGroup};
 use crate::handler::Messages;
 use crate::waiting::Waiting;
-use peer_groups::{Groups, PeerGroup};
 use slab::Slab;
 
 /// The groups of peers whose connections are considered.

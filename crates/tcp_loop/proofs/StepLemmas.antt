@@ -12,8 +12,8 @@ use Rattle.tcp_connections.specs.Asked.{EachGrows}
 use Rattle.tcp_connections.specs.Kept.{nothing_kept}
 use Rattle.slab.specs.Slab.{Slab, get, Updates}
 use Rattle.std.specs.Net.Socket.{socket_ip}
-use Rattle.peer_groups.specs.Group.{IsGroupOf}
-use Rattle.peer_groups.specs.declared.group.PeerGroup.{PeerGroup}
+use Rattle.tcp_connections.specs.Group.{IsGroupOf}
+use Rattle.tcp_connections.specs.declared.group.PeerGroup.{PeerGroup}
 use Rattle.tcp_connections.specs.Deadlines.{gone_on, kept_at, is_over}
 use Rattle.tcp_connections.specs.Rate.{is_slow}
 use Rattle.tcp_connections.specs.Places.{IsGiver}

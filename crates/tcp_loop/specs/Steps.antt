@@ -9,8 +9,8 @@ use Rattle.requests.specs.Allowed.{IsPeer}
 use Rattle.requests.specs.Served.{Learned}
 use Rattle.tcp_connections.specs.Kept.{nothing_kept}
 use Rattle.std.specs.Net.Socket.{socket_ip}
-use Rattle.peer_groups.specs.Group.{IsGroupOf}
-use Rattle.peer_groups.specs.declared.group.PeerGroup.{PeerGroup}
+use Rattle.tcp_connections.specs.Group.{IsGroupOf}
+use Rattle.tcp_connections.specs.declared.group.PeerGroup.{PeerGroup}
 use Rattle.slab.specs.Slab.{Slab, get}
 use Rattle.tcp_connections.specs.Deadlines.{kept_at}
 use Rattle.tcp_connections.specs.Places.{IsGiver}

@@ -4,7 +4,7 @@ ghost use Rattle.std.specs.declared.net.ip_addr.IpAddr.{IpAddr};
 ghost use Rattle.dns_message.specs.Message.{message_limit};
 ghost use Rattle.tcp_connections.specs.Asked.{EachGrows};
 ghost use Rattle.std.specs.Net.Socket.{socket_ip};
-ghost use Rattle.peer_groups.specs.Group.{IsGroupOf};
+ghost use Rattle.tcp_connections.specs.Group.{IsGroupOf};
 ghost use Rattle.slab.specs.Slab.{get, slab_len};
 ghost use Rattle.tcp_loop.specs.Steps.{scarce, nothing_counted, Moves, Sweeps, GoOn, HasTurned};
 
@@ -12,14 +12,13 @@ use crate::arrivals::{Arrivals, Refusal, Remote};
 use crate::readiness::{NotWatched, Readiness};
 use crate::tally::Tally;
 use crate::waiting::Waiting;
-use peer_groups::PeerGroup;
 use requests::Allowed;
 use serve_core::Transport;
 use slab::Slab;
 use std::alloc::{AllocError, Global};
 use std::sync::Wait;
 use tcp_connections::{
-    Blocking, Connection, Handler, Limits, Messages, Room, make_room, serve_ready, sweep,
+    Blocking, Connection, Handler, Limits, Messages, PeerGroup, Room, make_room, serve_ready, sweep,
 };
 
 /// A second, in nanoseconds: the longest wait, the time between two sweeps, and the time for which nothing is accepted when there was no

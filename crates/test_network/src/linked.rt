@@ -3,14 +3,13 @@
 use crate::echo::{Both, Echo};
 use crate::pieces::{After, Pieces, Tape, address, room_of, written};
 use crate::running::SECOND;
-use peer_groups::PeerGroup;
 use serve_core::{Peer, Transport};
 use slab::Slab;
 use std::alloc::{AllocError, Global};
 use std::rc::Rc;
 use std::sync::Wait;
 use std::test::Fail;
-use tcp_connections::{Connection, Ends, Limits, Room, make_room, serve_ready, sweep};
+use tcp_connections::{Connection, Ends, Limits, PeerGroup, Room, make_room, serve_ready, sweep};
 
 /// Connections, and the state that serves them.
 #[derive(Drop)]

@@ -4,9 +4,9 @@ use dns_message::{Parsed, is_update, parse_other, take_frame};
 use dns_name::Name;
 use dns_rdata::{RData, RRset, RType, Ttl};
 use memory_devices::{
-    Kept, MemoryStream, Play, Played, answer_stream, asker, is_played, octets_of, server_of,
+    Kept, MemoryStream, OpenGate, Play, Played, answer_stream, asker, is_played, octets_of,
+    server_of,
 };
-use requests::OpenGate;
 use serve_core::{Peer, Transport, is_permitted, respond_to_peer, transfer_reply};
 use std::alloc::Global;
 use std::sync::Wait;

@@ -10,8 +10,7 @@ use dns_engine::{
     FirstZone, KEPT, SharedVersion, VersionCell, VersionPublisher, VersionReader, ZoneVersions,
 };
 use dns_rdata::Rcode;
-use memory_devices::{NamedParts, NoLog, last_of, named_parts, octets_of};
-use requests::OpenGate;
+use memory_devices::{NamedParts, NoLog, OpenGate, last_of, named_parts, octets_of};
 use snapshot_cell::{Cell, Parts};
 use std::alloc::Global;
 use std::marker::Brand;

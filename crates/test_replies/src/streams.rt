@@ -1,8 +1,8 @@
 //! Streams of requests, and the octets that are written on them, as RFC 1035, 4 and RFC 2136, 2 give them, written by hand.
 use crate::served::{Course, first_wrong};
 use dns_engine::{FirstZone, VersionReader};
-use memory_devices::{Kept, MemoryStream, answer_stream, asker, octets_of};
-use requests::{Gate, OpenGate, StreamEnd};
+use memory_devices::{Kept, MemoryStream, OpenGate, answer_stream, asker, octets_of};
+use requests::{Gate, StreamEnd};
 use serve_core::{Peer, Transport};
 use std::alloc::Global;
 use std::sync::Wait;

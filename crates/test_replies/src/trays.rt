@@ -2,8 +2,10 @@
 use crate::served::{Course, first_wrong};
 use crate::streams::ALL;
 use dns_engine::{FirstZone, VersionReader};
-use memory_devices::{Datagram, MemoryDatagrams, NoLog, answer_datagrams, asker, octets_of};
-use requests::{Allowed, Datagrams, DatagramsEnd, Gate, OpenGate};
+use memory_devices::{
+    Datagram, MemoryDatagrams, NoLog, OpenGate, answer_datagrams, asker, octets_of,
+};
+use requests::{Allowed, Datagrams, DatagramsEnd, Gate};
 use serve_core::{Peer, Transport};
 use std::alloc::Global;
 use std::net::IpAddr;

@@ -1,8 +1,8 @@
 //! Crashes of a disk held in memory.
 use crate::journals::{batch_of, empty_log, recovered};
 use journal::{Log, LogFault, Recovered, put_update};
+use memory_devices::MemoryDisk;
 use std::alloc::{AllocError, Global};
-use told_disks::MemoryDisk;
 
 /// Pseudorandom numbers: Knuth's generator of 64 bits (The Art of Computer Programming, 3.3.4), of which the high bits are used.
 #[derive(Drop)]

@@ -3,8 +3,8 @@ use journal::{
     Head, HeadFault, Log, Recovered, Refused, SUM, TextSum, put_update, recover, write_frame,
     write_head,
 };
+use memory_devices::MemoryDisk;
 use std::alloc::{AllocError, Global};
-use told_disks::MemoryDisk;
 
 /// A zone text.
 pub(crate) const ZONE: &[u8] = b"example. 3600 IN SOA ns.example. host.example. 7 1 1 1 1\n";

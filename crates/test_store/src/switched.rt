@@ -1,9 +1,9 @@
 //! Logs that stop, and continue with another journal.
 use crate::journals::{BATCHES, END, FIRST, batch_of, empty_log, journal_of, recovers, salt, told};
 use journal::{Log, LogFault};
+use memory_devices::MemoryDisk;
 use std::alloc::{AllocError, Global};
 use std::test::Fail;
-use told_disks::MemoryDisk;
 
 /// Appends a batch. Returns whether it is on the disk.
 fn append(alloc: Global, log: &mut Log<MemoryDisk>, updates: &[&[u8]]) -> Result<bool, AllocError> {

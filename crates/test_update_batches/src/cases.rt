@@ -7,10 +7,9 @@ use dns_engine::SharedVersion;
 use dns_name::Name;
 use journal::LogFault;
 use master_file::read_zone;
-use memory_devices::asker;
+use memory_devices::{DiskFault, asker};
 use std::alloc::Global;
 use std::sync::Wait;
-use told_disks::DiskFault;
 use update_batches::{Ended, Most, Queue, QueuedUpdate, ReplyTo, UpdateThread};
 use zone_tree::Version;
 

@@ -2,10 +2,10 @@
 use crate::servers::ZONE;
 use dns_engine::{KEPT, SharedVersion};
 use journal::{Head, Log, LogFault, TextSum, recover, write_head};
+use memory_devices::{DiskFault, MemoryDisk};
 use std::alloc::Global;
 use std::sync::Wait;
 use store_compaction::{RecentUpdates, StoreWriter};
-use told_disks::{DiskFault, MemoryDisk};
 use update_batches::{UpdateStore, VersionUpdate};
 
 /// A store for batches of updates, which does nothing between them.

@@ -30,7 +30,7 @@ pub use kept::{KEPT, KeptChain, Reach, WINDOW, chain_since, sizes_of_what_is_kep
 pub use laws::{first_faults_are_told, full_lists_are_taken, incremental_lists_are_taken};
 pub use list::{FullList, LentRecord, SetRecords, full};
 pub use packed::{messages_are_the_list, messages_tell_their_records};
-pub use packer::{MAX_MESSAGE, Packer, TransferRecords, answer_count};
+pub use packer::{MAX_MESSAGE, Packer, TransferRecords, write_message};
 pub use place::{ChangesPlace, Part, Place, StepPlace, ZonePlace};
 pub use resume::records_at;
 pub use windows::{

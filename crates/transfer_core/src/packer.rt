@@ -1,14 +1,13 @@
 //! The messages of a transfer: whole records, as many in each as fit (RFC 5936, 2.2).
-ghost use Rattle.std.specs.Prelude.{◌≡◌, true, ◌≤◌, List, [], ◌∷◌, ◌++◌, length, take, drop, map, MatchOption, IfSome, Some, None, nat_le, if◌then◌else◌};
+ghost use Rattle.std.specs.Prelude.{◌≡◌, true, ◌≤◌, List, [], ◌∷◌, ◌++◌, length, take, drop, map, MatchOption, IfSome, Some, None};
 ghost use Rattle.std.specs.Option.{option_copied, option_map, option_to_list};
 ghost use Rattle.dns_rdata.specs.Limits.{max_data};
 ghost use Rattle.dns_name.specs.Name.{IsName};
 ghost use Rattle.dns_rdata.specs.Record.{Record};
 ghost use Rattle.dns_message.specs.Answers.{sent, first_of};
-ghost use Rattle.dns_message.specs.Message.{number_at};
 ghost use Rattle.dns_message.specs.declared.write.TheConstants.{MIN_LIMIT};
 ghost use Rattle.transfer_core.specs.declared.packer.TheConstants.{MAX_MESSAGE};
-ghost use Rattle.transfer_core.specs.Packed.{spelt, listed, opt_beside, packed, packed_later, octets_of, datagram_of, datagram};
+ghost use Rattle.transfer_core.specs.Packed.{spelt, listed, opt_beside, packed, packed_from, packed_later, octets_of, datagram_of, datagram};
 
 use crate::chain::ChainView;
 use crate::changes::ChangesList;
@@ -201,7 +200,7 @@ fn write_datagram<C: ChainView>(
     ensures octets { take result out.new ≡ datagram_of head question.now opt (length out.old) (map (spelt records.old.name.now) (option_to_list records.old.next ++ listed records.old.rest)) soa.now }
     ensures len { result ≤ length out.old }
 {
-    let len = write_answers(head, Some(question), opt, records, out);
+    let (len, _) = write_answers(head, Some(question), opt, records, out);
     let is_whole = records.first().is_none();
     if is_whole {
         return len;
@@ -231,6 +230,56 @@ fn opt_beside(question: Option<&Question>, opt: Option<Opt>) -> Option<Opt>
 {
     question?;
     opt
+}
+
+/// Writes the first message of records over TCP to the front of `out`, with a question that is still to be sent and the OPT beside it, or
+/// without one: how many octets it has, and how many of the records; they are behind these then. None where neither a question nor
+/// a record is left (RFC 5936, 2.2; RFC 6891, 6.1.1; own).
+fn write_first<C: ChainView>(
+    head: Head,
+    question: Option<&Question>,
+    opt: Option<Opt>,
+    records: &mut SpeltList<'_, C>,
+    out: &mut [u8],
+) -> Option<(usize, u16)>
+    requires { MAX_MESSAGE ≤ length out.old }
+    ensures message { MatchOption result
+        ((option_copied question.entry ≡ None) × (map (spelt records.old.name.now) (option_to_list records.old.next ++ listed records.old.rest) ≡ []) × (map (spelt records.new.name.now) (option_to_list records.new.next ++ listed records.new.rest) ≡ []) × (out.new ≡ out.old))
+        (λ m. (octets_of (packed_from head (option_copied question.entry) opt (map (spelt records.old.name.now) (option_to_list records.old.next ++ listed records.old.rest))) ≡ take m.0 out.new ∷ octets_of (packed_later head (map (spelt records.new.name.now) (option_to_list records.new.next ++ listed records.new.rest))))
+        × (m.0 ≤ MAX_MESSAGE) × (map (spelt records.new.name.now) (option_to_list records.new.next ++ listed records.new.rest) ≡ drop m.1 (map (spelt records.old.name.now) (option_to_list records.old.next ++ listed records.old.rest)))) }
+    ensures behind { drop MAX_MESSAGE out.new ≡ drop MAX_MESSAGE out.old }
+{
+    let ended = records.first().is_none();
+    if ended && question.is_none() {
+        return None;
+    }
+    let opt = opt_beside(question, opt);
+    let room = &mut out[..MAX_MESSAGE];
+    Some(write_answers(head, question, opt, records, room))
+}
+
+/// Writes the first message of a list over TCP to the front of `out`: with the question, where that is still to be sent, and the OPT
+/// of the reply beside it, or none. The name is the one asked. Gives how many octets it has, and how many of the list's records; None
+/// where neither a question nor a record is left. What is behind the first [`MAX_MESSAGE`] octets stays (RFC 5936, 2.2; RFC 1995, 4;
+/// RFC 6891, 6.1.1; own). It takes no memory.
+pub fn write_message<'a, C: ChainView>(
+    head: Head,
+    name: &'a Name,
+    question: Option<&Question>,
+    opt: Option<Opt>,
+    list: TransferRecords<'a, C>,
+    out: &mut [u8],
+) -> Option<(usize, u16)>
+    requires { MAX_MESSAGE ≤ length out.old }
+    ensures message { MatchOption result
+        (octets_of (packed_from head (option_copied question.entry) opt (map (spelt name.now) (listed list.entry))) ≡ [])
+        (λ m. octets_of (packed_from head (option_copied question.entry) opt (map (spelt name.now) (listed list.entry)))
+        ≡ take m.0 out.new ∷ octets_of (packed_later head (map (spelt name.now) (drop m.1 (listed list.entry))))) }
+    ensures len { IfSome result (λ m. m.0 ≤ MAX_MESSAGE) }
+    ensures behind { drop MAX_MESSAGE out.new ≡ drop MAX_MESSAGE out.old }
+{
+    let mut records = SpeltList::new(name, list);
+    write_first(head, question, opt, &mut records, out)
 }
 
 /// The messages of a transfer, one after another: whole records, as many in each as fit into [`MAX_MESSAGE`] octets. The first
@@ -291,21 +340,6 @@ impl<'a, C: ChainView> Packer<'a, C> {
         }
     }
 
-    /// For what is left of a list that a question of this name asks for over TCP, where the first of its messages is sent (RFC 5936, 2.2;
-    /// RFC 1995, 4).
-    pub fn later(head: Head, name: &'a Name, list: TransferRecords<'a, C>) -> Packer<'a, C>
-        ensures { result ≡ octets_of (packed_later head (map (spelt name.now) (listed list.entry))) }
-    {
-        Packer {
-            head,
-            question: None,
-            opt: None,
-            soa: None,
-            limit: MAX_MESSAGE,
-            records: SpeltList::new(name, list),
-        }
-    }
-
     /// For a list that a question asks for over UDP, with the OPT of the reply, or none; the most octets of the datagram; and the
     /// set of the SOA that is sent where the list doesn't fit into so many (RFC 1995, 2; RFC 6891, 6.1.1 and 6.2.5; own).
     pub fn datagram(
@@ -351,28 +385,8 @@ impl<'a, C: ChainView> Packer<'a, C> {
                 room,
             ));
         }
-        let ended = self.records.first().is_none();
-        if ended && self.question.is_none() {
-            return None;
-        }
         let question = self.question.take();
-        let opt = opt_beside(question, self.opt);
-        let room = &mut out[..MAX_MESSAGE];
-        Some(write_answers(self.head, question, opt, &mut self.records, room))
+        let (len, _) = write_first(self.head, question, self.opt, &mut self.records, out)?;
+        Some(len)
     }
-}
-
-/// How many records the answer section of a message has, by its header (RFC 1035, 4.1.1); 0 where that is cut off.
-pub fn answer_count(message: &[u8]) -> u16
-    ensures { result ≡ (if nat_le 8 (length message.now) then number_at message.now 6 else 0) }
-{
-    told_count(message).unwrap_or(0)
-}
-
-/// The same; None where the header is cut off.
-fn told_count(message: &[u8]) -> Option<u16>
-    ensures { result ≡ (if nat_le 8 (length message.now) then Some (number_at message.now 6) else None) }
-{
-    let pair = message.get(6..)?.first_chunk::<2>()?;
-    Some(u16::from_be_bytes(*pair))
 }

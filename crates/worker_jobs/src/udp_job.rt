@@ -7,7 +7,7 @@ ghost use Rattle.worker_jobs.specs.Ended.{job_end, JobEndsBy};
 use crate::scratch::Scratch;
 use crate::workers::Job;
 use crossbeam_utils::CachePadded;
-use requests::{Allowed, Datagrams, DatagramsEnd, Handler, OpenGate, serve_udp};
+use requests::{Allowed, Datagrams, DatagramsEnd, Handler, serve_datagrams};
 use serve_core::Transport;
 use std::sync::Wait;
 use zone_server::{Event, JobEnd, ServiceLog};
@@ -86,13 +86,12 @@ impl<'a, D: Datagrams> UdpJob<'a, D> {
         ensures same { self.new.number ≡ self.old.number }
     {
         let Scratch { request, reply } = &mut *self.scratch;
-        let end = serve_udp(
+        let end = serve_datagrams(
             rt,
             handler,
             &mut self.datagrams,
             self.allowed,
             self.most,
-            &OpenGate,
             request,
             reply,
         );

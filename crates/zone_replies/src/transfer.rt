@@ -1,19 +1,18 @@
 //! A transfer that makes its next message once its connection has taken the one before (RFC 1995, 4; RFC 5936, 2.2).
 ghost use Rattle.std.specs.Prelude.{◌≡◌, ◌≤◌, true, [], ◌∷◌, length, take, IfSome, MatchOption};
-ghost use Rattle.transfer_core.specs.Packed.{packed, octets_of, listed};
+ghost use Rattle.transfer_core.specs.Packed.{packed, octets_of};
+ghost use Rattle.std.specs.Option.{option_copied};
 ghost use Rattle.serve_core.specs.Heading.{reply_opt};
 ghost use Rattle.serve_core.specs.Transfers.{list_for};
 ghost use Rattle.zone_tree.specs.Zone.{soa_of};
 ghost use Rattle.dns_engine.specs.Chain.{changes_by};
-ghost use Rattle.zone_replies.specs.Left.{messages_of_records, messages_from};
+ghost use Rattle.zone_replies.specs.Left.{question_left, messages_from};
 
 use dns_engine::{SharedVersion, VersionChain};
-use dns_message::Query;
+use dns_message::{Query, Question};
 use serve_core::{reply_opt, transfer_start};
 use tcp_connections::Messages;
-use transfer_core::{
-    ChainView, MAX_MESSAGE, Packer, Place, TransferRecords, answer_count, records_at,
-};
+use transfer_core::{MAX_MESSAGE, Place, records_at, write_message};
 use zone_tree::Version;
 
 /// A full or incremental transfer over a stream. It owns its version and those since the client's, apart from their cell, and has a place in their
@@ -41,19 +40,14 @@ impl Drop for Transfer {
     }
 }
 
-/// The messages for the records that are left of the list that a query asks for. The first message of the transfer has the question,
-/// and an OPT where the query has one.
-fn packer_of<'a, C: ChainView>(
-    query: &'a Query,
-    is_begun: bool,
-    list: TransferRecords<'a, C>,
-) -> Packer<'a, C>
-    ensures { result ≡ messages_of_records query.now is_begun (listed list.entry) }
+/// The question that is still to be sent: the query's until the first message has been made, then none.
+fn question_left(query: &Query, is_begun: bool) -> Option<&Question>
+    ensures { option_copied result ≡ question_left is_begun query.now }
 {
     if is_begun {
-        return Packer::later(query.head, &query.question.name, list);
+        return None;
     }
-    Packer::new(query.head, &query.question, reply_opt(query.edns), list)
+    Some(&query.question)
 }
 
 /// Writes the next message of a transfer, from a place on, at the front of `out`. Gives its length in octets, at most `MAX_MESSAGE`, and the place
@@ -75,9 +69,9 @@ fn write_from(
 {
     let zone = version.zone();
     let list = records_at(zone, chain, place);
-    let mut packer = packer_of(query, is_begun, list);
-    let len = packer.next_message(out)?;
-    let count = answer_count(&out[..len]);
+    let question = question_left(query, is_begun);
+    let opt = reply_opt(query.edns);
+    let (len, count) = write_message(query.head, &query.question.name, question, opt, list, out)?;
     Some((len, place.behind(zone, chain, count)))
 }
 

@@ -1,6 +1,7 @@
 -- One datagram behind the other.
-use Rattle.std.proofs.Common.{◌≡◌, arith}
-use Rattle.requests.proofs.ExchangeLemmas.{known_first, known_more, known_ends, known_done}
+use Rattle.std.proofs.Common.{◌≡◌, refl, arith}
+use Rattle.requests.specs.declared.udp.DatagramsEnd.TheVariants.{Device, Spent}
+use Rattle.requests.proofs.ExchangeLemmas.{known_first, known_more, known_ends, known_done, turn_made, turn_spent, turn_fails}
 use Rattle.requests.proofs.TurnLemmas.{grows_itself, grows_more}
 use Rattle.requests.proofs.udp.answer_all.Goals as goal
 
@@ -8,14 +9,22 @@ pub loop-done-init : goal.loop-done-init
 loop-done-init g c = (grows_itself _, known_first _ _ _ _ _)
 
 pub loop-done-preserved : goal.loop-done-preserved
-loop-done-preserved g c = (grows_more _ _ _ c.loop-done.invariant.0 c.in-None.ensures.grows, known_more _ _ _ _ _ _ _ _ _ _ _ _ c.loop-done.invariant.1 c.in-None.ensures.turns)
+loop-done-preserved g c =
+    let made = turn_made g.A.Handler.is_reply c.args.allowed.addresses.now _ _ _ _ _ _ _ _ _ _ c.in-Some.ensures.receives c.in-Some.ensures.same c.in-Ok.ensures.answered in
+    (grows_more _ _ _ c.loop-done.invariant.0 c.answer_from.ensures.grows, known_more _ _ _ _ _ _ _ _ _ _ _ _ c.loop-done.invariant.1 made)
 
-pub returns-in-Some-clause-grows : goal.returns-in-Some-clause-grows
-returns-in-Some-clause-grows g c = grows_more _ _ _ c.loop-done.invariant.0 c.in-Some.ensures.grows
+pub returns-in_default-clause-answered : goal.returns-in_default-clause-answered
+returns-in_default-clause-answered g c =
+    let fails = turn_fails g.A.Handler.is_reply c.args.allowed.addresses.now _ _ _ _ _ (c.in_default.ensures.nothing refl) (c.in_default.ensures.counted refl) in
+    known_ends g.A.Handler.is_reply c.args.allowed.addresses.now Device _ _ _ _ _ _ _ _ _ _ _ c.loop-done-test.true c.loop-done.invariant.1 fails
 
-pub returns-in-Some-clause-answered : goal.returns-in-Some-clause-answered
-returns-in-Some-clause-answered g c =
-    known_ends g.A.Handler.is_reply c.args.allowed.addresses.now c.in-Some.end _ _ _ _ _ _ _ _ _ _ _ c.loop-done-test.true c.loop-done.invariant.1 c.in-Some.ensures.turns
+pub returns-in-Err-clause-grows : goal.returns-in-Err-clause-grows
+returns-in-Err-clause-grows g c = grows_more _ _ _ c.loop-done.invariant.0 c.answer_from.ensures.grows
+
+pub returns-in-Err-clause-answered : goal.returns-in-Err-clause-answered
+returns-in-Err-clause-answered g c =
+    let spent = turn_spent g.A.Handler.is_reply c.args.allowed.addresses.now _ _ _ _ _ _ _ _ _ c.answer_from.ensures.grows c.in-Some.ensures.receives c.in-Some.ensures.same c.in-Err.ensures.spent c.in-Err.ensures.same in
+    known_ends g.A.Handler.is_reply c.args.allowed.addresses.now Spent _ _ _ _ _ _ _ _ _ _ _ c.loop-done-test.true c.loop-done.invariant.1 spent
 
 pub returns-clause-answered : goal.returns-clause-answered
 returns-clause-answered g c =

@@ -2,9 +2,9 @@
 use Rattle.std.proofs.Common.{refl, sym, ap, ◌≤◌, ◌<◌, ◌+◌, ◌*◌, length, arith, take, is_some, true, false}
 use Rattle.std.specs.List.{count_by}
 use Rattle.std.proofs.lemmas.Bool.{ltb-true}
-use Rattle.peer_groups.specs.Group.{is_same}
-use Rattle.peer_groups.specs.Survey.{with_one}
-use Rattle.peer_groups.specs.declared.group.PeerGroup.{PeerGroup}
+use Rattle.tcp_connections.specs.Group.{is_same}
+use Rattle.tcp_connections.specs.Survey.{with_one}
+use Rattle.tcp_connections.specs.declared.group.PeerGroup.{PeerGroup}
 use Rattle.slab.specs.Slab.{slab_len}
 use Rattle.tcp_connections.specs.Places.{is_of, held, quarter}
 use Rattle.tcp_connections.proofs.PlaceLemmas.{count_more, count_few, count_all, survey_as, quarter_less}

@@ -1,7 +1,7 @@
 -- The connections under the keys so far are told.
 use Rattle.std.proofs.Common.{take, is_some}
 use Rattle.std.specs.List.{count_by}
-use Rattle.peer_groups.specs.Survey.{IsSurvey}
+use Rattle.tcp_connections.specs.Survey.{IsSurvey}
 use Rattle.tcp_connections.specs.Places.{is_of}
 use Rattle.tcp_connections.proofs.crowds.candidates.Given as goal
 

@@ -1,6 +1,6 @@
 -- Of the candidates those are left that have more than a quarter.
 use Rattle.std.proofs.Common.{refl, ap, ◌∙◌}
-use Rattle.peer_groups.specs.Group.{is_group}
+use Rattle.tcp_connections.specs.Group.{is_group}
 use Rattle.tcp_connections.specs.Places.{is_crowd, crowd_of}
 use Rattle.tcp_connections.proofs.PlaceLemmas.{left_one, left_three}
 use Rattle.tcp_connections.proofs.crowds.crowds.Goals as goal

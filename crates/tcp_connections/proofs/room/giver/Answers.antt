@@ -1,7 +1,7 @@
 -- One of the newcomer's own, one of a crowd, or any.
 use Rattle.std.proofs.Common.{refl, Some, sym}
 use Rattle.tcp_connections.specs.Places.{among_has, held, quarter, is_crowd, own, crowd}
-use Rattle.peer_groups.specs.Group.{is_same}
+use Rattle.tcp_connections.specs.Group.{is_same}
 use Rattle.tcp_connections.specs.declared.room.Among.TheVariants.{These}
 use Rattle.tcp_connections.proofs.PlaceLemmas.{longest_as, less_than}
 use Rattle.tcp_connections.proofs.room.giver.Goals as goal

@@ -2,7 +2,7 @@
 use Rattle.std.proofs.Common.{◌∙◌, ap, subst}
 use Rattle.std.specs.Net.Socket.{socket_ip}
 use Rattle.std.specs.declared.net.ip_addr.IpAddr.{IpAddr}
-use Rattle.peer_groups.specs.Group.{IsGroupOf}
+use Rattle.tcp_connections.specs.Group.{IsGroupOf}
 use Rattle.tcp_loop.proofs.StepLemmas.{moves_more}
 use Rattle.tcp_loop.proofs.worker.EventLoop.begin.Goals as goal
 

@@ -1,2 +1,0 @@
-pub mod Group
-pub mod Survey
