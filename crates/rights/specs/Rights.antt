@@ -1,10 +1,14 @@
 -- Who may update a zone, and what of it, and who may transfer it (RFC 2136, 3.3; RFC 5936, 5).
-use Rattle.std.specs.Prelude.{ℕ, Bool, true, false, ◌&&◌, ◌||◌, ◌==◌, not, List, [], ◌∷◌, Option, Some, None}
+use Rattle.std.specs.Prelude.{ℕ, Bool, true, false, ◌&&◌, ◌||◌, ◌==◌, not, List, [], ◌∷◌, Option, Some, None, if◌then◌else◌}
 use Rattle.std.specs.List.{list_any, list_all}
 use Rattle.dns_name.specs.Name.{Name, is_same, is_under}
-use Rattle.dns_rdata.specs.Numbers.{type_NS, type_SOA, type_ANY}
+use Rattle.dns_rdata.specs.Numbers.{type_NS, type_SOA, type_ANY, type_AXFR, type_IXFR}
 use Rattle.dns_rdata.specs.Raw.{RawRecord}
 use Rattle.dns_rdata.specs.declared.numbers.RType.{RType}
+use Rattle.dns_message.specs.declared.query.Query.{Query as Asked}
+use Rattle.dns_message.specs.declared.query.Parsed.{Parsed}
+use Rattle.dns_message.specs.declared.query.Parsed.TheVariants.{Silent, Fault, BadOpt, Query, Update, NoMemory}
+use Rattle.dns_message.specs.declared.update.Update.{Update as DynamicUpdate}
 use Rattle.rights.specs.Address.{has_address}
 use Rattle.rights.specs.declared.requestor.Requestor.{Requestor}
 use Rattle.rights.specs.declared.rule.NameScope.{NameScope}
@@ -68,3 +72,20 @@ lets_transfer who rule = rule.transfer && has_address rule.prefix who.bits
 -- the zone may be transferred where a rule gives who asks that right
 abbrev pub may_transfer : List Rule → Requestor → Bool
 may_transfer rules who = list_any (lets_transfer who) rules
+
+-- an update is permitted where its records may be updated, of the zone that its zone section names (RFC 2136, 3.3). Its prerequisites take no right
+abbrev pub is_permitted : List Rule → Requestor → DynamicUpdate → Bool
+is_permitted rules who update = are_permitted rules who update.zone.name update.updates
+
+-- whether a query asks for a transfer (RFC 5936, 2.1; RFC 1995, 3)
+abbrev pub is_transfer : Asked → Bool
+is_transfer query = query.question.rtype.0 == type_AXFR || query.question.rtype.0 == type_IXFR
+
+-- whether a request is permitted: an update, a query for a transfer, or another query; none of what is neither
+abbrev pub judged : List Rule → Requestor → Parsed → Option Bool
+judged rules who (Update update) = Some (is_permitted rules who update)
+judged rules who (Query query) = Some (if is_transfer query then may_transfer rules who else true)
+judged rules who Silent = None
+judged rules who (Fault head code) = None
+judged rules who (BadOpt head question code dnssec_ok) = None
+judged rules who (NoMemory head) = None

@@ -35,7 +35,6 @@ pub enum RuleFault<'a> {
     NoMemory,
 }
 
-
 impl From<AllocError> for RuleFault<'_> {
     ghost from_gives = { λ refused given. given ≡ no_memory };
 
@@ -53,7 +52,10 @@ impl fmt::Display for RuleFault<'_> {
                 "'{word}' is not an address or a prefix, such as 192.0.2.7 or 2001:db8::/32"
             ),
             RuleFault::Length(word) => {
-                write!(f, "the length of '{word}' is not a number up to 32, or 128 of IPv6")
+                write!(
+                    f,
+                    "the length of '{word}' is not a number up to 32, or 128 of IPv6"
+                )
             }
             RuleFault::Rest(word) => write!(f, "'{word}' has bits set after its length"),
             RuleFault::NoRight => write!(f, "a right is missing: transfer or update"),

@@ -60,7 +60,11 @@ fn add_right<'a>(alloc: Global, rule: &mut Rule, text: &'a str) -> Result<(), Ru
 }
 
 /// Adds the right to transfer to a rule. No word may follow it.
-fn add_transfer<'a>(rule: &mut Rule, first: &'a str, rest: &[&'a str]) -> Result<(), RuleFault<'a>> {
+fn add_transfer<'a>(
+    rule: &mut Rule,
+    first: &'a str,
+    rest: &[&'a str],
+) -> Result<(), RuleFault<'a>> {
     if let Some(word) = rest.first() {
         return Err(RuleFault::Surplus(*word));
     }
@@ -83,9 +87,7 @@ fn update_right<'a>(alloc: Global, words: &[&'a str]) -> Result<UpdateRight, Rul
 }
 
 /// The names of a right to update, and the words behind them.
-fn scope_of<'w, 'a>(
-    words: &'w [&'a str],
-) -> Result<(NameScope, &'w [&'a str]), RuleFault<'a>> {
+fn scope_of<'w, 'a>(words: &'w [&'a str]) -> Result<(NameScope, &'w [&'a str]), RuleFault<'a>> {
     let Some((first, rest)) = words.split_first() else {
         return Ok((NameScope::Every, words));
     };

@@ -52,9 +52,14 @@ pub fn may_transfer(rules: &[Rule], who: Requestor) -> bool
 pub fn first_outside(rules: &[Rule], apex: &Name) -> Option<usize>
     ensures { result ≡ position (λ rule. not (is_within rule.update apex.now)) rules.now }
 {
-    rules
-        .iter()
-        .position(|rule| !is_within(&rule.update, apex))
+    rules.iter().position(|rule| !is_within(&rule.update, apex))
+}
+
+/// The place of the first rule that gives who asks the right to transfer the zone; None where none does.
+pub fn transferring(rules: &[Rule], who: Requestor) -> Option<usize>
+    ensures { result ≡ position (lets_transfer who) rules.now }
+{
+    rules.iter().position(|rule| lets_transfer(rule, who))
 }
 
 /// Whether the name of a right to update, where there are both, is in the zone with this apex.

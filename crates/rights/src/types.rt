@@ -40,7 +40,11 @@ pub(crate) fn type_named(word: &str) -> Option<RType> {
         return None;
     }
     let rtype = RType(digits.parse::<u16>().ok()?);
-    if rtype.is_metatype() { None } else { Some(rtype) }
+    if rtype.is_metatype() {
+        None
+    } else {
+        Some(rtype)
+    }
 }
 
 /// Whether a text is digits alone, and doesn't begin with a zero.
