@@ -64,24 +64,28 @@ pub fn parse_prefix(word: &str) -> Result<Prefix, RuleFault<'_>>
         let Ok(address) = word.parse::<IpAddr>() else {
             return Err(RuleFault::Address(word));
         };
-        return prefix_of(word, address, whole_length(address));
+        return prefix_of(word, address, 128 - bits_in_front(address));
     };
     let Ok(address) = front.parse::<IpAddr>() else {
         return Err(RuleFault::Address(word));
     };
-    match length_of(digits) {
-        Some(length) if length <= whole_length(address) => prefix_of(word, address, length),
-        _ => Err(RuleFault::Length(word)),
+    let Some(length) = length_of(digits) else {
+        return Err(RuleFault::Length(word));
+    };
+    if length > 128 - bits_in_front(address) {
+        return Err(RuleFault::Length(word));
     }
+    prefix_of(word, address, length)
 }
 
-/// The number of bits of an address.
-fn whole_length(address: IpAddr) -> u8
-    ensures { result ≡ 128 - bits_in_front address }
+/// How many bits of 128 stand in front of those of an address.
+fn bits_in_front(address: IpAddr) -> u8
+    ensures front { result ≡ bits_in_front address }
+    ensures few { result ≤ 96 }
 {
     match address {
-        IpAddr::V4(_) => 32,
-        IpAddr::V6(_) => 128,
+        IpAddr::V4(_) => 96,
+        IpAddr::V6(_) => 0,
     }
 }
 
@@ -101,11 +105,7 @@ fn prefix_of(word: &str, address: IpAddr, length: u8) -> Result<Prefix, RuleFaul
     ensures none { IfOk result (λ prefix. has_rest prefix.length prefix.bits ≡ false) }
 {
     let bits = number_of(address);
-    let front = match address {
-        IpAddr::V4(_) => 96,
-        IpAddr::V6(_) => 0,
-    };
-    let length = front + length;
+    let length = bits_in_front(address) + length;
     if has_rest(length, bits) {
         return Err(RuleFault::Rest(word));
     }

@@ -79,7 +79,10 @@ pub fn judge(
     match request {
         Parsed::Update(update) => Ok(Some(judge_update(alloc, rules, who, update)?)),
         Parsed::Query(query) => Ok(Some(judge_query(alloc, rules, who, query)?)),
-        _ => Ok(None),
+        Parsed::Silent => Ok(None),
+        Parsed::Fault(_, _) => Ok(None),
+        Parsed::BadOpt(_, _, _, _) => Ok(None),
+        Parsed::NoMemory(_) => Ok(None),
     }
 }
 
