@@ -15,7 +15,6 @@ use std::alloc::{AllocError, Global};
 use std::convert::AsStr;
 
 /// The task that a command line requests.
-#[derive(Drop)]
 pub enum Task<'a> {
     /// A command that uses standard input and output.
     Lines {
@@ -23,6 +22,8 @@ pub enum Task<'a> {
         command: Command<'a>,
         /// Whether an origin was given for its zone's text.
         has_origin: bool,
+        /// Whether warnings of its zone's text are requested.
+        has_warnings: bool,
     },
     /// Serves a zone on sockets.
     Serve(Serve<'a>),
@@ -34,8 +35,21 @@ pub enum Task<'a> {
     May(Trial<'a>),
 }
 
+impl<'a> Drop for Task<'a> {
+    fn drop(self) {
+        match self {
+            Task::Lines {
+                command: _,
+                has_origin: _,
+            } => {}
+            Task::Serve(_) => {}
+            Task::Stored(_) => {}
+            Task::Change(_) => {}
+        }
+    }
+}
+
 /// Two zones of which what changes from the first to the second is to be printed.
-#[derive(Drop)]
 pub struct Change<'a> {
     /// Where the old zone's text comes from.
     pub old: Source<'a>,
@@ -45,6 +59,17 @@ pub struct Change<'a> {
     pub origin: Name,
     /// Whether the update is printed as a message in hexadecimal, in place of the records.
     pub is_hex: bool,
+}
+
+impl<'a> Drop for Change<'a> {
+    fn drop(self) {
+        let Change {
+            old: _,
+            next: _,
+            origin: _,
+            is_hex: _,
+        } = self;
+    }
 }
 
 /// A store whose zone is to be printed.
@@ -94,6 +119,7 @@ fn task_of<'a>(
     Ok(Task::Lines {
         command: command_of(name, found, zone, origin)?,
         has_origin: found.get_str(ORIGIN).is_some(),
+        has_warnings: name == "check" && found.get_flag(WARN),
     })
 }
 
@@ -173,6 +199,9 @@ pub const OLD: &str = "old";
 
 /// The argument for the source of the next zone's text.
 pub const NEW: &str = "new";
+
+/// The option for warnings of a zone's text.
+pub const WARN: &str = "warn";
 
 /// The option for the update's message.
 pub const HEX: &str = "hex";

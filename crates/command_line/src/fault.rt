@@ -60,7 +60,6 @@ pub enum CommandFault<'a> {
     Address(&'a str),
 }
 
-// By hand: a derived drop is proved once more in each crate that lets such a value go.
 impl<'a> Drop for CommandFault<'a> {
     fn drop(self) {
         match self {

@@ -59,7 +59,6 @@ pub struct Serve<'a> {
     ghost rate: { limits.rate ≤ 1073741824 },
 }
 
-// By hand: a derived drop is proved once more in each crate that lets such a value go.
 impl<'a> Drop for Serve<'a> {
     fn drop(self) {
         let Serve {

@@ -1,6 +1,6 @@
 //! The program's commands, and the arguments of each.
 use crate::command::{
-    ADDRESS, BEFORE_FAULT, DIR, HEX, KEEP, NEW, OLD, ORIGIN, REQUEST, TCP, WINDOW, ZONE,
+    ADDRESS, BEFORE_FAULT, DIR, HEX, KEEP, NEW, OLD, ORIGIN, REQUEST, TCP, WARN, WINDOW, ZONE,
 };
 use crate::may::MAY;
 use crate::options::{ALLOW, CONNECTIONS, COUNT, IDLE, LISTEN, MESSAGE, REPLY, WORKERS};
@@ -82,7 +82,7 @@ const COMMANDS: &[CommandRow] = &[
         name: "check",
         about: "prints the zone in canonical form, one record per line",
         example: "Example:\n  dnsd check zones/example.test.zone",
-        words: &[ORIGIN_ROW, ZONE_ROW],
+        words: CHECK_WORDS,
     },
     CommandRow {
         name: "apply",
@@ -130,6 +130,17 @@ const ANSWER_WORDS: &[WordRow] = &[
         name: TCP,
         form: Form::Flag,
         help: "reply as over TCP, with at most 65535 bytes; by default as over UDP, with at most 512, or up to 1232 with EDNS",
+    },
+];
+
+/// The arguments of `check`.
+const CHECK_WORDS: &[WordRow] = &[
+    ORIGIN_ROW,
+    ZONE_ROW,
+    WordRow {
+        name: WARN,
+        form: Form::Flag,
+        help: "warn of what is likely a mistake, such as a mail server without an address",
     },
 ];
 

@@ -4,12 +4,18 @@ use std::fmt;
 use store_recovery::{StartFault, UpdateFault};
 
 /// Why a store cannot be started from, printed with its directory: what is wrong, where, and what can be done.
-#[derive(Debug, Drop)]
+#[derive(Debug)]
 pub struct ToldFault<'a> {
     /// The store's directory.
     pub dir: &'a str,
     /// What is wrong.
     pub fault: StartFault,
+}
+
+impl<'a> Drop for ToldFault<'a> {
+    fn drop(self) {
+        let ToldFault { dir: _, fault: _ } = self;
+    }
 }
 
 impl fmt::Display for ToldFault<'_> {

@@ -87,7 +87,8 @@ fn run_task<
         Task::Lines {
             command,
             has_origin,
-        } => run_command(rt, command, *has_origin),
+            has_warnings,
+        } => run_command(rt, command, *has_origin, *has_warnings),
         Task::Serve(serve) => run_serve(rt, serve),
         Task::Stored(stored) => run_stored(rt, *stored),
         Task::Change(change) => run_change(rt, change),
@@ -101,10 +102,11 @@ fn run_command<R: Files + Print + Eprint + Input + AllocGlobal>(
     rt: &R,
     command: &Command<'_>,
     has_origin: bool,
+    has_warnings: bool,
 ) -> io::Result<u8> {
     let alloc = rt.alloc();
     let mut errors = Vec::new(alloc);
-    let ended = run_on_streams(rt, command, &mut errors)?;
+    let ended = run_on_streams(rt, command, has_warnings, &mut errors)?;
     rt.eprint(String::from_utf8_lossy(alloc, errors.as_slice())?)?;
     if ended.at_root && !has_origin && is_warned_of(command) {
         eprintln!(rt; "{ROOT_APEX}")?;

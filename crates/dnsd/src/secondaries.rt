@@ -55,7 +55,6 @@ pub struct SecondarySockets {
     seed: [u8; SEED],
 }
 
-// By hand: a derived drop is proved once more in each crate that lets such a value go.
 impl Drop for SecondarySockets {
     fn drop(self) {
         let SecondarySockets {

@@ -149,18 +149,25 @@ fn bind<
         + Drop
         + 'static,
 >(rt: &R, serve: &Serve<'_>) -> io::Result<Option<Bound>> {
-    let Some(sockets) = bind_sockets(rt, serve)? else {
-        return Ok(None);
+    let sockets = match bind_sockets(rt, serve) {
+        Ok(Some(sockets)) => sockets,
+        Ok(None) => return Ok(None),
+        Err(fault) => return Err(fault),
     };
-    let secondaries = secondaries_for(rt, serve.secondaries.as_slice(), serve.listen.as_slice());
-    let Some(secondaries) = secondaries? else {
-        return Ok(None);
+    let (secondaries, listen) = (serve.secondaries.as_slice(), serve.listen.as_slice());
+    let secondaries = match secondaries_for(rt, secondaries, listen) {
+        Ok(Some(secondaries)) => secondaries,
+        Ok(None) => return Ok(None),
+        Err(fault) => return Err(fault),
     };
-    Ok(Some(Bound {
-        sockets,
-        secondaries,
-        entries: start_entries(rt)?,
-    }))
+    match start_entries(rt) {
+        Ok(entries) => Ok(Some(Bound {
+            sockets,
+            secondaries,
+            entries,
+        })),
+        Err(fault) => Err(io::Error::from(fault)),
+    }
 }
 
 /// Serves a zone on sockets that are already bound.
@@ -186,11 +193,7 @@ fn serve_on_sockets<
         secondaries,
         entries,
     } = bound;
-    let BoundSockets {
-        workers,
-        addresses,
-        kept,
-    } = sockets;
+    let (workers, addresses, kept) = sockets.into_parts();
     let log = Log::new(entries, listening_for(serve, &begun, addresses, kept));
     warn(rt, serve, &log);
     warn_of_zone(rt, serve, &begun, &log);

@@ -48,10 +48,7 @@ fn put_thread_specs<'a>(
     progress: &'a WorkLimit,
     sockets: WorkerSockets,
 ) -> Option<()> {
-    let WorkerSockets {
-        datagrams,
-        listeners,
-    } = sockets;
+    let (datagrams, listeners) = sockets.into_parts();
     put(specs, worker, progress, Sockets::Connections(listeners))?;
     for socket in datagrams {
         put(specs, worker, progress, Sockets::Datagrams(socket))?;

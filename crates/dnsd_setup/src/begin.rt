@@ -34,7 +34,6 @@ pub enum StartedZone {
     Store(StartedStore),
 }
 
-// By hand: a derived drop is proved once more in each crate that lets such a value go.
 impl Drop for StartedZone {
     fn drop(self) {
         match self {

@@ -8,23 +8,59 @@ use std::net::{Net, SocketAddr, TcpListener, UdpSocket};
 use std::rt::Env;
 
 /// The sockets of a worker: for each address a UDP socket and a TCP listener.
-#[derive(Drop)]
 pub struct WorkerSockets {
-    /// The UDP sockets.
-    pub datagrams: Vec<UdpSocket>,
-    /// The TCP listeners.
-    pub listeners: Vec<TcpListener>,
+    datagrams: Vec<UdpSocket>,
+    listeners: Vec<TcpListener>,
+}
+
+impl Drop for WorkerSockets {
+    fn drop(self) {
+        let WorkerSockets {
+            datagrams: _,
+            listeners: _,
+        } = self;
+    }
+}
+
+impl WorkerSockets {
+    /// The UDP sockets, and the TCP listeners.
+    pub fn into_parts(self) -> (Vec<UdpSocket>, Vec<TcpListener>) {
+        let WorkerSockets {
+            datagrams,
+            listeners,
+        } = self;
+        (datagrams, listeners)
+    }
 }
 
 /// The sockets of a server.
-#[derive(Drop)]
 pub struct BoundSockets {
-    /// The sockets of each worker.
-    pub workers: Vec<WorkerSockets>,
-    /// The addresses, with the ports that they were given.
-    pub addresses: Vec<SocketAddr>,
-    /// The size, in octets, of the smallest receive buffer of the UDP sockets.
-    pub kept: u32,
+    workers: Vec<WorkerSockets>,
+    addresses: Vec<SocketAddr>,
+    kept: u32,
+}
+
+impl Drop for BoundSockets {
+    fn drop(self) {
+        let BoundSockets {
+            workers: _,
+            addresses: _,
+            kept: _,
+        } = self;
+    }
+}
+
+impl BoundSockets {
+    /// The sockets of each worker; the addresses, with the ports that they were given; and the size, in octets, of the smallest receive buffer of
+    /// the UDP sockets.
+    pub fn into_parts(self) -> (Vec<WorkerSockets>, Vec<SocketAddr>, u32) {
+        let BoundSockets {
+            workers,
+            addresses,
+            kept,
+        } = self;
+        (workers, addresses, kept)
+    }
 }
 
 /// An address that cannot be listened on, and why.

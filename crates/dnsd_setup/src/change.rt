@@ -1,12 +1,12 @@
 //! Printing what changes from one zone to another.
-use crate::zone_file::read_zone_file;
+use crate::zone_file::text_from;
 use change_command::{write_change, write_message};
 use command_line::Change;
-use commands::{DONE, FAILED, Fault, REFUSED, Source, read_zone_text, tell_of};
+use commands::{DONE, FAILED, Fault, REFUSED, Source, tell_of};
 use dns_name::Name;
 use master_file::read_zone;
 use std::alloc::Global;
-use std::io::{self, BufRead, BufReader};
+use std::io::{self, BufReader};
 use std::rt::Files;
 use zone_change::ChangeFault;
 use zone_tree::Zone;
@@ -40,18 +40,6 @@ pub fn run_change<R: Files + Print + Eprint + Input + AllocGlobal>(
 struct RefusedText {
     status: u8,
     errors: Vec<u8>,
-}
-
-/// The text of a source: a file, or standard input up to a line `%`. None if it cannot be read; standard error then has the reason.
-fn text_from<R: Files + Eprint + AllocGlobal, I: BufRead>(
-    rt: &R,
-    source: Source<'_>,
-    reader: &mut I,
-) -> io::Result<Option<Vec<u8>>> {
-    match source {
-        Source::Input => Ok(Some(read_zone_text(rt.alloc(), reader)?)),
-        Source::File(path) => read_zone_file(rt, path),
-    }
 }
 
 /// The zone of a text, or what is to be said where it is refused.

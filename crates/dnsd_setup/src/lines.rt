@@ -61,7 +61,6 @@ pub enum LogLine {
     Fault(ServeFault),
 }
 
-// By hand: a derived drop is proved once more in each crate that lets such a value go.
 impl Drop for LogLine {
     fn drop(self) {
         match self {

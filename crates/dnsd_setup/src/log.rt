@@ -30,7 +30,6 @@ pub struct Listening {
     pub wanted: u32,
 }
 
-// By hand: a derived drop is proved once more in each crate that lets such a value go.
 impl Drop for Listening {
     fn drop(self) {
         let Listening {

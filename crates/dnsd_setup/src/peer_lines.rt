@@ -18,7 +18,6 @@ pub struct PeerLine {
     more: u64,
 }
 
-// By hand: a derived drop is proved once more in each crate that lets such a value go.
 impl Drop for PeerLine {
     fn drop(self) {
         let PeerLine { first: _, more: _ } = self;

@@ -39,7 +39,6 @@ pub struct Shared {
     pub(crate) peers: Mutex<PeerLines>,
 }
 
-// By hand: a derived drop is proved once more in each crate that lets such a value go.
 impl Drop for Shared {
     fn drop(self) {
         let Shared { queue: _, peers: _ } = self;

@@ -7,7 +7,7 @@ use command_line::Serve;
 use commands::{Fault, Source, read_zone_text, tell};
 use log_lines::Level;
 use master_file::{FileFault, read_zone};
-use std::io::BufReader;
+use std::io::{BufRead, BufReader};
 use std::rt::{Env, Files};
 use std::{fs, io};
 
@@ -22,6 +22,18 @@ pub fn read_zone_file<R: Files + Eprint + AllocGlobal>(
             eprintln!(rt; "error: the zone's file '{path}' can't be read: {fault}")?;
             Ok(None)
         }
+    }
+}
+
+/// The text of a source: a file, or standard input up to a line `%`. None if it cannot be read; standard error then has the reason.
+pub(crate) fn text_from<R: Files + Eprint + AllocGlobal, I: BufRead>(
+    rt: &R,
+    source: Source<'_>,
+    reader: &mut I,
+) -> io::Result<Option<Vec<u8>>> {
+    match source {
+        Source::Input => Ok(Some(read_zone_text(rt.alloc(), reader)?)),
+        Source::File(path) => read_zone_file(rt, path),
     }
 }
 

@@ -5,8 +5,8 @@ use Rattle.zone_server.specs.declared.service_log.JobEnd.{JobEnd}
 use Rattle.zone_server.specs.declared.service_log.JobEnd.TheVariants.{Done, Device, Spent, NoMemory}
 use Rattle.worker_jobs.specs.declared.serve_fault.ServeFault.{ServeFault}
 use Rattle.worker_jobs.specs.declared.serve_fault.ServeFault.TheVariants.{Device as HasFailed, Spent as IsSpent, NoMemory as IsStarved}
-use Rattle.serve_workers.specs.declared.service.Sockets.{Sockets}
-use Rattle.serve_workers.specs.declared.service.Sockets.TheVariants.{Datagrams as OfDatagrams, Connections as OfConnections, Secondaries as OfSecondaries}
+use Rattle.serve_workers.specs.declared.thread_spec.Sockets.{Sockets}
+use Rattle.serve_workers.specs.declared.thread_spec.Sockets.TheVariants.{Datagrams as OfDatagrams, Connections as OfConnections, Secondaries as OfSecondaries}
 use Rattle.serve_workers.specs.declared.threads.SocketJob.{SocketJob}
 use Rattle.serve_workers.specs.declared.threads.SocketJob.TheVariants.{Datagrams, Connections, Secondaries}
 

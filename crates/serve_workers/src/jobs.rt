@@ -5,7 +5,8 @@ ghost use Rattle.std.specs.IoError.{error_kind};
 ghost use Rattle.worker_jobs.specs.declared.serve_fault.ServeFault.{ServeFault as Fault};
 ghost use Rattle.serve_workers.specs.Numbers.{number_of, takes_datagrams, are_datagrams, HasRights};
 
-use crate::service::{Plan, Sockets, ThreadSpec};
+use crate::service::Plan;
+use crate::thread_spec::ThreadSpec;
 use crate::threads::{SocketJob, TcpJob};
 use crate::updates::Updates;
 use sockets::{TcpPlace, Watch};
@@ -16,9 +17,7 @@ use std::net::{Net, TcpListener};
 use std::sync::Wait;
 use std::time::Clock;
 use tcp_loop::EventLoop;
-use worker_jobs::{
-    ConnectionsJob, DatagramsJob, NotifyJob, Scratch, ServeFault, StopFlag, WakeList, WorkerSocket,
-};
+use worker_jobs::{ConnectionsJob, Scratch, ServeFault, StopFlag, WakeList};
 
 /// The place at which a listener's connections come in. It is watched under its number.
 fn place_of<C: Clock>(
@@ -49,7 +48,7 @@ fn places_of<C: Clock>(
 }
 
 /// The job of the worker with a number on nonblocking listeners. An error where they can't be polled, or an allocation fails.
-fn tcp_job<'a, R: Clock + Net + Wait>(
+pub(crate) fn tcp_job<'a, R: Clock + Net + Wait>(
     rt: &'a R,
     alloc: Global,
     worker: usize,
@@ -89,50 +88,6 @@ fn tcp_job<'a, R: Clock + Net + Wait>(
     Ok(job.hearing(alloc, wakes))
 }
 
-/// The job of a thread, which learns of ready connections by `wakes`, if it has one. An error where its sockets can't be polled, or an allocation fails.
-fn job_of<'a, R: Clock + Net + Wait>(
-    rt: &'a R,
-    alloc: Global,
-    spec: ThreadSpec<'a>,
-    plan: Plan<'a>,
-    wakes: Option<&'a WakeList>,
-    scratch: Scratch,
-) -> io::Result<SocketJob<'a, R>>
-    ensures number { IfOk result (λ job. number_of job ≡ spec.entry.worker) }
-    ensures kind { IfOk result (λ job. takes_datagrams job ≡ are_datagrams spec.entry.sockets) }
-    ensures rights { IfOk result (λ job. HasRights plan.entry.connections.allowed.addresses.now job) }
-{
-    let ThreadSpec {
-        worker,
-        progress,
-        sockets,
-    } = spec;
-    let stop = StopFlag::new(plan.shutdown, progress);
-    match sockets {
-        Sockets::Datagrams(socket) => {
-            let allowed = plan.connections.allowed;
-            let socket = match WorkerSocket::new(alloc, socket, stop) {
-                Ok(socket) => socket,
-                Err(fault) => return Err(fault),
-            };
-            let job = DatagramsJob::new(worker, socket, allowed, stop, scratch);
-            Ok(SocketJob::Datagrams(job))
-        }
-        Sockets::Connections(listeners) => {
-            match tcp_job(rt, alloc, worker, listeners, plan, stop, wakes, scratch) {
-                Ok(job) => Ok(SocketJob::Connections(job)),
-                Err(fault) => Err(fault),
-            }
-        }
-        Sockets::Secondaries(secondaries) => {
-            match NotifyJob::new(alloc, worker, secondaries, rt, plan.shutdown) {
-                Ok(job) => Ok(SocketJob::Secondaries(job)),
-                Err(fault) => Err(io::Error::from(fault)),
-            }
-        }
-    }
-}
-
 /// Why a job can't be made: no memory, or its sockets have failed.
 pub(crate) fn fault_of(fault: &io::Error) -> ServeFault
     ensures memory { (result ≡ Fault.NoMemory) ↔ (error_kind fault.now ≡ ErrorKind.OutOfMemory) }
@@ -167,7 +122,7 @@ pub(crate) fn jobs_of<'a, R: Clock + Net + Wait>(
         let Ok(scratch) = Scratch::new(alloc) else {
             return Err(ServeFault::NoMemory);
         };
-        let job = match job_of(rt, alloc, spec, plan, updates.wake_list_at(place), scratch) {
+        let job = match spec.into_job(rt, alloc, plan, updates.wake_list_at(place), scratch) {
             Ok(job) => job,
             Err(fault) => return Err(fault_of(&fault)),
         };

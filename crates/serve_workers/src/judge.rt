@@ -1,7 +1,7 @@
 //! The update thread: it judges updates while other threads submit them (RFC 2136, 3).
 
 use crate::reply_routes::ReplyRoutes;
-use crate::service::ThreadSpec;
+use crate::thread_spec::ThreadSpec;
 use crate::updates::Updates;
 use dns_engine::{FirstZone, VersionReader};
 use std::alloc::Global;

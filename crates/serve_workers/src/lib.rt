@@ -10,11 +10,13 @@ mod judge;
 mod reply_routes;
 mod server_thread;
 mod service;
+mod thread_spec;
 mod threads;
 mod updates;
 
 pub use judge::UpdateConfig;
-pub use service::{Plan, Sockets, ThreadSpec, serve_zone};
+pub use service::{Plan, serve_zone};
 pub use tcp_loop::Plan as ConnectionPlan;
+pub use thread_spec::{Sockets, ThreadSpec};
 pub use update_batches::Most;
 pub use worker_jobs::{NotifySocket, Secondaries, ServeFault, Shutdown, WorkLimit};

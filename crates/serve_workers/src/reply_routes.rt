@@ -1,7 +1,7 @@
 //! Brings the replies of updates that waited back to their threads (RFC 2136, 3.8).
 ghost use Rattle.std.specs.Prelude.{None};
 
-use crate::service::{Sockets, ThreadSpec};
+use crate::thread_spec::{Sockets, ThreadSpec};
 use crate::updates::Updates;
 use std::alloc::Global;
 use std::io;

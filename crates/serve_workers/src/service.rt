@@ -11,6 +11,7 @@ use crate::ending::{end_cell, end_named};
 use crate::jobs::{fault_of, jobs_of};
 use crate::judge::{Judging, UpdateConfig, judge_for, reader_of};
 use crate::server_thread::{ServerThread, put_readers, run_threads};
+use crate::thread_spec::ThreadSpec;
 use crate::threads::SocketJob;
 use crate::updates::Updates;
 use dns_engine::{
@@ -22,13 +23,13 @@ use snapshot_cell::{
 };
 use std::alloc::Global;
 use std::marker::Brand;
-use std::net::{Net, TcpListener, UdpSocket};
+use std::net::Net;
 use std::sync::Wait;
 use std::thread::Threads;
 use std::time::Clock;
 use tcp_loop::Plan as ConnectionPlan;
 use update_batches::{Most, UpdateStore};
-use worker_jobs::{MainTask, Secondaries, ServeFault, Shutdown, WorkLimit};
+use worker_jobs::{MainTask, ServeFault, Shutdown};
 use zone_server::{JobEnd, PublishRight, Server, ServerLedgers, ServerName, ServiceLog};
 
 /// How a zone is served.
@@ -42,28 +43,6 @@ pub struct Plan<'a> {
     pub places: usize,
     /// How long connections may wait for their peers, and the addresses that may update and transfer.
     pub connections: ConnectionPlan<'a>,
-}
-
-/// What one thread serves.
-#[derive(Drop)]
-pub enum Sockets {
-    /// A UDP socket.
-    Datagrams(UdpSocket),
-    /// Nonblocking TCP listeners.
-    Connections(Vec<TcpListener>),
-    /// The secondaries that are notified of each version.
-    Secondaries(Secondaries),
-}
-
-/// What one thread of a worker does.
-#[derive(Drop)]
-pub struct ThreadSpec<'a> {
-    /// The worker's number, from 1.
-    pub worker: usize,
-    /// The worker's limit, which its threads share.
-    pub progress: &'a WorkLimit,
-    /// What the thread serves.
-    pub sockets: Sockets,
 }
 
 impl<C: Clock> SocketJob<'_, C> {
@@ -258,23 +237,20 @@ fn serve_with_engine<
         Ok(resumed) => resumed,
         Err(
             NoEngine {
-                fault: EngineFault::Spent,
+                fault,
                 publisher,
                 reader: own,
             },
         ) => {
-            // A zone with only its first version never fails so.
+            // At most `KEPT` versions are kept, and a zone with only its first version never fails.
+            let EngineFault::Spent = fault else {
+                unreachable!()
+            };
             prove!(0 < count);
             readers.push_reserved(reader);
             readers.push_reserved(own);
             return (Err(ServeFault::Spent), publisher);
         }
-        Err(
-            NoEngine {
-                fault: EngineFault::TooGreat,
-                ..
-            },
-        ) => unreachable!(),
     };
     let served = serve_with_updates(
         rt,

@@ -1,6 +1,6 @@
 //! The updates that threads submit to the update thread (RFC 2136, 3; own).
 
-use crate::service::{Sockets, ThreadSpec};
+use crate::thread_spec::{Sockets, ThreadSpec};
 use std::alloc::{AllocError, Global};
 use std::sync::Wait;
 use std::sync::atomic::{AtomicUsize, Ordering};
@@ -19,7 +19,7 @@ pub(crate) struct Updates {
 
 /// How many connections the thread of a spec may have, where a worker may have `places`.
 fn most_of(spec: &ThreadSpec<'_>, places: usize) -> usize {
-    match spec.sockets {
+    match &spec.sockets {
         Sockets::Connections(_) => places,
         Sockets::Datagrams(_) => 0,
         Sockets::Secondaries(_) => 0,
@@ -28,11 +28,35 @@ fn most_of(spec: &ThreadSpec<'_>, places: usize) -> usize {
 
 /// Whether the thread of a spec may get updates.
 fn takes_updates(spec: &ThreadSpec<'_>) -> bool {
-    match spec.sockets {
+    match &spec.sockets {
         Sockets::Connections(_) => true,
         Sockets::Datagrams(_) => true,
         Sockets::Secondaries(_) => false,
     }
+}
+
+/// The lists of ready connections, one for the thread of each spec. An error where an allocation fails.
+fn wake_lists_for(
+    alloc: Global,
+    specs: &[ThreadSpec<'_>],
+    places: usize,
+) -> Result<Vec<WakeList>, AllocError> {
+    let mut wake_lists = Vec::new(alloc);
+    for spec in specs {
+        wake_lists.push(WakeList::new(alloc, most_of(spec, places))?)?;
+    }
+    Ok(wake_lists)
+}
+
+/// How many threads of these specs may get updates.
+fn threads_in(specs: &[ThreadSpec<'_>]) -> usize {
+    let mut threads = 0usize;
+    for spec in specs {
+        if takes_updates(spec) {
+            threads = threads.saturating_add(1);
+        }
+    }
+    threads
 }
 
 impl Updates {
@@ -45,15 +69,15 @@ impl Updates {
         specs: &[ThreadSpec<'_>],
         places: usize,
     ) -> Result<Updates, AllocError> {
-        let queue = Queue::new(alloc, most)?;
-        let mut wake_lists = Vec::new(alloc);
-        let mut threads = 0usize;
-        for spec in specs {
-            wake_lists.push(WakeList::new(alloc, most_of(spec, places))?)?;
-            if takes_updates(spec) {
-                threads = threads.saturating_add(1);
-            }
-        }
+        let wake_lists = match wake_lists_for(alloc, specs, places) {
+            Ok(wake_lists) => wake_lists,
+            Err(fault) => return Err(fault),
+        };
+        let queue = match Queue::new(alloc, most) {
+            Ok(queue) => queue,
+            Err(fault) => return Err(fault),
+        };
+        let threads = threads_in(specs);
         if threads == 0 {
             queue.end(rt);
         }

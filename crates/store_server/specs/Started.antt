@@ -98,11 +98,19 @@ abbrev pub IsBegunAnew : Served → Type 0
 IsBegunAnew Begun = ⊤
 IsBegunAnew _ = ⊥
 
--- that holds only for a directory without a store. A store that is found is reopened, or is kept beside the one created in its place
-abbrev pub IsOfFolder : OpenedFolder → Served → Type 0
-IsOfFolder (Empty lock) served = IsBegunAnew served
-IsOfFolder (Found lock pair) served = IsBegunAnew served → ⊥
-IsOfFolder _ served = ⊥
+-- which is served of a store that was found, with its zone file and its journal, and the open store: the zone file is never served as if there were no store
+abbrev pub IsServedOf : List ℕ → List ℕ → List ℕ → Name → Option Take → List ℕ → OpenStore → Served → Type 0
+IsServedOf text octets given origin taken random store Begun = ⊥
+IsServedOf text octets given origin taken random store (Zone kept) = (zone : List Record) × IsChosen given origin taken text octets (IsZone zone) × IsBegunWith given origin random store
+IsServedOf text octets given origin taken random store Same = (is : IsChosen given origin taken text octets IsSame) × GoesOn text octets is.start store
+IsServedOf text octets given origin taken random store Store = (is : IsChosen given origin taken text octets IsStore) × GoesOn text octets is.start store
+IsServedOf text octets given origin taken random store (StoreThoughOther serial) = (is : IsChosen given origin taken text octets (IsOlder serial)) × GoesOn text octets is.start store
+
+-- what is served is that of the directory: the zone file alone only if there is no store, else the store that was found, or the zone file that was chosen in its place
+abbrev pub IsOfFolder : List ℕ → Name → Option Take → List ℕ → OpenedFolder → Started → Type 0
+IsOfFolder given origin taken random (Empty lock) started = IsBegunAnew started.served
+IsOfFolder given origin taken random (Found lock pair) started = IsServedOf pair.text.items pair.journal.items given origin taken random started.store started.served
+IsOfFolder given origin taken random _ started = ⊥
 
 -- lack of memory, or a device's fault
 abbrev pub IsOwnFault : Refusal → Type 0

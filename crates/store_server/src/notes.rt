@@ -10,7 +10,6 @@ pub struct StoreNotes<'a, L> {
     told: Option<ErrorKind>,
 }
 
-// By hand: a derived drop is proved once more in each crate that lets such a value go.
 impl<'a, L> Drop for StoreNotes<'a, L> {
     fn drop(self) {
         let StoreNotes { log: _, told: _ } = self;

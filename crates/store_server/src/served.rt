@@ -16,7 +16,6 @@ pub struct LoggedStore<'a, S, L> {
     failing: bool,
 }
 
-// By hand: a derived drop is proved once more in each crate that lets such a value go.
 impl<'a, S: Drop, L> Drop for LoggedStore<'a, S, L> {
     fn drop(self) {
         let LoggedStore {

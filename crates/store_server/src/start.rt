@@ -3,7 +3,7 @@ ghost use Rattle.std.specs.Prelude.{◌≡◌, ◌≢◌, ◌≤◌, ℕ, [], le
 ghost use Rattle.store_files.specs.File.{written};
 ghost use Rattle.store_recovery.specs.Start.{IsStarted};
 ghost use Rattle.store_recovery.specs.Choice.{IsChoice};
-ghost use Rattle.store_server.specs.Started.{AreLastUpdates, GoesOn, IsBegunAnew, IsBegunStore, IsOfFolder, IsOwnFault, IsNoText, IsKept, IsServed, IsRefused};
+ghost use Rattle.store_server.specs.Started.{AreLastUpdates, GoesOn, IsBegunStore, IsOfFolder, IsOwnFault, IsNoText, IsKept, IsServed, IsServedOf, IsRefused};
 ghost use Rattle.store_files.specs.Store.{IsAsNoted};
 
 use crate::begin::{begin_first, begin_over};
@@ -85,7 +85,7 @@ fn start_opened<R: Files<File = File> + Alloc + Clone + Drop>(
 ) -> Result<Started, Refusal>
     requires noted { IsAsNoted opened }
     ensures served { IfOk result (λ started. IsServed given.entry.text.now given.entry.origin.now given.entry.taken random started) }
-    ensures found { IfOk result (λ started. IsOfFolder opened started.served) }
+    ensures found { IfOk result (λ started. IsOfFolder given.entry.text.now given.entry.origin.now given.entry.taken random opened started) }
     ensures refused { IfErr result (λ refusal. IsRefused given.entry.text.now given.entry.origin.now given.entry.taken refusal) }
 {
     match opened {
@@ -117,8 +117,7 @@ fn start_found<R: Files<File = File> + Alloc + Clone + Drop>(
     pair: Pair,
 ) -> Result<Started, Refusal>
     requires noted { written pair.disk ≡ pair.journal.items }
-    ensures served { IfOk result (λ started. IsServed given.entry.text.now given.entry.origin.now given.entry.taken random started) }
-    ensures found { IfOk result (λ started. IsBegunAnew started.served → ⊥) }
+    ensures served { IfOk result (λ started. IsServedOf pair.text.items pair.journal.items given.entry.text.now given.entry.origin.now given.entry.taken random started.store started.served) }
     ensures refused { IfErr result (λ refusal. IsRefused given.entry.text.now given.entry.origin.now given.entry.taken refusal) }
 {
     let (start, updates) = start_with_updates(alloc, &pair.text, &pair.journal)?;

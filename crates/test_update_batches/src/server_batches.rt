@@ -9,7 +9,7 @@ use memory_devices::{Kept, Play, Played, asker};
 use std::alloc::Global;
 use std::sync::Wait;
 use std::test::Fail;
-use update_batches::{Most, Queue, UpdateThread};
+use update_batches::{Most, Put, Queue, UpdateThread};
 use zone_server::{
     Poll, PublishRight, QueuedUpdate, ReplyTo, Serials, Server, ServerLedgers, ServerName,
     ServerPublisher,
@@ -41,7 +41,7 @@ fn put_three<R: Wait>(
     alloc: Global,
     queue: &Queue<QueuedUpdate>,
     ticket: usize,
-) -> Option<()> {
+) -> Option<Put> {
     let first = ReplyTo::Datagram {
         worker: 3,
         to: asker(4711),
@@ -57,8 +57,7 @@ fn put_three<R: Wait>(
     };
     put(rt, alloc, queue, ADD_1, first)?;
     put(rt, alloc, queue, ADD_2, second)?;
-    put(rt, alloc, queue, OUTSIDE, third)?;
-    Some(())
+    put(rt, alloc, queue, OUTSIDE, third)
 }
 
 /// Whether each reply datagram went to the address of its client, by the socket that received the request, and only the connection's key was
@@ -123,12 +122,14 @@ fn judge_three<R: Wait, Z: FirstZone, N: ServerName>(
     let Ok(queue) = Queue::<QueuedUpdate>::new(alloc, most) else {
         return (None, Some(reader));
     };
-    let (_, Some(ticket)) = server.open(rt, &mut reader) else {
+    let (_, Some(opened)) = server.open(rt, &mut reader) else {
         return (None, Some(reader));
     };
-    if put_three(rt, alloc, &queue, ticket).is_none() {
+    let Some(put) = put_three(rt, alloc, &queue, opened.number()) else {
+        server.close(rt, opened);
         return (None, Some(reader));
-    }
+    };
+    let ticket = opened.waits(&put);
     let sent = SentReplies::new(alloc);
     let publisher = match ServerPublisher::new(rt, alloc, server, reader, right, &log, sent) {
         Ok(publisher) => publisher,

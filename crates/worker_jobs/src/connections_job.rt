@@ -40,7 +40,6 @@ pub struct ConnectionsJob<'a, S: Drop, P, L, C> {
     scratch: CachePadded<Scratch>,
 }
 
-// By hand: a derived drop is proved once more in each crate that lets such a value go.
 impl<'a, S: Drop, P: Drop, L: Drop, C> Drop for ConnectionsJob<'a, S, P, L, C> {
     fn drop(self) {
         let ConnectionsJob {

@@ -20,7 +20,6 @@ pub struct DatagramsJob<'a, D> {
     end: Option<JobEnd>,
 }
 
-// By hand: a derived drop is proved once more in each crate that lets such a value go.
 impl<'a, D: Drop> Drop for DatagramsJob<'a, D> {
     fn drop(self) {
         let DatagramsJob {

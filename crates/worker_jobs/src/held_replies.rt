@@ -16,7 +16,6 @@ pub(crate) struct HeldReplies {
     replies: Vec<(usize, SocketAddr)>,
 }
 
-// By hand: a derived drop is proved once more in each crate that lets such a value go.
 impl Drop for HeldReplies {
     fn drop(self) {
         let HeldReplies {

@@ -33,7 +33,6 @@ pub struct NotifySocket {
     socket: UdpSocket,
 }
 
-// By hand: a derived drop is proved once more in each crate that lets such a value go.
 impl Drop for NotifySocket {
     fn drop(self) {
         let NotifySocket {
@@ -76,7 +75,6 @@ impl NotifySocket {
 }
 
 /// The secondaries of a zone, and what is needed to notify them.
-#[derive(Drop)]
 pub struct Secondaries {
     /// Their sockets.
     pub sockets: Vec<NotifySocket>,
@@ -84,6 +82,28 @@ pub struct Secondaries {
     pub apex: Name,
     /// The secret seed of the random IDs of NOTIFYs.
     pub seed: [u8; 32],
+}
+
+impl Drop for Secondaries {
+    fn drop(self) {
+        let Secondaries {
+            sockets: _,
+            apex: _,
+            seed: _,
+        } = self;
+    }
+}
+
+impl Secondaries {
+    /// Its sockets, the apex, and the seed.
+    fn into_parts(self) -> (Vec<NotifySocket>, Name, [u8; 32]) {
+        let Secondaries {
+            sockets,
+            apex,
+            seed,
+        } = self;
+        (sockets, apex, seed)
+    }
 }
 
 /// The job that notifies secondaries of each version, with its worker's number.
@@ -127,11 +147,7 @@ impl<'a, C: Clock> NotifyJob<'a, C> {
     ) -> Result<NotifyJob<'a, C>, AllocError>
         ensures { IfOk result (λ job. job.number ≡ number) }
     {
-        let Secondaries {
-            sockets,
-            apex,
-            seed,
-        } = secondaries;
+        let (sockets, apex, seed) = secondaries.into_parts();
         let mut addresses = Vec::new(alloc);
         for socket in sockets.iter() {
             addresses.push(socket.address())?;

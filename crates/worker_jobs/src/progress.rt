@@ -13,7 +13,6 @@ pub struct Shutdown {
     is_judging: AtomicBool,
 }
 
-// By hand: a derived drop is proved once more in each crate that lets such a value go.
 impl Drop for Shutdown {
     fn drop(self) {
         let Shutdown {

@@ -13,7 +13,6 @@ pub struct Scratch {
     ghost reply_room: { length reply.items ≡ message_limit },
 }
 
-// By hand: a derived drop is proved once more in each crate that lets such a value go.
 impl Drop for Scratch {
     fn drop(self) {
         let Scratch {

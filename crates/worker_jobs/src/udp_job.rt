@@ -33,7 +33,6 @@ pub struct UdpJob<'a, D> {
     scratch: CachePadded<Scratch>,
 }
 
-// By hand: a derived drop is proved once more in each crate that lets such a value go.
 impl<'a, D: Drop> Drop for UdpJob<'a, D> {
     fn drop(self) {
         let UdpJob {

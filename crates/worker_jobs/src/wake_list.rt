@@ -11,7 +11,6 @@ struct State {
     waker: Option<Waker>,
 }
 
-// By hand: a derived drop is proved once more in each crate that lets such a value go.
 impl Drop for State {
     fn drop(self) {
         let State { told: _, waker: _ } = self;

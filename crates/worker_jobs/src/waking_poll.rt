@@ -14,7 +14,6 @@ struct WakeSource<'a> {
     woken: Vec<usize>,
 }
 
-// By hand: a derived drop is proved once more in each crate that lets such a value go.
 impl<'a> Drop for WakeSource<'a> {
     fn drop(self) {
         let WakeSource { list: _, woken: _ } = self;

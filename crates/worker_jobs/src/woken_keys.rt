@@ -11,7 +11,6 @@ pub(crate) struct WokenKeys {
     most: usize,
 }
 
-// By hand: a derived drop is proved once more in each crate that lets such a value go.
 impl Drop for WokenKeys {
     fn drop(self) {
         let WokenKeys { keys: _, most: _ } = self;

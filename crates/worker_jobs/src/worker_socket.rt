@@ -81,7 +81,6 @@ pub struct WorkerSocket<'a> {
     faults: u64,
 }
 
-// By hand: a derived drop is proved once more in each crate that lets such a value go.
 impl<'a> Drop for WorkerSocket<'a> {
     fn drop(self) {
         let WorkerSocket {

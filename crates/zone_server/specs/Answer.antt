@@ -1,8 +1,9 @@
 -- What a request gets in the version that is loaded for it, and how a transfer that is permitted there starts (RFC 1034, 4.3.2; RFC 1995, 4; RFC 2136, 3; RFC 5936, 2.2).
-use Rattle.std.specs.Prelude.{◌≡◌, ℕ, true, List}
+use Rattle.std.specs.Prelude.{◌≡◌, ⊤, ℕ, true, List}
 use Rattle.dns_rdata.specs.Record.{Record}
 use Rattle.dns_message.specs.declared.query.Query.{Query as QueryAsked}
-use Rattle.dns_message.specs.declared.query.Parsed.TheVariants.{Query}
+use Rattle.dns_message.specs.declared.query.Parsed.{Parsed}
+use Rattle.dns_message.specs.declared.query.Parsed.TheVariants.{Query, BadOpt}
 use Rattle.dns_message.specs.Request.{reads}
 use Rattle.zone_tree.specs.Zone.{soa_of}
 use Rattle.zone_tree.specs.Version.{Version}
@@ -32,6 +33,17 @@ IsAnswer first peer request before after query out Silent = IsNow first peer req
 IsAnswer first peer request before after query out Update = IsUpdate request × (after ≡ before)
 IsAnswer first peer request before after query out (Transfer owned) = PermitsTransfer first peer request before after query owned
 IsAnswer first peer request before after query out Spent = IsNow first peer request before after out now.Spent
+
+-- a query is the one that a request is parsed as, or has the question of one whose OPT is not obeyed (RFC 1035, 4.1; RFC 6891, 6.1.3)
+abbrev pub IsQueryOf : Parsed → QueryAsked → Type 0
+IsQueryOf (Query asked) query = query ≡ asked
+IsQueryOf (BadOpt head question code dnssec_ok) query = query.question ≡ question
+IsQueryOf _ query = ⊤
+
+-- a request that gets a reply at once has been read into a query
+abbrev pub HasRead : {Z N : Type 0} → Answer Z N → Parsed → QueryAsked → Type 0
+HasRead (Bytes len) said query = IsQueryOf said query
+HasRead _ said query = ⊤
 
 -- messages are those of the transfer of a version that a query asks for, for IXFR with what the versions that a reader then knows tell has changed since the client's (RFC 1995, 4;
 -- RFC 5936, 2.2)

@@ -15,6 +15,8 @@ use Rattle.update_batches.specs.Done.{first_verdict}
 use Rattle.zone_server.specs.declared.outgoing.Outgoing.{Outgoing}
 use Rattle.zone_server.specs.declared.outgoing.Outgoing.TheVariants.{Wake, Send}
 use Rattle.zone_server.specs.declared.update_result.QueuedResult.{QueuedResult}
+use Rattle.zone_server.specs.declared.update_result.UpdateResult.{UpdateResult}
+use Rattle.zone_server.specs.PendingReplies.{receipt_for}
 use Rattle.requests.specs.Served.{Learned}
 use Rattle.zone_server.specs.Replied.{IsReplied}
 use Rattle.update_batches.specs.declared.queued_update.QueuedUpdate.{QueuedUpdate}
@@ -49,7 +51,15 @@ brought_by (Datagram worker to) request code = sent_by worker to (coded_reply re
 abbrev pub brought_for : QueuedResult → Brought
 brought_for result = brought_by result.reply_to result.done.asked result.done.code
 
--- and for what is left to be done for a reply
+-- what is left to be done for the reply of a result: the worker of its connection is woken, by the receipt that the result was put at the update's own ticket; or a datagram is sent
+abbrev pub outgoing_by : ReplyTo → UpdateResult → Outgoing
+outgoing_by (Connection worker key ticket) done = Wake worker key (receipt_for ticket done)
+outgoing_by (Datagram worker to) done = Send worker to done
+
+abbrev pub outgoing_for : QueuedResult → Outgoing
+outgoing_for result = outgoing_by result.reply_to result.done
+
+-- what the reply sender gets for what is left to be done for a reply
 abbrev pub brought_from : Outgoing → Brought
 brought_from (Wake worker key at) = key_to worker key
 brought_from (Send worker to done) = sent_by worker to (coded_reply done.asked done.code)

@@ -3,6 +3,7 @@ use Rattle.std.specs.Prelude.{◌≡◌, ◌⊎◌, ◌++◌, ℕ, List, [], ◌
 use Rattle.zone_server.specs.declared.update_result.UpdateResult.{UpdateResult}
 use Rattle.zone_server.specs.declared.update_result.Poll.{Poll}
 use Rattle.zone_server.specs.declared.update_result.Poll.TheVariants.{Unknown as IsUnknown, Pending as IsPending, Ready as IsReady}
+use Rattle.zone_server.specs.declared.pending_replies.AtTicket.{AtTicket}
 use Rattle.zone_server.specs.declared.pending_replies.Ticket.{Ticket}
 use Rattle.zone_server.specs.declared.pending_replies.Ticket.TheVariants.{Free, Pending, Abandoned, Ready}
 
@@ -47,3 +48,7 @@ TellsOf (Some Pending) old at done new = new ≡ slice_set old at (Ready done)
 TellsOf (Some Abandoned) old at done new = IsFreed old at new
 TellsOf (Some (Free next)) old at done new = new ≡ old
 TellsOf None old at done new = new ≡ old
+
+-- the receipt of a result that was put at a ticket
+abbrev pub receipt_for : ℕ → UpdateResult → AtTicket
+receipt_for ticket done = record { ticket = ticket; outcome = record { code = done.code; serials = done.serials } }

@@ -1,11 +1,11 @@
 //! A server that answers datagrams.
-ghost use Rattle.std.specs.Prelude.{◌≡◌, ◌≤◌, true, length, Some, IfOk, IfSome, OnErr};
+ghost use Rattle.std.specs.Prelude.{◌≡◌, ◌≤◌, true, length, None, Some, IfOk, IfSome, OnErr};
 ghost use Rattle.dns_message.specs.Message.{message_limit};
 ghost use Rattle.zone_tree.specs.Version.{Version};
 ghost use Rattle.zone_server.specs.Known.{learned_by};
 ghost use Rattle.requests.specs.Octets.{messages_in};
 ghost use Rattle.requests.specs.Datagrams.{by_datagram};
-ghost use Rattle.zone_server.specs.Replied.{IsUpdate, HasNoAnswer};
+ghost use Rattle.zone_server.specs.Replied.{IsUpdate, IsReplied, HasNoAnswer};
 ghost use Rattle.zone_server.specs.QueuedUpdate.{IsAnswered};
 ghost use Rattle.requests.specs.Served.{Grows};
 
@@ -102,6 +102,7 @@ impl<'a, 's, Z: FirstZone, N: ServerName, L: ServiceLog> DatagramHandler<'a, 's,
         requires datagram { peer.transport ≡ Transport.Udp }
         requires reply_room { message_limit ≤ length out.old }
         ensures peer { self.new.peer ≡ self.old.peer }
+        ensures sender { self.new.sender ≡ self.old.sender }
         ensures grows { Grows {T = Version} (learned_by self.new.reader) (learned_by self.old.reader) }
         ensures bound { IfSome result (λ n. (n ≤ message_limit) × (n ≤ length out.new)) }
         ensures replied { IsAnswered Z.zone peer (learned_by self.old.reader) (learned_by self.new.reader) request.now (messages_in result out.new) }
@@ -127,7 +128,7 @@ impl<'a, 's, Z: FirstZone, N: ServerName, L: ServiceLog> DatagramHandler<'a, 's,
         }
     }
 
-    /// Answers an update. None if it is queued.
+    /// Answers an update. None if it is queued, which it is only if there is a queue.
     #[tactic(auto, using(crate::proofs::ReplyLemmas::limit_most, crate::proofs::ReplyLemmas::room_most))]
     fn answer_update<R: Wait>(
         &mut self,
@@ -140,9 +141,11 @@ impl<'a, 's, Z: FirstZone, N: ServerName, L: ServiceLog> DatagramHandler<'a, 's,
         requires datagram { peer.transport ≡ Transport.Udp }
         requires reply_room { message_limit ≤ length out.old }
         ensures peer { self.new.peer ≡ self.old.peer }
+        ensures sender { self.new.sender ≡ self.old.sender }
         ensures grows { Grows {T = Version} (learned_by self.new.reader) (learned_by self.old.reader) }
         ensures bound { IfSome result (λ n. (n ≤ message_limit) × (n ≤ length out.new)) }
         ensures replied { IsAnswered Z.zone peer (learned_by self.old.reader) (learned_by self.new.reader) request.now (messages_in result out.new) }
+        ensures at_once { self.old.sender ≡ None → IsReplied Z.zone peer (learned_by self.old.reader) (learned_by self.new.reader) request.now (messages_in result out.new) }
     {
         if let Some(sender) = self.sender {
             if peer.may_update {
@@ -187,9 +190,12 @@ impl<'a, 's, Z: FirstZone, N: ServerName, L: ServiceLog> Handler
     ) -> Result<Option<usize>, Spent>
         requires { message_limit ≤ length out.old }
         ensures same { self.new.peer ≡ self.old.peer }
+        ensures sender { self.new.sender ≡ self.old.sender }
         ensures grows { Grows {T = Version} (learned_by self.new.reader) (learned_by self.old.reader) }
         ensures bound { IfOk result (λ len. IfSome len (λ n. (n ≤ message_limit) × (n ≤ length out.new))) }
         ensures reply { IfOk result (λ len. IsAnswered Z.zone (by_datagram self.old.peer) (learned_by self.old.reader) (learned_by self.new.reader) request.now (messages_in len out.new)) }
+        // Without a queue for updates each request gets its reply now.
+        ensures at_once { self.old.sender ≡ None → IfOk result (λ len. IsReplied Z.zone (by_datagram self.old.peer) (learned_by self.old.reader) (learned_by self.new.reader) request.now (messages_in len out.new)) }
         // A request that cannot be parsed as a query gets its code, or no reply, whether a version can be loaded or not.
         ensures spent { OnErr result (HasNoAnswer Z.zone (by_datagram self.old.peer) request.now self.old.reader self.new.reader) }
     {

@@ -16,6 +16,7 @@
 mod answer;
 mod datagram_handler;
 mod notifying;
+mod open_ticket;
 mod outgoing;
 mod pending_replies;
 mod reply_sender;
@@ -35,7 +36,9 @@ mod update_result;
 pub use answer::{Now, UpdateOutcome, answer_now, serve_update};
 pub use datagram_handler::DatagramHandler;
 pub use notifying::{NextTurn, Notifying};
-pub use outgoing::{AtTicket, Outgoing};
+pub use open_ticket::OpenTicket;
+pub use outgoing::Outgoing;
+pub use pending_replies::AtTicket;
 pub use reply_sender::ReplySender;
 pub use request_answer::{Answer, answer_request};
 pub use right::{PublishRight, ServerLedgers, ServerName};

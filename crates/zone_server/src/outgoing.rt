@@ -1,10 +1,7 @@
 //! Replies to queued updates that are sent once the lock is free (own).
+use crate::pending_replies::AtTicket;
 use crate::update_result::UpdateResult;
 use std::net::SocketAddr;
-
-/// A receipt that a result was put at a ticket. Only the server's state gives one, so that a function that takes one may wake the worker that is to fetch the result.
-#[derive(Drop)]
-pub struct AtTicket(pub(crate) ());
 
 /// What is left to be done for the reply to a queued update.
 #[derive(Drop)]
@@ -15,7 +12,7 @@ pub enum Outgoing {
         worker: usize,
         /// The connection's key.
         key: usize,
-        /// The receipt.
+        /// The receipt of the ticket.
         at: AtTicket,
     },
     /// A datagram is sent.

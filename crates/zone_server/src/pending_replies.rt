@@ -1,7 +1,8 @@
 //! Tickets for pending replies (own).
 ghost use Rattle.std.specs.Prelude.{◌≡◌, ◌<◌, [], Some, length, slice_get};
-ghost use Rattle.zone_server.specs.PendingReplies.{IsFreed, IsOpened, FetchesOf, LeavesOf, ClosesOf, TellsOf};
+ghost use Rattle.zone_server.specs.PendingReplies.{IsFreed, IsOpened, FetchesOf, LeavesOf, ClosesOf, TellsOf, receipt_for};
 
+use crate::answer::UpdateOutcome;
 use crate::update_result::{Poll, UpdateResult};
 use std::alloc::Global;
 use std::mem;
@@ -17,6 +18,23 @@ pub(crate) enum Ticket {
     Abandoned,
     /// Its result is there, and not fetched yet.
     Ready(UpdateResult),
+}
+
+/// A receipt that a result was put at a ticket: the ticket, and the outcome of the result. Only the server's state gives one, once it has put the result there, so that a function that
+/// takes one may wake the worker that is to fetch it.
+pub struct AtTicket {
+    ticket: usize,
+    outcome: UpdateOutcome,
+}
+
+// By hand: a derived drop is proved once more in each crate that lets such a value go.
+impl Drop for AtTicket {
+    fn drop(self) {
+        let AtTicket {
+            ticket: _,
+            outcome: _,
+        } = self;
+    }
 }
 
 /// Tickets, each free or with a reply that is pending, abandoned or ready.
@@ -139,8 +157,21 @@ impl PendingReplies {
         }
     }
 
-    /// Puts a result at a ticket whose reply is pending. A ticket that was abandoned becomes free instead.
-    pub fn tell(&mut self, at: usize, done: UpdateResult)
+    /// Puts a result at a ticket whose reply is pending, and gives the receipt for it. A ticket that was abandoned becomes free instead.
+    pub fn tell(&mut self, at: usize, done: UpdateResult) -> AtTicket
+        ensures told { TellsOf (slice_get self.old.tickets.items at) self.old.tickets.items at done self.new.tickets.items }
+        ensures receipt { result ≡ receipt_for at done }
+    {
+        let outcome = UpdateOutcome::of(&done);
+        self.put(at, done);
+        AtTicket {
+            ticket: at,
+            outcome,
+        }
+    }
+
+    /// Puts a result at a ticket whose reply is pending, or frees one that was abandoned.
+    fn put(&mut self, at: usize, done: UpdateResult)
         ensures { TellsOf (slice_get self.old.tickets.items at) self.old.tickets.items at done self.new.tickets.items }
     {
         let Some(ticket) = self.tickets.get(at) else {

@@ -2,7 +2,7 @@
 ghost use Rattle.std.specs.Prelude.{◌≡◌, List, [], ◌∷◌, Option};
 ghost use Rattle.zone_server.specs.Brought.{Brought, brought_after, key_to, sent_by};
 
-use crate::outgoing::AtTicket;
+use crate::pending_replies::AtTicket;
 use std::net::SocketAddr;
 use std::sync::Wait;
 

@@ -1,7 +1,8 @@
 //! The answer to a request in the version that is loaded for it (RFC 1034, 4.3.2).
 ghost use Rattle.std.specs.Prelude.{◌≡◌, ◌↔◌, ◌≤◌, length};
 ghost use Rattle.serve_core.specs.Transport.{room_of};
-ghost use Rattle.zone_server.specs.Answer.{IsAnswer};
+ghost use Rattle.zone_server.specs.Answer.{IsAnswer, HasRead};
+ghost use Rattle.dns_message.specs.Request.{reads};
 ghost use Rattle.zone_server.specs.Replied.{IsQuery};
 ghost use Rattle.zone_server.specs.declared.request_answer.Answer.TheVariants as answer;
 
@@ -26,7 +27,8 @@ pub enum Answer<'c, Z: FirstZone, N: Naming> {
     Spent,
 }
 
-/// Answers a request in the version that is loaded for it, unless it is an update or a permitted transfer: writes the reply to the front of `out`. A query is read into `query`. An
+/// Answers a request in the version that is loaded for it, unless it is an update or a permitted transfer: writes the reply to the front of `out`. A query is read into `query`, and of
+/// one whose OPT is not obeyed the question. An
 /// update is recognised by its header alone. A query takes one load, any other request none: [`Answer::Spent`] comes exactly for a query for which the reader has no load left. It
 /// does not block and allocates no memory.
 pub fn answer_request<'c, Z: FirstZone, N: Naming>(
@@ -40,6 +42,7 @@ pub fn answer_request<'c, Z: FirstZone, N: Naming>(
 ) -> Answer<'c, Z, N>
     requires { room_of peer.transport ≤ length out.old }
     ensures answer { IsAnswer Z.zone peer request.now reader.old reader.new query.new out.new result }
+    ensures query { HasRead result (reads request.now) query.new }
     ensures spent { (result ≡ answer.Spent) ↔ (IsQuery request.now × (reader.old.left ≡ 0)) }
 {
     if is_update(request) {

@@ -5,7 +5,7 @@ ghost use Rattle.zone_tree.specs.Version.{Version, zone_serial};
 ghost use Rattle.dns_engine.specs.Replayed.{IsReplay};
 ghost use Rattle.requests.specs.Served.{BeginsWith, Grows};
 ghost use Rattle.update_batches.specs.Batch.{versions_in};
-ghost use Rattle.zone_server.specs.Brought.{brought_for, brought_from};
+ghost use Rattle.zone_server.specs.Brought.{brought_for, brought_from, outgoing_for};
 ghost use Rattle.zone_server.specs.UpdateResult.{AreResults, IsFetched, IsJudgedIn};
 ghost use Rattle.zone_server.specs.Right.{AreNamed};
 ghost use Rattle.zone_server.specs.Known.{learned_by, HasMet, MeetsAndAsks};
@@ -16,6 +16,7 @@ ghost use Rattle.dns_engine.specs.Held.{IsLatest};
 ghost use Rattle.dns_engine.specs.declared.fault.EngineFault.{EngineFault as Fault};
 ghost use Rattle.transfer_core.specs.declared.kept.TheConstants.{KEPT};
 
+use crate::open_ticket::OpenTicket;
 use crate::outgoing::Outgoing;
 use crate::right::{PublishRight, ServerLedgers, ServerName};
 use crate::server_state::{BatchStart, ServerState};
@@ -55,6 +56,14 @@ fn meet_last<Z: FirstZone, N: ServerName>(
     let _ = state.number();
     state.meet(reader);
     state.serial()
+}
+
+/// A ticket that was opened, if one was.
+fn opened(ticket: Option<usize>) -> Option<OpenTicket> {
+    match ticket {
+        Some(ticket) => Some(OpenTicket::new(ticket)),
+        None => None,
+    }
 }
 
 impl<'a, Z: FirstZone, N: ServerName> Server<'a, Z, N> {
@@ -165,13 +174,13 @@ impl<'a, Z: FirstZone, N: ServerName> Server<'a, Z, N> {
 
     /// Opens a ticket for an update that is to wait for its reply, under the lock, and the reader meets everything published. It gives the number of the version published
     /// last, and no ticket if there is no memory for it.
-    pub fn open<R: Wait>(&self, rt: &R, reader: &mut VersionReader<N>) -> (u64, Option<usize>)
+    pub fn open<R: Wait>(&self, rt: &R, reader: &mut VersionReader<N>) -> (u64, Option<OpenTicket>)
         ensures { MeetsAt Z.zone reader.old reader.new result.0 }
     {
         let mut state = self.state.lock(rt);
         meet_last(&mut state, reader);
         let number = state.number();
-        (number, state.open())
+        (number, opened(state.open()))
     }
 
     /// Fetches the result at a ticket, if it is there yet, under the lock, and the reader meets everything published. The ticket is then free. It gives the number of the
@@ -196,9 +205,9 @@ impl<'a, Z: FirstZone, N: ServerName> Server<'a, Z, N> {
         self.state.lock(rt).leave(ticket);
     }
 
-    /// Frees a ticket that is to get no result.
-    pub fn close<R: Wait>(&self, rt: &R, ticket: usize) {
-        self.state.lock(rt).close(ticket);
+    /// Frees a ticket whose update is not queued, and so gets no result.
+    pub fn close<R: Wait>(&self, rt: &R, opened: OpenTicket) {
+        self.state.lock(rt).close(opened.into_closed());
     }
 
     /// Lets the reader of the holder of the right to publish see everything published, under the lock, and gives the number of the version published last.
@@ -256,6 +265,7 @@ impl<'a, Z: FirstZone, N: ServerName> Server<'a, Z, N> {
         ensures published { reader.new.seen ≡ reader.old.seen ++ versions_in updates.items }
         ensures counted { right.new.published.amount ≡ length reader.new.seen }
         ensures reserved { right.new.reserved.amount + length updates.items ≡ right.old.reserved.amount }
+        ensures put { outgoing.new.items ≡ outgoing.old.items ++ map outgoing_for results.old.items }
         ensures outgoing { map brought_from outgoing.new.items ≡ map brought_from outgoing.old.items ++ map brought_for results.old.items }
         ensures outgoing_room { vec_capacity outgoing.new ≡ vec_capacity outgoing.old }
         ensures none { results.new.items ≡ [] }

@@ -8,14 +8,14 @@ ghost use Rattle.dns_engine.specs.Replayed.{IsReplay};
 ghost use Rattle.dns_engine.specs.Told.{IsTold};
 ghost use Rattle.dns_engine.specs.Entries.{entries_of};
 ghost use Rattle.update_batches.specs.Batch.{versions_in};
-ghost use Rattle.zone_server.specs.Brought.{brought_for, brought_from};
+ghost use Rattle.zone_server.specs.Brought.{brought_for, brought_from, outgoing_for};
 ghost use Rattle.update_batches.specs.Engine.{IsLast, AreMade};
 ghost use Rattle.update_batches.specs.declared.update_request.UpdateRequest.{UpdateRequest as Request};
 ghost use Rattle.update_batches.specs.UpdateRequest.{makes};
 ghost use Rattle.zone_server.specs.UpdateResult.{IsDone, IsFetched, IsJudgedIn, AreResults};
 ghost use Rattle.zone_server.specs.Right.{AreNamed};
 
-use crate::outgoing::{AtTicket, Outgoing};
+use crate::outgoing::Outgoing;
 use crate::pending_replies::PendingReplies;
 use crate::right::{PublishRight, Published, Reserved, ServerLedgers, ServerName};
 use crate::update_result::{Poll, QueuedResult};
@@ -283,6 +283,7 @@ impl<'a, Z: FirstZone, N: ServerName> ServerState<'a, Z, N> {
         requires done { AreResults Z.zone self.old.held.published results.old.items }
         requires room { vec_len outgoing.old + vec_len results.old ≤ vec_capacity outgoing.old }
         ensures same { self.new ≡ self.old }
+        ensures put { outgoing.new.items ≡ outgoing.old.items ++ map outgoing_for results.old.items }
         ensures outgoing { map brought_from outgoing.new.items ≡ map brought_from outgoing.old.items ++ map brought_for results.old.items }
         ensures room { vec_capacity outgoing.new ≡ vec_capacity outgoing.old }
         ensures none { results.new.items ≡ [] }
@@ -298,6 +299,7 @@ impl<'a, Z: FirstZone, N: ServerName> ServerState<'a, Z, N> {
     fn put_result(&mut self, one: QueuedResult) -> Outgoing
         requires { IsDone Z.zone self.old.held.published one.done }
         ensures same { self.new ≡ self.old }
+        ensures put { result ≡ outgoing_for one }
         ensures brought { brought_from result ≡ brought_for one }
     {
         let QueuedResult { done, reply_to } = one;
@@ -307,8 +309,7 @@ impl<'a, Z: FirstZone, N: ServerName> ServerState<'a, Z, N> {
                 key,
                 ticket,
             } => {
-                self.replies.tell(ticket, done);
-                let at = AtTicket(());
+                let at = self.replies.tell(ticket, done);
                 Outgoing::Wake { worker, key, at }
             }
             ReplyTo::Datagram { worker, to } => Outgoing::Send { worker, to, done },

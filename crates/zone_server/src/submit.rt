@@ -144,9 +144,10 @@ pub fn submit_stream<R: Wait, Z: FirstZone, N: ServerName>(
         let (len, told) = refuse(&heading, peer, out);
         return Submitted::Told(len, told);
     };
-    let (number, ticket) = server.open(rt, reader);
-    if let Some(ticket) = ticket {
+    let (number, opened) = server.open(rt, reader);
+    if let Some(opened) = opened {
         let worker = sender.worker;
+        let ticket = opened.number();
         let reply_to = ReplyTo::Connection {
             worker,
             key,
@@ -154,12 +155,12 @@ pub fn submit_stream<R: Wait, Z: FirstZone, N: ServerName>(
         };
         if let Some(put) = put_update(rt, alloc, sender, update, request, reply_to) {
             return Submitted::Waits {
-                ticket,
+                ticket: opened.waits(&put),
                 number,
                 put,
             };
         }
-        server.close(rt, ticket);
+        server.close(rt, opened);
     }
     let (len, told) = refuse(&heading, peer, out);
     Submitted::Told(len, told)

@@ -2,9 +2,8 @@ use Rattle.std.proofs.Common.{List, ℕ, ap, ◌∙◌, subst}
 use Rattle.zone_tree.specs.Zone.{apex_of}
 use Rattle.store_recovery.specs.Start.{IsStarted}
 use Rattle.store_recovery.specs.declared.choices.Choice.TheVariants.{Same as IsSame, Store as IsStore, Zone as IsZone, StoreThoughOther as IsOlder, RefuseNewer, RefuseNotNewer, RefuseOtherApex}
-use Rattle.store_server.specs.declared.start.Served.TheVariants.{Same, Store, StoreThoughOther}
 use Rattle.store_server.specs.Started.{IsChosen}
-use Rattle.store_server.proofs.ServedLemmas.{not_anew, kept_not_anew, chosen_as, same_served, store_served, older_served, zone_served, own_refused}
+use Rattle.store_server.proofs.ServedLemmas.{chosen_as, same_served, store_served, older_served, zone_served, own_refused}
 use Rattle.store_server.proofs.start.start_found.Goals as goal
 
 pub returns-in-Same-clause-served : goal.returns-in-Same-clause-served
@@ -96,16 +95,3 @@ returns-in-Zone-clause-served g c =
 pub returns-in-Zone-clause-refused : goal.returns-in-Zone-clause-refused
 returns-in-Zone-clause-refused g c =
     own_refused c.args.given.text.now c.args.given.origin.now c.args.given.taken c.take_text.result c.take_text.ensures.refused
-
-pub returns-in-Same-clause-found : goal.returns-in-Same-clause-found
-returns-in-Same-clause-found g c = not_anew Same (λ anew. anew) c.go_on.result c.go_on.ensures.served
-
-pub returns-in-Store-clause-found : goal.returns-in-Store-clause-found
-returns-in-Store-clause-found g c = not_anew Store (λ anew. anew) c.go_on-in-Store.result c.go_on-in-Store.ensures.served
-
-pub returns-in-StoreThoughOther-clause-found : goal.returns-in-StoreThoughOther-clause-found
-returns-in-StoreThoughOther-clause-found g c =
-    not_anew (StoreThoughOther c.in-StoreThoughOther.serial) (λ anew. anew) c.go_on-in-StoreThoughOther.result c.go_on-in-StoreThoughOther.ensures.served
-
-pub returns-in-Zone-clause-found : goal.returns-in-Zone-clause-found
-returns-in-Zone-clause-found g c = kept_not_anew c.take_text.result c.take_text.ensures.served

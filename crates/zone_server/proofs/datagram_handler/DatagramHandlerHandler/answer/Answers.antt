@@ -8,6 +8,8 @@ use Rattle.requests.specs.Served.{Grows}
 use Rattle.zone_server.specs.declared.answer.Now.TheVariants as now
 use Rattle.zone_server.specs.Known.{learned_by}
 use Rattle.zone_server.specs.QueuedUpdate.{IsAnswered}
+use Rattle.zone_server.specs.Replied.{IsReplied}
+use Rattle.zone_server.proofs.ReplyLemmas.{silent_replied}
 use Rattle.zone_server.proofs.NowLemmas.{now_grows}
 use Rattle.zone_server.proofs.ReplyDoneLemmas.{datagram_replies}
 use Rattle.zone_server.proofs.StartedLemmas.{starts, transfer_replies, transfer_grows, transfer_unanswered}
@@ -44,3 +46,19 @@ returns-in-Transfer-clause-reply g c =
 pub returns-in-Transfer-clause-spent : goal.returns-in-Transfer-clause-spent
 returns-in-Transfer-clause-spent g c =
     transfer_unanswered g.Z.FirstZone.zone _ c.args.request.now c.args.self.now.reader c.answer_request.new.reader c.answer_transfer.new.reader c.answer_request.new.query c.in-Transfer.strong c.in-Transfer.ensures.answer c.answer_transfer.result c.answer_transfer.ensures.spent
+
+pub returns-in-Bytes-clause-at_once : goal.returns-in-Bytes-clause-at_once
+returns-in-Bytes-clause-at_once g c = λ none. c.in-Bytes.ensures.answer.1
+
+pub returns-in-Silent-clause-at_once : goal.returns-in-Silent-clause-at_once
+returns-in-Silent-clause-at_once g c = λ none. silent_replied g.Z.FirstZone.zone _ _ _ c.args.request.now c.in-Silent.ensures.answer.0
+
+pub returns-in-Update-clause-at_once : goal.returns-in-Update-clause-at_once
+returns-in-Update-clause-at_once g c = λ none.
+    subst (λ (r : ReaderState Version). IsReplied g.Z.FirstZone.zone (by_datagram c.args.self.now.peer) (learned_by r) (learned_by c.answer_update.new.self.reader) c.args.request.now (messages_in c.answer_update.result c.answer_update.new.out)) c.in-Update.ensures.answer.1
+    (c.answer_update.ensures.at_once none)
+
+pub returns-in-Transfer-clause-at_once : goal.returns-in-Transfer-clause-at_once
+returns-in-Transfer-clause-at_once g c = λ none.
+    transfer_replies g.Z.FirstZone.zone _ c.args.request.now c.args.self.now.reader c.answer_request.new.reader c.answer_transfer.new.reader c.answer_request.new.query c.in-Transfer.strong c.in-Transfer.ensures.answer (λ (len : Option _). messages_in len c.answer_transfer.new.out) c.answer_transfer.result
+    c.answer_transfer.ensures.started

@@ -38,6 +38,7 @@ returns g c =
       published = seen;
       counted = c.publish_batch.ensures.counted ∙ ap length (sym seen);
       reserved = c.publish_batch.ensures.reserved;
+      put = c.put_results.ensures.put;
       outgoing = c.put_results.ensures.outgoing;
       outgoing_room = c.put_results.ensures.room;
       none = c.put_results.ensures.none;
