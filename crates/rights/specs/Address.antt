@@ -1,5 +1,5 @@
 -- Addresses as numbers of 128 bits, and the prefixes that have them (RFC 4632, 3.1; RFC 4291, 2.3 and 2.5.5.2).
-use Rattle.std.specs.Prelude.{ℕ, ◌/◌, ◌%◌, ◌-◌, ◌^◌, Bool, ◌&&◌, ◌||◌, ◌==◌, not, nat_le, List, [], ◌∷◌}
+use Rattle.std.specs.Prelude.{ℕ, ◌/◌, ◌%◌, ◌-◌, ◌^◌, Bool, ◌&&◌, ◌||◌, ◌==◌, not, nat_le, List, ◌∷◌}
 use Rattle.std.specs.Int.{w128, from_be_bytes}
 use Rattle.std.specs.Net.Addr.{ipv4_octets, ipv6_octets}
 use Rattle.std.specs.declared.net.ip_addr.IpAddr.{IpAddr}

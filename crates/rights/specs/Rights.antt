@@ -1,5 +1,5 @@
 -- Who may update a zone, and what of it, and who may transfer it (RFC 2136, 3.3; RFC 5936, 5).
-use Rattle.std.specs.Prelude.{ℕ, Bool, true, false, ◌&&◌, ◌||◌, ◌==◌, not, List, [], ◌∷◌, Option, Some, None, if◌then◌else◌}
+use Rattle.std.specs.Prelude.{Bool, true, false, ◌&&◌, ◌||◌, ◌==◌, not, List, [], ◌∷◌, Option, Some, None, if◌then◌else◌}
 use Rattle.std.specs.List.{list_any, list_all}
 use Rattle.dns_name.specs.Name.{Name, is_same, is_under}
 use Rattle.dns_rdata.specs.Numbers.{type_NS, type_SOA, type_ANY, type_AXFR, type_IXFR}
