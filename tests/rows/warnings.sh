@@ -123,6 +123,6 @@ line 11: warning: MX gone.sub.example.test. has no address in the zone'
 input=$head'@ MX 10 gone
 @ MX 10
 '
-refuses 1 'line 7: M5 BadData' check --warn -
+refuses 1 'line 7: M6 BadData' check --warn -
 row 1 '' check --warn -
 [[ $told != *warning* ]] || differs 'no warning' check --warn -

@@ -2,7 +2,6 @@
 use Rattle.std.proofs.Common.{◌≡◌, refl, sym, ap, ◌∙◌, ℕ, ◌+◌, ◌<◌, ◌≤◌, List, [], ◌∷◌, ◌++◌, length, drop, get_or, Option, Some, None}
 use Rattle.std.specs.Option.{option_and_then, option_map}
 use Rattle.std.proofs.lemmas.List.{drop_more, drop_all, append_assoc, append-nil}
-use Rattle.dns_rdata.specs.Record.{Record}
 use Rattle.world_run.specs.declared.step.WorldReply.{WorldReply}
 use Rattle.world_run.specs.declared.step.WorldStep.{WorldStep}
 use Rattle.cell_core.specs.Words.{State}
@@ -10,7 +9,7 @@ use Rattle.zone_tree.specs.Version.{Version as Numbered}
 use Rattle.world_run.specs.declared.phase.Progress.{Progress}
 use Rattle.world_run.specs.declared.phase.Progress.TheVariants.{On, Done}
 use Rattle.world_run.specs.declared.step.Call.{Call}
-use Rattle.world_run.specs.World.{World, started, turn, onto_replies, play, replies_of, all_made}
+use Rattle.world_run.specs.World.{World, turn, onto_replies, play, all_made}
 
 -- replies in front of those that follow
 abbrev pub behind : List WorldReply → Option (List WorldReply × World) → Option (List WorldReply × World)
@@ -67,9 +66,9 @@ all_played first lines i replies world end so_far =
     ∙ ap (λ (l : List WorldReply). Some l) (append-nil replies)
 
 -- a line passes the limit
-pub limit_passed : (zone : List Record) (keep window : ℕ) (lines : List WorldStep) (i : ℕ) (line : WorldStep) (replies : List WorldReply) (world : World) → i < length lines → line ≡ get_or lines i line → turn world line ≡ None
-    → play (started zone keep window) lines ≡ behind replies (play world (drop i lines)) → replies_of zone keep window lines ≡ None
-limit_passed zone keep window lines i line replies world lt is none so_far =
+pub limit_passed : (lines : List WorldStep) (i : ℕ) (line : WorldStep) (replies : List WorldReply) (first world : World) → i < length lines → line ≡ get_or lines i line → turn world line ≡ None
+    → play first lines ≡ behind replies (play world (drop i lines)) → option_map {U = List WorldReply} (λ played. played.0) (play first lines) ≡ None
+limit_passed lines i line replies first world lt is none so_far =
     ap (option_map (λ played. played.0)) (so_far ∙ ap (λ (l : List WorldStep). behind replies (play world l)) (line_due lines i line lt is)
     ∙ ap (λ t. behind replies (option_and_then (λ told. onto_replies told.0 (play told.1 (drop (i + 1) lines))) t)) none)
 

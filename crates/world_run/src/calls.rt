@@ -131,15 +131,13 @@ pub(crate) fn put_under_way<'a>(
     ensures ok { OnOk result (calls.new.items ≡ calls.old.items ++ record { name = name.now; phase = phase.entry } ∷ []) }
     ensures refused { IfErr result (λ fault. fault ≡ WorldFault.NoMemory) }
 {
-    let call = UnderWay {
+    if calls.reserve(1).is_err() {
+        mem::drop(phase);
+        return Err(WorldFault::NoMemory);
+    }
+    calls.push_reserved(UnderWay {
         name: name.copy(),
         phase,
-    };
-    match calls.push(call) {
-        Ok(()) => Ok(()),
-        Err(refused) => {
-            mem::drop(refused);
-            Err(WorldFault::NoMemory)
-        }
-    }
+    });
+    Ok(())
 }

@@ -48,8 +48,7 @@ pub(crate) fn judge(
             Ok(judge_fault(Heading::of_bad(*head, question, *dnssec_ok), *code))
         }
         Parsed::NoMemory(_) => Err(WorldFault::NoMemory),
-        Parsed::Silent => Ok(None),
-        Parsed::Query(_) => Ok(None),
+        _ => Ok(None),
     }
 }
 

@@ -45,7 +45,9 @@ pub(crate) fn all_messages<C: ChainView>(
     let mut left = packer;
     let mut items = Vec::new(alloc);
     while let Some(len) = left.next_message(&mut out) {
-        put_message(alloc, &mut items, &out[..len])?;
+        if let Err(fault) = put_message(alloc, &mut items, &out[..len]) {
+            return Err(fault);
+        }
     }
     Ok(MessageList { items })
 }

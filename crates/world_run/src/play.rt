@@ -10,7 +10,7 @@ ghost use Rattle.world_run.specs.declared.step.Answer.TheVariants.{Owner};
 ghost use Rattle.world_run.specs.declared.step.WorldReply.TheVariants.{Answered};
 
 use crate::asked::reply_with;
-use crate::calls::{UnderWay, call_under, put_under_way, take_out};
+use crate::calls::{UnderWay, call_under, put_under_way};
 use crate::entries::{Entry, MOST_ENTRIES, put_entry};
 use crate::fault::WorldFault;
 use crate::kept_owners::put_kept;
@@ -21,7 +21,7 @@ use crate::phase::{End, Phase, Progress};
 use crate::published::Published;
 use crate::start::Start;
 use crate::step::{Answer, Call, Octets, StepName, WorldReply, WorldStep};
-use crate::words::{FIRST_OWNER, first_words, make_step, take_steps};
+use crate::words::{FIRST_OWNER, first_words, go_past, make_step, take_steps};
 use cell_core::WordMachine;
 use dns_rdata::{Rcode, Serial};
 use serve_core::Heading;
@@ -242,10 +242,7 @@ impl<'a> Play<'a> {
             Ok(None) => return Ok(WorldReply::NotEnabled),
             Err(fault) => return Err(fault),
         };
-        let Some(phase) = take_out(&mut self.calls, name) else {
-            unreachable!()
-        };
-        match phase.after(&self.machine, event) {
+        match go_past(&self.machine, &mut self.calls, name, event) {
             Ok(progress) => self.go_on(alloc, name, step, progress),
             Err(fault) => Err(fault),
         }

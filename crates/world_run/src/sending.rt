@@ -115,18 +115,15 @@ impl<'a> Sending<'a> {
     /// What the question gets: the messages of the transfer (RFC 5936, 2.2).
     ///
     /// `NoMemory` where an allocation was refused.
-    pub fn answer(self, alloc: Global) -> Result<Answer, WorldFault>
-        ensures ok { IfOk result (λ answer. answer ≡ sent_answer self.entry) }
+    pub fn answer(&self, alloc: Global) -> Result<Answer, WorldFault>
+        ensures ok { IfOk result (λ answer. answer ≡ sent_answer self.now) }
         ensures refused { IfErr result (λ fault. fault ≡ WorldFault.NoMemory) }
     {
         let said = parse(alloc, self.request.as_slice());
         match &said {
             Parsed::Query(query) => self.answer_query(alloc, query),
             Parsed::NoMemory(_) => Err(WorldFault::NoMemory),
-            Parsed::Silent => Ok(Answer::Silent),
-            Parsed::Fault(_, _) => Ok(Answer::Silent),
-            Parsed::BadOpt(_, _, _, _) => Ok(Answer::Silent),
-            Parsed::Update(_) => Ok(Answer::Silent),
+            _ => Ok(Answer::Silent),
         }
     }
 
@@ -145,7 +142,7 @@ impl<'a> Sending<'a> {
     }
 
     /// Whether a query asks for a transfer of the served version that may be sent.
-    pub fn is_permitted(&self, query: &Query) -> bool
+    fn is_permitted(&self, query: &Query) -> bool
         ensures { result ≡ is_permitted self.now.version.zone (peer_over Tcp true) query.now }
     {
         is_permitted(

@@ -1,11 +1,10 @@
 //! How a call begins.
 ghost use Rattle.std.specs.Prelude.{◌≡◌, ◌&&◌, ◌||◌, nat_lt, Some, IfOk, IfErr};
-ghost use Rattle.std.specs.Option.{option_copied, option_and_then};
-ghost use Rattle.cell_core.specs.Words.{found_last, grants};
-ghost use Rattle.world_run.specs.Judgements.{judged as says_judged};
+ghost use Rattle.std.specs.Option.{option_copied};
+ghost use Rattle.cell_core.specs.Words.{grants};
 ghost use Rattle.world_run.specs.World.{answering, ask_start, drop_start, fade_start, is_taken as says_taken, is_taken_weakly as says_taken_weakly, is_held as says_is_held, oldest_kept, owner_of, start as says_start, publication_start, keeping_for, can_enter as says_can_enter, transfer_start, update_start, version_of, zone_of};
 ghost use Rattle.zone_tree.specs.Version.{Version as Numbered, zone_serial};
-ghost use Rattle.world_run.specs.declared.step.Call.TheVariants.{Load, Copy, Weak, Up};
+ghost use Rattle.world_run.specs.declared.step.Call.TheVariants.{Load, Copy, Weak, Up, Update};
 
 use crate::asked::{answer_in, reply_with};
 use crate::calls::{is_barred, is_reserved, is_reserved_weakly, is_used};
@@ -54,18 +53,18 @@ impl<'a> Play<'a> {
         ensures ok { IfOk result (λ how. how ≡ says_start self.now call.now) }
         ensures refused { IfErr result (λ fault. fault ≡ WorldFault.NoMemory) }
     {
-        match call {
-            Call::Load(name) => Ok(self.load(name)),
-            Call::Drop(name) => Ok(self.release(name)),
-            Call::Copy(given, name) => Ok(self.copy(given, name)),
-            Call::Weak(given, name) => Ok(self.weaken(given, name)),
-            Call::Fade(name) => Ok(self.fade(name)),
-            Call::Up(weak, name) => Ok(self.raise(weak, name)),
-            Call::Ask(name, request) => self.ask(alloc, name, request),
-            Call::Transfer(name, request) => self.ask_transfer(alloc, name, request),
-            Call::Update(_) if is_barred(&self.calls) => Ok(Start::Refused),
-            Call::Update(request) => self.update(alloc, request),
-        }
+        let how = match call {
+            Call::Load(name) => self.load(name),
+            Call::Drop(name) => self.release(name),
+            Call::Copy(given, name) => self.copy(given, name),
+            Call::Weak(given, name) => self.weaken(given, name),
+            Call::Fade(name) => self.fade(name),
+            Call::Up(weak, name) => self.raise(weak, name),
+            Call::Ask(name, request) => return self.ask(alloc, name, request),
+            Call::Transfer(name, request) => return self.ask_transfer(alloc, name, request),
+            Call::Update(request) => return self.update(alloc, request),
+        };
+        Ok(how)
     }
 
     /// How a load begins.
@@ -175,11 +174,14 @@ impl<'a> Play<'a> {
         }
     }
 
-    /// How an update begins where none is under way.
+    /// How an update begins. It isn't enabled while a call under way needs the window unchanged.
     fn update(&self, alloc: Global, request: &Request<'_>) -> Result<Start<'a>, WorldFault>
-        ensures ok { IfOk result (λ how. how ≡ update_start self.now (option_and_then (λ last. says_judged last request.now) (found_last self.now.words))) }
+        ensures ok { IfOk result (λ how. how ≡ says_start self.now (Update request.now)) }
         ensures refused { IfErr result (λ fault. fault ≡ WorldFault.NoMemory) }
     {
+        if is_barred(&self.calls) {
+            return Ok(Start::Refused);
+        }
         let Some(last) = self.machine.last() else {
             return Ok(Start::Refused);
         };

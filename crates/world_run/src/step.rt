@@ -43,7 +43,7 @@ pub enum WorldStep<'a> {
 }
 
 /// The name of a step on a word.
-#[derive(Clone, Copy, Debug, PartialEq, Eq)]
+#[derive(Clone, Copy)]
 pub enum StepName {
     /// A share is granted from W.
     Load,

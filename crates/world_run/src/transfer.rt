@@ -18,6 +18,7 @@ use crate::published::Published;
 use crate::sending::{GotVersions, Seeking, Sending};
 use crate::start::Start;
 use dns_message::{Parsed, Query, parse};
+use serve_core::{Peer, Transport, is_permitted};
 use std::alloc::Global;
 use std::mem;
 
@@ -48,7 +49,9 @@ fn sent_at_once<'a>(alloc: Global, sending: Sending<'a>) -> Result<Start<'a>, Wo
     ensures ok { IfOk result (λ how. how ≡ Answers (sent_answer sending.entry)) }
     ensures refused { IfErr result (λ fault. fault ≡ WorldFault.NoMemory) }
 {
-    match sending.answer(alloc) {
+    let answer = sending.answer(alloc);
+    mem::drop(sending);
+    match answer {
         Ok(answer) => Ok(Start::Answers(answer)),
         Err(fault) => Err(fault),
     }
@@ -97,15 +100,9 @@ impl<'a> Play<'a> {
         };
         let said = parse(alloc, request.as_slice());
         match &said {
-            Parsed::Query(query) => match none_got(alloc, owner, version, request) {
-                Ok(sending) => self.transfer_asked(alloc, sending, query),
-                Err(fault) => Err(fault),
-            },
-            Parsed::Silent => Ok(Start::Refused),
-            Parsed::Fault(_, _) => Ok(Start::Refused),
-            Parsed::BadOpt(_, _, _, _) => Ok(Start::Refused),
-            Parsed::Update(_) => Ok(Start::Refused),
+            Parsed::Query(query) => self.transfer_asked(alloc, owner, version, request, query),
             Parsed::NoMemory(_) => Err(WorldFault::NoMemory),
+            _ => Ok(Start::Refused),
         }
     }
 
@@ -114,25 +111,43 @@ impl<'a> Play<'a> {
     fn transfer_asked(
         &self,
         alloc: Global,
-        sending: Sending<'a>,
+        owner: usize,
+        version: &Published,
+        request: &Request<'a>,
         query: &Query,
     ) -> Result<Start<'a>, WorldFault>
-        ensures ok { IfOk result (λ how. how ≡ transfer_asked self.now sending.entry query.now) }
+        ensures ok { IfOk result (λ how. how ≡ transfer_asked self.now (says_none_got owner version.now request.now) query.now) }
         ensures refused { IfErr result (λ fault. fault ≡ WorldFault.NoMemory) }
     {
-        if !sending.is_permitted(query) {
-            mem::drop(sending);
+        if !is_permitted(version.version(), query, Peer::over(Transport::Tcp, true)) {
             return Ok(Start::Refused);
         }
         if query.serial.is_some() && is_barred(&self.calls) {
-            mem::drop(sending);
             return Ok(Start::Refused);
         }
-        let number = sending.version.version().number();
+        let number = version.version().number();
         match later(alloc, &self.entries, number, query.serial) {
-            Ok(owners) => self.seek(alloc, sending, owners),
+            Ok(owners) => self.transfer_by(alloc, owner, version, request, owners),
+            Err(fault) => Err(fault),
+        }
+    }
+
+    /// How a transfer of an owner's version begins that upgrades the entries with these owners.
+    fn transfer_by(
+        &self,
+        alloc: Global,
+        owner: usize,
+        version: &Published,
+        request: &Request<'a>,
+        owners: OwnerList,
+    ) -> Result<Start<'a>, WorldFault>
+        ensures ok { IfOk result (λ how. how ≡ seek_start self.now.words (says_none_got owner version.now request.now) owners) }
+        ensures refused { IfErr result (λ fault. fault ≡ WorldFault.NoMemory) }
+    {
+        match none_got(alloc, owner, version, request) {
+            Ok(sending) => self.seek(alloc, sending, owners),
             Err(fault) => {
-                mem::drop(sending);
+                mem::drop(owners);
                 Err(fault)
             }
         }

@@ -1,11 +1,14 @@
 //! The steps of calls on the words of the cell.
-ghost use Rattle.std.specs.Prelude.{◌≡◌, Some, None, IfOk, IfErr, MatchOption};
+ghost use Rattle.std.specs.Prelude.{◌≡◌, true, is_some, Some, None, IfOk, IfErr, MatchOption};
+ghost use Rattle.std.specs.Option.{option_map};
 ghost use Rattle.cell_core.specs.Made.{made};
 ghost use Rattle.world_run.specs.Numbered.{first_version};
-ghost use Rattle.world_run.specs.Phases.{word_step};
-ghost use Rattle.world_run.specs.World.{loaded_once as says_loaded_once, started_words as says_started_words, most_steps, steps_up_to};
+ghost use Rattle.world_run.specs.Phases.{after, word_step};
+ghost use Rattle.world_run.specs.World.{loaded_once as says_loaded_once, started_words as says_started_words, most_steps, steps_up_to, call_of, without_call};
 
+use crate::calls::{UnderWay, take_out};
 use crate::fault::WorldFault;
+use crate::lent::Handle;
 use crate::phase::{Phase, Progress};
 use crate::published::Published;
 use cell_core::{StepFault, WordEvent, WordMachine, WordStep};
@@ -37,6 +40,24 @@ pub(crate) fn make_step(
         },
         Err(fault) => Err(fault),
     }
+}
+
+/// Removes the call under way of a name, and gives what follows its step, which has been made.
+pub(crate) fn go_past<'a>(
+    machine: &WordMachine<Published>,
+    calls: &mut Vec<UnderWay<'a>>,
+    name: &Handle<'_>,
+    event: WordEvent,
+) -> Result<Progress<'a>, WorldFault>
+    requires { is_some (call_of name.now calls.old.items) ≡ true }
+    ensures ok { IfOk result (λ progress. Some progress ≡ option_map (λ call. after machine.now call.phase event) (call_of name.now calls.old.items)) }
+    ensures left { calls.new.items ≡ without_call name.now calls.old.items }
+    ensures refused { IfErr result (λ fault. fault ≡ WorldFault.NoMemory) }
+{
+    let Some(phase) = take_out(calls, name) else {
+        unreachable!()
+    };
+    phase.after(machine, event)
 }
 
 /// Takes the steps of a call up to its end; at a step that can't be made, it stops.

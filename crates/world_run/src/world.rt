@@ -41,7 +41,10 @@ fn play_lines<'a>(
 {
     let mut replies = Vec::new(alloc);
     for line in lines {
-        play_line(alloc, play, line, &mut replies)?;
+        match play_line(alloc, play, line, &mut replies) {
+            Ok(()) => {}
+            Err(fault) => return Err(fault),
+        }
     }
     Ok(replies)
 }
