@@ -20,9 +20,7 @@ mod types;
 pub use address::parse_prefix;
 pub use fault::RuleFault;
 pub use parse::parse_rule;
-pub use permission::{
-    are_permitted, covering, first_outside, first_refused, may_transfer, transferring,
-};
+pub use permission::{are_permitted, covering, first_outside, may_transfer, transferring};
 pub use prefix::Prefix;
 pub use report::{Judgement, RequestFault, is_permitted, judge, judge_digits};
 pub use requestor::Requestor;

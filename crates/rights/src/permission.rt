@@ -18,20 +18,6 @@ pub fn are_permitted(rules: &[Rule], who: Requestor, apex: &Name, records: &[Raw
     has_right(rules, who) && are_covered(rules, who, apex, records)
 }
 
-/// The place of the first record that no rule covers; None where each is covered.
-pub fn first_refused(
-    rules: &[Rule],
-    who: Requestor,
-    apex: &Name,
-    records: &[RawRecord],
-) -> Option<usize>
-    ensures { result ≡ position (λ r. not (list_any (covers who apex.now r) rules.now)) records.now }
-{
-    records
-        .iter()
-        .position(|record| !is_covered(rules, who, apex, record))
-}
-
 /// The place of the first rule that covers a record of an update section; None where none does.
 pub fn covering(rules: &[Rule], who: Requestor, apex: &Name, record: &RawRecord) -> Option<usize>
     ensures { result ≡ position (covers who apex.now record.now) rules.now }
