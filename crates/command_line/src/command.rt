@@ -41,6 +41,7 @@ impl<'a> Drop for Task<'a> {
             Task::Lines {
                 command: _,
                 has_origin: _,
+                has_warnings: _,
             } => {}
             Task::Serve(_) => {}
             Task::Stored(_) => {}
