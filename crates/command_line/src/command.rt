@@ -46,6 +46,7 @@ impl<'a> Drop for Task<'a> {
             Task::Serve(_) => {}
             Task::Stored(_) => {}
             Task::Change(_) => {}
+            Task::May(_) => {}
         }
     }
 }
