@@ -1,0 +1,237 @@
+//! How replies to signed requests are signed, and how requests that aren't taken are told.
+use crate::made::{keys, number_at};
+use crate::messages::{
+    ANSWER, ANSWER_BARE, AXFR, FIRST, FIRST_BARE, OLD, OLD_TOLD, QUERY, SECOND, SECOND_BARE, SHORT,
+    SHORT_TOLD, THIRD, THIRD_BARE, UNKNOWN, UNKNOWN_TOLD, UPDATE, UPDATED, UPDATED_BARE, WRONG,
+    WRONG_TOLD,
+};
+use arrayvec::ArrayVec;
+use dns_message::HEADER;
+use hmac::MAX_MAC;
+use std::alloc::Global;
+use std::test::Fail;
+use tsig::{
+    Asking, FUDGE, Key, Keys, MAX_REFUSAL, MAX_TSIG, Opened, Stamp, Told, open, refuse, seal,
+    seal_later,
+};
+use wire_names::Message;
+
+/// A MAC.
+type Mac = ArrayVec<u8, MAX_MAC>;
+
+/// What a reply has to know of a request, where its MAC is right.
+fn asking_of(keys: &Keys, now: u64, request: &[u8]) -> Option<Asking> {
+    match open(keys, now, &Message::new(request)) {
+        Opened::Late(asking) => Some(asking),
+        Opened::Short(asking) => Some(asking),
+        Opened::Signed(asking) => Some(asking),
+        _ => None,
+    }
+}
+
+/// Signs the reply in the first octets under a limit of 512, where it has a header and room.
+fn seal_in(key: &Key, mac: &mut Mac, stamp: &Stamp, out: &mut [u8], len: usize) -> Option<usize> {
+    if out.len() < 512 || len < HEADER || len > 512 || number_at(out, 10) == u16::MAX {
+        return None;
+    }
+    Some(seal(key, mac, stamp, 512, out, len))
+}
+
+/// Signs a later message in the first octets, likewise.
+fn seal_more(key: &Key, mac: &mut Mac, stamp: &Stamp, out: &mut [u8], len: usize) -> Option<usize> {
+    if len < HEADER || len > 512 || out.len() < 512 + MAX_TSIG || number_at(out, 10) == u16::MAX {
+        return None;
+    }
+    Some(seal_later(key, mac, stamp, out, len))
+}
+
+/// A stamp of a time, with this error.
+fn stamp(time: u64, told: Told) -> Stamp {
+    Stamp {
+        time,
+        fudge: FUDGE,
+        told,
+    }
+}
+
+/// The octets of a message with room behind them, and how many they are.
+fn with_room(alloc: Global, plain: &str) -> Result<(Vec<u8>, usize), Fail> {
+    let mut out = hex::decode(alloc, plain)?;
+    let len = out.len();
+    out.resize(len.min(65535) + 1024, 0)?;
+    Ok((out, len))
+}
+
+/// The reply to a request, signed at a time, and its MAC; None where it isn't signed.
+fn signed(
+    alloc: Global,
+    request: &str,
+    now: u64,
+    plain: &str,
+    stamp: &Stamp,
+) -> Result<Option<(Vec<u8>, Mac)>, Fail> {
+    let request = hex::decode(alloc, request)?;
+    let keys = keys(alloc)?;
+    let Some(asking) = asking_of(&keys, now, &request) else {
+        return Ok(None);
+    };
+    let Some(key) = keys.get(asking.key) else {
+        return Ok(None);
+    };
+    let (mut out, len) = with_room(alloc, plain)?;
+    let mut mac = asking.mac;
+    let Some(len) = seal_in(key, &mut mac, stamp, &mut out, len) else {
+        return Ok(None);
+    };
+    out.truncate(len);
+    Ok(Some((out, mac)))
+}
+
+/// Whether a message of another program ends in this MAC, its ID, no error and no Other Data.
+fn has_mac(alloc: Global, message: &str, mac: &[u8]) -> Result<bool, Fail> {
+    let message = hex::decode(alloc, message)?;
+    let end = message.len().saturating_sub(6);
+    Ok(message.get(..end).is_some_and(|front| front.ends_with(mac)))
+}
+
+#[test]
+fn macs_of_replies(rt: HostRuntime) -> Result<(), Fail> {
+    let stamp = stamp(1_700_000_001, Told::Nothing);
+    for (request, plain, want) in [
+        (QUERY, ANSWER_BARE, ANSWER),
+        (UPDATE, UPDATED_BARE, UPDATED),
+    ] {
+        let made = signed(rt.alloc(), request, 1_700_000_001, plain, &stamp)?;
+        let (_, mac) = made.ok_or("not signed")?;
+        assert!(rt; has_mac(rt.alloc(), want, &mac)?);
+    }
+    Ok(())
+}
+
+/// The MAC of a later message, by the one before; None where it isn't signed.
+fn later(alloc: Global, mac: &mut Mac, time: u64, plain: &str) -> Result<bool, Fail> {
+    let keys = keys(alloc)?;
+    let Some(key) = keys.get(1) else {
+        return Ok(false);
+    };
+    let (mut out, len) = with_room(alloc, plain)?;
+    let stamp = stamp(time, Told::Nothing);
+    Ok(seal_more(key, mac, &stamp, &mut out, len).is_some())
+}
+
+// RFC 8945, 5.3.1: the first message over the request's MAC and all variables, each later one over the MAC before and the times.
+#[test]
+fn macs_of_a_transfer(rt: HostRuntime) -> Result<(), Fail> {
+    let first = stamp(1_700_000_001, Told::Nothing);
+    let made = signed(rt.alloc(), AXFR, 1_700_000_001, FIRST_BARE, &first)?;
+    let (_, mut mac) = made.ok_or("not signed")?;
+    assert!(rt; has_mac(rt.alloc(), FIRST, &mac)?);
+    assert!(rt; later(rt.alloc(), &mut mac, 1_700_000_002, SECOND_BARE)?);
+    assert!(rt; has_mac(rt.alloc(), SECOND, &mac)?);
+    assert!(rt; later(rt.alloc(), &mut mac, 1_700_000_003, THIRD_BARE)?);
+    assert!(rt; has_mac(rt.alloc(), THIRD, &mac)?);
+    Ok(())
+}
+
+/// Whether the reply to a request, signed, is this one.
+fn is_told(
+    alloc: Global,
+    request: &str,
+    now: u64,
+    plain: &str,
+    stamp: &Stamp,
+    want: &str,
+) -> Result<bool, Fail> {
+    let want = hex::decode(alloc, want)?;
+    let made = signed(alloc, request, now, plain, stamp)?;
+    Ok(made.is_some_and(|(out, _)| out.as_slice() == want.as_slice()))
+}
+
+// RFC 8945, 5.2.3: BADTIME has the request's time, and the server's as Other Data; 5.2.4: BADTRUNC is signed in full.
+#[test]
+fn errors_that_are_signed(rt: HostRuntime) -> Result<(), Fail> {
+    let late = stamp(1_700_000_000, Told::BadTime(1_700_001_000));
+    assert!(rt;
+        is_told(
+            rt.alloc(),
+            OLD,
+            1_700_001_000,
+            "6666a8090000000000000000",
+            &late,
+            OLD_TOLD
+        )?
+    );
+    let short = stamp(1_700_000_001, Told::BadTrunc);
+    assert!(rt;
+        is_told(
+            rt.alloc(),
+            SHORT,
+            1_700_000_001,
+            "777780090000000000000000",
+            &short,
+            SHORT_TOLD
+        )?
+    );
+    Ok(())
+}
+
+// RFC 8945, 5.3: the question, TC 1 and NOERROR are left of a reply whose TSIG doesn't fit.
+#[test]
+fn reply_that_is_cut(rt: HostRuntime) -> Result<(), Fail> {
+    let stamp = stamp(1_700_000_001, Told::Nothing);
+    let mut plain = String::from_str(rt.alloc(), ANSWER_BARE)?;
+    for _ in 0..400 {
+        plain.push_str("00")?;
+    }
+    let made = signed(rt.alloc(), QUERY, 1_700_000_001, &plain, &stamp)?;
+    let (out, _) = made.ok_or("not signed")?;
+    let want = hex::decode(rt.alloc(), "1111860000010000000000010377777707")?;
+    assert!(rt; out.starts_with(&want));
+    assert_eq!(rt; out.len(), 12 + 22 + 18 + 10 + 13 + 16 + 32);
+    Ok(())
+}
+
+/// Tells an error, unsigned, in the first octets, where there is a header and room.
+fn refuse_in(opened: &Opened<'_>, out: &mut [u8], len: usize) -> Option<usize> {
+    if len < HEADER
+        || len > 512
+        || out.len() < 512 + MAX_REFUSAL
+        || number_at(out, 10) == u16::MAX
+    {
+        return None;
+    }
+    match opened {
+        Opened::Unknown(tsig) => Some(refuse(tsig, Told::BadKey, out, len)),
+        Opened::Wrong(tsig) => Some(refuse(tsig, Told::BadSig, out, len)),
+        _ => None,
+    }
+}
+
+/// Whether the reply to a request that isn't taken is this one.
+fn is_refused(alloc: Global, request: &str, plain: &str, want: &str) -> Result<bool, Fail> {
+    let request = hex::decode(alloc, request)?;
+    let want = hex::decode(alloc, want)?;
+    let keys = keys(alloc)?;
+    let opened = open(&keys, 1_700_000_001, &Message::new(&request));
+    let (mut out, len) = with_room(alloc, plain)?;
+    let Some(len) = refuse_in(&opened, &mut out, len) else {
+        return Ok(false);
+    };
+    out.truncate(len);
+    Ok(out.as_slice() == want.as_slice())
+}
+
+// RFC 8945, 5.2.1, 5.2.2 and 5.3.2: BADKEY and BADSIG are unsigned.
+#[test]
+fn errors_that_are_unsigned(rt: HostRuntime) -> Result<(), Fail> {
+    assert!(rt;
+        is_refused(
+            rt.alloc(),
+            UNKNOWN,
+            "4444a8090000000000000000",
+            UNKNOWN_TOLD
+        )?
+    );
+    assert!(rt; is_refused(rt.alloc(), WRONG, "5555a8090000000000000000", WRONG_TOLD)?);
+    Ok(())
+}

@@ -1,0 +1,145 @@
+-- What a request is that is taken as signed.
+use Rattle.std.proofs.Common.{◌≡◌, ◌≢◌, ℕ, ◌-◌, ◌<◌, ◌≤◌, Bool, true, false, not, ◌&&◌, List, [], length, take, Option, Some, None, option_map, option_and_then, if◌then◌else◌, slice_get, get_or, unwrap_or, refl, sym, ap, ◌∙◌, arith}
+use Rattle.std.specs.Prelude.{nat_le, nat_lt, bytes_eq, position}
+use Rattle.std.proofs.lemmas.Bool.Decides.{nat_tests}
+use Rattle.std.proofs.lemmas.List.{take_all}
+use Rattle.std.proofs.lemmas.List.Quantifiers.{position-Some}
+use Rattle.std.proofs.lemmas.Option.{get_or_from_slice_get}
+use Rattle.std.proofs.lemmas.Slice.Eq.{bytes_eq-Decides}
+use Rattle.hmac.proofs.Sizes.{length-hmac_by}
+use Rattle.hmac.specs.Hmac.{mac_size}
+use Rattle.dns_message.specs.Reads.{is_reply}
+use Rattle.dns_message.specs.Tsig.{place_in}
+use Rattle.dns_message.specs.declared.tsig.Place.{Place}
+use Rattle.dns_message.specs.declared.tsig.Place.TheVariants.{Bare, Bad, At}
+use Rattle.dns_name.specs.Name.{Name}
+use Rattle.tsig.specs.Digested.{bare, variables, digested, mac_over}
+use Rattle.tsig.specs.Keys.{SharedKey, is_named, index_of, key_of}
+use Rattle.tsig.specs.Taken.{IsSignedBy}
+use Rattle.tsig.specs.Opened.{judged, by_key, by_tsig, by_place, opened, asking_of, is_size, is_right, is_timely}
+use Rattle.tsig.specs.Tsig.{Tsig, tsig_at}
+use Rattle.tsig.specs.declared.asking.Asking.{Asking}
+use Rattle.tsig.specs.declared.judging.Opened.{Opened}
+use Rattle.tsig.specs.declared.judging.Opened.TheVariants.{Unsigned, Silent, Malformed, Unknown, Wrong, Late, Short, Signed}
+
+-- of a choice that comes to Signed the side that isn't Signed wasn't taken
+past : (b : Bool) (x y : Opened) (asking : Asking) → ¬ (x ≡ Signed asking) → (if b then x else y) ≡ Signed asking → (b ≡ false) × (y ≡ Signed asking)
+past true x y asking other is = absurd (other is)
+past false x y asking other is = (refl, is)
+
+holds : (b : Bool) → not b ≡ false → b ≡ true
+holds true e = refl
+holds false e = cc
+
+-- what was taken was judged
+found : (now : ℕ) (msg : List ℕ) (start : ℕ) (tsig : Tsig) (o : Option (ℕ × SharedKey)) (asking : Asking) → by_key now msg start tsig o ≡ Signed asking
+    → (r : ℕ × SharedKey) × (o ≡ Some r) × (judged now msg start tsig r.0 r.1 ≡ Signed asking)
+found now msg start tsig None asking is = cc
+found now msg start tsig (Some r) asking is = (r, refl, is)
+
+read : (keys : List SharedKey) (now : ℕ) (msg : List ℕ) (start : ℕ) (o : Option Tsig) (asking : Asking) → by_tsig keys now msg start o ≡ Signed asking
+    → (tsig : Tsig) × (o ≡ Some tsig) × (by_key now msg start tsig (key_of tsig.owner tsig.algorithm keys) ≡ Signed asking)
+read keys now msg start None asking is = cc
+read keys now msg start (Some tsig) asking is = (tsig, refl, is)
+
+placed : (keys : List SharedKey) (now : ℕ) (msg : List ℕ) (o : Option Place) (asking : Asking) → by_place keys now msg o ≡ Signed asking
+    → (start : ℕ) × (o ≡ Some (At start)) × (by_tsig keys now msg start (tsig_at msg start) ≡ Signed asking)
+placed keys now msg None asking is = cc
+placed keys now msg (Some Bare) asking is = cc
+placed keys now msg (Some Bad) asking is = cc
+placed keys now msg (Some (At start)) asking is = (start, refl, is)
+
+abbrev some_is : {A : Type 0} → A → Option A
+some_is x = Some x
+
+some_same : {A : Type 0} {x y : A} → some_is x ≡ Some y → x ≡ y
+some_same {A} {x} {y} is = ap (λ o. unwrap_or o x) is
+
+-- a key that is named is in the list, and has the names: at the index that was found
+named_at : (owner algorithm : Name) (keys : List SharedKey) (index : ℕ) (o : Option SharedKey) (r : ℕ × SharedKey) → position (is_named owner algorithm) keys ≡ Some index
+    → slice_get keys index ≡ o → option_map (λ key. (index, key)) o ≡ Some r → (slice_get keys r.0 ≡ Some r.1) × (is_named owner algorithm r.1 ≡ true)
+named_at owner algorithm keys index None r at there is = cc
+named_at owner algorithm keys index (Some key) r at there is =
+    let same : (index, key) ≡ r = some_same is in
+    let passes : is_named owner algorithm (get_or keys index key) ≡ true = (position-Some (is_named owner algorithm) keys index key at).1 in (
+      ap (slice_get keys) (sym (ap (λ p. p.0) same)) ∙ there ∙ ap (λ p. Some p.1) same,
+      ap (is_named owner algorithm) (sym (ap (λ p. p.1) same)) ∙ ap (is_named owner algorithm) (sym (get_or_from_slice_get keys index key key there)) ∙ passes,
+    )
+
+-- and where one was looked for
+named : (owner algorithm : Name) (keys : List SharedKey) (o : Option ℕ) (r : ℕ × SharedKey) → position (is_named owner algorithm) keys ≡ o
+    → option_and_then (λ index. option_map (λ key. (index, key)) (slice_get keys index)) o ≡ Some r → (slice_get keys r.0 ≡ Some r.1) × (is_named owner algorithm r.1 ≡ true)
+named owner algorithm keys None r at is = cc
+named owner algorithm keys (Some index) r at is = named_at owner algorithm keys index (slice_get keys index) r at refl is
+
+-- what holds of a request that was judged to be signed
+record IsGood (now : ℕ) (msg : List ℕ) (start : ℕ) (tsig : Tsig) (index : ℕ) (key : SharedKey) (asking : Asking) : Type 0 where
+  size : is_size (mac_size key.secret.algorithm) (length tsig.fields.mac) ≡ true
+  right : is_right key [] msg start tsig.fields ≡ true
+  timely : is_timely now tsig.fields ≡ true
+  whole : nat_lt (length tsig.fields.mac) (mac_size key.secret.algorithm) ≡ false
+  said : asking_of index tsig.fields ≡ asking
+
+abbrev signed_is : Asking → Opened
+signed_is x = Signed x
+
+signed_same : {x y : Asking} → signed_is x ≡ Signed y → x ≡ y
+signed_same is = cc
+
+good : (now : ℕ) (msg : List ℕ) (start : ℕ) (tsig : Tsig) (index : ℕ) (key : SharedKey) (asking : Asking) → judged now msg start tsig index key ≡ Signed asking
+    → IsGood now msg start tsig index key asking
+good now msg start tsig index key asking is =
+    let size = past (not (is_size (mac_size key.secret.algorithm) (length tsig.fields.mac))) Malformed _ asking (λ e. cc) is in
+    let right = past (not (is_right key [] msg start tsig.fields)) (Wrong tsig) _ asking (λ e. cc) size.1 in
+    let timely = past (not (is_timely now tsig.fields)) (Late (asking_of index tsig.fields)) _ asking (λ e. cc) right.1 in
+    let whole = past (nat_lt (length tsig.fields.mac) (mac_size key.secret.algorithm)) (Short (asking_of index tsig.fields)) (Signed (asking_of index tsig.fields)) asking (λ e. cc) timely.1 in
+    record {
+      size = holds _ size.0;
+      right = holds _ right.0;
+      timely = holds _ timely.0;
+      whole = whole.0;
+      said = signed_same whole.1;
+    }
+
+both : (a b : Bool) → (a && b) ≡ true → (a ≡ true) × (b ≡ true)
+both true b e = (refl, e)
+both false b e = absurd (let h : false ≡ true = e in cc)
+
+-- a MAC that is as long as the whole is the whole
+whole_mac : (mac own : List ℕ) → bytes_eq mac (take (length mac) own) ≡ true → length own ≤ length mac → mac ≡ own
+whole_mac mac own same long = (bytes_eq-Decides mac (take (length mac) own)).0 same ∙ take_all (length mac) own long
+
+-- not fewer than so many
+enough : (own mac size : ℕ) → own ≡ size → nat_lt mac size ≡ false → own ≤ mac
+enough own mac size same few = grind (arith, nat_tests)
+
+le-true : (a b : ℕ) → nat_le a b ≡ true → a ≤ b
+le-true a b e = grind (arith, nat_tests)
+
+-- so a request that is taken is signed
+pub taken : (keys : List SharedKey) (now : ℕ) (msg : List ℕ) (asking : Asking) → opened keys now msg ≡ Signed asking → IsSignedBy keys now msg asking
+unfolding is_right
+taken keys now msg asking is =
+    let long = past (nat_lt (length msg) 12) Silent _ asking (λ e. cc) is in
+    let asked = past (is_reply msg) Silent _ asking (λ e. cc) long.1 in
+    let at = placed keys now msg (place_in msg) asking asked.1 in
+    let tsig = read keys now msg at.0 (tsig_at msg at.0) asking at.2 in
+    let key = found now msg at.0 tsig.0 (key_of tsig.0.owner tsig.0.algorithm keys) asking tsig.2 in
+    let is_named_so = named tsig.0.owner tsig.0.algorithm keys (index_of tsig.0.owner tsig.0.algorithm keys) key.0 refl key.1 in
+    let is_good = good now msg at.0 tsig.0 key.0.0 key.0.1 asking key.2 in
+    let times = both _ _ is_good.timely in
+    let f = tsig.0.fields in
+    let own = mac_over key.0.1 [] (bare msg at.0 f.original) f in
+    record {
+      start = at.0;
+      tsig = tsig.0;
+      key = key.0.1;
+      stands = at.1;
+      read = tsig.1;
+      known = ap (λ a. slice_get keys a.key) (sym is_good.said) ∙ is_named_so.0;
+      named = is_named_so.1;
+      right = whole_mac f.mac own is_good.right (enough (length own) (length f.mac) (mac_size key.0.1.secret.algorithm) (length-hmac_by key.0.1.secret (digested [] (bare msg at.0 f.original) (variables key.0.1 f))) is_good.whole);
+      early = le-true (now - f.time) f.fudge times.0;
+      late = le-true (f.time - now) f.fudge times.1;
+      mac_is = ap (λ a. a.mac.items) (sym is_good.said);
+    }

@@ -1,0 +1,9 @@
+use Rattle.std.proofs.Common.{arith, ◌+◌, ◌∙◌}
+use Rattle.tsig.proofs.ListLemmas.{same_behind}
+use Rattle.tsig.proofs.sealing.seal.Goals as goal
+use Rattle.tsig.specs.Sealed.{tsig_size}
+
+pub returns-clause-behind : goal.returns-clause-behind
+returns-clause-behind c =
+    same_behind _ _ (c.fit-len.result + tsig_size c.args.key.now c.args.stamp.now) c.args.limit c.append_tsig.ensures.behind (omega (arith, c.fit-len.ensures.room, c.tsig_size-size.ensures.size))
+    ∙ c.fit-len.ensures.behind

@@ -1,0 +1,36 @@
+//! What a reply has to know of a request's TSIG (RFC 8945, 5.3).
+ghost use Rattle.std.specs.Prelude.{◌≡◌, ◌≤◌, length};
+ghost use Rattle.tsig.specs.Fields.{Fields};
+ghost use Rattle.tsig.specs.Opened.{asking_of};
+
+use crate::fields::Data;
+use arrayvec::ArrayVec;
+use hmac::MAX_MAC;
+
+/// What a reply has to know of a request's TSIG.
+#[derive(Drop)]
+pub struct Asking {
+    /// Which of the keys it names.
+    pub key: u16,
+    /// Its MAC, as it was sent.
+    pub mac: ArrayVec<u8, MAX_MAC>,
+    /// Its Time Signed, in seconds since 1970.
+    pub time: u64,
+    /// Its fudge, in seconds.
+    pub fudge: u16,
+}
+
+/// What a reply has to know of a TSIG that names this key.
+pub(crate) fn asking_of(key: u16, fields: &Data<'_>) -> Asking
+    requires { length fields.now.mac ≤ MAX_MAC }
+    ensures { result ≡ asking_of key fields.now }
+{
+    let mut mac = ArrayVec::new();
+    let _ = mac.try_extend_from_slice(fields.mac);
+    Asking {
+        key,
+        mac,
+        time: fields.time,
+        fudge: fields.fudge,
+    }
+}

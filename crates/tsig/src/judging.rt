@@ -1,0 +1,128 @@
+//! How a request is judged by its TSIG (RFC 8945, 5.2).
+ghost use Rattle.std.specs.Prelude.{◌≡◌, ◌≤◌, length};
+ghost use Rattle.std.specs.Bool.{OnTrue};
+ghost use Rattle.hmac.specs.Hmac.{mac_size};
+ghost use Rattle.tsig.specs.Opened.{is_size, is_timely, judged_after, judged, by_tsig, opened};
+ghost use Rattle.tsig.specs.Tsig.{tsig_at};
+
+use crate::asking::{Asking, asking_of};
+use crate::digest::is_right;
+use crate::fields::Data;
+use crate::key::Key;
+use crate::keys::Keys;
+use crate::record::{Tsig, tsig_at};
+use dns_message::{HEADER, Place, QR, tsig_place};
+use hmac::MAX_MAC;
+use wire_names::Message;
+
+/// The fewest octets of a MAC that is cut short (RFC 8945, 5.2.2.1).
+const MIN_MAC: usize = 10;
+
+/// What octets are by their TSIG (RFC 8945, 5.2).
+#[derive(Drop)]
+pub enum Opened<'m> {
+    /// A request without a TSIG, or one that can't be read to its end.
+    Unsigned,
+    /// Nothing that is answered: fewer than twelve octets, or a reply.
+    Silent,
+    /// FORMERR: the TSIG isn't the last record, there are two, it isn't of class ANY or hasn't the TTL 0, its data hasn't the form of one, its names have more than 470 octets, or its
+    /// MAC has a size that no MAC may have (RFC 8945, 5.2 and 5.2.2.1; own).
+    Malformed,
+    /// NOTAUTH with BADKEY, unsigned: no key has its name and its algorithm (RFC 8945, 5.2.1).
+    Unknown(Tsig<'m>),
+    /// NOTAUTH with BADSIG, unsigned: its MAC isn't the message's (RFC 8945, 5.2.2).
+    Wrong(Tsig<'m>),
+    /// NOTAUTH with BADTIME, signed: its time is outside its fudge (RFC 8945, 5.2.3).
+    Late(Asking),
+    /// NOTAUTH with BADTRUNC, signed: its MAC is right, and cut short (RFC 8945, 5.2.4).
+    Short(Asking),
+    /// A request that the holder of a key signed, within its fudge.
+    Signed(Asking),
+}
+
+/// What octets are by their TSIG, at a time in seconds since 1970, in the order of RFC 8945, 5.2. It takes no memory.
+pub fn open<'m>(keys: &Keys, now: u64, octets: &Message<'m>) -> Opened<'m>
+    ensures { result ≡ opened keys.now now octets.now }
+{
+    let msg = octets.octets();
+    if msg.len() < HEADER || msg[2] >= QR {
+        return Opened::Silent;
+    }
+    match tsig_place(octets) {
+        None => Opened::Unsigned,
+        Some(Place::Bare) => Opened::Unsigned,
+        Some(Place::Bad) => Opened::Malformed,
+        Some(Place::At(start)) => open_at(keys, now, octets, start),
+    }
+}
+
+/// What a request is whose TSIG stands at a position.
+fn open_at<'m>(keys: &Keys, now: u64, octets: &Message<'m>, start: usize) -> Opened<'m>
+    requires { HEADER ≤ length octets.now }
+    ensures { result ≡ by_tsig keys.now now octets.now start (tsig_at octets.now start) }
+{
+    let Some(tsig) = tsig_at(octets, start) else {
+        return Opened::Malformed;
+    };
+    let Some(index) = keys.index_of(tsig.owner(), tsig.algorithm()) else {
+        return Opened::Unknown(tsig);
+    };
+    let Some(key) = keys.get(index) else {
+        return Opened::Unknown(tsig);
+    };
+    judge(now, octets.octets(), start, tsig, index, key)
+}
+
+/// What a request is whose key is known.
+fn judge<'m>(
+    now: u64,
+    msg: &'m [u8],
+    start: usize,
+    tsig: Tsig<'m>,
+    index: u16,
+    key: &Key,
+) -> Opened<'m>
+    requires { HEADER ≤ length msg.now }
+    ensures { result ≡ judged now msg.now start tsig.entry index key.now }
+{
+    let size = tsig.fields().mac.len();
+    let whole = key.secret().mac_size();
+    if !is_size(whole, size) {
+        return Opened::Malformed;
+    }
+    if !is_right(key, &[], msg, start, tsig.fields()) {
+        return Opened::Wrong(tsig);
+    }
+    judge_after(now, index, whole, tsig.fields())
+}
+
+/// What a request is whose MAC is right, of a key whose MACs have so many octets.
+fn judge_after<'m>(now: u64, index: u16, whole: usize, fields: &Data<'_>) -> Opened<'m>
+    requires { length fields.now.mac ≤ MAX_MAC }
+    ensures { result ≡ judged_after now index whole fields.now }
+{
+    let asking = asking_of(index, fields);
+    if !is_timely(now, fields) {
+        return Opened::Late(asking);
+    }
+    if fields.mac.len() < whole {
+        return Opened::Short(asking);
+    }
+    Opened::Signed(asking)
+}
+
+/// Whether a MAC of this size may be one that is cut short, or a whole one (RFC 8945, 5.2.2.1).
+fn is_size(whole: usize, size: usize) -> bool
+    ensures size { result ≡ is_size whole size }
+    ensures within { OnTrue result (size ≤ whole) }
+{
+    size <= whole && MIN_MAC.max(whole / 2) <= size
+}
+
+/// Whether a time is within the fudge of now (RFC 8945, 5.2.3).
+fn is_timely(now: u64, fields: &Data<'_>) -> bool
+    ensures { result ≡ is_timely now fields.now }
+{
+    let fudge = u64::from(fields.fudge);
+    now.saturating_sub(fields.time) <= fudge && fields.time.saturating_sub(now) <= fudge
+}
