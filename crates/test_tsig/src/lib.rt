@@ -9,6 +9,6 @@ mod made;
 #[cfg(test)]
 mod messages;
 #[cfg(test)]
-mod opened;
+mod signed_within;
 #[cfg(test)]
-mod sealed;
+mod verified;

@@ -1,7 +1,7 @@
 pub mod EqLemmas
 pub mod ListLemmas
 pub mod RecordLemmas
-pub mod RefusalLemmas
+pub mod ErrorTsigLemmas
 pub mod SizeLemmas
 mod ReadBack
 mod PutBack

@@ -4,7 +4,7 @@ use Rattle.std.specs.Int.{from_be_bytes, to_be_bytes, w16}
 use Rattle.std.proofs.lemmas.List.{take_at, drop_at, take-take, drop-take, drop-drop, length-take-le}
 use Rattle.std.proofs.Math.Seq.{take-add}
 use Rattle.dns_message.specs.Message.{number_at}
-use Rattle.tsig.specs.Sealed.{with_record, cut_middle, cut_to}
+use Rattle.tsig.specs.Signing.{with_record, cut_middle, cut_to}
 
 -- what was written is in front of what stays
 pub front_put : (o x : List ℕ) (at : ℕ) → at + length x ≤ length o → take (at + length x) (take at o ++ x ++ drop (at + length x) o) ≡ take at o ++ x

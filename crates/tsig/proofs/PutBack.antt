@@ -7,11 +7,11 @@ use Rattle.std.proofs.lemmas.List.{take_all}
 use Rattle.std.proofs.lemmas.Slice.Eq.{bytes_eq-Decides}
 use Rattle.std.specs.Prelude.{true, bytes_eq}
 use Rattle.dns_message.specs.Message.{number_at}
-use Rattle.tsig.specs.Digested.{bare, message, timers, variables, mac_over}
+use Rattle.tsig.specs.Digested.{without_tsig, message, timers, variables, mac_over}
 use Rattle.tsig.specs.Fields.{Fields}
 use Rattle.tsig.specs.Keys.{SharedKey}
-use Rattle.tsig.specs.Opened.{is_right}
-use Rattle.tsig.specs.Sealed.{stamped, with_record, signed}
+use Rattle.tsig.specs.Verification.{is_right}
+use Rattle.tsig.specs.Signing.{stamped, with_record, signed}
 use Rattle.tsig.specs.declared.stamp.Stamp.{Stamp}
 
 -- ARCOUNT less one
@@ -22,8 +22,8 @@ front_of : (rest tail : List ℕ) → take (12 + length rest - 12) (rest ++ tail
 front_of rest tail = take_at rest tail (12 + length rest - 12) (omega arith)
 
 pub put_back : (id count a b c d e f g h : ℕ) (rest tail : List ℕ) → count < 2 ^ 16 - 1
-    → bare (message id (a ∷ b ∷ c ∷ d ∷ e ∷ f ∷ g ∷ h ∷ []) (count + 1) (rest ++ tail)) (12 + length rest) id ≡ message id (a ∷ b ∷ c ∷ d ∷ e ∷ f ∷ g ∷ h ∷ []) count rest
-unfolding bare
+    → without_tsig (message id (a ∷ b ∷ c ∷ d ∷ e ∷ f ∷ g ∷ h ∷ []) (count + 1) (rest ++ tail)) (12 + length rest) id ≡ message id (a ∷ b ∷ c ∷ d ∷ e ∷ f ∷ g ∷ h ∷ []) count rest
+unfolding without_tsig
 put_back id count a b c d e f g h rest tail fits =
     ap (λ n. to_be_bytes w16 id ++ ((a ∷ b ∷ c ∷ d ∷ e ∷ f ∷ g ∷ h ∷ []) ++ (to_be_bytes w16 n ++ take (12 + length rest - 12) (rest ++ tail)))) (one_less count fits)
     ∙ ap (λ l. to_be_bytes w16 id ++ ((a ∷ b ∷ c ∷ d ∷ e ∷ f ∷ g ∷ h ∷ []) ++ (to_be_bytes w16 count ++ l))) (front_of rest tail)
@@ -40,12 +40,12 @@ counted id count a b c d e f g h rest tail fits =
 
 -- so what was signed is put back of it
 pub what_was_signed : (id count a b c d e f g h : ℕ) (rest tail : List ℕ) → id < 2 ^ 16 → count < 2 ^ 16 - 1
-    → bare (with_record (message id (a ∷ b ∷ c ∷ d ∷ e ∷ f ∷ g ∷ h ∷ []) count rest) tail) (12 + length rest) (number_at (message id (a ∷ b ∷ c ∷ d ∷ e ∷ f ∷ g ∷ h ∷ []) count rest) 0)
+    → without_tsig (with_record (message id (a ∷ b ∷ c ∷ d ∷ e ∷ f ∷ g ∷ h ∷ []) count rest) tail) (12 + length rest) (number_at (message id (a ∷ b ∷ c ∷ d ∷ e ∷ f ∷ g ∷ h ∷ []) count rest) 0)
     ≡ message id (a ∷ b ∷ c ∷ d ∷ e ∷ f ∷ g ∷ h ∷ []) count rest
-unfolding bare
+unfolding without_tsig
 what_was_signed id count a b c d e f g h rest tail small fits =
-    ap (λ m. bare m (12 + length rest) (number_at (message id (a ∷ b ∷ c ∷ d ∷ e ∷ f ∷ g ∷ h ∷ []) count rest) 0)) (counted id count a b c d e f g h rest tail fits)
-    ∙ ap (bare (message id (a ∷ b ∷ c ∷ d ∷ e ∷ f ∷ g ∷ h ∷ []) (count + 1) (rest ++ tail)) (12 + length rest)) (from_be_bytes-to_be_bytes_2 id small)
+    ap (λ m. without_tsig m (12 + length rest) (number_at (message id (a ∷ b ∷ c ∷ d ∷ e ∷ f ∷ g ∷ h ∷ []) count rest) 0)) (counted id count a b c d e f g h rest tail fits)
+    ∙ ap (without_tsig (message id (a ∷ b ∷ c ∷ d ∷ e ∷ f ∷ g ∷ h ∷ []) (count + 1) (rest ++ tail)) (12 + length rest)) (from_be_bytes-to_be_bytes_2 id small)
     ∙ put_back id count a b c d e f g h rest tail fits
 
 -- and its MAC is right

@@ -13,41 +13,41 @@ use Rattle.dns_message.specs.Tsig.{place_in}
 use Rattle.dns_message.specs.declared.tsig.Place.{Place}
 use Rattle.dns_message.specs.declared.tsig.Place.TheVariants.{Bare, Bad, At}
 use Rattle.dns_name.specs.Name.{Name}
-use Rattle.tsig.specs.Digested.{bare, variables, digested, mac_over}
+use Rattle.tsig.specs.Digested.{without_tsig, variables, digested, mac_over}
 use Rattle.tsig.specs.Keys.{SharedKey, is_named, index_of, key_of}
 use Rattle.tsig.specs.Taken.{IsSignedBy}
-use Rattle.tsig.specs.Opened.{judged, by_key, by_tsig, by_place, opened, asking_of, is_size, is_right, is_timely}
+use Rattle.tsig.specs.Verification.{by_mac, by_key, by_tsig, by_place, verified, request_tsig_of, is_size, is_right, is_timely}
 use Rattle.tsig.specs.Tsig.{Tsig, tsig_at}
-use Rattle.tsig.specs.declared.asking.Asking.{Asking}
-use Rattle.tsig.specs.declared.judging.Opened.{Opened}
-use Rattle.tsig.specs.declared.judging.Opened.TheVariants.{Unsigned, Silent, Malformed, Unknown, Wrong, Late, Short, Signed}
+use Rattle.tsig.specs.declared.request_tsig.RequestTsig.{RequestTsig}
+use Rattle.tsig.specs.declared.verifying.Verification.{Verification}
+use Rattle.tsig.specs.declared.verifying.Verification.TheVariants.{Unsigned, Silent, Malformed, BadKey, BadSig, BadTime, BadTrunc, Signed}
 
 -- of a choice that comes to Signed the side that isn't Signed wasn't taken
-past : (b : Bool) (x y : Opened) (asking : Asking) → ¬ (x ≡ Signed asking) → (if b then x else y) ≡ Signed asking → (b ≡ false) × (y ≡ Signed asking)
-past true x y asking other is = absurd (other is)
-past false x y asking other is = (refl, is)
+past : (b : Bool) (x y : Verification) (request_tsig : RequestTsig) → ¬ (x ≡ Signed request_tsig) → (if b then x else y) ≡ Signed request_tsig → (b ≡ false) × (y ≡ Signed request_tsig)
+past true x y request_tsig other is = absurd (other is)
+past false x y request_tsig other is = (refl, is)
 
 holds : (b : Bool) → not b ≡ false → b ≡ true
 holds true e = refl
 holds false e = cc
 
 -- what was taken was judged
-found : (now : ℕ) (msg : List ℕ) (start : ℕ) (tsig : Tsig) (o : Option (ℕ × SharedKey)) (asking : Asking) → by_key now msg start tsig o ≡ Signed asking
-    → (r : ℕ × SharedKey) × (o ≡ Some r) × (judged now msg start tsig r.0 r.1 ≡ Signed asking)
-found now msg start tsig None asking is = cc
-found now msg start tsig (Some r) asking is = (r, refl, is)
+found : (now : ℕ) (msg : List ℕ) (start : ℕ) (tsig : Tsig) (o : Option (ℕ × SharedKey)) (request_tsig : RequestTsig) → by_key now msg start tsig o ≡ Signed request_tsig
+    → (r : ℕ × SharedKey) × (o ≡ Some r) × (by_mac now msg start tsig r.0 r.1 ≡ Signed request_tsig)
+found now msg start tsig None request_tsig is = cc
+found now msg start tsig (Some r) request_tsig is = (r, refl, is)
 
-read : (keys : List SharedKey) (now : ℕ) (msg : List ℕ) (start : ℕ) (o : Option Tsig) (asking : Asking) → by_tsig keys now msg start o ≡ Signed asking
-    → (tsig : Tsig) × (o ≡ Some tsig) × (by_key now msg start tsig (key_of tsig.owner tsig.algorithm keys) ≡ Signed asking)
-read keys now msg start None asking is = cc
-read keys now msg start (Some tsig) asking is = (tsig, refl, is)
+read : (keys : List SharedKey) (now : ℕ) (msg : List ℕ) (start : ℕ) (o : Option Tsig) (request_tsig : RequestTsig) → by_tsig keys now msg start o ≡ Signed request_tsig
+    → (tsig : Tsig) × (o ≡ Some tsig) × (by_key now msg start tsig (key_of tsig.owner tsig.algorithm keys) ≡ Signed request_tsig)
+read keys now msg start None request_tsig is = cc
+read keys now msg start (Some tsig) request_tsig is = (tsig, refl, is)
 
-placed : (keys : List SharedKey) (now : ℕ) (msg : List ℕ) (o : Option Place) (asking : Asking) → by_place keys now msg o ≡ Signed asking
-    → (start : ℕ) × (o ≡ Some (At start)) × (by_tsig keys now msg start (tsig_at msg start) ≡ Signed asking)
-placed keys now msg None asking is = cc
-placed keys now msg (Some Bare) asking is = cc
-placed keys now msg (Some Bad) asking is = cc
-placed keys now msg (Some (At start)) asking is = (start, refl, is)
+placed : (keys : List SharedKey) (now : ℕ) (msg : List ℕ) (o : Option Place) (request_tsig : RequestTsig) → by_place keys now msg o ≡ Signed request_tsig
+    → (start : ℕ) × (o ≡ Some (At start)) × (by_tsig keys now msg start (tsig_at msg start) ≡ Signed request_tsig)
+placed keys now msg None request_tsig is = cc
+placed keys now msg (Some Bare) request_tsig is = cc
+placed keys now msg (Some Bad) request_tsig is = cc
+placed keys now msg (Some (At start)) request_tsig is = (start, refl, is)
 
 abbrev some_is : {A : Type 0} → A → Option A
 some_is x = Some x
@@ -73,26 +73,26 @@ named owner algorithm keys None r at is = cc
 named owner algorithm keys (Some index) r at is = named_at owner algorithm keys index (slice_get keys index) r at refl is
 
 -- what holds of a request that was judged to be signed
-record IsGood (now : ℕ) (msg : List ℕ) (start : ℕ) (tsig : Tsig) (index : ℕ) (key : SharedKey) (asking : Asking) : Type 0 where
+record IsGood (now : ℕ) (msg : List ℕ) (start : ℕ) (tsig : Tsig) (index : ℕ) (key : SharedKey) (request_tsig : RequestTsig) : Type 0 where
   size : is_size (mac_size key.secret.algorithm) (length tsig.fields.mac) ≡ true
   right : is_right key [] msg start tsig.fields ≡ true
   timely : is_timely now tsig.fields ≡ true
   whole : nat_lt (length tsig.fields.mac) (mac_size key.secret.algorithm) ≡ false
-  said : asking_of index tsig.fields ≡ asking
+  said : request_tsig_of index tsig.fields ≡ request_tsig
 
-abbrev signed_is : Asking → Opened
+abbrev signed_is : RequestTsig → Verification
 signed_is x = Signed x
 
-signed_same : {x y : Asking} → signed_is x ≡ Signed y → x ≡ y
+signed_same : {x y : RequestTsig} → signed_is x ≡ Signed y → x ≡ y
 signed_same is = cc
 
-good : (now : ℕ) (msg : List ℕ) (start : ℕ) (tsig : Tsig) (index : ℕ) (key : SharedKey) (asking : Asking) → judged now msg start tsig index key ≡ Signed asking
-    → IsGood now msg start tsig index key asking
-good now msg start tsig index key asking is =
-    let size = past (not (is_size (mac_size key.secret.algorithm) (length tsig.fields.mac))) Malformed _ asking (λ e. cc) is in
-    let right = past (not (is_right key [] msg start tsig.fields)) (Wrong tsig) _ asking (λ e. cc) size.1 in
-    let timely = past (not (is_timely now tsig.fields)) (Late (asking_of index tsig.fields)) _ asking (λ e. cc) right.1 in
-    let whole = past (nat_lt (length tsig.fields.mac) (mac_size key.secret.algorithm)) (Short (asking_of index tsig.fields)) (Signed (asking_of index tsig.fields)) asking (λ e. cc) timely.1 in
+good : (now : ℕ) (msg : List ℕ) (start : ℕ) (tsig : Tsig) (index : ℕ) (key : SharedKey) (request_tsig : RequestTsig) → by_mac now msg start tsig index key ≡ Signed request_tsig
+    → IsGood now msg start tsig index key request_tsig
+good now msg start tsig index key request_tsig is =
+    let size = past (not (is_size (mac_size key.secret.algorithm) (length tsig.fields.mac))) Malformed _ request_tsig (λ e. cc) is in
+    let right = past (not (is_right key [] msg start tsig.fields)) (BadSig tsig) _ request_tsig (λ e. cc) size.1 in
+    let timely = past (not (is_timely now tsig.fields)) (BadTime (request_tsig_of index tsig.fields)) _ request_tsig (λ e. cc) right.1 in
+    let whole = past (nat_lt (length tsig.fields.mac) (mac_size key.secret.algorithm)) (BadTrunc (request_tsig_of index tsig.fields)) (Signed (request_tsig_of index tsig.fields)) request_tsig (λ e. cc) timely.1 in
     record {
       size = holds _ size.0;
       right = holds _ right.0;
@@ -117,19 +117,19 @@ le-true : (a b : ℕ) → nat_le a b ≡ true → a ≤ b
 le-true a b e = grind (arith, nat_tests)
 
 -- so a request that is taken is signed
-pub taken : (keys : List SharedKey) (now : ℕ) (msg : List ℕ) (asking : Asking) → opened keys now msg ≡ Signed asking → IsSignedBy keys now msg asking
+pub taken : (keys : List SharedKey) (now : ℕ) (msg : List ℕ) (request_tsig : RequestTsig) → verified keys now msg ≡ Signed request_tsig → IsSignedBy keys now msg request_tsig
 unfolding is_right
-taken keys now msg asking is =
-    let long = past (nat_lt (length msg) 12) Silent _ asking (λ e. cc) is in
-    let asked = past (is_reply msg) Silent _ asking (λ e. cc) long.1 in
-    let at = placed keys now msg (place_in msg) asking asked.1 in
-    let tsig = read keys now msg at.0 (tsig_at msg at.0) asking at.2 in
-    let key = found now msg at.0 tsig.0 (key_of tsig.0.owner tsig.0.algorithm keys) asking tsig.2 in
+taken keys now msg request_tsig is =
+    let long = past (nat_lt (length msg) 12) Silent _ request_tsig (λ e. cc) is in
+    let asked = past (is_reply msg) Silent _ request_tsig (λ e. cc) long.1 in
+    let at = placed keys now msg (place_in msg) request_tsig asked.1 in
+    let tsig = read keys now msg at.0 (tsig_at msg at.0) request_tsig at.2 in
+    let key = found now msg at.0 tsig.0 (key_of tsig.0.owner tsig.0.algorithm keys) request_tsig tsig.2 in
     let is_named_so = named tsig.0.owner tsig.0.algorithm keys (index_of tsig.0.owner tsig.0.algorithm keys) key.0 refl key.1 in
-    let is_good = good now msg at.0 tsig.0 key.0.0 key.0.1 asking key.2 in
+    let is_good = good now msg at.0 tsig.0 key.0.0 key.0.1 request_tsig key.2 in
     let times = both _ _ is_good.timely in
     let f = tsig.0.fields in
-    let own = mac_over key.0.1 [] (bare msg at.0 f.original) f in
+    let own = mac_over key.0.1 [] (without_tsig msg at.0 f.original) f in
     record {
       start = at.0;
       tsig = tsig.0;
@@ -138,7 +138,7 @@ taken keys now msg asking is =
       read = tsig.1;
       known = ap (λ a. slice_get keys a.key) (sym is_good.said) ∙ is_named_so.0;
       named = is_named_so.1;
-      right = whole_mac f.mac own is_good.right (enough (length own) (length f.mac) (mac_size key.0.1.secret.algorithm) (length-hmac_by key.0.1.secret (digested [] (bare msg at.0 f.original) (variables key.0.1 f))) is_good.whole);
+      right = whole_mac f.mac own is_good.right (enough (length own) (length f.mac) (mac_size key.0.1.secret.algorithm) (length-hmac_by key.0.1.secret (digested [] (without_tsig msg at.0 f.original) (variables key.0.1 f))) is_good.whole);
       early = le-true (now - f.time) f.fudge times.0;
       late = le-true (f.time - now) f.fudge times.1;
       mac_is = ap (λ a. a.mac.items) (sym is_good.said);

@@ -8,8 +8,8 @@ use Rattle.tsig.specs.Fields.{Fields, time_octets, with_length}
 use Rattle.tsig.specs.Keys.{SharedKey, algorithm_name}
 
 -- a message without its TSIG, which stands at a position: with this ID, ARCOUNT one less, and neither the TSIG nor what comes after it (RFC 8945, 4.3.2)
-unfoldable pub bare : List ℕ → ℕ → ℕ → List ℕ
-bare msg start id = to_be_bytes w16 id ++ (take 8 (drop 2 msg) ++ (to_be_bytes w16 (number_at msg 10 - 1) ++ take (start - 12) (drop 12 msg)))
+unfoldable pub without_tsig : List ℕ → ℕ → ℕ → List ℕ
+without_tsig msg start id = to_be_bytes w16 id ++ (take 8 (drop 2 msg) ++ (to_be_bytes w16 (number_at msg 10 - 1) ++ take (start - 12) (drop 12 msg)))
 
 -- a message of this ID, these flags and three counts, so many additional records, and the rest
 abbrev pub message : ℕ → List ℕ → ℕ → List ℕ → List ℕ

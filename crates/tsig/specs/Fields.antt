@@ -3,8 +3,8 @@ use Rattle.std.specs.Prelude.{ℕ, ◌+◌, ◌*◌, ◌/◌, ◌%◌, ◌^◌, 
 use Rattle.std.specs.Int.{to_be_bytes, w16, w32}
 use Rattle.dns_message.specs.Message.{number_at}
 use Rattle.dns_message.specs.Reads.{long_number_at}
-use Rattle.tsig.specs.declared.told.Told.{Told}
-use Rattle.tsig.specs.declared.told.Told.TheVariants.{Nothing, BadSig, BadKey, BadTime, BadTrunc}
+use Rattle.tsig.specs.declared.tsig_error.TsigError.{TsigError}
+use Rattle.tsig.specs.declared.tsig_error.TsigError.TheVariants.{NoError, BadSig, BadKey, BadTime, BadTrunc}
 
 -- Time Signed in seconds since 1970, Fudge in seconds, the MAC, Original ID, Error, and Other Data
 pub record Fields : Type 0 where
@@ -55,16 +55,16 @@ pub record HaveRoom (f : Fields) : Type 0 where
   pub other : length f.other < 2 ^ 16
 
 -- the number of an error (RFC 8945, 3)
-abbrev pub error_number : Told → ℕ
-error_number Nothing = 0
+abbrev pub error_number : TsigError → ℕ
+error_number NoError = 0
 error_number BadSig = 16
 error_number BadKey = 17
 error_number (BadTime now) = 18
 error_number BadTrunc = 22
 
 -- Other Data of an error: of BADTIME the server's time (RFC 8945, 5.2.3)
-abbrev pub other_of : Told → List ℕ
-other_of Nothing = []
+abbrev pub other_of : TsigError → List ℕ
+other_of NoError = []
 other_of BadSig = []
 other_of BadKey = []
 other_of (BadTime now) = time_octets now

@@ -2,20 +2,20 @@
 ghost use Rattle.std.specs.Prelude.{◌≡◌, ◌≤◌, ◌<◌, ◌^◌, ◌++◌, ℕ, List, length, take, bytes_eq};
 ghost use Rattle.hmac.specs.Hmac.{Keyed, hmac_by, mac_size};
 ghost use Rattle.hmac.specs.Macs.{IsMac};
-ghost use Rattle.tsig.specs.Digested.{bare, front, timers, variables, key_variables, digested, mac_over, mac_later};
+ghost use Rattle.tsig.specs.Digested.{without_tsig, front, timers, variables, key_variables, digested, mac_over, mac_later};
 ghost use Rattle.tsig.specs.Fields.{with_length};
-ghost use Rattle.tsig.specs.Opened.{is_right};
+ghost use Rattle.tsig.specs.Verification.{is_right};
 
-use crate::bare::add_bare;
 use crate::fields::Data;
 use crate::key::Key;
-use crate::told::time_octets;
+use crate::tsig_error::time_octets;
+use crate::without_tsig::add_without_tsig;
 use arrayvec::ArrayVec;
 use dns_message::HEADER;
 use hmac::{MAX_MAC, Mac, is_same};
 
 /// Whether the MAC of the TSIG at a position is the message's, or the beginning of it (RFC 8945, 5.2.2).
-#[tactic(auto, unfolding(crate::specs::Opened::is_right))]
+#[tactic(auto, unfolding(crate::specs::Verification::is_right))]
 pub(crate) fn is_right(key: &Key, prior: &[u8], msg: &[u8], start: usize, fields: &Data<'_>) -> bool
     requires header { HEADER ≤ length msg.now }
     requires few { length prior.now < 2 ^ 16 }
@@ -51,11 +51,11 @@ fn mac_of(
     requires header { HEADER ≤ length msg.now }
     requires few { length prior.now < 2 ^ 16 }
     requires small { length fields.now.other < 2 ^ 16 }
-    ensures { result.items ≡ mac_over key.now prior.now (bare msg.now start fields.now.original) fields.now }
+    ensures { result.items ≡ mac_over key.now prior.now (without_tsig msg.now start fields.now.original) fields.now }
 {
     let mut mac = key.secret().begin();
     add_front(&mut mac, prior);
-    add_bare(&mut mac, msg, start, fields.original);
+    add_without_tsig(&mut mac, msg, start, fields.original);
     add_variables(&mut mac, key, fields);
     mac.finish()
 }

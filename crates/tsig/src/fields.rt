@@ -5,7 +5,7 @@ ghost use Rattle.dns_message.specs.Reads.{long_number_at};
 ghost use Rattle.tsig.specs.Fields.{Fields, written, with_length, fields_in};
 
 use crate::octets::number_at;
-use crate::told::time_octets;
+use crate::tsig_error::time_octets;
 use arrayvec::ArrayVec;
 use std::marker::Model;
 

@@ -1,5 +1,5 @@
 //! What a TSIG of ours says but for its MAC (RFC 8945, 4.2 and 5.3).
-use crate::told::Told;
+use crate::tsig_error::TsigError;
 
 /// The fudge of what is signed, in seconds (RFC 8945, 10).
 pub const FUDGE: u16 = 300;
@@ -12,5 +12,5 @@ pub struct Stamp {
     /// The fudge, in seconds.
     pub fudge: u16,
     /// The error, with its Other Data.
-    pub told: Told,
+    pub error: TsigError,
 }

@@ -1,7 +1,7 @@
 use Rattle.std.proofs.Common.{arith, ◌+◌, ◌∙◌}
 use Rattle.tsig.proofs.ListLemmas.{same_behind}
-use Rattle.tsig.proofs.sealing.seal.Goals as goal
-use Rattle.tsig.specs.Sealed.{tsig_size}
+use Rattle.tsig.proofs.signing.sign.Goals as goal
+use Rattle.tsig.specs.Signing.{tsig_size}
 
 pub returns-clause-behind : goal.returns-clause-behind
 returns-clause-behind c =

@@ -6,20 +6,20 @@ use crate::messages::{
 use dns_message::{HEADER, Place, tsig_place};
 use std::alloc::Global;
 use std::test::Fail;
-use tsig::{Opened, open, write_bare};
+use tsig::{Verification, verify, write_without_tsig};
 use wire_names::Message;
 
 /// What a request is taken as, in a word.
-fn word(opened: &Opened<'_>) -> &'static str {
-    match opened {
-        Opened::Unsigned => "unsigned",
-        Opened::Silent => "silent",
-        Opened::Malformed => "malformed",
-        Opened::Unknown(_) => "unknown",
-        Opened::Wrong(_) => "wrong",
-        Opened::Late(_) => "late",
-        Opened::Short(_) => "short",
-        Opened::Signed(_) => "signed",
+fn word(verified: &Verification<'_>) -> &'static str {
+    match verified {
+        Verification::Unsigned => "unsigned",
+        Verification::Silent => "silent",
+        Verification::Malformed => "malformed",
+        Verification::BadKey(_) => "unknown",
+        Verification::BadSig(_) => "wrong",
+        Verification::BadTime(_) => "late",
+        Verification::BadTrunc(_) => "short",
+        Verification::Signed(_) => "signed",
     }
 }
 
@@ -27,7 +27,7 @@ fn word(opened: &Opened<'_>) -> &'static str {
 fn taken(alloc: Global, request: &str, now: u64) -> Result<&'static str, Fail> {
     let octets = hex::decode(alloc, request)?;
     let keys = keys(alloc)?;
-    Ok(word(&open(&keys, now, &Message::new(&octets))))
+    Ok(word(&verify(&keys, now, &Message::new(&octets))))
 }
 
 #[test]
@@ -66,7 +66,7 @@ fn times_at_the_fudge(rt: HostRuntime) -> Result<(), Fail> {
 }
 
 /// A request without its TSIG, and with its ID; None where it has none.
-fn bare(alloc: Global, request: &str) -> Result<Option<Vec<u8>>, Fail> {
+fn without_tsig(alloc: Global, request: &str) -> Result<Option<Vec<u8>>, Fail> {
     let octets = hex::decode(alloc, request)?;
     if octets.len() < HEADER {
         return Ok(None);
@@ -76,7 +76,7 @@ fn bare(alloc: Global, request: &str) -> Result<Option<Vec<u8>>, Fail> {
     };
     let mut out = octets.clone()?;
     let id = u16::from_be_bytes([octets[0], octets[1]]);
-    let len = write_bare(&octets, start, id, &mut out);
+    let len = write_without_tsig(&octets, start, id, &mut out);
     out.truncate(len);
     Ok(Some(out))
 }
@@ -86,9 +86,9 @@ fn requests_without_their_tsig(rt: HostRuntime) -> Result<(), Fail> {
     for (request, want) in [(QUERY, QUERY_BARE), (UPDATE, UPDATE_BARE)] {
         let want = hex::decode(rt.alloc(), want)?;
         assert!(rt;
-            bare(rt.alloc(), request)?.is_some_and(|own| own.as_slice() == want.as_slice())
+            without_tsig(rt.alloc(), request)?.is_some_and(|own| own.as_slice() == want.as_slice())
         );
     }
-    assert!(rt; bare(rt.alloc(), QUERY_BARE)?.is_none());
+    assert!(rt; without_tsig(rt.alloc(), QUERY_BARE)?.is_none());
     Ok(())
 }

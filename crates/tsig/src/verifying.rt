@@ -2,15 +2,15 @@
 ghost use Rattle.std.specs.Prelude.{◌≡◌, ◌≤◌, length};
 ghost use Rattle.std.specs.Bool.{OnTrue};
 ghost use Rattle.hmac.specs.Hmac.{mac_size};
-ghost use Rattle.tsig.specs.Opened.{is_size, is_timely, judged_after, judged, by_tsig, opened};
+ghost use Rattle.tsig.specs.Verification.{is_size, is_timely, after_mac, by_mac, by_tsig, verified};
 ghost use Rattle.tsig.specs.Tsig.{tsig_at};
 
-use crate::asking::{Asking, asking_of};
 use crate::digest::is_right;
 use crate::fields::Data;
 use crate::key::Key;
 use crate::keys::Keys;
 use crate::record::{Tsig, tsig_at};
+use crate::request_tsig::{RequestTsig, request_tsig_of};
 use dns_message::{HEADER, Place, QR, tsig_place};
 use hmac::MAX_MAC;
 use wire_names::Message;
@@ -20,7 +20,7 @@ const MIN_MAC: usize = 10;
 
 /// What octets are by their TSIG (RFC 8945, 5.2).
 #[derive(Drop)]
-pub enum Opened<'m> {
+pub enum Verification<'m> {
     /// A request without a TSIG, or one that can't be read to its end.
     Unsigned,
     /// Nothing that is answered: fewer than twelve octets, or a reply.
@@ -29,86 +29,86 @@ pub enum Opened<'m> {
     /// MAC has a size that no MAC may have (RFC 8945, 5.2 and 5.2.2.1; own).
     Malformed,
     /// NOTAUTH with BADKEY, unsigned: no key has its name and its algorithm (RFC 8945, 5.2.1).
-    Unknown(Tsig<'m>),
+    BadKey(Tsig<'m>),
     /// NOTAUTH with BADSIG, unsigned: its MAC isn't the message's (RFC 8945, 5.2.2).
-    Wrong(Tsig<'m>),
+    BadSig(Tsig<'m>),
     /// NOTAUTH with BADTIME, signed: its time is outside its fudge (RFC 8945, 5.2.3).
-    Late(Asking),
+    BadTime(RequestTsig),
     /// NOTAUTH with BADTRUNC, signed: its MAC is right, and cut short (RFC 8945, 5.2.4).
-    Short(Asking),
+    BadTrunc(RequestTsig),
     /// A request that the holder of a key signed, within its fudge.
-    Signed(Asking),
+    Signed(RequestTsig),
 }
 
 /// What octets are by their TSIG, at a time in seconds since 1970, in the order of RFC 8945, 5.2. It takes no memory.
-pub fn open<'m>(keys: &Keys, now: u64, octets: &Message<'m>) -> Opened<'m>
-    ensures { result ≡ opened keys.now now octets.now }
+pub fn verify<'m>(keys: &Keys, now: u64, octets: &Message<'m>) -> Verification<'m>
+    ensures { result ≡ verified keys.now now octets.now }
 {
     let msg = octets.octets();
     if msg.len() < HEADER || msg[2] >= QR {
-        return Opened::Silent;
+        return Verification::Silent;
     }
     match tsig_place(octets) {
-        None => Opened::Unsigned,
-        Some(Place::Bare) => Opened::Unsigned,
-        Some(Place::Bad) => Opened::Malformed,
-        Some(Place::At(start)) => open_at(keys, now, octets, start),
+        None => Verification::Unsigned,
+        Some(Place::Bare) => Verification::Unsigned,
+        Some(Place::Bad) => Verification::Malformed,
+        Some(Place::At(start)) => verify_at(keys, now, octets, start),
     }
 }
 
 /// What a request is whose TSIG stands at a position.
-fn open_at<'m>(keys: &Keys, now: u64, octets: &Message<'m>, start: usize) -> Opened<'m>
+fn verify_at<'m>(keys: &Keys, now: u64, octets: &Message<'m>, start: usize) -> Verification<'m>
     requires { HEADER ≤ length octets.now }
     ensures { result ≡ by_tsig keys.now now octets.now start (tsig_at octets.now start) }
 {
     let Some(tsig) = tsig_at(octets, start) else {
-        return Opened::Malformed;
+        return Verification::Malformed;
     };
     let Some(index) = keys.index_of(tsig.owner(), tsig.algorithm()) else {
-        return Opened::Unknown(tsig);
+        return Verification::BadKey(tsig);
     };
     let Some(key) = keys.get(index) else {
-        return Opened::Unknown(tsig);
+        return Verification::BadKey(tsig);
     };
-    judge(now, octets.octets(), start, tsig, index, key)
+    verify_mac(now, octets.octets(), start, tsig, index, key)
 }
 
 /// What a request is whose key is known.
-fn judge<'m>(
+fn verify_mac<'m>(
     now: u64,
     msg: &'m [u8],
     start: usize,
     tsig: Tsig<'m>,
     index: u16,
     key: &Key,
-) -> Opened<'m>
+) -> Verification<'m>
     requires { HEADER ≤ length msg.now }
-    ensures { result ≡ judged now msg.now start tsig.entry index key.now }
+    ensures { result ≡ by_mac now msg.now start tsig.entry index key.now }
 {
     let size = tsig.fields().mac.len();
     let whole = key.secret().mac_size();
     if !is_size(whole, size) {
-        return Opened::Malformed;
+        return Verification::Malformed;
     }
     if !is_right(key, &[], msg, start, tsig.fields()) {
-        return Opened::Wrong(tsig);
+        return Verification::BadSig(tsig);
     }
-    judge_after(now, index, whole, tsig.fields())
+    verify_after(now, index, whole, tsig.fields())
 }
 
 /// What a request is whose MAC is right, of a key whose MACs have so many octets.
-fn judge_after<'m>(now: u64, index: u16, whole: usize, fields: &Data<'_>) -> Opened<'m>
+fn verify_after<'m>(now: u64, index: u16, whole: usize, fields: &Data<'_>) -> Verification<'m>
     requires { length fields.now.mac ≤ MAX_MAC }
-    ensures { result ≡ judged_after now index whole fields.now }
+    ensures { result ≡ after_mac now index whole fields.now }
 {
-    let asking = asking_of(index, fields);
+    let request_tsig = request_tsig_of(index, fields);
     if !is_timely(now, fields) {
-        return Opened::Late(asking);
+        return Verification::BadTime(request_tsig);
     }
     if fields.mac.len() < whole {
-        return Opened::Short(asking);
+        return Verification::BadTrunc(request_tsig);
     }
-    Opened::Signed(asking)
+    Verification::Signed(request_tsig)
 }
 
 /// Whether a MAC of this size may be one that is cut short, or a whole one (RFC 8945, 5.2.2.1).

@@ -4,7 +4,7 @@ ghost use Rattle.std.specs.Int.{to_be_bytes, w16};
 ghost use Rattle.dns_message.specs.Message.{number_at};
 ghost use Rattle.hmac.specs.Hmac.{Keyed};
 ghost use Rattle.hmac.specs.Macs.{IsMac};
-ghost use Rattle.tsig.specs.Digested.{bare};
+ghost use Rattle.tsig.specs.Digested.{without_tsig};
 
 use crate::octets::{number_at, put_at};
 use dns_message::HEADER;
@@ -14,11 +14,11 @@ use hmac::Mac;
 pub(crate) const ARCOUNT: usize = 10;
 
 /// Writes a message without its TSIG, which stands at a position, to the front of `out`, with this ID, and gives how many octets it has. What is behind these stays.
-#[tactic(auto, unfolding(crate::specs::Digested::bare))]
-pub fn write_bare(msg: &[u8], start: usize, id: u16, out: &mut [u8]) -> usize
+#[tactic(auto, unfolding(crate::specs::Digested::without_tsig))]
+pub fn write_without_tsig(msg: &[u8], start: usize, id: u16, out: &mut [u8]) -> usize
     requires header { HEADER ≤ length msg.now }
     requires room { length msg.now ≤ length out.old }
-    ensures octets { take result out.new ≡ bare msg.now start id }
+    ensures octets { take result out.new ≡ without_tsig msg.now start id }
     ensures behind { drop result out.new ≡ drop result out.old }
 {
     let at = put_at(out, 0, &id.to_be_bytes());
@@ -28,10 +28,10 @@ pub fn write_bare(msg: &[u8], start: usize, id: u16, out: &mut [u8]) -> usize
 }
 
 /// Adds a message without its TSIG, which stands at a position, to a MAC's text, with this ID.
-#[tactic(auto, unfolding(crate::specs::Digested::bare))]
-pub(crate) fn add_bare(mac: &mut Mac, msg: &[u8], start: usize, id: u16)
+#[tactic(auto, unfolding(crate::specs::Digested::without_tsig))]
+pub(crate) fn add_without_tsig(mac: &mut Mac, msg: &[u8], start: usize, id: u16)
     requires { HEADER ≤ length msg.now }
-    ensures { (key : Keyed) (text : List ℕ) → IsMac mac.old key text → IsMac mac.new key (text ++ bare msg.now start id) }
+    ensures { (key : Keyed) (text : List ℕ) → IsMac mac.old key text → IsMac mac.new key (text ++ without_tsig msg.now start id) }
 {
     mac.add(&id.to_be_bytes());
     mac.add(&msg[2..ARCOUNT]);

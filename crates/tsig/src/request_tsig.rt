@@ -1,7 +1,7 @@
 //! What a reply has to know of a request's TSIG (RFC 8945, 5.3).
 ghost use Rattle.std.specs.Prelude.{◌≡◌, ◌≤◌, length};
 ghost use Rattle.tsig.specs.Fields.{Fields};
-ghost use Rattle.tsig.specs.Opened.{asking_of};
+ghost use Rattle.tsig.specs.Verification.{request_tsig_of};
 
 use crate::fields::Data;
 use arrayvec::ArrayVec;
@@ -9,7 +9,7 @@ use hmac::MAX_MAC;
 
 /// What a reply has to know of a request's TSIG.
 #[derive(Drop)]
-pub struct Asking {
+pub struct RequestTsig {
     /// Which of the keys it names.
     pub key: u16,
     /// Its MAC, as it was sent.
@@ -21,13 +21,13 @@ pub struct Asking {
 }
 
 /// What a reply has to know of a TSIG that names this key.
-pub(crate) fn asking_of(key: u16, fields: &Data<'_>) -> Asking
+pub(crate) fn request_tsig_of(key: u16, fields: &Data<'_>) -> RequestTsig
     requires { length fields.now.mac ≤ MAX_MAC }
-    ensures { result ≡ asking_of key fields.now }
+    ensures { result ≡ request_tsig_of key fields.now }
 {
     let mut mac = ArrayVec::new();
     let _ = mac.try_extend_from_slice(fields.mac);
-    Asking {
+    RequestTsig {
         key,
         mac,
         time: fields.time,

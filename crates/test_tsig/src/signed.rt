@@ -11,8 +11,8 @@ use hmac::MAX_MAC;
 use std::alloc::Global;
 use std::test::Fail;
 use tsig::{
-    Asking, FUDGE, Key, Keys, MAX_REFUSAL, MAX_TSIG, Opened, Stamp, Told, open, refuse, seal,
-    seal_later,
+    FUDGE, Key, Keys, MAX_ERROR_TSIG, MAX_TSIG, RequestTsig, Stamp, TsigError, Verification,
+    add_error_tsig, sign, sign_later, verify,
 };
 use wire_names::Message;
 
@@ -20,37 +20,37 @@ use wire_names::Message;
 type Mac = ArrayVec<u8, MAX_MAC>;
 
 /// What a reply has to know of a request, where its MAC is right.
-fn asking_of(keys: &Keys, now: u64, request: &[u8]) -> Option<Asking> {
-    match open(keys, now, &Message::new(request)) {
-        Opened::Late(asking) => Some(asking),
-        Opened::Short(asking) => Some(asking),
-        Opened::Signed(asking) => Some(asking),
+fn request_tsig_of(keys: &Keys, now: u64, request: &[u8]) -> Option<RequestTsig> {
+    match verify(keys, now, &Message::new(request)) {
+        Verification::BadTime(request_tsig) => Some(request_tsig),
+        Verification::BadTrunc(request_tsig) => Some(request_tsig),
+        Verification::Signed(request_tsig) => Some(request_tsig),
         _ => None,
     }
 }
 
 /// Signs the reply in the first octets under a limit of 512, where it has a header and room.
-fn seal_in(key: &Key, mac: &mut Mac, stamp: &Stamp, out: &mut [u8], len: usize) -> Option<usize> {
+fn sign_in(key: &Key, mac: &mut Mac, stamp: &Stamp, out: &mut [u8], len: usize) -> Option<usize> {
     if out.len() < 512 || len < HEADER || len > 512 || number_at(out, 10) == u16::MAX {
         return None;
     }
-    Some(seal(key, mac, stamp, 512, out, len))
+    Some(sign(key, mac, stamp, 512, out, len))
 }
 
 /// Signs a later message in the first octets, likewise.
-fn seal_more(key: &Key, mac: &mut Mac, stamp: &Stamp, out: &mut [u8], len: usize) -> Option<usize> {
+fn sign_more(key: &Key, mac: &mut Mac, stamp: &Stamp, out: &mut [u8], len: usize) -> Option<usize> {
     if len < HEADER || len > 512 || out.len() < 512 + MAX_TSIG || number_at(out, 10) == u16::MAX {
         return None;
     }
-    Some(seal_later(key, mac, stamp, out, len))
+    Some(sign_later(key, mac, stamp, out, len))
 }
 
 /// A stamp of a time, with this error.
-fn stamp(time: u64, told: Told) -> Stamp {
+fn stamp(time: u64, error: TsigError) -> Stamp {
     Stamp {
         time,
         fudge: FUDGE,
-        told,
+        error,
     }
 }
 
@@ -72,15 +72,15 @@ fn signed(
 ) -> Result<Option<(Vec<u8>, Mac)>, Fail> {
     let request = hex::decode(alloc, request)?;
     let keys = keys(alloc)?;
-    let Some(asking) = asking_of(&keys, now, &request) else {
+    let Some(request_tsig) = request_tsig_of(&keys, now, &request) else {
         return Ok(None);
     };
-    let Some(key) = keys.get(asking.key) else {
+    let Some(key) = keys.get(request_tsig.key) else {
         return Ok(None);
     };
     let (mut out, len) = with_room(alloc, plain)?;
-    let mut mac = asking.mac;
-    let Some(len) = seal_in(key, &mut mac, stamp, &mut out, len) else {
+    let mut mac = request_tsig.mac;
+    let Some(len) = sign_in(key, &mut mac, stamp, &mut out, len) else {
         return Ok(None);
     };
     out.truncate(len);
@@ -96,7 +96,7 @@ fn has_mac(alloc: Global, message: &str, mac: &[u8]) -> Result<bool, Fail> {
 
 #[test]
 fn macs_of_replies(rt: HostRuntime) -> Result<(), Fail> {
-    let stamp = stamp(1_700_000_001, Told::Nothing);
+    let stamp = stamp(1_700_000_001, TsigError::NoError);
     for (request, plain, want) in [
         (QUERY, ANSWER_BARE, ANSWER),
         (UPDATE, UPDATED_BARE, UPDATED),
@@ -115,14 +115,14 @@ fn later(alloc: Global, mac: &mut Mac, time: u64, plain: &str) -> Result<bool, F
         return Ok(false);
     };
     let (mut out, len) = with_room(alloc, plain)?;
-    let stamp = stamp(time, Told::Nothing);
-    Ok(seal_more(key, mac, &stamp, &mut out, len).is_some())
+    let stamp = stamp(time, TsigError::NoError);
+    Ok(sign_more(key, mac, &stamp, &mut out, len).is_some())
 }
 
 // RFC 8945, 5.3.1: the first message over the request's MAC and all variables, each later one over the MAC before and the times.
 #[test]
 fn macs_of_a_transfer(rt: HostRuntime) -> Result<(), Fail> {
-    let first = stamp(1_700_000_001, Told::Nothing);
+    let first = stamp(1_700_000_001, TsigError::NoError);
     let made = signed(rt.alloc(), AXFR, 1_700_000_001, FIRST_BARE, &first)?;
     let (_, mut mac) = made.ok_or("not signed")?;
     assert!(rt; has_mac(rt.alloc(), FIRST, &mac)?);
@@ -150,7 +150,7 @@ fn is_told(
 // RFC 8945, 5.2.3: BADTIME has the request's time, and the server's as Other Data; 5.2.4: BADTRUNC is signed in full.
 #[test]
 fn errors_that_are_signed(rt: HostRuntime) -> Result<(), Fail> {
-    let late = stamp(1_700_000_000, Told::BadTime(1_700_001_000));
+    let late = stamp(1_700_000_000, TsigError::BadTime(1_700_001_000));
     assert!(rt;
         is_told(
             rt.alloc(),
@@ -161,7 +161,7 @@ fn errors_that_are_signed(rt: HostRuntime) -> Result<(), Fail> {
             OLD_TOLD
         )?
     );
-    let short = stamp(1_700_000_001, Told::BadTrunc);
+    let short = stamp(1_700_000_001, TsigError::BadTrunc);
     assert!(rt;
         is_told(
             rt.alloc(),
@@ -178,7 +178,7 @@ fn errors_that_are_signed(rt: HostRuntime) -> Result<(), Fail> {
 // RFC 8945, 5.3: the question, TC 1 and NOERROR are left of a reply whose TSIG doesn't fit.
 #[test]
 fn reply_that_is_cut(rt: HostRuntime) -> Result<(), Fail> {
-    let stamp = stamp(1_700_000_001, Told::Nothing);
+    let stamp = stamp(1_700_000_001, TsigError::NoError);
     let mut plain = String::from_str(rt.alloc(), ANSWER_BARE)?;
     for _ in 0..400 {
         plain.push_str("00")?;
@@ -192,29 +192,29 @@ fn reply_that_is_cut(rt: HostRuntime) -> Result<(), Fail> {
 }
 
 /// Tells an error, unsigned, in the first octets, where there is a header and room.
-fn refuse_in(opened: &Opened<'_>, out: &mut [u8], len: usize) -> Option<usize> {
+fn add_error_in(verified: &Verification<'_>, out: &mut [u8], len: usize) -> Option<usize> {
     if len < HEADER
         || len > 512
-        || out.len() < 512 + MAX_REFUSAL
+        || out.len() < 512 + MAX_ERROR_TSIG
         || number_at(out, 10) == u16::MAX
     {
         return None;
     }
-    match opened {
-        Opened::Unknown(tsig) => Some(refuse(tsig, Told::BadKey, out, len)),
-        Opened::Wrong(tsig) => Some(refuse(tsig, Told::BadSig, out, len)),
+    match verified {
+        Verification::BadKey(tsig) => Some(add_error_tsig(tsig, TsigError::BadKey, out, len)),
+        Verification::BadSig(tsig) => Some(add_error_tsig(tsig, TsigError::BadSig, out, len)),
         _ => None,
     }
 }
 
 /// Whether the reply to a request that isn't taken is this one.
-fn is_refused(alloc: Global, request: &str, plain: &str, want: &str) -> Result<bool, Fail> {
+fn is_error(alloc: Global, request: &str, plain: &str, want: &str) -> Result<bool, Fail> {
     let request = hex::decode(alloc, request)?;
     let want = hex::decode(alloc, want)?;
     let keys = keys(alloc)?;
-    let opened = open(&keys, 1_700_000_001, &Message::new(&request));
+    let verified = verify(&keys, 1_700_000_001, &Message::new(&request));
     let (mut out, len) = with_room(alloc, plain)?;
-    let Some(len) = refuse_in(&opened, &mut out, len) else {
+    let Some(len) = add_error_in(&verified, &mut out, len) else {
         return Ok(false);
     };
     out.truncate(len);
@@ -225,13 +225,13 @@ fn is_refused(alloc: Global, request: &str, plain: &str, want: &str) -> Result<b
 #[test]
 fn errors_that_are_unsigned(rt: HostRuntime) -> Result<(), Fail> {
     assert!(rt;
-        is_refused(
+        is_error(
             rt.alloc(),
             UNKNOWN,
             "4444a8090000000000000000",
             UNKNOWN_TOLD
         )?
     );
-    assert!(rt; is_refused(rt.alloc(), WRONG, "5555a8090000000000000000", WRONG_TOLD)?);
+    assert!(rt; is_error(rt.alloc(), WRONG, "5555a8090000000000000000", WRONG_TOLD)?);
     Ok(())
 }

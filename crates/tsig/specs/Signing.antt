@@ -10,7 +10,7 @@ use Rattle.tsig.specs.Fields.{Fields, error_number, other_of}
 use Rattle.tsig.specs.Keys.{SharedKey, algorithm_name}
 use Rattle.tsig.specs.Tsig.{Tsig, record_octets}
 use Rattle.tsig.specs.declared.stamp.Stamp.{Stamp}
-use Rattle.tsig.specs.declared.told.Told.{Told}
+use Rattle.tsig.specs.declared.tsig_error.TsigError.{TsigError}
 
 -- the fields of a message's TSIG with this MAC: Original ID is the message's ID (RFC 8945, 4.2)
 abbrev pub stamped : Stamp → List ℕ → List ℕ → Fields
@@ -19,8 +19,8 @@ stamped stamp plain mac = record {
   fudge = stamp.fudge;
   mac = mac;
   original = number_at plain 0;
-  error = error_number stamp.told;
-  other = other_of stamp.told;
+  error = error_number stamp.error;
+  other = other_of stamp.error;
 }
 
 -- a message with one more additional record behind it
@@ -43,7 +43,7 @@ signed_later key prior stamp plain = with_tsig key stamp (mac_later key prior pl
 -- how many octets the TSIG of a key has
 abbrev pub tsig_size : SharedKey → Stamp → ℕ
 tsig_size key stamp =
-    length (wire_of key.name) + 10 + length (wire_of (algorithm_name key.secret.algorithm)) + 16 + mac_size key.secret.algorithm + length (other_of stamp.told)
+    length (wire_of key.name) + 10 + length (wire_of (algorithm_name key.secret.algorithm)) + 16 + mac_size key.secret.algorithm + length (other_of stamp.error)
 
 -- what stands between the ID and the question of a reply that is cut: its flags with TC 1 and NOERROR, so many questions, and no records (RFC 8945, 5.3)
 abbrev pub cut_middle : List ℕ → ℕ → List ℕ
@@ -76,21 +76,21 @@ abbrev pub fitted : ℕ → ℕ → List ℕ → List ℕ
 fitted size limit plain = if nat_le (length plain + size) limit then plain else cut plain
 
 -- the octets that are sent of a reply under a limit (RFC 8945, 5.3)
-abbrev pub sealed : SharedKey → List ℕ → Stamp → ℕ → List ℕ → List ℕ
-sealed key prior stamp limit plain = signed key prior stamp (fitted (tsig_size key stamp) limit plain)
+abbrev pub signed_within : SharedKey → List ℕ → Stamp → ℕ → List ℕ → List ℕ
+signed_within key prior stamp limit plain = signed key prior stamp (fitted (tsig_size key stamp) limit plain)
 
 -- the fields of the TSIG that tells of an unknown key or a wrong MAC: the request's times, and no MAC (RFC 8945, 5.3.2)
-abbrev pub unsigned : Fields → Told → List ℕ → Fields
-unsigned f told plain = record {
+abbrev pub unsigned : Fields → TsigError → List ℕ → Fields
+unsigned f error plain = record {
   time = f.time;
   fudge = f.fudge;
   mac = [];
   original = number_at plain 0;
-  error = error_number told;
-  other = other_of told;
+  error = error_number error;
+  other = other_of error;
 }
 
 -- a reply that tells of an unknown key or a wrong MAC, unsigned, with the names of the request's TSIG (RFC 8945, 5.3.2)
-abbrev pub refused : Tsig → Told → List ℕ → List ℕ
-refused tsig told plain =
-    with_record plain (record_octets (record { owner = tsig.owner; algorithm = tsig.algorithm; fields = unsigned tsig.fields told plain }))
+abbrev pub with_error_tsig : Tsig → TsigError → List ℕ → List ℕ
+with_error_tsig tsig error plain =
+    with_record plain (record_octets (record { owner = tsig.owner; algorithm = tsig.algorithm; fields = unsigned tsig.fields error plain }))

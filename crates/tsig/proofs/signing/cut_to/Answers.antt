@@ -1,6 +1,6 @@
 use Rattle.std.proofs.Common.{arith, refl}
 use Rattle.tsig.proofs.ListLemmas.{reply_cut, cut_counted, cut_behind}
-use Rattle.tsig.proofs.sealing.cut_to.Goals as goal
+use Rattle.tsig.proofs.signing.cut_to.Goals as goal
 
 pub returns-clause-octets : goal.returns-clause-octets
 returns-clause-octets c =

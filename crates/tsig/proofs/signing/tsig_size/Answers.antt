@@ -1,7 +1,7 @@
 use Rattle.std.proofs.Common.{arith, ap, ◌∙◌, length}
 use Rattle.dns_name.specs.Name.{wire_of}
 use Rattle.tsig.proofs.SizeLemmas.{name_size}
-use Rattle.tsig.proofs.sealing.tsig_size.Goals as goal
+use Rattle.tsig.proofs.signing.tsig_size.Goals as goal
 
 pub returns-clause-most : goal.returns-clause-most
 returns-clause-most c =

@@ -1,6 +1,6 @@
 use Rattle.std.proofs.Common.{arith, ◌∙◌}
 use Rattle.tsig.proofs.ListLemmas.{same_behind}
-use Rattle.tsig.proofs.bare.write_bare.Goals as goal
+use Rattle.tsig.proofs.without_tsig.write_without_tsig.Goals as goal
 
 pub returns-clause-behind : goal.returns-clause-behind
 returns-clause-behind c =

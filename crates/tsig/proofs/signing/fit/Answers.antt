@@ -1,5 +1,5 @@
 use Rattle.tsig.proofs.ListLemmas.{same_behind}
-use Rattle.tsig.proofs.sealing.fit.Goals as goal
+use Rattle.tsig.proofs.signing.fit.Goals as goal
 
 pub returns-clause-behind : goal.returns-clause-behind
 returns-clause-behind c = same_behind _ _ c.args.len c.args.limit c.cut.ensures.behind c.requires.fits

@@ -1,5 +1,5 @@
 use Rattle.tsig.proofs.ListLemmas.{record_appended, record_behind}
-use Rattle.tsig.proofs.sealing.append_record.Goals as goal
+use Rattle.tsig.proofs.signing.append_record.Goals as goal
 
 pub returns-clause-octets : goal.returns-clause-octets
 returns-clause-octets c =

@@ -9,9 +9,9 @@ pub(crate) const TIME: usize = 6;
 
 /// The error that a TSIG tells (RFC 8945, 3).
 #[derive(Clone, Copy, Debug, PartialEq, Eq)]
-pub enum Told {
+pub enum TsigError {
     /// None.
-    Nothing,
+    NoError,
     /// The request's MAC isn't right (RFC 8945, 5.2.2).
     BadSig,
     /// The request's key or its algorithm isn't known (RFC 8945, 5.2.1).
@@ -22,17 +22,17 @@ pub enum Told {
     BadTrunc,
 }
 
-impl Told {
+impl TsigError {
     /// The error's number (RFC 8945, 3).
     pub(crate) fn number(self) -> u16
         ensures { result ≡ error_number self }
     {
         match self {
-            Told::Nothing => 0,
-            Told::BadSig => 16,
-            Told::BadKey => 17,
-            Told::BadTime(_) => 18,
-            Told::BadTrunc => 22,
+            TsigError::NoError => 0,
+            TsigError::BadSig => 16,
+            TsigError::BadKey => 17,
+            TsigError::BadTime(_) => 18,
+            TsigError::BadTrunc => 22,
         }
     }
 
@@ -42,11 +42,11 @@ impl Told {
         ensures few { length result.items ≤ TIME }
     {
         match self {
-            Told::Nothing => ArrayVec::new(),
-            Told::BadSig => ArrayVec::new(),
-            Told::BadKey => ArrayVec::new(),
-            Told::BadTime(now) => time_octets(now),
-            Told::BadTrunc => ArrayVec::new(),
+            TsigError::NoError => ArrayVec::new(),
+            TsigError::BadSig => ArrayVec::new(),
+            TsigError::BadKey => ArrayVec::new(),
+            TsigError::BadTime(now) => time_octets(now),
+            TsigError::BadTrunc => ArrayVec::new(),
         }
     }
 }

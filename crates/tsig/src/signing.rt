@@ -6,15 +6,15 @@ ghost use Rattle.dns_message.specs.Reads.{question_of};
 ghost use Rattle.hmac.specs.Hmac.{mac_size};
 ghost use Rattle.tsig.specs.Digested.{mac_over, mac_later};
 ghost use Rattle.tsig.specs.Fields.{other_of};
-ghost use Rattle.tsig.specs.Sealed.{stamped, with_record, with_tsig, signed_later, tsig_size, question_end, end_within, cut_middle, cut_to, cut, fitted, sealed};
+ghost use Rattle.tsig.specs.Signing.{stamped, with_record, with_tsig, signed_later, tsig_size, question_end, end_within, cut_middle, cut_to, cut, fitted, signed_within};
 
-use crate::bare::ARCOUNT;
 use crate::digest::{mac_later, mac_over};
 use crate::fields::{Data, FIXED};
 use crate::key::Key;
 use crate::octets::{number_at, put_at};
 use crate::record::{BETWEEN, record_octets};
 use crate::stamp::Stamp;
+use crate::without_tsig::ARCOUNT;
 use arrayvec::ArrayVec;
 use dns_message::HEADER;
 use hmac::MAX_MAC;
@@ -35,7 +35,7 @@ const MAX_QUESTION: usize = 259;
 /// Signs the message in the first octets of `out` by a key, and gives how many octets it has then. `prior` is the MAC of the request that it replies to, or nothing where it is a
 /// request, and becomes the message's own. A reply whose TSIG doesn't fit the limit is cut to its header, with TC 1 and NOERROR, and its question
 /// (RFC 8945, 5.3). What is behind the limit stays. It takes no memory.
-pub fn seal(
+pub fn sign(
     key: &Key,
     prior: &mut ArrayVec<u8, MAX_MAC>,
     stamp: &Stamp,
@@ -48,14 +48,14 @@ pub fn seal(
     requires fits { len ≤ limit }
     requires room { limit ≤ length out.old }
     requires counted { number_at out.old 10 < 2 ^ 16 - 1 }
-    ensures octets { take result out.new ≡ sealed key.now prior.old.items stamp.now limit (take len out.old) }
+    ensures octets { take result out.new ≡ signed_within key.now prior.old.items stamp.now limit (take len out.old) }
     ensures mac { let plain = fitted (tsig_size key.now stamp.now) limit (take len out.old) in prior.new.items ≡ mac_over key.now prior.old.items plain (stamped stamp.now plain []) }
     ensures limit { result ≤ limit }
     ensures behind { drop limit out.new ≡ drop limit out.old }
 {
     let size = tsig_size(key, stamp);
     let len = fit(out, len, size, limit);
-    let other = stamp.told.other();
+    let other = stamp.error.other();
     let fields = data_of(stamp, &out[..len], &[], &other);
     let mac = mac_over(key, prior, &out[..len], &fields);
     append_tsig(key, stamp, &mac, out, len);
@@ -63,8 +63,8 @@ pub fn seal(
     len + size
 }
 
-/// Signs a later message of a reply, as [`seal`] does, where `prior` is the MAC of the one before; it is never cut (RFC 8945, 5.3.1).
-pub fn seal_later(
+/// Signs a later message of a reply, as [`sign`] does, where `prior` is the MAC of the one before; it is never cut (RFC 8945, 5.3.1).
+pub fn sign_later(
     key: &Key,
     prior: &mut ArrayVec<u8, MAX_MAC>,
     stamp: &Stamp,
@@ -80,7 +80,7 @@ pub fn seal_later(
     ensures behind { drop result out.new ≡ drop result out.old }
 {
     let size = tsig_size(key, stamp);
-    let other = stamp.told.other();
+    let other = stamp.error.other();
     let fields = data_of(stamp, &out[..len], &[], &other);
     let mac = mac_later(key, prior, &out[..len], &fields);
     append_tsig(key, stamp, &mac, out, len);
@@ -91,7 +91,7 @@ pub fn seal_later(
 /// The fields of a message's TSIG with this MAC and this Other Data (RFC 8945, 4.2).
 fn data_of<'m>(stamp: &Stamp, plain: &[u8], mac: &'m [u8], other: &'m [u8]) -> Data<'m>
     requires header { HEADER ≤ length plain.now }
-    requires tells { other.now ≡ other_of stamp.now.told }
+    requires tells { other.now ≡ other_of stamp.now.error }
     ensures { result ≡ stamped stamp.now plain.now mac.now }
 {
     Data {
@@ -99,7 +99,7 @@ fn data_of<'m>(stamp: &Stamp, plain: &[u8], mac: &'m [u8], other: &'m [u8]) -> D
         fudge: stamp.fudge,
         mac,
         original: number_at(plain, 0),
-        error: stamp.told.number(),
+        error: stamp.error.number(),
         other,
     }
 }
@@ -110,7 +110,7 @@ fn tsig_size(key: &Key, stamp: &Stamp) -> usize
     ensures most { result ≤ MAX_TSIG }
 {
     let names = key.name().wire().len() + BETWEEN + key.algorithm().wire().len();
-    names + FIXED + key.secret().mac_size() + stamp.told.other().len()
+    names + FIXED + key.secret().mac_size() + stamp.error.other().len()
 }
 
 /// Puts a key's TSIG of this MAC behind the message in the first octets of `out`.
@@ -122,7 +122,7 @@ fn append_tsig(key: &Key, stamp: &Stamp, mac: &[u8], out: &mut [u8], len: usize)
     ensures octets { take (len + tsig_size key.now stamp.now) out.new ≡ with_tsig key.now stamp.now mac.now (take len out.old) }
     ensures behind { drop (len + tsig_size key.now stamp.now) out.new ≡ drop (len + tsig_size key.now stamp.now) out.old }
 {
-    let other = stamp.told.other();
+    let other = stamp.error.other();
     let fields = data_of(stamp, &out[..len], mac, &other);
     let added = record_octets(key.name(), key.algorithm(), &fields);
     append_record(out, len, &added);
