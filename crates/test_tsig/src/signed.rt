@@ -94,17 +94,27 @@ fn has_mac(alloc: Global, message: &str, mac: &[u8]) -> Result<bool, Fail> {
     Ok(message.get(..end).is_some_and(|front| front.ends_with(mac)))
 }
 
-#[test]
-fn macs_of_replies(rt: HostRuntime) -> Result<(), Fail> {
+/// Whether the replies to a query and to an update have the MACs that other programs gave them.
+fn are_signed(alloc: Global) -> Result<bool, Fail> {
     let stamp = stamp(1_700_000_001, TsigError::NoError);
-    for (request, plain, want) in [
+    let replies = [
         (QUERY, ANSWER_BARE, ANSWER),
         (UPDATE, UPDATED_BARE, UPDATED),
-    ] {
-        let made = signed(rt.alloc(), request, 1_700_000_001, plain, &stamp)?;
-        let (_, mac) = made.ok_or("not signed")?;
-        assert!(rt; has_mac(rt.alloc(), want, &mac)?);
+    ];
+    for (request, plain, want) in replies {
+        let Some((_, mac)) = signed(alloc, request, 1_700_000_001, plain, &stamp)? else {
+            return Ok(false);
+        };
+        if !has_mac(alloc, want, &mac)? {
+            return Ok(false);
+        }
     }
+    Ok(true)
+}
+
+#[test]
+fn macs_of_replies(rt: HostRuntime) -> Result<(), Fail> {
+    assert!(rt; are_signed(rt.alloc())?);
     Ok(())
 }
 
@@ -119,17 +129,31 @@ fn later(alloc: Global, mac: &mut Mac, time: u64, plain: &str) -> Result<bool, F
     Ok(sign_more(key, mac, &stamp, &mut out, len).is_some())
 }
 
-// RFC 8945, 5.3.1: the first message over the request's MAC and all variables, each later one over the MAC before and the times.
+/// Whether the messages of a transfer have the MACs that another program gave them: the first over the request's MAC and all variables, each later one over the MAC before and the
+/// times (RFC 8945, 5.3.1).
+fn is_transfer_signed(alloc: Global) -> Result<bool, Fail> {
+    let first = stamp(1_700_000_001, TsigError::NoError);
+    let Some((_, mut mac)) = signed(alloc, AXFR, 1_700_000_001, FIRST_BARE, &first)? else {
+        return Ok(false);
+    };
+    if !has_mac(alloc, FIRST, &mac)? {
+        return Ok(false);
+    }
+    let others = [
+        (1_700_000_002, SECOND_BARE, SECOND),
+        (1_700_000_003, THIRD_BARE, THIRD),
+    ];
+    for (time, plain, want) in others {
+        if !later(alloc, &mut mac, time, plain)? || !has_mac(alloc, want, &mac)? {
+            return Ok(false);
+        }
+    }
+    Ok(true)
+}
+
 #[test]
 fn macs_of_a_transfer(rt: HostRuntime) -> Result<(), Fail> {
-    let first = stamp(1_700_000_001, TsigError::NoError);
-    let made = signed(rt.alloc(), AXFR, 1_700_000_001, FIRST_BARE, &first)?;
-    let (_, mut mac) = made.ok_or("not signed")?;
-    assert!(rt; has_mac(rt.alloc(), FIRST, &mac)?);
-    assert!(rt; later(rt.alloc(), &mut mac, 1_700_000_002, SECOND_BARE)?);
-    assert!(rt; has_mac(rt.alloc(), SECOND, &mac)?);
-    assert!(rt; later(rt.alloc(), &mut mac, 1_700_000_003, THIRD_BARE)?);
-    assert!(rt; has_mac(rt.alloc(), THIRD, &mac)?);
+    assert!(rt; is_transfer_signed(rt.alloc())?);
     Ok(())
 }
 
@@ -147,47 +171,41 @@ fn is_told(
     Ok(made.is_some_and(|(out, _)| out.as_slice() == want.as_slice()))
 }
 
-// RFC 8945, 5.2.3: BADTIME has the request's time, and the server's as Other Data; 5.2.4: BADTRUNC is signed in full.
+/// Whether BADTIME and BADTRUNC are told as another program tells them: the first has the request's time, and the server's as Other Data (RFC 8945, 5.2.3), and the second is signed in
+/// full (RFC 8945, 5.2.4).
+fn are_told_signed(alloc: Global) -> Result<bool, Fail> {
+    let late = stamp(1_700_000_000, TsigError::BadTime(1_700_001_000));
+    let short = stamp(1_700_000_001, TsigError::BadTrunc);
+    let (old, cut) = ("6666a8090000000000000000", "777780090000000000000000");
+    Ok(
+        is_told(alloc, OLD, 1_700_001_000, old, &late, OLD_TOLD)?
+            && is_told(alloc, SHORT, 1_700_000_001, cut, &short, SHORT_TOLD)?,
+    )
+}
+
 #[test]
 fn errors_that_are_signed(rt: HostRuntime) -> Result<(), Fail> {
-    let late = stamp(1_700_000_000, TsigError::BadTime(1_700_001_000));
-    assert!(rt;
-        is_told(
-            rt.alloc(),
-            OLD,
-            1_700_001_000,
-            "6666a8090000000000000000",
-            &late,
-            OLD_TOLD
-        )?
-    );
-    let short = stamp(1_700_000_001, TsigError::BadTrunc);
-    assert!(rt;
-        is_told(
-            rt.alloc(),
-            SHORT,
-            1_700_000_001,
-            "777780090000000000000000",
-            &short,
-            SHORT_TOLD
-        )?
-    );
+    assert!(rt; are_told_signed(rt.alloc())?);
     Ok(())
 }
 
-// RFC 8945, 5.3: the question, TC 1 and NOERROR are left of a reply whose TSIG doesn't fit.
-#[test]
-fn reply_that_is_cut(rt: HostRuntime) -> Result<(), Fail> {
+/// Whether the question, TC 1 and NOERROR are left of a reply whose TSIG doesn't fit (RFC 8945, 5.3).
+fn is_cut(alloc: Global) -> Result<bool, Fail> {
     let stamp = stamp(1_700_000_001, TsigError::NoError);
-    let mut plain = String::from_str(rt.alloc(), ANSWER_BARE)?;
+    let mut plain = String::from_str(alloc, ANSWER_BARE)?;
     for _ in 0..400 {
         plain.push_str("00")?;
     }
-    let made = signed(rt.alloc(), QUERY, 1_700_000_001, &plain, &stamp)?;
-    let (out, _) = made.ok_or("not signed")?;
-    let want = hex::decode(rt.alloc(), "1111860000010000000000010377777707")?;
-    assert!(rt; out.starts_with(&want));
-    assert_eq!(rt; out.len(), 12 + 22 + 18 + 10 + 13 + 16 + 32);
+    let Some((out, _)) = signed(alloc, QUERY, 1_700_000_001, &plain, &stamp)? else {
+        return Ok(false);
+    };
+    let want = hex::decode(alloc, "1111860000010000000000010377777707")?;
+    Ok(out.starts_with(&want) && out.len() == 12 + 22 + 18 + 10 + 13 + 16 + 32)
+}
+
+#[test]
+fn reply_that_is_cut(rt: HostRuntime) -> Result<(), Fail> {
+    assert!(rt; is_cut(rt.alloc())?);
     Ok(())
 }
 
@@ -221,17 +239,17 @@ fn is_error(alloc: Global, request: &str, plain: &str, want: &str) -> Result<boo
     Ok(out.as_slice() == want.as_slice())
 }
 
-// RFC 8945, 5.2.1, 5.2.2 and 5.3.2: BADKEY and BADSIG are unsigned.
+/// Whether BADKEY and BADSIG are told as another program tells them (RFC 8945, 5.2.1, 5.2.2 and 5.3.2).
+fn are_told_unsigned(alloc: Global) -> Result<bool, Fail> {
+    let (unknown, wrong) = ("4444a8090000000000000000", "5555a8090000000000000000");
+    Ok(
+        is_error(alloc, UNKNOWN, unknown, UNKNOWN_TOLD)?
+            && is_error(alloc, WRONG, wrong, WRONG_TOLD)?,
+    )
+}
+
 #[test]
 fn errors_that_are_unsigned(rt: HostRuntime) -> Result<(), Fail> {
-    assert!(rt;
-        is_error(
-            rt.alloc(),
-            UNKNOWN,
-            "4444a8090000000000000000",
-            UNKNOWN_TOLD
-        )?
-    );
-    assert!(rt; is_error(rt.alloc(), WRONG, "5555a8090000000000000000", WRONG_TOLD)?);
+    assert!(rt; are_told_unsigned(rt.alloc())?);
     Ok(())
 }

@@ -2,7 +2,9 @@
 use Rattle.std.proofs.Common.{◌≡◌, ℕ, ◌+◌, ◌-◌, ◌<◌, ◌≤◌, List, [], ◌∷◌, ◌++◌, length, take, drop, refl, sym, ap, ◌∙◌, arith, length-append, append_assoc}
 use Rattle.std.specs.Int.{from_be_bytes, to_be_bytes, w16}
 use Rattle.std.proofs.lemmas.List.{take_at, drop_at, take-take, drop-take, drop-drop, length-take-le}
+use Rattle.std.proofs.Math.Nat.{le-max_left, le-max_right}
 use Rattle.std.proofs.Math.Seq.{take-add}
+use Rattle.std.specs.Prelude.{max}
 use Rattle.dns_message.specs.Message.{number_at}
 use Rattle.tsig.specs.Signing.{with_record, cut_middle, cut_to}
 
@@ -35,6 +37,13 @@ pub number_of_first : (o : List ℕ) (at len : ℕ) → at + 2 ≤ len → numbe
 number_of_first o at len within =
     ap (λ l. from_be_bytes w16 (take 2 l)) (rest_of_first o at len (omega (arith, within)))
     ∙ ap (from_be_bytes w16) (take-take 2 (len - at) (drop at o) (omega (arith, within)))
+
+-- the end of what was signed under a limit is before the limit, and so is the end of what there was
+pub limit_before : (end size len limit own : ℕ) → size ≡ own → end + size ≤ limit → end + own ≤ max len limit
+limit_before end size len limit own same fits = omega (arith, same, fits, le-max_right len limit)
+
+pub len_before : (len limit : ℕ) → len ≤ max len limit
+len_before len limit = le-max_left len limit
 
 -- a message with another count, and a added behind it
 pub appended : (o p q count added : List ℕ) (len next : ℕ) → 12 ≤ len → take 12 p ≡ take 10 o ++ count → drop 12 p ≡ drop 12 o → take next q ≡ take len p ++ added

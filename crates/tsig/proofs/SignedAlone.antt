@@ -78,7 +78,7 @@ record IsGood (now : ℕ) (msg : List ℕ) (start : ℕ) (tsig : Tsig) (index : 
   right : is_right key [] msg start tsig.fields ≡ true
   timely : is_timely now tsig.fields ≡ true
   whole : nat_lt (length tsig.fields.mac) (mac_size key.secret.algorithm) ≡ false
-  said : request_tsig_of index tsig.fields ≡ request_tsig
+  said : request_tsig_of index start tsig.fields ≡ request_tsig
 
 abbrev signed_is : RequestTsig → Verification
 signed_is x = Signed x
@@ -91,8 +91,8 @@ good : (now : ℕ) (msg : List ℕ) (start : ℕ) (tsig : Tsig) (index : ℕ) (k
 good now msg start tsig index key request_tsig is =
     let size = past (not (is_size (mac_size key.secret.algorithm) (length tsig.fields.mac))) Malformed _ request_tsig (λ e. cc) is in
     let right = past (not (is_right key [] msg start tsig.fields)) (BadSig tsig) _ request_tsig (λ e. cc) size.1 in
-    let timely = past (not (is_timely now tsig.fields)) (BadTime (request_tsig_of index tsig.fields)) _ request_tsig (λ e. cc) right.1 in
-    let whole = past (nat_lt (length tsig.fields.mac) (mac_size key.secret.algorithm)) (BadTrunc (request_tsig_of index tsig.fields)) (Signed (request_tsig_of index tsig.fields)) request_tsig (λ e. cc) timely.1 in
+    let timely = past (not (is_timely now tsig.fields)) (BadTime (request_tsig_of index start tsig.fields)) _ request_tsig (λ e. cc) right.1 in
+    let whole = past (nat_lt (length tsig.fields.mac) (mac_size key.secret.algorithm)) (BadTrunc (request_tsig_of index start tsig.fields)) (Signed (request_tsig_of index start tsig.fields)) request_tsig (λ e. cc) timely.1 in
     record {
       size = holds _ size.0;
       right = holds _ right.0;
@@ -142,4 +142,5 @@ taken keys now msg request_tsig is =
       early = le-true (now - f.time) f.fudge times.0;
       late = le-true (f.time - now) f.fudge times.1;
       mac_is = ap (λ a. a.mac.items) (sym is_good.said);
+      start_is = ap (λ a. a.start) (sym is_good.said);
     }

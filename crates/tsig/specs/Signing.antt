@@ -1,5 +1,5 @@
 -- How a message is signed (RFC 8945, 5.3), and how a request that isn't taken is told (RFC 8945, 5.2 and 5.3.2).
-use Rattle.std.specs.Prelude.{ℕ, ◌+◌, ◌-◌, ◌*◌, ◌/◌, ◌%◌, ◌==◌, List, [], ◌∷◌, ◌++◌, length, take, drop, nat_le, slice_index, ◌&&◌, Option, Some, None, option_and_then, if◌then◌else◌}
+use Rattle.std.specs.Prelude.{ℕ, ◌+◌, ◌-◌, ◌*◌, ◌/◌, ◌%◌, ◌^◌, ◌==◌, List, [], ◌∷◌, ◌++◌, length, take, drop, nat_le, nat_lt, slice_index, ◌&&◌, Option, Some, None, option_and_then, if◌then◌else◌}
 use Rattle.std.specs.Int.{to_be_bytes, w16}
 use Rattle.dns_name.specs.Name.{wire_of}
 use Rattle.dns_message.specs.Message.{number_at}
@@ -71,9 +71,9 @@ cut_at plain (Some end) = cut_to plain 1 end
 abbrev pub cut : List ℕ → List ℕ
 cut plain = cut_at plain (question_end plain)
 
--- the reply, where it fits a limit with a TSIG of so many octets, and else what is left of it
+-- the reply, where it fits a limit with a TSIG of so many octets and one more additional record can be counted, and else what is left of it
 abbrev pub fitted : ℕ → ℕ → List ℕ → List ℕ
-fitted size limit plain = if nat_le (length plain + size) limit then plain else cut plain
+fitted size limit plain = if nat_le (length plain + size) limit && nat_lt (number_at plain 10) (2 ^ 16 - 1) then plain else cut plain
 
 -- the octets that are sent of a reply under a limit (RFC 8945, 5.3)
 abbrev pub signed_within : SharedKey → List ℕ → Stamp → ℕ → List ℕ → List ℕ

@@ -21,3 +21,4 @@ pub record IsSignedBy (keys : List SharedKey) (now : ℕ) (msg : List ℕ) (requ
   pub early : now - tsig.fields.time ≤ tsig.fields.fudge
   pub late : tsig.fields.time - now ≤ tsig.fields.fudge
   pub mac_is : request_tsig.mac.items ≡ tsig.fields.mac
+  pub start_is : request_tsig.start ≡ start

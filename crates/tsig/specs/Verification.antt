@@ -26,23 +26,23 @@ is_right key prior msg start f = bytes_eq f.mac (take (length f.mac) (mac_over k
 abbrev pub is_timely : ℕ → Fields → Bool
 is_timely now f = nat_le (now - f.time) f.fudge && nat_le (f.time - now) f.fudge
 
--- what a reply has to know of a request's TSIG: which key it names, its MAC, its times
-abbrev pub request_tsig_of : ℕ → Fields → RequestTsig
-request_tsig_of index f = record { key = index; mac = record { items = f.mac }; time = f.time; fudge = f.fudge }
+-- what a reply has to know of a request's TSIG: which key it names, where it stands, its MAC, its times
+abbrev pub request_tsig_of : ℕ → ℕ → Fields → RequestTsig
+request_tsig_of index start f = record { key = index; start = start; mac = record { items = f.mac }; time = f.time; fudge = f.fudge }
 
 -- a request whose MAC is right: its time, and whether its MAC is whole (RFC 8945, 5.2.3 and 5.2.4)
-abbrev pub after_mac : ℕ → ℕ → ℕ → Fields → Verification
-after_mac now index whole f =
-    if not (is_timely now f) then BadTime (request_tsig_of index f)
-    else if nat_lt (length f.mac) whole then BadTrunc (request_tsig_of index f)
-    else Signed (request_tsig_of index f)
+abbrev pub after_mac : ℕ → ℕ → ℕ → ℕ → Fields → Verification
+after_mac now index start whole f =
+    if not (is_timely now f) then BadTime (request_tsig_of index start f)
+    else if nat_lt (length f.mac) whole then BadTrunc (request_tsig_of index start f)
+    else Signed (request_tsig_of index start f)
 
 -- a request whose key is known: the size of its MAC, its MAC, and what comes after these (RFC 8945, 5.2.2)
 abbrev pub by_mac : ℕ → List ℕ → ℕ → Tsig → ℕ → SharedKey → Verification
 by_mac now msg start tsig index key =
     if not (is_size (mac_size key.secret.algorithm) (length tsig.fields.mac)) then Malformed
     else if not (is_right key [] msg start tsig.fields) then BadSig tsig
-    else after_mac now index (mac_size key.secret.algorithm) tsig.fields
+    else after_mac now index start (mac_size key.secret.algorithm) tsig.fields
 
 -- by the key that its TSIG names (RFC 8945, 5.2.1)
 abbrev pub by_key : ℕ → List ℕ → ℕ → Tsig → Option (ℕ × SharedKey) → Verification

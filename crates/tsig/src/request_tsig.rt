@@ -12,6 +12,8 @@ use hmac::MAX_MAC;
 pub struct RequestTsig {
     /// Which of the keys it names.
     pub key: u16,
+    /// Where its record stands in the request.
+    pub start: usize,
     /// Its MAC, as it was sent.
     pub mac: ArrayVec<u8, MAX_MAC>,
     /// Its Time Signed, in seconds since 1970.
@@ -20,15 +22,16 @@ pub struct RequestTsig {
     pub fudge: u16,
 }
 
-/// What a reply has to know of a TSIG that names this key.
-pub(crate) fn request_tsig_of(key: u16, fields: &Data<'_>) -> RequestTsig
+/// What a reply has to know of a TSIG that names this key, and stands at this position.
+pub(crate) fn request_tsig_of(key: u16, start: usize, fields: &Data<'_>) -> RequestTsig
     requires { length fields.now.mac ≤ MAX_MAC }
-    ensures { result ≡ request_tsig_of key fields.now }
+    ensures { result ≡ request_tsig_of key start fields.now }
 {
     let mut mac = ArrayVec::new();
     let _ = mac.try_extend_from_slice(fields.mac);
     RequestTsig {
         key,
+        start,
         mac,
         time: fields.time,
         fudge: fields.fudge,

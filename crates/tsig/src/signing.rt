@@ -1,5 +1,6 @@
 //! How a message is signed (RFC 8945, 5.3).
-ghost use Rattle.std.specs.Prelude.{◌≡◌, ◌≤◌, ◌<◌, ◌+◌, ◌-◌, ◌^◌, [], length, take, drop, Ok, IfSome, option_and_then};
+ghost use Rattle.std.specs.Prelude.{◌≡◌, ◌≤◌, ◌<◌, ◌+◌, ◌-◌, ◌^◌, [], length, take, drop, max, nat_lt, Ok, IfSome, option_and_then};
+ghost use Rattle.std.specs.Bool.{OnTrue};
 ghost use Rattle.dns_name.specs.Name.{Name as Labels};
 ghost use Rattle.dns_message.specs.Message.{number_at};
 ghost use Rattle.dns_message.specs.Reads.{question_of};
@@ -33,8 +34,8 @@ const BEHIND_NAME: usize = 4;
 const MAX_QUESTION: usize = 259;
 
 /// Signs the message in the first octets of `out` by a key, and gives how many octets it has then. `prior` is the MAC of the request that it replies to, or nothing where it is a
-/// request, and becomes the message's own. A reply whose TSIG doesn't fit the limit is cut to its header, with TC 1 and NOERROR, and its question
-/// (RFC 8945, 5.3). What is behind the limit stays. It takes no memory.
+/// request, and becomes the message's own. A reply whose TSIG doesn't fit the limit, or which has 65,535 additional records, is cut to its header, with TC 1 and NOERROR, and its
+/// question (RFC 8945, 5.3). What is behind the message and the limit stays. It takes no memory.
 pub fn sign(
     key: &Key,
     prior: &mut ArrayVec<u8, MAX_MAC>,
@@ -45,13 +46,12 @@ pub fn sign(
 ) -> usize
     requires header { HEADER ≤ len }
     requires least { 512 ≤ limit }
-    requires fits { len ≤ limit }
+    requires within { len ≤ length out.old }
     requires room { limit ≤ length out.old }
-    requires counted { number_at out.old 10 < 2 ^ 16 - 1 }
     ensures octets { take result out.new ≡ signed_within key.now prior.old.items stamp.now limit (take len out.old) }
     ensures mac { let plain = fitted (tsig_size key.now stamp.now) limit (take len out.old) in prior.new.items ≡ mac_over key.now prior.old.items plain (stamped stamp.now plain []) }
     ensures limit { result ≤ limit }
-    ensures behind { drop limit out.new ≡ drop limit out.old }
+    ensures behind { drop (max len limit) out.new ≡ drop (max len limit) out.old }
 {
     let size = tsig_size(key, stamp);
     let len = fit(out, len, size, limit);
@@ -147,19 +147,29 @@ fn fit(out: &mut [u8], len: usize, size: usize, limit: usize) -> usize
     requires header { HEADER ≤ len }
     requires least { 512 ≤ limit }
     requires small { size ≤ MAX_TSIG }
-    requires fits { len ≤ limit }
+    requires within { len ≤ length out.old }
     requires room { limit ≤ length out.old }
-    requires counted { number_at out.old 10 < 2 ^ 16 - 1 }
     ensures octets { take result out.new ≡ fitted size limit (take len out.old) }
     ensures header { HEADER ≤ result }
     ensures room { result + size ≤ limit }
     ensures counted { number_at out.new 10 < 2 ^ 16 - 1 }
-    ensures behind { drop limit out.new ≡ drop limit out.old }
+    ensures behind { drop (max len limit) out.new ≡ drop (max len limit) out.old }
 {
-    if len + size <= limit {
+    if len + size <= limit && has_count(out, len) {
         return len;
     }
     cut(out, len)
+}
+
+/// Whether one more additional record can be counted of the message in the first octets of a buffer (RFC 1035, 4.1.1).
+#[tactic(auto, using(crate::proofs::ListLemmas::number_of_first))]
+fn has_count(octets: &[u8], len: usize) -> bool
+    requires header { HEADER ≤ len }
+    requires within { len ≤ length octets.now }
+    ensures has { result ≡ nat_lt (number_at (take len octets.now) 10) (2 ^ 16 - 1) }
+    ensures fits { OnTrue result (number_at octets.now 10 < 2 ^ 16 - 1) }
+{
+    number_at(octets, ARCOUNT) < u16::MAX
 }
 
 /// Cuts the reply in the first octets of `out` to its header, with TC 1 and NOERROR, and its question, and gives how many octets these have (RFC 8945, 5.3).

@@ -93,15 +93,21 @@ fn verify_mac<'m>(
     if !is_right(key, &[], msg, start, tsig.fields()) {
         return Verification::BadSig(tsig);
     }
-    verify_after(now, index, whole, tsig.fields())
+    verify_after(now, index, start, whole, tsig.fields())
 }
 
-/// What a request is whose MAC is right, of a key whose MACs have so many octets.
-fn verify_after<'m>(now: u64, index: u16, whole: usize, fields: &Data<'_>) -> Verification<'m>
+/// What a request is whose TSIG stands at a position and has a MAC that is right, of a key whose MACs have so many octets.
+fn verify_after<'m>(
+    now: u64,
+    index: u16,
+    start: usize,
+    whole: usize,
+    fields: &Data<'_>,
+) -> Verification<'m>
     requires { length fields.now.mac ≤ MAX_MAC }
-    ensures { result ≡ after_mac now index whole fields.now }
+    ensures { result ≡ after_mac now index start whole fields.now }
 {
-    let request_tsig = request_tsig_of(index, fields);
+    let request_tsig = request_tsig_of(index, start, fields);
     if !is_timely(now, fields) {
         return Verification::BadTime(request_tsig);
     }

@@ -1,0 +1,44 @@
+-- What a request gets, by what it is by its TSIG.
+use Rattle.std.proofs.Common.{◌≡◌, ℕ, ◌<◌, ◌≤◌, Bool, true, false, List, [], ◌∷◌, length, refl, sym, ap, subst, ◌∙◌, arith, if◌then◌else◌}
+use Rattle.std.specs.Prelude.{nat_lt}
+use Rattle.std.proofs.lemmas.Bool.Decides.{nat_tests}
+use Rattle.dns_message.specs.Message.{message_limit}
+use Rattle.requests.proofs.TurnLemmas.{grows_itself}
+use Rattle.requests.specs.Served.{Learned, Grows}
+use Rattle.serve_core.specs.declared.peer.Peer.{Peer}
+use Rattle.tsig.specs.Keys.{SharedKey}
+use Rattle.tsig.specs.Verification.{verified}
+use Rattle.tsig.specs.declared.verifying.Verification.{Verification}
+use Rattle.tsig.specs.declared.verifying.Verification.TheVariants.{Silent}
+use Rattle.signed_replies.specs.Signed.{received, IsReplyBy, IsReplyTo}
+use Rattle.signed_replies.specs.declared.key_ring.KeyRights.{KeyRights}
+
+not_fewer : (a b : ℕ) → b ≤ a → nat_lt a b ≡ false
+not_fewer a b e = grind (arith, nat_tests)
+
+fewer : (a b : ℕ) → a < b → nat_lt a b ≡ true
+fewer a b e = grind (arith, nat_tests)
+
+-- octets that a message may have are what their TSIG says
+pub received_is : (keys : List SharedKey) (now : ℕ) (request : List ℕ) → length request ≤ message_limit → received keys now request ≡ verified keys now request
+received_is keys now request short = ap (λ b. if b then Silent else verified keys now request) (not_fewer message_limit (length request) short)
+
+-- and more octets are nothing that is answered, as are fewer than a header has
+pub too_many : (keys : List SharedKey) (now : ℕ) (request : List ℕ) → message_limit < length request → received keys now request ≡ Silent
+too_many keys now request long = ap (λ b. if b then Silent else verified keys now request) (fewer message_limit (length request) long)
+
+pub too_few : (keys : List SharedKey) (now : ℕ) (request : List ℕ) → length request < 12 → received keys now request ≡ Silent
+too_few keys now request few =
+    received_is keys now request (omega (arith, few)) ∙ ap (λ b. if b then Silent else _) (fewer (length request) 12 few)
+
+-- nothing is replied to what isn't answered
+pub silent_to : {T : Type 0} (keys : List SharedKey) (rights : List KeyRights) (IsReply : Peer → Learned T → Learned T → List ℕ → List (List ℕ) → Type 0) (peer : Peer) (seen : Learned T) (request : List ℕ)
+    → received keys 0 request ≡ Silent → IsReplyTo keys rights IsReply peer seen seen request []
+silent_to keys rights IsReply peer seen request is = (0, seen, grows_itself seen, grows_itself seen, subst (λ v. IsReplyBy keys rights IsReply v 0 peer seen seen request []) (sym is) refl)
+
+-- what a request gets by what it is, it gets
+pub reply_to : {T : Type 0} (keys : List SharedKey) (rights : List KeyRights) (IsReply : Peer → Learned T → Learned T → List ℕ → List (List ℕ) → Type 0) (verification : Verification) (now : ℕ) (peer : Peer)
+    (seen later : Learned T) (request : List ℕ) (messages : List (List ℕ)) → verification ≡ received keys now request
+    → (before : Learned T) × Grows before seen × Grows later before × IsReplyBy keys rights IsReply verification now peer before later request messages
+    → IsReplyTo keys rights IsReply peer seen later request messages
+reply_to keys rights IsReply verification now peer seen later request messages is r = (now, r.0, r.1, r.2, subst (λ v. IsReplyBy keys rights IsReply v now peer r.0 later request messages) is r.3)
