@@ -3,11 +3,14 @@ use Rattle.std.proofs.Common.{◌≡◌, ℕ, ◌<◌, ◌≤◌, Bool, true, fa
 use Rattle.std.specs.Prelude.{nat_lt}
 use Rattle.std.proofs.lemmas.Bool.Decides.{nat_tests}
 use Rattle.dns_message.specs.Message.{message_limit}
+use Rattle.dns_message.specs.Reads.{is_reply}
+use Rattle.dns_message.specs.Tsig.{place_in}
 use Rattle.requests.proofs.TurnLemmas.{grows_itself}
 use Rattle.requests.specs.Served.{Learned, Grows}
 use Rattle.serve_core.specs.declared.peer.Peer.{Peer}
 use Rattle.tsig.specs.Keys.{SharedKey}
-use Rattle.tsig.specs.Verification.{verified}
+use Rattle.tsig.specs.Verification.{verified, by_place}
+use Rattle.tsig.specs.declared.request_tsig.RequestTsig.{RequestTsig}
 use Rattle.tsig.specs.declared.verifying.Verification.{Verification}
 use Rattle.tsig.specs.declared.verifying.Verification.TheVariants.{Silent}
 use Rattle.signed_replies.specs.Signed.{received, IsReplyBy, IsReplyTo}
@@ -29,16 +32,19 @@ too_many keys now request long = ap (λ b. if b then Silent else verified keys n
 
 pub too_few : (keys : List SharedKey) (now : ℕ) (request : List ℕ) → length request < 12 → received keys now request ≡ Silent
 too_few keys now request few =
-    received_is keys now request (omega (arith, few)) ∙ ap (λ b. if b then Silent else _) (fewer (length request) 12 few)
+    received_is keys now request (omega (arith, few))
+    ∙ ap (λ b. if b then Silent else (if is_reply request then Silent else by_place keys now request (place_in request))) (fewer (length request) 12 few)
 
 -- nothing is replied to what isn't answered
-pub silent_to : {T : Type 0} (keys : List SharedKey) (rights : List KeyRights) (IsReply : Peer → Learned T → Learned T → List ℕ → List (List ℕ) → Type 0) (peer : Peer) (seen : Learned T) (request : List ℕ)
-    → received keys 0 request ≡ Silent → IsReplyTo keys rights IsReply peer seen seen request []
-silent_to keys rights IsReply peer seen request is = (0, seen, grows_itself seen, grows_itself seen, subst (λ v. IsReplyBy keys rights IsReply v 0 peer seen seen request []) (sym is) refl)
+pub silent_to : {T : Type 0} (keys : List SharedKey) (rights : List KeyRights) (IsReply : Peer → Learned T → Learned T → List ℕ → List (List ℕ) → Type 0)
+    (AreSigned : SharedKey → ℕ → RequestTsig → ℕ → List (List ℕ) → List (List ℕ) → Type 0) (peer : Peer) (seen : Learned T) (request : List ℕ)
+    → received keys 0 request ≡ Silent → IsReplyTo keys rights IsReply AreSigned peer seen seen request []
+silent_to keys rights IsReply AreSigned peer seen request is = (0, seen, grows_itself seen, grows_itself seen, subst (λ v. IsReplyBy keys rights IsReply AreSigned v 0 peer seen seen request []) (sym is) refl)
 
 -- what a request gets by what it is, it gets
-pub reply_to : {T : Type 0} (keys : List SharedKey) (rights : List KeyRights) (IsReply : Peer → Learned T → Learned T → List ℕ → List (List ℕ) → Type 0) (verification : Verification) (now : ℕ) (peer : Peer)
+pub reply_to : {T : Type 0} (keys : List SharedKey) (rights : List KeyRights) (IsReply : Peer → Learned T → Learned T → List ℕ → List (List ℕ) → Type 0)
+    (AreSigned : SharedKey → ℕ → RequestTsig → ℕ → List (List ℕ) → List (List ℕ) → Type 0) (verification : Verification) (now : ℕ) (peer : Peer)
     (seen later : Learned T) (request : List ℕ) (messages : List (List ℕ)) → verification ≡ received keys now request
-    → (before : Learned T) × Grows before seen × Grows later before × IsReplyBy keys rights IsReply verification now peer before later request messages
-    → IsReplyTo keys rights IsReply peer seen later request messages
-reply_to keys rights IsReply verification now peer seen later request messages is r = (now, r.0, r.1, r.2, subst (λ v. IsReplyBy keys rights IsReply v now peer r.0 later request messages) is r.3)
+    → (before : Learned T) × Grows before seen × Grows later before × IsReplyBy keys rights IsReply AreSigned verification now peer before later request messages
+    → IsReplyTo keys rights IsReply AreSigned peer seen later request messages
+reply_to keys rights IsReply AreSigned verification now peer seen later request messages is r = (now, r.0, r.1, r.2, subst (λ v. IsReplyBy keys rights IsReply AreSigned v now peer r.0 later request messages) is r.3)

@@ -1,2 +1,3 @@
 pub mod Rights
 pub mod Signed
+pub mod Stream

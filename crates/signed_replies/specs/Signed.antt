@@ -76,15 +76,19 @@ signed_error transport (Some key) tsig stamp request =
 abbrev pub received : List SharedKey → ℕ → List ℕ → Verification
 received keys now request = if nat_lt message_limit (length request) then Silent else verified keys now request
 
--- the keys, the rights of their holders, and what a reply is to a request without TSIG, by the peer and by what is known before it and when it is made
-module _ {T : Type 0} (keys : List SharedKey) (rights : List KeyRights) (IsReply : Peer → Learned T → Learned T → List ℕ → List (List ℕ) → Type 0) where
-  -- the messages of a reply to the request without its TSIG, to a peer with the rights of the key's holder, each of them signed at a time (RFC 8945, 5.3)
+-- messages that come as datagrams are signed, each for itself, with a time and under a limit (RFC 8945, 5.3)
+abbrev pub AreSignedAlone : SharedKey → ℕ → RequestTsig → ℕ → List (List ℕ) → List (List ℕ) → Type 0
+AreSignedAlone key now tsig limit plains messages = messages ≡ map (signed_reply key tsig.mac.items (stamp_at now) limit) plains
+
+-- the keys, the rights of their holders, what a reply is to a request without TSIG, by the peer and by what is known before it and when it is made, and how its messages are signed, by the key, the
+-- time, the request's TSIG and the limit
+module _ {T : Type 0} (keys : List SharedKey) (rights : List KeyRights) (IsReply : Peer → Learned T → Learned T → List ℕ → List (List ℕ) → Type 0) (AreSigned : SharedKey → ℕ → RequestTsig → ℕ → List (List ℕ) → List (List ℕ) → Type 0) where
+  -- the messages of a reply to the request without its TSIG, to a peer with the rights of the key's holder, signed at a time (RFC 8945, 5.3)
   abbrev pub IsSignedReply : Option SharedKey → ℕ → RequestTsig → Peer → Learned T → Learned T → List ℕ → List (List ℕ) → Type 0
   IsSignedReply None now tsig peer before later request messages = messages ≡ []
   IsSignedReply (Some key) now tsig peer before later request messages =
       let plain = plain_of request tsig.start in
-      (plains : List (List ℕ)) × IsReply (peer_by (rights_of rights tsig.key) peer) before later plain plains
-      × (messages ≡ map (signed_reply key tsig.mac.items (stamp_at now) (reply_limit peer.transport plain)) plains)
+      (plains : List (List ℕ)) × IsReply (peer_by (rights_of rights tsig.key) peer) before later plain plains × AreSigned key now tsig (reply_limit peer.transport plain) plains messages
 
   -- by what the request is by its TSIG (RFC 8945, 5.2)
   abbrev pub IsReplyBy : Verification → ℕ → Peer → Learned T → Learned T → List ℕ → List (List ℕ) → Type 0
@@ -101,3 +105,19 @@ module _ {T : Type 0} (keys : List SharedKey) (rights : List KeyRights) (IsReply
   abbrev pub IsReplyTo : Peer → Learned T → Learned T → List ℕ → List (List ℕ) → Type 0
   IsReplyTo peer seen later request messages =
       (now : ℕ) × (before : Learned T) × Grows before seen × Grows later before × IsReplyBy (received keys now request) now peer before later request messages
+
+-- the keys, the rights of their holders, and which requests without TSIG may be answered later, by the peer
+module _ (keys : List SharedKey) (rights : List KeyRights) (IsLater : Peer → List ℕ → Type 0) where
+  -- a request may be answered later that may without its TSIG, by a peer with the rights of the key's holder
+  abbrev pub IsLaterBy : Verification → Peer → List ℕ → Type 0
+  IsLaterBy Unsigned peer request = IsLater peer request
+  IsLaterBy Silent peer request = ⊥
+  IsLaterBy Malformed peer request = ⊥
+  IsLaterBy (BadKey tsig) peer request = ⊥
+  IsLaterBy (BadSig tsig) peer request = ⊥
+  IsLaterBy (BadTime tsig) peer request = ⊥
+  IsLaterBy (BadTrunc tsig) peer request = ⊥
+  IsLaterBy (Signed tsig) peer request = IsLater (peer_by (rights_of rights tsig.key) peer) (plain_of request tsig.start)
+
+  abbrev pub IsLaterTo : Peer → List ℕ → Type 0
+  IsLaterTo peer request = (now : ℕ) × IsLaterBy (received keys now request) peer request

@@ -4,7 +4,7 @@ ghost use Rattle.dns_message.specs.Message.{message_limit};
 ghost use Rattle.requests.specs.Datagrams.{by_datagram};
 ghost use Rattle.requests.specs.Octets.{messages_in};
 ghost use Rattle.requests.specs.Served.{Learned, Grows};
-ghost use Rattle.signed_replies.specs.Signed.{received, IsReplyBy, IsSignedReply, IsReplyTo};
+ghost use Rattle.signed_replies.specs.Signed.{received, AreSignedAlone, IsReplyBy, IsSignedReply, IsReplyTo};
 ghost use Rattle.zone_tree.specs.Version.{Version};
 
 use crate::clock::UnixClock;
@@ -82,7 +82,7 @@ impl<'k, K: KeyRing, A: Handler, C: UnixClock> SignedDatagrams<'k, K, A, C> {
         ensures same { self.new.peer ≡ self.old.peer }
         ensures grows { Grows {T = Version} (A.seen self.new.inner) (A.seen self.old.inner) }
         ensures bound { IfOk result (λ len. IfSome len (λ n. (n ≤ message_limit) × (n ≤ length out.new))) }
-        ensures reply { IfOk result (λ len. IsReplyTo {T = Version} K.keys K.rights A.is_reply (by_datagram self.old.peer) (A.seen self.old.inner) (A.seen self.new.inner) request.now (messages_in len out.new)) }
+        ensures reply { IfOk result (λ len. IsReplyTo {T = Version} K.keys K.rights A.is_reply AreSignedAlone (by_datagram self.old.peer) (A.seen self.old.inner) (A.seen self.new.inner) request.now (messages_in len out.new)) }
     {
         let now = self.clock.now();
         let message = Message::new(request);
@@ -104,7 +104,7 @@ impl<'k, K: KeyRing, A: Handler, C: UnixClock> SignedDatagrams<'k, K, A, C> {
         ensures same { self.new.peer ≡ self.old.peer }
         ensures grows { Grows {T = Version} (A.seen self.new.inner) (A.seen self.old.inner) }
         ensures bound { IfOk result (λ len. IfSome len (λ n. (n ≤ message_limit) × (n ≤ length out.new))) }
-        ensures reply { IfOk result (λ len. IsReplyTo {T = Version} K.keys K.rights A.is_reply (by_datagram self.old.peer) (A.seen self.old.inner) (A.seen self.new.inner) request.now (messages_in len out.new)) }
+        ensures reply { IfOk result (λ len. IsReplyTo {T = Version} K.keys K.rights A.is_reply AreSignedAlone (by_datagram self.old.peer) (A.seen self.old.inner) (A.seen self.new.inner) request.now (messages_in len out.new)) }
     {
         let now = self.clock.now();
         let mut ends = [0; MAX_TARGETS];
@@ -131,7 +131,7 @@ impl<'k, K: KeyRing, A: Handler, C: UnixClock> SignedDatagrams<'k, K, A, C> {
         ensures grows { Grows {T = Version} (A.seen self.new.inner) (A.seen self.old.inner) }
         ensures bound { IfOk result (λ len. IfSome len (λ n. (n ≤ message_limit) × (n ≤ length out.new))) }
         ensures reply { IfOk result (λ len. (before : Learned Version) × Grows before (A.seen self.old.inner) × Grows (A.seen self.new.inner) before
-            × IsReplyBy {T = Version} K.keys K.rights A.is_reply verified.entry now (by_datagram self.old.peer) before (A.seen self.new.inner) request.now (messages_in len out.new)) }
+            × IsReplyBy {T = Version} K.keys K.rights A.is_reply AreSignedAlone verified.entry now (by_datagram self.old.peer) before (A.seen self.new.inner) request.now (messages_in len out.new)) }
     {
         match verified {
             Verification::Unsigned => {
@@ -187,7 +187,7 @@ impl<'k, K: KeyRing, A: Handler, C: UnixClock> SignedDatagrams<'k, K, A, C> {
         ensures grows { Grows {T = Version} (A.seen self.new.inner) (A.seen self.old.inner) }
         ensures bound { IfOk result (λ len. IfSome len (λ n. (n ≤ message_limit) × (n ≤ length out.new))) }
         ensures reply { IfOk result (λ len. (before : Learned Version) × Grows before (A.seen self.old.inner) × Grows (A.seen self.new.inner) before
-            × IsSignedReply {T = Version} K.keys K.rights A.is_reply (slice_get K.keys tsig.entry.key) now tsig.entry (by_datagram self.old.peer) before (A.seen self.new.inner) request.now (messages_in len out.new)) }
+            × IsSignedReply {T = Version} K.keys K.rights A.is_reply AreSignedAlone (slice_get K.keys tsig.entry.key) now tsig.entry (by_datagram self.old.peer) before (A.seen self.new.inner) request.now (messages_in len out.new)) }
     {
         let Some(key) = self.ring.keys().get(tsig.key) else {
             return Ok(None);
@@ -226,7 +226,7 @@ impl<'k, K: KeyRing, A: Handler, C: UnixClock> Handler for SignedDatagrams<'k, K
 
     ghost peer = { λ signed. signed.peer };
 
-    ghost is_reply = { λ peer seen later request messages. IsReplyTo K.keys K.rights A.is_reply peer seen later request messages };
+    ghost is_reply = { λ peer seen later request messages. IsReplyTo K.keys K.rights A.is_reply AreSignedAlone peer seen later request messages };
 
     fn turn_to(&mut self, other: Peer, from: SocketAddr) {
         self.inner.turn_to(other, from);
