@@ -1,12 +1,12 @@
 //! The keys of a server, and what the holder of each may do.
-ghost use Rattle.std.specs.Prelude.{◌≡◌, List};
+ghost use Rattle.std.specs.Prelude.{◌≡◌, List, []};
 ghost use Rattle.serve_core.specs.declared.peer.Peer.{Peer as PeerAsking};
 ghost use Rattle.signed_replies.specs.Rights.{rights_of, peer_by};
 ghost use Rattle.signed_replies.specs.declared.key_ring.KeyRights.{KeyRights as RightsOf};
 ghost use Rattle.tsig.specs.Keys.{SharedKey};
 
 use serve_core::Peer;
-use std::marker::{Model, PhantomData};
+use std::marker::{Brand, Model, PhantomData};
 use tsig::Keys;
 
 /// What the holder of a key may do.
@@ -25,6 +25,12 @@ pub trait KeyRing {
 
     /// What the holder of each may do, in the order of the keys.
     ghost rights: { List RightsOf };
+}
+
+impl KeyRing for Brand {
+    ghost keys = { [] };
+
+    ghost rights = { [] };
 }
 
 /// The keys of a server and the rights of their holders. The holder of a key without rights of its own has none.

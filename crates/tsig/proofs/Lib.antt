@@ -3,6 +3,7 @@ pub mod ListLemmas
 pub mod RecordLemmas
 pub mod ErrorTsigLemmas
 pub mod SizeLemmas
+pub mod NoRecords
 mod ReadBack
 mod PutBack
 mod SignedAlone

@@ -1,6 +1,7 @@
 //! How a request is judged by its TSIG (RFC 8945, 5.2).
 ghost use Rattle.std.specs.Prelude.{◌≡◌, ◌≤◌, length};
 ghost use Rattle.std.specs.Bool.{OnTrue};
+ghost use Rattle.dns_message.specs.Message.{number_at};
 ghost use Rattle.hmac.specs.Hmac.{mac_size};
 ghost use Rattle.tsig.specs.Verification.{is_size, is_timely, after_mac, by_mac, by_tsig, verified};
 ghost use Rattle.tsig.specs.Tsig.{tsig_at};
@@ -9,11 +10,19 @@ use crate::digest::is_right;
 use crate::fields::Data;
 use crate::key::Key;
 use crate::keys::Keys;
+use crate::octets::number_at;
 use crate::record::{Tsig, tsig_at};
 use crate::request_tsig::{RequestTsig, request_tsig_of};
+use crate::without_tsig::ARCOUNT;
 use dns_message::{HEADER, Place, QR, tsig_place};
 use hmac::MAX_MAC;
 use wire_names::Message;
+
+/// Where a header counts the records of the answer section (RFC 1035, 4.1.1).
+const ANCOUNT: usize = 6;
+
+/// Where a header counts the records of the authority section (RFC 1035, 4.1.1).
+const NSCOUNT: usize = 8;
 
 /// The fewest octets of a MAC that is cut short (RFC 8945, 5.2.2.1).
 const MIN_MAC: usize = 10;
@@ -41,6 +50,7 @@ pub enum Verification<'m> {
 }
 
 /// What octets are by their TSIG, at a time in seconds since 1970, in the order of RFC 8945, 5.2. It takes no memory.
+#[tactic(auto, using(crate::proofs::NoRecords::unsigned_at_once))]
 pub fn verify<'m>(keys: &Keys, now: u64, octets: &Message<'m>) -> Verification<'m>
     ensures { result ≡ verified keys.now now octets.now }
 {
@@ -48,12 +58,26 @@ pub fn verify<'m>(keys: &Keys, now: u64, octets: &Message<'m>) -> Verification<'
     if msg.len() < HEADER || msg[2] >= QR {
         return Verification::Silent;
     }
+    // Most requests have no record, and aren't walked through.
+    if has_no_records(msg) {
+        return Verification::Unsigned;
+    }
     match tsig_place(octets) {
         None => Verification::Unsigned,
         Some(Place::Bare) => Verification::Unsigned,
         Some(Place::Bad) => Verification::Malformed,
         Some(Place::At(start)) => verify_at(keys, now, octets, start),
     }
+}
+
+/// Whether a message has no record: then it has no TSIG (RFC 1035, 4.1.1).
+fn has_no_records(msg: &[u8]) -> bool
+    requires { HEADER ≤ length msg.now }
+    ensures answer { OnTrue result (number_at msg.now 6 ≡ 0) }
+    ensures authority { OnTrue result (number_at msg.now 8 ≡ 0) }
+    ensures additional { OnTrue result (number_at msg.now 10 ≡ 0) }
+{
+    number_at(msg, ANCOUNT) == 0 && number_at(msg, NSCOUNT) == 0 && number_at(msg, ARCOUNT) == 0
 }
 
 /// What a request is whose TSIG stands at a position.
