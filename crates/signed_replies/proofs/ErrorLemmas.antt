@@ -1,9 +1,10 @@
 -- A reply that is its header alone.
-use Rattle.std.proofs.Common.{◌≡◌, ℕ, List, [], ◌∷◌, ◌++◌, length, refl, sym, ap, ◌∙◌}
+use Rattle.std.proofs.Common.{◌≡◌, ℕ, ◌≤◌, List, [], ◌∷◌, length, take, refl, sym, ap, ◌∙◌, arith, lit≤}
+use Rattle.std.proofs.lemmas.List.{length-take-le}
 use Rattle.std.specs.Prelude.{None}
 use Rattle.dns_rdata.specs.declared.numbers.Rcode.{Rcode}
 use Rattle.dns_message.specs.Encoding.{these, before, each}
-use Rattle.dns_message.specs.Message.{number_at}
+use Rattle.dns_message.specs.Message.{message_limit, number_at}
 use Rattle.dns_message.specs.Octets.{fit, header_octets, counts_in, reply_octets, sections_octets}
 use Rattle.dns_message.specs.Opt.{opt_part}
 use Rattle.dns_message.specs.declared.query.Head.{Head}
@@ -12,6 +13,7 @@ use Rattle.serve_core.specs.Transport.{limit_of}
 use Rattle.serve_core.specs.declared.transport.Transport.{Transport}
 use Rattle.serve_core.specs.declared.transport.Transport.TheVariants.{Udp, Tcp}
 use Rattle.signed_replies.specs.Signed.{error_reply}
+use Rattle.tsig.proofs.ListLemmas.{number_of_first}
 
 -- its octets
 alone : (head : Head) (code : Rcode) → reply_octets (coded (header_alone head) code) ≡ header_octets (coded (header_alone head) code) (0 ∷ 0 ∷ 0 ∷ 0 ∷ [])
@@ -29,3 +31,21 @@ pub error_count : (transport : Transport) (code : Rcode) (request : List ℕ) �
 unfolding sections_octets each these before
 error_count Udp code request = refl
 error_count Tcp code request = refl
+
+limit_within : (transport : Transport) → limit_of transport None ≤ message_limit
+limit_within Udp = lit≤ tt
+limit_within Tcp = lit≤ tt
+
+-- so many octets are written
+pub written_size : (out : List ℕ) (len : ℕ) (transport : Transport) (code : Rcode) (request : List ℕ) → message_limit ≤ length out → len ≤ limit_of transport None
+    → take len out ≡ error_reply transport code request → len ≡ 12
+written_size out len transport code request room within is =
+    sym (length-take-le len out (omega (arith, room, within, limit_within transport))) ∙ ap length is ∙ error_size transport code request
+
+-- and no additional record is counted
+pub written_count : (out : List ℕ) (len : ℕ) (transport : Transport) (code : Rcode) (request : List ℕ) → message_limit ≤ length out → len ≤ limit_of transport None
+    → take len out ≡ error_reply transport code request → number_at out 10 ≡ 0
+written_count out len transport code request room within is =
+    sym (number_of_first out 10 len (omega (arith, written_size out len transport code request room within is)))
+    ∙ ap (λ l. number_at l 10) is
+    ∙ error_count transport code request

@@ -144,20 +144,14 @@ impl<'k, K: KeyRing, A: Handler, C: UnixClock> SignedDatagrams<'k, K, A, C> {
                 Transport::Udp,
                 out,
             ))),
-            Verification::BadKey(tsig) => Ok(Some(write_unsigned(
-                request,
-                &tsig,
-                TsigError::BadKey,
-                Transport::Udp,
-                out,
-            ))),
-            Verification::BadSig(tsig) => Ok(Some(write_unsigned(
-                request,
-                &tsig,
-                TsigError::BadSig,
-                Transport::Udp,
-                out,
-            ))),
+            Verification::BadKey(tsig) => {
+                let error = TsigError::BadKey;
+                Ok(Some(write_unsigned(request, &tsig, error, Transport::Udp, out)))
+            }
+            Verification::BadSig(tsig) => {
+                let error = TsigError::BadSig;
+                Ok(Some(write_unsigned(request, &tsig, error, Transport::Udp, out)))
+            }
             Verification::BadTime(tsig) => {
                 let key = self.ring.keys().get(tsig.key);
                 let stamp = stamp_late(&tsig, now);

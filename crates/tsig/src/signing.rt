@@ -1,5 +1,5 @@
 //! How a message is signed (RFC 8945, 5.3).
-ghost use Rattle.std.specs.Prelude.{◌≡◌, ◌≤◌, ◌<◌, ◌+◌, ◌-◌, ◌^◌, [], length, take, drop, max, nat_lt, Ok, IfSome, option_and_then};
+ghost use Rattle.std.specs.Prelude.{◌≡◌, ◌≤◌, ◌<◌, ◌+◌, ◌-◌, ◌^◌, [], length, take, drop, max, nat_le, nat_lt, ◌&&◌, Ok, IfSome, option_and_then};
 ghost use Rattle.std.specs.Bool.{OnTrue};
 ghost use Rattle.dns_name.specs.Name.{Name as Labels};
 ghost use Rattle.dns_message.specs.Message.{number_at};
@@ -155,21 +155,23 @@ fn fit(out: &mut [u8], len: usize, size: usize, limit: usize) -> usize
     ensures counted { number_at out.new 10 < 2 ^ 16 - 1 }
     ensures behind { drop (max len limit) out.new ≡ drop (max len limit) out.old }
 {
-    if len + size <= limit && has_count(out, len) {
+    if has_room(out, len, size, limit) {
         return len;
     }
     cut(out, len)
 }
 
-/// Whether one more additional record can be counted of the message in the first octets of a buffer (RFC 1035, 4.1.1).
+/// Whether the message in the first octets of a buffer fits a limit with a TSIG of so many octets, and one more additional record can be counted (RFC 1035, 4.1.1).
 #[tactic(auto, using(crate::proofs::ListLemmas::number_of_first))]
-fn has_count(octets: &[u8], len: usize) -> bool
+fn has_room(octets: &[u8], len: usize, size: usize, limit: usize) -> bool
     requires header { HEADER ≤ len }
+    requires small { size ≤ MAX_TSIG }
     requires within { len ≤ length octets.now }
-    ensures has { result ≡ nat_lt (number_at (take len octets.now) 10) (2 ^ 16 - 1) }
-    ensures fits { OnTrue result (number_at octets.now 10 < 2 ^ 16 - 1) }
+    ensures has { result ≡ nat_le (length (take len octets.now) + size) limit && nat_lt (number_at (take len octets.now) 10) (2 ^ 16 - 1) }
+    ensures fits { OnTrue result (len + size ≤ limit) }
+    ensures counted { OnTrue result (number_at octets.now 10 < 2 ^ 16 - 1) }
 {
-    number_at(octets, ARCOUNT) < u16::MAX
+    len + size <= limit && number_at(octets, ARCOUNT) < u16::MAX
 }
 
 /// Cuts the reply in the first octets of `out` to its header, with TC 1 and NOERROR, and its question, and gives how many octets these have (RFC 8945, 5.3).
