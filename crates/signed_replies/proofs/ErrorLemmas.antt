@@ -9,7 +9,7 @@ use Rattle.dns_message.specs.Octets.{fit, header_octets, counts_in, reply_octets
 use Rattle.dns_message.specs.Opt.{opt_part}
 use Rattle.dns_message.specs.declared.query.Head.{Head}
 use Rattle.serve_core.specs.Heading.{header_alone, coded}
-use Rattle.serve_core.specs.Transport.{limit_of}
+use Rattle.serve_core.specs.Transport.{limit_of, room_of}
 use Rattle.serve_core.specs.declared.transport.Transport.{Transport}
 use Rattle.serve_core.specs.declared.transport.Transport.TheVariants.{Udp, Tcp}
 use Rattle.signed_replies.specs.Signed.{error_reply}
@@ -31,6 +31,10 @@ pub error_count : (transport : Transport) (code : Rcode) (request : List ℕ) �
 unfolding sections_octets each these before
 error_count Udp code request = refl
 error_count Tcp code request = refl
+
+pub room_most : (transport : Transport) → room_of transport ≤ message_limit
+room_most Udp = lit≤ tt
+room_most Tcp = lit≤ tt
 
 limit_within : (transport : Transport) → limit_of transport None ≤ message_limit
 limit_within Udp = lit≤ tt

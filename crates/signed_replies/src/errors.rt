@@ -30,7 +30,7 @@ fn header_of(request: &[u8]) -> Head
 }
 
 /// Writes the reply to a request that has a code, and its header alone, to the front of `out`, and gives how many octets it has.
-#[tactic(auto, using(crate::proofs::ErrorLemmas::written_size, crate::proofs::ErrorLemmas::written_count))]
+#[tactic(auto, using(crate::proofs::ErrorLemmas::written_size, crate::proofs::ErrorLemmas::written_count, crate::proofs::ErrorLemmas::room_most))]
 pub(crate) fn write_error(
     request: &[u8],
     rcode: Rcode,

@@ -7,6 +7,7 @@ use dns_message::{Edns, Parsed, is_update, parse_other};
 use serve_core::Transport;
 
 /// The most octets of the reply to a request without its TSIG, by its OPT, or its lack.
+#[tactic(auto, using(crate::proofs::ErrorLemmas::room_most))]
 pub(crate) fn reply_limit(request: &[u8], transport: Transport) -> usize
     ensures limit { result ≡ reply_limit transport request.now }
     ensures least { 512 ≤ result }

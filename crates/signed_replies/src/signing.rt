@@ -67,6 +67,7 @@ pub(crate) fn sign_reply(
 }
 
 /// Writes the reply that tells an error of a request's TSIG, signed, to the front of `out`, and gives how many octets it has; None where there is no key (RFC 8945, 5.2.3 and 5.2.4).
+#[tactic(auto, using(crate::proofs::ErrorLemmas::room_most))]
 pub(crate) fn write_signed(
     request: &[u8],
     key: Option<&Key>,
