@@ -2,8 +2,9 @@
 ghost use Rattle.std.specs.Prelude.{◌≡◌, ◌≤◌, length};
 ghost use Rattle.std.specs.Bool.{OnTrue};
 ghost use Rattle.dns_message.specs.Message.{number_at};
+ghost use Rattle.dns_message.specs.Tsig.{place_in};
 ghost use Rattle.hmac.specs.Hmac.{mac_size};
-ghost use Rattle.tsig.specs.Verification.{is_size, is_timely, after_mac, by_mac, by_tsig, verified};
+ghost use Rattle.tsig.specs.Verification.{is_size, is_timely, after_mac, by_mac, by_tsig, by_place, verified};
 ghost use Rattle.tsig.specs.Tsig.{tsig_at};
 
 use crate::digest::is_right;
@@ -50,7 +51,6 @@ pub enum Verification<'m> {
 }
 
 /// What octets are by their TSIG, at a time in seconds since 1970, in the order of RFC 8945, 5.2. It takes no memory.
-#[tactic(auto, using(crate::proofs::NoRecords::unsigned_at_once))]
 pub fn verify<'m>(keys: &Keys, now: u64, octets: &Message<'m>) -> Verification<'m>
     ensures { result ≡ verified keys.now now octets.now }
 {
@@ -58,6 +58,15 @@ pub fn verify<'m>(keys: &Keys, now: u64, octets: &Message<'m>) -> Verification<'
     if msg.len() < HEADER || msg[2] >= QR {
         return Verification::Silent;
     }
+    verify_placed(keys, now, octets)
+}
+
+/// What a request is by where its TSIG stands.
+fn verify_placed<'m>(keys: &Keys, now: u64, octets: &Message<'m>) -> Verification<'m>
+    requires { HEADER ≤ length octets.now }
+    ensures { result ≡ by_place keys.now now octets.now (place_in octets.now) }
+{
+    let msg = octets.octets();
     // Most requests have no record, and aren't walked through.
     if has_no_records(msg) {
         return Verification::Unsigned;
