@@ -86,9 +86,9 @@ fn reply_as<R: Wait, M: Messages, A: Handler<M>>(
 
 /// A reply as it is.
 fn unsigned<'k, M: Messages>(reply: Reply<M>) -> Reply<SignedMessages<'k, M>>
-    ensures messages { (out : List ℕ) → messages_of (λ s. stream_by s.signer (M.left s.inner)) result out ≡ messages_of M.left reply.entry out }
-    ensures later { (result ≡ ReplyOf.Later) ↔ (reply.entry ≡ ReplyOf.Later) }
-    ensures one { (len : ℕ) → result ≡ ReplyOf.One len → reply.entry ≡ ReplyOf.One len }
+    ensures messages { (out : List ℕ) → messages_of (λ s. stream_by s.signer (M.left s.inner)) result out ≡ messages_of M.left reply out }
+    ensures later { (result ≡ ReplyOf.Later) ↔ (reply ≡ ReplyOf.Later) }
+    ensures one { (len : ℕ) → result ≡ ReplyOf.One len → reply ≡ ReplyOf.One len }
 {
     match reply {
         Reply::Silent => Reply::Silent,
@@ -107,9 +107,9 @@ fn signed<'k, M: Messages>(
     out: &mut [u8],
 ) -> Reply<SignedMessages<'k, M>>
     requires room { message_limit ≤ length out.old }
-    requires bound { (len : ℕ) → reply.entry ≡ ReplyOf.One len → len ≤ message_limit }
-    ensures messages { (limit : ℕ) → AreSignedInOrder key.now now tsig.entry limit (messages_of M.left reply.entry out.old) (messages_of (λ s. stream_by s.signer (M.left s.inner)) result out.new) }
-    ensures later { (result ≡ ReplyOf.Later) ↔ (reply.entry ≡ ReplyOf.Later) }
+    requires bound { (len : ℕ) → reply ≡ ReplyOf.One len → len ≤ message_limit }
+    ensures messages { (limit : ℕ) → AreSignedInOrder key.now now tsig limit (messages_of M.left reply out.old) (messages_of (λ s. stream_by s.signer (M.left s.inner)) result out.new) }
+    ensures later { (result ≡ ReplyOf.Later) ↔ (reply ≡ ReplyOf.Later) }
     ensures one { (len : ℕ) → result ≡ ReplyOf.One len → (len ≤ message_limit) × (len ≤ length out.new) }
 {
     match reply {
@@ -151,7 +151,7 @@ impl<'k, K: KeyRing, M: Messages, A: Handler<M>, C: UnixClock> SignedConnections
         peer: Peer,
         from: SocketAddr,
     ) -> Result<SignedConnections<'k, K, M, A, C>, AllocError>
-        ensures inner { IfOk result (λ made. made.inner ≡ inner.entry) }
+        ensures inner { IfOk result (λ made. made.inner ≡ inner) }
         ensures peer { IfOk result (λ made. made.peer ≡ peer) }
     {
         Ok(SignedConnections {
@@ -193,8 +193,8 @@ impl<'k, K: KeyRing, M: Messages, A: Handler<M>, C: UnixClock> SignedConnections
         ensures end { IfErr result (λ end. end ≡ EndOf.Spent) }
         ensures spent { OnErr result (A.spent self.new.inner) }
         ensures reply { IfOk result (λ reply. reply ≢ ReplyOf.Later → (before : Learned Version) × Grows before (A.seen self.old.inner self.old.asker) × Grows (A.seen self.new.inner self.old.asker) before
-            × IsSignedReply {T = Version} K.keys K.rights A.is_reply AreSignedInOrder (slice_get K.keys tsig.entry.key) now tsig.entry self.old.peer before (A.seen self.new.inner self.old.asker) request.now (messages_of (λ s. stream_by s.signer (M.left s.inner)) reply out.new)) }
-        ensures later { IfOk result (λ reply. reply ≡ ReplyOf.Later → A.is_later (peer_by (rights_of K.rights tsig.entry.key) self.old.peer) (plain_of request.now tsig.entry.start)) }
+            × IsSignedReply {T = Version} K.keys K.rights A.is_reply AreSignedInOrder (slice_get K.keys tsig.key) now tsig self.old.peer before (A.seen self.new.inner self.old.asker) request.now (messages_of (λ s. stream_by s.signer (M.left s.inner)) reply out.new)) }
+        ensures later { IfOk result (λ reply. reply ≡ ReplyOf.Later → A.is_later (peer_by (rights_of K.rights tsig.key) self.old.peer) (plain_of request.now tsig.start)) }
     {
         let Some(key) = self.ring.keys().get(tsig.key) else {
             return Ok(Reply::Silent);
@@ -214,7 +214,7 @@ impl<'k, K: KeyRing, M: Messages, A: Handler<M>, C: UnixClock> SignedConnections
         request: &[u8],
         out: &mut [u8],
     ) -> Result<Reply<SignedMessages<'k, M>>, StreamEnd>
-        requires verified { verified.entry ≡ received K.keys now request.now }
+        requires verified { verified ≡ received K.keys now request.now }
         requires header { HEADER ≤ length request.now }
         requires short { length request.now ≤ message_limit }
         requires room { message_limit ≤ length out.old }
@@ -303,7 +303,7 @@ impl<'k, K: KeyRing, M: Messages, A: Handler<M>, C: UnixClock> SignedConnections
         request: &[u8],
         out: &mut [u8],
     ) -> Result<Reply<SignedMessages<'k, M>>, StreamEnd>
-        requires verified { verified.entry ≡ received K.keys now request.now }
+        requires verified { verified ≡ received K.keys now request.now }
         requires header { HEADER ≤ length request.now }
         requires short { length request.now ≤ message_limit }
         requires room { message_limit ≤ length out.old }

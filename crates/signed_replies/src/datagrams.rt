@@ -49,7 +49,7 @@ impl<'k, K: KeyRing, A: Handler, C: UnixClock> SignedDatagrams<'k, K, A, C> {
         peer: Peer,
         from: SocketAddr,
     ) -> Result<SignedDatagrams<'k, K, A, C>, AllocError>
-        ensures inner { IfOk result (λ made. made.inner ≡ inner.entry) }
+        ensures inner { IfOk result (λ made. made.inner ≡ inner) }
         ensures peer { IfOk result (λ made. made.peer ≡ peer) }
     {
         Ok(SignedDatagrams {
@@ -123,7 +123,7 @@ impl<'k, K: KeyRing, A: Handler, C: UnixClock> SignedDatagrams<'k, K, A, C> {
         request: &[u8],
         out: &mut [u8],
     ) -> Result<Option<usize>, Spent>
-        requires verified { verified.entry ≡ received K.keys now request.now }
+        requires verified { verified ≡ received K.keys now request.now }
         requires header { HEADER ≤ length request.now }
         requires short { length request.now ≤ message_limit }
         requires room { message_limit ≤ length out.old }
@@ -181,7 +181,7 @@ impl<'k, K: KeyRing, A: Handler, C: UnixClock> SignedDatagrams<'k, K, A, C> {
         ensures grows { Grows {T = Version} (A.seen self.new.inner) (A.seen self.old.inner) }
         ensures bound { IfOk result (λ len. IfSome len (λ n. (n ≤ message_limit) × (n ≤ length out.new))) }
         ensures reply { IfOk result (λ len. (before : Learned Version) × Grows before (A.seen self.old.inner) × Grows (A.seen self.new.inner) before
-            × IsSignedReply {T = Version} K.keys K.rights A.is_reply AreSignedAlone (slice_get K.keys tsig.entry.key) now tsig.entry (by_datagram self.old.peer) before (A.seen self.new.inner) request.now (messages_in len out.new)) }
+            × IsSignedReply {T = Version} K.keys K.rights A.is_reply AreSignedAlone (slice_get K.keys tsig.key) now tsig (by_datagram self.old.peer) before (A.seen self.new.inner) request.now (messages_in len out.new)) }
     {
         let Some(key) = self.ring.keys().get(tsig.key) else {
             return Ok(None);

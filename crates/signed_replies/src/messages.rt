@@ -36,7 +36,7 @@ impl<'k> Model for Signer<'k> {
 impl<'k> Signer<'k> {
     /// The signer of the reply to a request with this TSIG.
     pub fn new(key: &'k Key, tsig: RequestTsig, stamp: Stamp) -> Signer<'k>
-        ensures { result ≡ record { key = key.now; stamp = stamp; prior = tsig.entry.mac.items; begun = false } }
+        ensures { result ≡ record { key = key.now; stamp = stamp; prior = tsig.mac.items; begun = false } }
     {
         Signer {
             key,
@@ -84,7 +84,7 @@ pub struct SignedMessages<'k, M: Messages> {
 impl<'k, M: Messages> SignedMessages<'k, M> {
     /// These messages as they are.
     pub(crate) fn unsigned(inner: M) -> SignedMessages<'k, M>
-        ensures { result ≡ record { inner = inner.entry; signer = None } }
+        ensures { result ≡ record { inner = inner; signer = None } }
     {
         SignedMessages {
             inner,
@@ -94,7 +94,7 @@ impl<'k, M: Messages> SignedMessages<'k, M> {
 
     /// These messages, signed.
     pub(crate) fn signed(inner: M, signer: Signer<'k>) -> SignedMessages<'k, M>
-        ensures { result ≡ record { inner = inner.entry; signer = Some signer.entry } }
+        ensures { result ≡ record { inner = inner; signer = Some signer.entry } }
     {
         SignedMessages {
             inner,

@@ -56,7 +56,7 @@ pub(crate) fn sign_reply(
     requires most { limit ≤ message_limit }
     requires within { len ≤ message_limit }
     requires room { message_limit ≤ length out.old }
-    ensures octets { take result out.new ≡ signed_reply key.now tsig.entry.mac.items stamp.now limit (take len out.old) }
+    ensures octets { take result out.new ≡ signed_reply key.now tsig.mac.items stamp.now limit (take len out.old) }
     ensures bound { result ≤ message_limit }
 {
     if len < HEADER {
@@ -78,7 +78,7 @@ pub(crate) fn write_signed(
 ) -> Option<usize>
     requires header { HEADER ≤ length request.now }
     requires room { message_limit ≤ length out.old }
-    ensures octets { messages_in result out.new ≡ signed_error transport (option_copied key) tsig.entry stamp.now request.now }
+    ensures octets { messages_in result out.new ≡ signed_error transport (option_copied key) tsig stamp.now request.now }
     ensures bound { IfSome result (λ n. n ≤ message_limit) }
 {
     let key = key?;

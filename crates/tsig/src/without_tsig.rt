@@ -19,6 +19,7 @@ pub fn write_without_tsig(msg: &[u8], start: usize, id: u16, out: &mut [u8]) -> 
     requires header { HEADER ≤ length msg.now }
     requires room { length msg.now ≤ length out.old }
     ensures octets { take result out.new ≡ without_tsig msg.now start id }
+    ensures within { result ≤ length msg.now }
     ensures behind { drop result out.new ≡ drop result out.old }
 {
     let at = put_at(out, 0, &id.to_be_bytes());
