@@ -3,7 +3,7 @@ use std::rt::Clock;
 use std::time::{SystemTime, UNIX_EPOCH};
 
 /// A clock. A test has one that stands still.
-pub trait UnixClock {
+pub trait UnixClock: Drop {
     /// The seconds since 1970; 0 where the clock can't be read, so that each signed request is out of time.
     fn now(&self) -> u64;
 }
@@ -21,7 +21,7 @@ impl<R: Clock> SystemClock<R> {
     }
 }
 
-impl<R: Clock> UnixClock for SystemClock<R> {
+impl<R: Clock + Drop> UnixClock for SystemClock<R> {
     fn now(&self) -> u64 {
         let Ok(now) = SystemTime::now(&self.rt) else {
             return 0;

@@ -141,7 +141,13 @@ fn one<M: Messages>(len: Option<usize>) -> Reply<M>
     }
 }
 
-impl<'k, K: KeyRing, M: Messages, A: Handler<M>, C: UnixClock> SignedConnections<'k, K, M, A, C> {
+impl<'k, K: KeyRing, M: Messages, A: Handler<M> + Drop, C: UnixClock> SignedConnections<
+    'k,
+    K,
+    M,
+    A,
+    C,
+> {
     /// Such a handler in front of another one. Its first peer is this one, which sends from this address. An error where memory is refused.
     pub fn new(
         alloc: Global,
@@ -364,7 +370,7 @@ impl<'k, K: KeyRing, M: Messages, A: Handler<M>, C: UnixClock> SignedConnections
     }
 }
 
-impl<'k, K: KeyRing, M: Messages, A: Handler<M>, C: UnixClock> Handler<SignedMessages<'k, M>>
+impl<'k, K: KeyRing, M: Messages, A: Handler<M> + Drop, C: UnixClock> Handler<SignedMessages<'k, M>>
     for SignedConnections<'k, K, M, A, C> {
     ghost seen = { λ signed. A.seen signed.inner };
 

@@ -39,7 +39,7 @@ pub struct SignedDatagrams<'k, K: KeyRing, A: Handler, C> {
     room: PlainRoom,
 }
 
-impl<'k, K: KeyRing, A: Handler, C: UnixClock> SignedDatagrams<'k, K, A, C> {
+impl<'k, K: KeyRing, A: Handler + Drop, C: UnixClock> SignedDatagrams<'k, K, A, C> {
     /// Such a handler in front of another one. Its first peer is this one, which sends from this address. An error where memory is refused.
     pub fn new(
         alloc: Global,
@@ -215,7 +215,7 @@ fn answer_as<R: Wait, A: Handler>(
     inner.answer(rt, request, out)
 }
 
-impl<'k, K: KeyRing, A: Handler, C: UnixClock> Handler for SignedDatagrams<'k, K, A, C> {
+impl<'k, K: KeyRing, A: Handler + Drop, C: UnixClock> Handler for SignedDatagrams<'k, K, A, C> {
     ghost seen = { λ signed. A.seen signed.inner };
 
     ghost peer = { λ signed. signed.peer };
