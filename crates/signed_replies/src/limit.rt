@@ -3,7 +3,7 @@ ghost use Rattle.std.specs.Prelude.{◌≡◌, ◌≤◌};
 ghost use Rattle.dns_message.specs.Message.{message_limit};
 ghost use Rattle.signed_replies.specs.Signed.{edns_of, reply_limit};
 
-use dns_message::{Edns, Parsed, is_update, parse_other};
+use dns_message::{Edns, Query, Said, is_update, parse_into};
 use serve_core::Transport;
 
 /// The most octets of the reply to a request without its TSIG, by its OPT, or its lack.
@@ -23,8 +23,11 @@ fn edns_in(request: &[u8]) -> Option<Edns>
     if is_update(request) {
         return None;
     }
-    match parse_other(request) {
-        Parsed::Query(query) => query.edns,
-        _ => None,
+    let mut query = Query::blank();
+    match parse_into(request, &mut query) {
+        Said::Query => query.edns,
+        Said::Silent => None,
+        Said::Fault(_, _) => None,
+        Said::BadOpt(_, _, _) => None,
     }
 }
