@@ -52,6 +52,45 @@ prints_stored "$second" "${whole/%de/df}"
 prints_stored "$third" "$whole" --before-fault
 prints_stored "$second" "${whole/%de/df}" --before-fault
 
+# what each update of the batches changed, one behind the other; where the store gives no start, nothing is printed, and its fault is told
+soa='example. 3600 IN SOA ns.example. host.example.'
+one="serial 7 to 8, 0 deleted, 1 added
+- $soa 7 1 1 1 1
++ $soa 8 1 1 1 1
++ a.example. 300 IN A 192.0.2.1"
+two="$one
+serial 8 to 9, 0 deleted, 1 added
+- $soa 8 1 1 1 1
++ $soa 9 1 1 1 1
++ b.example. 300 IN A 192.0.2.2
+serial 9 to 10, 0 deleted, 1 added
+- $soa 9 1 1 1 1
++ $soa 10 1 1 1 1
++ a.example. 300 IN A 192.0.2.3"
+three="$two
+serial 10 to 11, 1 deleted, 0 added
+- $soa 10 1 1 1 1
+- b.example. 300 IN A 192.0.2.2
++ $soa 11 1 1 1 1"
+lays "$text" "$head"
+prints '' journal "$store"
+lays "$text" "$head${frames[0]}"
+prints "$one" journal "$store"
+lays "$text" "$head${frames[0]}${frames[1]}"
+prints "$two" journal "$store"
+lays "$text" "$whole"
+prints "$three" journal "$store"
+lays "$text" "${whole}0000003400000000"
+prints "$three" journal "$store"
+lays "$text" "${whole/c0000202/c0000204}"
+says 1 "error: '$store/journal': updates that were answered are damaged in front of octet 416; dnsd zone --before-fault '$store' prints the zone in front of them" journal "$store"
+lays "$first" "$whole"
+says 1 "error: the zone text of '$store' isn't the one that '$store/journal' belongs to" journal "$store"
+lays "$text" "$head${frames[0]}d7a6ab14b984491d0000003400000000000000010032000128000001000000010000076578616d706c6500000600010161076578616d706c6500000100010000012c0004c0000201b5581b164dd086a2790644c88785751399057b6ca2d05110b364ff07f14a3093"
+says 1 "error: '$store/journal': update 1, counted from 0, changes nothing" journal "$store"
+row 3 "error: the store '$store/none' can't be read: " journal "$store/none"
+row 2 DIR journal
+
 # a batch that is damaged in front of another is told by the octet at which that begins, and the zone in front of it is printed where that is asked for
 damaged=${whole/c0000202/c0000204}
 tells_stored "'$store/journal': updates that were answered are damaged in front of octet 416; dnsd zone --before-fault '$store' prints the zone in front of them" "$damaged"

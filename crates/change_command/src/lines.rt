@@ -43,8 +43,8 @@ fn put_change(text: &mut String, old: &Zone, change: &ZoneChange) -> Result<(), 
     Ok(())
 }
 
-/// Puts the lines of the records of sets at the end of a text, each after a sign.
-fn put_sets(text: &mut String, sign: &str, sets: &[RRset]) -> Result<(), AllocError>
+/// Puts the lines of the records of sets at the end of a text, each after a sign. The fault is a growth that was refused.
+pub fn put_sets(text: &mut String, sign: &str, sets: &[RRset]) -> Result<(), AllocError>
     ensures { OnOk result (string_bytes text.new ≡ string_bytes text.old ++ flat_map (signed_line sign.now) (records_in sets.now)) }
 {
     for set in sets {
@@ -53,8 +53,8 @@ fn put_sets(text: &mut String, sign: &str, sets: &[RRset]) -> Result<(), AllocEr
     Ok(())
 }
 
-/// Puts the lines of a set's records at the end of a text, each after a sign.
-fn put_set(text: &mut String, sign: &str, set: &RRset) -> Result<(), AllocError>
+/// Puts the lines of a set's records at the end of a text, each after a sign. The fault is a growth that was refused.
+pub fn put_set(text: &mut String, sign: &str, set: &RRset) -> Result<(), AllocError>
     ensures { OnOk result (string_bytes text.new ≡ string_bytes text.old ++ flat_map (signed_line sign.now) set.now) }
 {
     let owner = set.owner();

@@ -28,6 +28,8 @@ pub enum Task<'a> {
     Serve(Serve<'a>),
     /// Prints the zone of a store.
     Stored(Stored<'a>),
+    /// Prints what the updates of the store in this directory changed.
+    Journal(&'a str),
     /// Prints what changes from one zone to another.
     Change(Change<'a>),
 }
@@ -42,6 +44,7 @@ impl<'a> Drop for Task<'a> {
             } => {}
             Task::Serve(_) => {}
             Task::Stored(_) => {}
+            Task::Journal(_) => {}
             Task::Change(_) => {}
         }
     }
@@ -100,6 +103,9 @@ fn task_of<'a>(
     if name == "zone" {
         return Ok(Task::Stored(stored_of(found)));
     }
+    if name == "journal" {
+        return Ok(Task::Journal(dir_of(found)));
+    }
     let text = found.get_str(ORIGIN).unwrap_or(".");
     let origin = Name::from_text(text.as_bytes(), &Name::root()).map_err(
         |fault| CommandFault::Origin(text, fault),
@@ -144,9 +150,14 @@ fn stored_of<'a>(found: &ArgMatches<'a>) -> Stored<'a> {
         Part::Whole
     };
     Stored {
-        dir: found.get_str(DIR).unwrap_or("."),
+        dir: dir_of(found),
         part,
     }
+}
+
+/// The directory of a store.
+fn dir_of<'a>(found: &ArgMatches<'a>) -> &'a str {
+    found.get_str(DIR).unwrap_or(".")
 }
 
 /// The command with this name.

@@ -67,6 +67,13 @@ const ZONE_ROW: WordRow = WordRow {
     help: "text of the zone: a file, or - for standard input up to a line %",
 };
 
+/// The argument for a store's directory.
+const DIR_ROW: WordRow = WordRow {
+    name: DIR,
+    form: Form::Word("DIR"),
+    help: "directory of the store",
+};
+
 /// The commands, in the order in which help lists them.
 const COMMANDS: &[CommandRow] = &[
     CommandRow {
@@ -104,6 +111,12 @@ const COMMANDS: &[CommandRow] = &[
         about: "prints the zone of a store as a server would load it, one record per line",
         example: "Example, a backup of a store's zone while it is served:\n  dnsd zone /var/lib/dnsd > saved && mv saved backup.zone",
         words: STORED_WORDS,
+    },
+    CommandRow {
+        name: "journal",
+        about: "prints what the updates of a store changed, one record per line, since it was created or compacted",
+        example: "Example:\n  dnsd journal /var/lib/dnsd",
+        words: &[DIR_ROW],
     },
     CommandRow {
         name: "serve",
@@ -178,11 +191,7 @@ const STORED_WORDS: &[WordRow] = &[
         form: Form::Flag,
         help: "print the zone as it was before the damaged updates",
     },
-    WordRow {
-        name: DIR,
-        form: Form::Word("DIR"),
-        help: "directory of the store",
-    },
+    DIR_ROW,
 ];
 
 /// The arguments of `serve`.

@@ -1,5 +1,5 @@
-//! What `dnsd` does without serving: it runs commands over a zone's text, prints the zone of a store and what changes from one zone to
-//! another, and reads, locks and binds what a server serves with.
+//! What `dnsd` does without serving: it runs commands over a zone's text, prints the zone of a store, what its updates changed and what changes
+//! from one zone to another, and reads, locks and binds what a server serves with.
 //!
 //! The log of a running server is here too: its lines and their levels, and the thread that writes them to standard error and notifies a service
 //! manager.
@@ -25,7 +25,7 @@ pub use kept::start_store_for;
 pub use lines::{LogLine, ROOT_APEX};
 pub use log::{Listening, Log};
 pub use started_zone::{ServedZone, StartedStore, StartedZone, ZoneStore};
-pub use stored::run_stored;
+pub use stored::{run_journal, run_stored};
 pub use streams::run_on_streams;
 pub use writer::{Entries, Entry, start_entries};
 pub use zone_file::{read_text_for, text_for};
