@@ -34,17 +34,17 @@ const FAULTY: Case = Case {
 };
 
 /// Whether a run had no memory, said so, and wrote a part of what it writes at most, or all that it writes without an update.
-fn is_starved(result: &CommandResult, writes: &str, without: Option<&str>) -> bool {
-    let errors = result.errors.as_slice();
-    let says = result.status == 3
+fn is_starved(ended: &CommandResult, writes: &str, without: Option<&str>) -> bool {
+    let errors = ended.errors.as_slice();
+    let says = ended.status == 3
         || errors.starts_with(b"line 0: M14 NoMemory\n")
         || errors.starts_with(b"V1 NoMemory\n")
         || errors.starts_with(b"X4 NoMemory\n");
     if says {
-        return writes.as_bytes().starts_with(&result.written);
+        return writes.as_bytes().starts_with(&ended.written);
     }
     match without {
-        Some(text) => result.status == 0 && result.written.as_slice() == text.as_bytes(),
+        Some(text) => ended.status == 0 && ended.written.as_slice() == text.as_bytes(),
         None => false,
     }
 }

@@ -1,5 +1,5 @@
 //! Tests over a running server, whose cell starts with the zone of five RRsets.
-use crate::{gone_versions, orders, refused_updates, slots, streams, trays};
+use crate::{datagrams, gone_versions, orders, refused_updates, slots, streams};
 use dns_engine::{FirstZone, KEPT, VersionCell, VersionPublisher, VersionReader};
 use memory_devices::{Play, Played, is_played_by, zone};
 use std::alloc::Global;
@@ -12,7 +12,7 @@ pub(crate) enum Course {
     /// The stream of a row.
     Stream(streams::Row),
     /// The datagrams of a row.
-    Datagrams(trays::Row),
+    Datagrams(datagrams::Row),
     /// The tests of `gone_versions`, `orders` and `slots`.
     OwnedAWhile,
     FourUpdates,
@@ -33,7 +33,7 @@ impl Course {
     ) -> Option<bool> {
         match self {
             Course::Stream(row) => streams::go(rt, alloc, server, readers, row),
-            Course::Datagrams(row) => trays::go(rt, alloc, server, readers, row),
+            Course::Datagrams(row) => datagrams::go(rt, alloc, server, readers, row),
             Course::OwnedAWhile => gone_versions::go(rt, alloc, server, readers),
             Course::FourUpdates => orders::go(rt, alloc, server, readers),
             Course::AllSlots => slots::go(rt, alloc, server, readers),
