@@ -121,7 +121,7 @@ def difference(old, new):
 
 
 def try_pair(room, old, new):
-    """Tries a pair, and tells what fails."""
+    """Tries a pair, and returns what fails."""
     paths = {name: os.path.join(room, name) for name in ('old', 'new', 'aim')}
     for name, zone in (('old', old), ('new', new), ('aim', aimed(old, new))):
         with open(paths[name], 'w') as file:
@@ -133,9 +133,9 @@ def try_pair(room, old, new):
     message = run(['change', '--hex', paths['old'], paths['new']])
     if before == after:
         return f'a message where nothing changes: {message}' if message else None
-    told, *transfer = run(['answer', '--tcp', paths['old']], message + AXFR + '\n').splitlines()
-    if told != '0000a8000000000000000000':
-        return f'the update got {told}'
+    reply, *transfer = run(['answer', '--tcp', paths['old']], message + AXFR + '\n').splitlines()
+    if reply != '0000a8000000000000000000':
+        return f'the update got {reply}'
     left = run(['apply', paths['old']], transfer[0].replace(' ', '\n') + '\n')
     if left != after:
         return f'served after it:\n{left}right:\n{after}'

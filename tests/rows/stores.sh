@@ -52,7 +52,7 @@ prints_stored "$second" "${whole/%de/df}"
 prints_stored "$third" "$whole" --before-fault
 prints_stored "$second" "${whole/%de/df}" --before-fault
 
-# what each update of the batches changed, one behind the other; where the store gives no start, nothing is printed, and its fault is told
+# what each update of the batches changed, one after the other; where the store gives no start, nothing but its fault is printed
 soa='example. 3600 IN SOA ns.example. host.example.'
 one="serial 7 to 8, 0 deleted, 1 added
 - $soa 7 1 1 1 1
