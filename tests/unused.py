@@ -74,15 +74,15 @@ LAWS = {
     "what_was_synced_is_replayed_first each_cut_is_a_replay",
     "transfer_core": "examples_of_lists examples_of_taken_lists examples_of_broken_lists examples_of_wrong_bases "
     "examples_of_no_zones examples_of_first_faults sizes_of_what_is_kept full_lists_are_taken "
-    "incremental_lists_are_taken first_faults_are_told messages_tell_their_records examples_of_windows "
+    "incremental_lists_are_taken first_faults_are_reported messages_tell_their_records examples_of_windows "
     "examples_of_changes serials_of_a_window_differ windows_are_longest_runs",
     "transfer_in": "lists_are_received datagrams_are_received",
     "update_core": "examples_of_prerequisites examples_of_sets examples_of_prescan examples_of_verdicts "
     "examples_of_taken_updates examples_of_adds examples_of_deletions examples_of_serials "
     "prerequisites_change_nothing replays_agree",
     "wire_names": "one_fault name_at_is table_stays written_is_spelt",
-    "world_laws": "plays_are_runs updates_are_told refused_lines_change_nothing versions_before_the_kept_are_buried "
-    "lines_take_one_step updates_are_told_in_turn versions_are_held burials_are_told_once",
+    "world_laws": "plays_are_runs updates_are_answered refused_lines_change_nothing versions_before_the_kept_are_buried "
+    "lines_take_one_step updates_are_answered_in_turn versions_are_held burials_are_reported_once",
     "zone_lexing": "items_are_the_text entries_are_in_order lines_are_read_back comments_change_nothing "
     "blank_lines_change_nothing line_ends_are_alike parentheses_join_lines examples_of_places",
     "zone_tree": "soa_at_apex example_is_a_zone names_that_exist",

@@ -110,19 +110,19 @@ keeps_fade {T} old new at event owner number (place, there, fades, found, m) k =
     ]
 
 pub keeps_step : {T : Type 0} (old new : State T) (step : WordStep T) (event : WordEvent) (owner number : ℕ) → Makes old step event new → Keeps old.owners owner number → Keeps new.owners owner number
-keeps_step {T} old new Load event owner number (given, found, few, told, is) k = keeps_push old.owners new.owners (Holding given (slot_of old.latest)) owner number (ap (λ (s : State T). s.owners) is) k
+keeps_step {T} old new Load event owner number (given, found, few, reported, is) k = keeps_push old.owners new.owners (Holding given (slot_of old.latest)) owner number (ap (λ (s : State T). s.owners) is) k
 keeps_step old new Probe event owner number m k = keeps_probe old new event owner number m k
-keeps_step {T} old new (Prepare value) event owner number (place, there, last, at, found, latest, fits, told, is) k = keeps_as old.owners new.owners owner number (ap (λ (s : State T). s.owners) is) k
-keeps_step {T} old new Swap event owner number (place, last, at, within, latest, told, is) k = keeps_as old.owners new.owners owner number (ap (λ (s : State T). s.owners) is) k
-keeps_step {T} old new Settle event owner number (given, place, shares, there, at, found, told, is) k = keeps_push old.owners new.owners (Holding given place) owner number (ap (λ (s : State T). s.owners) is) k
+keeps_step {T} old new (Prepare value) event owner number (place, there, last, at, found, latest, fits, reported, is) k = keeps_as old.owners new.owners owner number (ap (λ (s : State T). s.owners) is) k
+keeps_step {T} old new Swap event owner number (place, last, at, within, latest, reported, is) k = keeps_as old.owners new.owners owner number (ap (λ (s : State T). s.owners) is) k
+keeps_step {T} old new Settle event owner number (given, place, shares, there, at, found, reported, is) k = keeps_push old.owners new.owners (Holding given place) owner number (ap (λ (s : State T). s.owners) is) k
 keeps_step old new (Release at) event owner number m k = keeps_release old new at event owner number m k
 keeps_step old new (Bury at) event owner number m k = keeps_bury old new at event owner number m k
-keeps_step {T} old new (Free at) event owner number (place, there, seat, found, told, is) k = keeps_set old.owners new.owners at (Freeing place) Spent owner number seat refl (ap (λ (s : State T). s.owners) is) k
+keeps_step {T} old new (Free at) event owner number (place, there, seat, found, reported, is) k = keeps_set old.owners new.owners at (Freeing place) Spent owner number seat refl (ap (λ (s : State T). s.owners) is) k
 keeps_step old new (Look at) event owner number m k = keeps_look old new at event owner number m k
 keeps_step old new (Raise at) event owner number m k = keeps_raise old new at event owner number m k
-keeps_step {T} old new (Note at) event owner number (had, place, there, seat, found, room, told, is) k = keeps_push old.owners new.owners (Weakly had place) owner number (ap (λ (s : State T). s.owners) is) k
+keeps_step {T} old new (Note at) event owner number (had, place, there, seat, found, room, reported, is) k = keeps_push old.owners new.owners (Weakly had place) owner number (ap (λ (s : State T). s.owners) is) k
 keeps_step old new (Fade at) event owner number m k = keeps_fade old new at event owner number m k
-keeps_step {T} old new (Reset at) event owner number (place, there, seat, found, told, is) k = keeps_set old.owners new.owners at (Resetting place) (Freeing place) owner number seat refl (ap (λ (s : State T). s.owners) is) k
+keeps_step {T} old new (Reset at) event owner number (place, there, seat, found, reported, is) k = keeps_set old.owners new.owners at (Resetting place) (Freeing place) owner number seat refl (ap (λ (s : State T). s.owners) is) k
 
 keeps_run : {T : Type 0} (before after : State T) (run : List (WordStep T × WordEvent)) (owner number : ℕ) → WordRuns before run after → Keeps before.owners owner number → Keeps after.owners owner number
 keeps_run {T} before after [] owner number r k = keeps_as before.owners after.owners owner number (ap (λ (s : State T). s.owners) r) k
@@ -130,9 +130,9 @@ keeps_run before after ((step, event) ∷ run) owner number r k = keeps_run r.0 
 
 -- a load gives an owner of its number
 pub loaded_keeps : {T : Type 0} (old new : State T) (owner number : ℕ) → Makes {T = T} old Load (Loaded owner number) new → (number_in old (slot_of old.latest) ≡ Some number) × Keeps new.owners owner number
-loaded_keeps {T} old new owner number (given, found, few, told, is) =
-    let place : owner ≡ length old.owners = (let e = told in cc) in
-    let same : given ≡ number = (let e = told in cc) in
+loaded_keeps {T} old new owner number (given, found, few, reported, is) =
+    let place : owner ≡ length old.owners = (let e = reported in cc) in
+    let same : given ≡ number = (let e = reported in cc) in
     let owners : new.owners ≡ old.owners ++ Holding given (slot_of old.latest) ∷ [] = ap (λ (s : State T). s.owners) is in
     let there : slice_get new.owners owner ≡ Some (Holding given (slot_of old.latest)) = ap (λ (o : List Owner). slice_get o owner) owners ∙ get_push_new old.owners (Holding given (slot_of old.latest)) owner place in (
       found ∙ ap Some same,
@@ -164,7 +164,7 @@ raised_keeps {T} old new from owner number its (had, place, there, own, found, r
     elim (cases_Bool (nat_lt there.shares dead_word)) [
       | inl little ↦ (
           let h = rw little at m in
-          let told : Raised owner number ≡ Raised (length old.owners) had = h.0 in
+          let reported : Raised owner number ≡ Raised (length old.owners) had = h.0 in
           let at : owner ≡ length old.owners = cc in
           let which : number ≡ had = cc in
           (which ∙ same, new_keeps old.owners new.owners (Holding had place) owner had place its (ap (λ (s : State T). s.owners) h.1) refl at same)
@@ -173,10 +173,10 @@ raised_keeps {T} old new from owner number its (had, place, there, own, found, r
     ]
 
 pub noted_keeps : {T : Type 0} (old new : State T) (from owner number its : ℕ) → Makes {T = T} old (Note from) (Noted owner number) new → Keeps old.owners from its → (number ≡ its) × Keeps new.owners owner its
-noted_keeps {T} old new from owner number its (had, place, there, seat, found, room, told, is) k =
+noted_keeps {T} old new from owner number its (had, place, there, seat, found, room, reported, is) k =
     let same = k.same had place (ap (option_and_then owned_of) seat) in
-    let at : owner ≡ length old.owners = (let e : Noted owner number ≡ Noted (length old.owners) had = told in cc) in
-    let which : number ≡ had = (let e : Noted owner number ≡ Noted (length old.owners) had = told in cc) in
+    let at : owner ≡ length old.owners = (let e : Noted owner number ≡ Noted (length old.owners) had = reported in cc) in
+    let which : number ≡ had = (let e : Noted owner number ≡ Noted (length old.owners) had = reported in cc) in
     (which ∙ same, new_keeps old.owners new.owners (Weakly had place) owner had place its (ap (λ (s : State T). s.owners) is) refl at same)
 
 -- what a load of a run was: the number that it gave was in W, and is the only one that its owner has
@@ -191,8 +191,8 @@ gave_the_last before after [] place owner number r l = absurd (let wrong = l in 
 gave_the_last {T} before after ((step, event) ∷ more) zero owner number r l =
     let pair : (step, event) ≡ (Load, Loaded owner number) = (let e = l in cc) in
     let is : step ≡ Load = ap (λ (p : WordStep T × WordEvent). p.0) pair in
-    let told : event ≡ Loaded owner number = ap (λ (p : WordStep T × WordEvent). p.1) pair in
-    let made : Makes {T = T} before Load (Loaded owner number) r.0 = rw (is, told) at r.1 in
+    let reported : event ≡ Loaded owner number = ap (λ (p : WordStep T × WordEvent). p.1) pair in
+    let made : Makes {T = T} before Load (Loaded owner number) r.0 = rw (is, reported) at r.1 in
     let gave = loaded_keeps before r.0 owner number made in
     record { between = before; made = refl; last = gave.0; keeps = keeps_run r.0 after more owner number r.2 gave.1 }
 gave_the_last before after ((step, event) ∷ more) (suc place) owner number r l =

@@ -103,19 +103,19 @@ fade_came {T} old new owner event (place, there, fades, found, m) =
     ]
 
 came : {T : Type 0} (old new : State T) (step : WordStep T) (event : WordEvent) (slot : ℕ) → Makes old step event new → new.publisher ≡ Probing (suc slot) → Came old step slot
-came {T} old new Load event slot (given, found, few, told, is) due = inl (refl, sym (ap (λ (s : State T). s.publisher) is) ∙ due)
+came {T} old new Load event slot (given, found, few, reported, is) due = inl (refl, sym (ap (λ (s : State T). s.publisher) is) ∙ due)
 came old new Probe event slot m due = probe_came old new event slot m due
-came {T} old new (Prepare value) event slot (place, there, last, at, found, latest, fits, told, is) due = absurd (no_swapping place (suc slot) (sym (ap (λ (s : State T). s.publisher) is) ∙ due))
-came {T} old new Swap event slot (place, last, at, within, latest, told, is) due = absurd (no_settling last _ _ (suc slot) (sym (ap (λ (s : State T). s.publisher) is) ∙ due))
-came {T} old new Settle event slot (number, place, given, there, at, found, told, is) due = absurd (no_first slot (sym (ap (λ (s : State T). s.publisher) is) ∙ due))
+came {T} old new (Prepare value) event slot (place, there, last, at, found, latest, fits, reported, is) due = absurd (no_swapping place (suc slot) (sym (ap (λ (s : State T). s.publisher) is) ∙ due))
+came {T} old new Swap event slot (place, last, at, within, latest, reported, is) due = absurd (no_settling last _ _ (suc slot) (sym (ap (λ (s : State T). s.publisher) is) ∙ due))
+came {T} old new Settle event slot (number, place, given, there, at, found, reported, is) due = absurd (no_first slot (sym (ap (λ (s : State T). s.publisher) is) ∙ due))
 came old new (Release owner) event slot m due = inl (refl, sym (release_came old new owner event m) ∙ due)
 came old new (Bury owner) event slot m due = inl (refl, sym (bury_came old new owner event m) ∙ due)
-came {T} old new (Free owner) event slot (place, there, seat, found, told, is) due = inl (refl, sym (ap (λ (s : State T). s.publisher) is) ∙ due)
+came {T} old new (Free owner) event slot (place, there, seat, found, reported, is) due = inl (refl, sym (ap (λ (s : State T). s.publisher) is) ∙ due)
 came old new (Look owner) event slot m due = inl (refl, sym (look_came old new owner event m) ∙ due)
 came old new (Raise owner) event slot m due = inl (refl, sym (raise_came old new owner event m) ∙ due)
-came {T} old new (Note owner) event slot (number, place, there, seat, found, room, told, is) due = inl (refl, sym (ap (λ (s : State T). s.publisher) is) ∙ due)
+came {T} old new (Note owner) event slot (number, place, there, seat, found, room, reported, is) due = inl (refl, sym (ap (λ (s : State T). s.publisher) is) ∙ due)
 came old new (Fade owner) event slot m due = inl (refl, sym (fade_came old new owner event m) ∙ due)
-came {T} old new (Reset owner) event slot (place, there, seat, found, told, is) due = inl (refl, sym (ap (λ (s : State T). s.publisher) is) ∙ due)
+came {T} old new (Reset owner) event slot (place, there, seat, found, reported, is) due = inl (refl, sym (ap (λ (s : State T). s.publisher) is) ∙ due)
 
 -- no publication makes a step in a run, or behind a place of it
 abbrev pub AllQuiet : {T : Type 0} → List (WordStep T × WordEvent) → Type 0

@@ -73,7 +73,7 @@ pub record Tells {T : Type 0} (new : State T) (step : WordStep T) (event : WordE
   pub published : next.published ≡ cell.published ++ values
   pub rest : (more : List (WordStep T × WordEvent)) → swapped waiting ((step, event) ∷ more) ≡ values ++ swapped later more
   pub waits : Waits new later
-  pub told : (j : ℕ) → next.buried j ≡ true → (cell.buried j ≡ true) ⊎ ((owner : ℕ) × (step ≡ Bury owner) × (event ≡ Buried j))
+  pub reported : (j : ℕ) → next.buried j ≡ true → (cell.buried j ≡ true) ⊎ ((owner : ℕ) × (step ≡ Bury owner) × (event ≡ Buried j))
 
 -- a step that publishes and buries nothing
 quiet : {T : Type 0} (new : State T) (step : WordStep T) (event : WordEvent) (waiting later : Option T) (cell next : Cell T) → next.published ≡ cell.published → ((j : ℕ) → next.buried j ≡ cell.buried j) → ((more : List (WordStep T × WordEvent)) → swapped waiting ((step, event) ∷ more) ≡ swapped later more) → Waits new later → Tells new step event waiting cell next
@@ -84,7 +84,7 @@ quiet new step event waiting later cell next published buried rest waits =
       published = published ∙ sym (append-nil cell.published);
       rest = rest;
       waits = waits;
-      told = λ j h. inl (sym (buried j) ∙ h);
+      reported = λ j h. inl (sym (buried j) ∙ h);
     }
 
 -- one that shows the same cell
@@ -93,7 +93,7 @@ same_cell {T} new step event waiting later cell next is rest waits =
     quiet new step event waiting later cell next (ap (λ (c : Cell T). c.published) is) (λ j. ap (λ (c : Cell T). c.buried j) is) rest waits
 
 load_waits : {T : Type 0} (old new : State T) (event : WordEvent) (waiting : Option T) → Makes {T = T} old Load event new → Waits old waiting → Waits new waiting
-load_waits {T} old new event waiting (given, found, few, told, is) w =
+load_waits {T} old new event waiting (given, found, few, reported, is) w =
     waits_still old new waiting (ap (λ (s : State T). s.publisher) is) (same_table old new (ap (λ (s : State T). s.table) is)) w
 
 probe_waits : {T : Type 0} (old new : State T) (event : WordEvent) (waiting : Option T) → Makes {T = T} old Probe event new → Waits new waiting
@@ -117,15 +117,15 @@ waits_there {T} new table place number value after at is within version =
     ap (option_map (λ (x : Version T). x.value)) (sym lies ∙ h)
 
 prepare_waits : {T : Type 0} (old new : State T) (value : T) (event : WordEvent) → Makes old (Prepare value) event new → Waits new (Some value)
-prepare_waits {T} old new value event (place, there, last, at, found, latest, fits, told, is) =
+prepare_waits {T} old new value event (place, there, last, at, found, latest, fits, reported, is) =
     waits_there new old.table place (last + 1) value (with_shares bulk (with_version (Some (record { number = last + 1; value = value })) there)) (ap (λ (s : State T). s.publisher) is) (ap (λ (s : State T). s.table) is) (slice_get_within old.table place there found) refl
 
 swap_waits : {T : Type 0} (old new : State T) (event : WordEvent) (waiting : Option T) → Makes {T = T} old Swap event new → Waits new waiting
-swap_waits {T} old new event waiting (place, last, at, within, latest, told, is) =
+swap_waits {T} old new event waiting (place, last, at, within, latest, reported, is) =
     waits_not new waiting (Settling last _ _) (ap (λ (s : State T). s.publisher) is) (no_settling last _ _)
 
 settle_waits : {T : Type 0} (old new : State T) (event : WordEvent) (waiting : Option T) → Makes {T = T} old Settle event new → Waits new waiting
-settle_waits {T} old new event waiting (number, place, given, there, at, found, told, is) =
+settle_waits {T} old new event waiting (number, place, given, there, at, found, reported, is) =
     waits_not new waiting (Probing 0) (ap (λ (s : State T). s.publisher) is) (no_probing 0)
 
 release_waits : {T : Type 0} (old new : State T) (owner : ℕ) (event : WordEvent) (waiting : Option T) → Makes {T = T} old (Release owner) event new → Waits old waiting → Waits new waiting
@@ -143,7 +143,7 @@ bury_waits {T} old new owner event waiting (place, there, seat, found, m) w =
     ]
 
 free_waits : {T : Type 0} (old new : State T) (owner : ℕ) (event : WordEvent) (waiting : Option T) → Makes {T = T} old (Free owner) event new → Waits old waiting → Waits new waiting
-free_waits {T} old new owner event waiting (place, there, seat, found, told, is) w =
+free_waits {T} old new owner event waiting (place, there, seat, found, reported, is) w =
     waits_still old new waiting (ap (λ (s : State T). s.publisher) is) (version_was old new place there (with_shares free_word there) found (ap (λ (s : State T). s.table) is) (λ v e. e)) w
 
 look_waits : {T : Type 0} (old new : State T) (owner : ℕ) (event : WordEvent) (waiting : Option T) → Makes {T = T} old (Look owner) event new → Waits old waiting → Waits new waiting
@@ -161,7 +161,7 @@ raise_waits {T} old new owner event waiting (number, place, there, own, found, r
     ]
 
 note_waits : {T : Type 0} (old new : State T) (owner : ℕ) (event : WordEvent) (waiting : Option T) → Makes {T = T} old (Note owner) event new → Waits old waiting → Waits new waiting
-note_waits {T} old new owner event waiting (number, place, there, seat, found, room, told, is) w =
+note_waits {T} old new owner event waiting (number, place, there, seat, found, room, reported, is) w =
     waits_still old new waiting (ap (λ (s : State T). s.publisher) is) (version_was old new place there (with_weak_word (fetch_add there.weak 1) there) found (ap (λ (s : State T). s.table) is) (λ v e. e)) w
 
 fade_waits : {T : Type 0} (old new : State T) (owner : ℕ) (event : WordEvent) (waiting : Option T) → Makes {T = T} old (Fade owner) event new → Waits old waiting → Waits new waiting
@@ -172,7 +172,7 @@ fade_waits {T} old new owner event waiting (place, there, fades, found, m) w =
     ]
 
 reset_waits : {T : Type 0} (old new : State T) (owner : ℕ) (event : WordEvent) (waiting : Option T) → Makes {T = T} old (Reset owner) event new → Waits old waiting → Waits new waiting
-reset_waits {T} old new owner event waiting (place, there, seat, found, told, is) w =
+reset_waits {T} old new owner event waiting (place, there, seat, found, reported, is) w =
     waits_still old new waiting (ap (λ (s : State T). s.publisher) is) (version_was old new place there (with_weak_word 1 there) found (ap (λ (s : State T). s.table) is) (λ v e. e)) w
 
 -- a weak owner's step up publishes and buries nothing
@@ -246,7 +246,7 @@ swap_tells {T} state new number waiting cell next w m s =
       published = ap (λ (c : Cell T). c.published) s.2.3;
       rest = λ more. ap (λ x. option_to_list x ++ swapped None more) is;
       waits = swap_waits state new (Swapped number) None m;
-      told = λ j h. inl (ap (λ (c : Cell T). c.buried j) (sym s.2.3) ∙ h);
+      reported = λ j h. inl (ap (λ (c : Cell T). c.buried j) (sym s.2.3) ∙ h);
     }
 
 -- a bury that wins buries its number, and no other
@@ -258,7 +258,7 @@ bury_tells {T} state new owner number waiting cell next w m s =
       published = ap (λ (c : Cell T). c.published) s.4 ∙ sym (append-nil cell.published);
       rest = λ more. refl;
       waits = bury_waits state new owner (Buried number) waiting m w;
-      told = λ j h.
+      reported = λ j h.
           let gone : (with_buried number cell).buried j ≡ true = ap (λ (c : Cell T). c.buried j) (sym s.4) ∙ h in
           elim (eqb_tells j number) [
             | inl same ↦ inr (owner, refl, ap Buried (sym same.1))
@@ -302,7 +302,7 @@ pub record RunTells {T : Type 0} (after : State T) (run : List (WordStep T × Wo
   pub shows : Shows after next
   pub published : next.published ≡ cell.published ++ swapped waiting run
   pub stays : (j : ℕ) → cell.buried j ≡ true → next.buried j ≡ true
-  pub told : (j : ℕ) → next.buried j ≡ true → (cell.buried j ≡ true) ⊎ IsBuriedBy run j
+  pub reported : (j : ℕ) → next.buried j ≡ true → (cell.buried j ≡ true) ⊎ IsBuriedBy run j
   pub buries : (j : ℕ) → IsBuriedBy run j → next.buried j ≡ true
 
 -- a burial of a run with a step in front
@@ -310,7 +310,7 @@ buried_behind : {T : Type 0} (made : WordStep T × WordEvent) (run : List (WordS
 buried_behind made run j b = (suc b.0, b.1, b.2)
 
 buried_here : {T : Type 0} (step : WordStep T) (event : WordEvent) (run : List (WordStep T × WordEvent)) (j owner : ℕ) → step ≡ Bury owner → event ≡ Buried j → IsBuriedBy ((step, event) ∷ run) j
-buried_here step event run j owner is told = (0, owner, ap (λ s. Some (s, event)) is ∙ ap (λ e. Some (Bury owner, e)) told)
+buried_here step event run j owner is reported = (0, owner, ap (λ s. Some (s, event)) is ∙ ap (λ e. Some (Bury owner, e)) reported)
 
 -- a burial is in front, or behind
 buried_cases : {T : Type 0} (step : WordStep T) (event : WordEvent) (run : List (WordStep T × WordEvent)) (j place owner : ℕ) → slice_get ((step, event) ∷ run) place ≡ Some (Bury owner, Buried j) → ((step ≡ Bury owner) × (event ≡ Buried j)) ⊎ IsBuriedBy run j
@@ -321,8 +321,8 @@ buried_cases step event run j (suc place) owner h = inr (place, owner, h)
 
 -- a bury that tells a number has buried it
 bury_is : {T : Type 0} (state : State T) (step : WordStep T) (event : WordEvent) (cell next : Cell T) (owner j : ℕ) → step ≡ Bury owner → event ≡ Buried j → ShowsStep state step event cell next → next.buried j ≡ true
-bury_is {T} state step event cell next owner j is told s =
-    let buries : Steps cell (CellStep.Bury j) None next = subst (λ x. ShowsStep state (Bury owner) x cell next) told (subst (λ x. ShowsStep state x event cell next) is s) in
+bury_is {T} state step event cell next owner j is reported s =
+    let buries : Steps cell (CellStep.Bury j) None next = subst (λ x. ShowsStep state (Bury owner) x cell next) reported (subst (λ x. ShowsStep state x event cell next) is s) in
     let gone : (with_buried j cell).buried j ≡ true = elim (eqb_tells j j) [ inl same ↦ rw same.0 refl | inr other ↦ absurd (other.1 refl) ] in
     ap (λ (c : Cell T). c.buried j) buries.4 ∙ gone
 
@@ -333,7 +333,7 @@ run_tells before after [] waiting cell s w r =
       shows = subst (λ x. Shows x cell) (sym r) s;
       published = sym (append-nil cell.published);
       stays = λ j h. h;
-      told = λ j h. inl h;
+      reported = λ j h. inl h;
       buries = λ j b. absurd (let wrong = b.2 in cc);
     }
 run_tells {T} before after ((step, event) ∷ run) waiting cell s w r =
@@ -347,8 +347,8 @@ run_tells {T} before after ((step, event) ∷ run) waiting cell s w r =
       shows = rest.shows;
       published = rest.published ∙ ap (λ l. l ++ swapped first.later run) first.published ∙ append_assoc cell.published first.values (swapped first.later run) ∙ ap (λ l. cell.published ++ l) (sym (first.rest run));
       stays = λ j h. rest.stays j (grown.buried j h);
-      told = λ j h. elim (rest.told j h) [
-        | inl before_it ↦ elim (first.told j before_it) [
+      reported = λ j h. elim (rest.reported j h) [
+        | inl before_it ↦ elim (first.reported j before_it) [
           | inl had ↦ inl had
           | inr it ↦ inr (buried_here step event run j it.0 it.1 it.2)
         ]

@@ -37,7 +37,7 @@ from_first first after run r =
     run_tells (begun first) after run None (start first) (begun_shows first) (waits_not (begun first) None (Probing 0) refl (no_probing 0)) r
 
 pub shown_cell : {T : Type 0} (first : T) (after : State T) (run : List (WordStep T × WordEvent)) (r : WordRuns (begun first) run after) → (number : ℕ) → (from_first first after run r).next.buried number ≡ true → IsBuriedBy run number
-shown_cell first after run r number h = elim ((from_first first after run r).told number h) [ inl wrong ↦ absurd (true≢false (sym wrong)) | inr there ↦ there ]
+shown_cell first after run r number h = elim ((from_first first after run r).reported number h) [ inl wrong ↦ absurd (true≢false (sym wrong)) | inr there ↦ there ]
 
 -- an owner finds the value of its number
 pub owner_has : {T : Type 0} (first : T) (after : State T) (run : List (WordStep T × WordEvent)) (owner number place : ℕ) → WordRuns (begun first) run after → slice_get after.owners owner ≡ Some (Holding number place) → (value : T) × (found_by after owner ≡ Some value) × (slice_get (published_by first run) number ≡ Some value)

@@ -45,7 +45,7 @@ latest_number {T} state cell s number h =
     let lies = last_lies state cell s in
     let found = get_within state.table (s.plan.slot s.plan.last) (omega (arith, lies.0, s.table.size)) in
     let is : IsLive state cell s.plan (s.plan.slot s.plan.last) s.plan.last found.0 = subst (λ p. SlotIs state cell s.plan (s.plan.slot s.plan.last) p found.0) lies.1 (s.table.slot_is (s.plan.slot s.plan.last) found.0 found.1) in
-    let told = number_there state (s.plan.slot s.plan.last) s.plan.last is.value found.0 found.1 is.version in
+    let reported = number_there state (s.plan.slot s.plan.last) s.plan.last is.value found.0 found.1 is.version in
     let same = ap (number_in state) (latest_slot state cell s) in
     (cc)
 

@@ -67,7 +67,7 @@ up_gone before after k s =
 
 -- what is given free has no owner
 pub frees_unowned : {T : Type 0} (state new : State T) (cell : Cell T) (owner place : ℕ) → Shows state cell → slice_get state.owners owner ≡ Some (Freeing place) → Makes state (Free owner) Freed new → (number : ℕ) × (there : Slot T) × (slice_get state.table place ≡ Some there) × (there.weak ≡ 1) × (cell.buried number ≡ true) × (held state.owners number ≡ 0) × (weaks state.owners number ≡ 0)
-frees_unowned state new cell owner place s seat (where_at, there, seat_too, at, told, is) =
+frees_unowned state new cell owner place s seat (where_at, there, seat_too, at, reported, is) =
     let same : where_at ≡ place = (let e : Some (Freeing where_at) ≡ Some (Freeing place) = sym seat_too ∙ seat in cc) in
     let here_at = ap (slice_get state.table) (sym same) ∙ at in
     let c = s.owner_is owner (Freeing place) seat in
@@ -105,7 +105,7 @@ up_gives {T} first after new run owner next number its place r seat (had, slot, 
     elim (cases_lt there.shares dead_word) [
       | inl little ↦ (
           let made = rw (lt-ltb there.shares dead_word little) at m in
-          let told : Raised next number ≡ Raised (length after.owners) had = made.0 in
+          let reported : Raised next number ≡ Raised (length after.owners) had = made.0 in
           let who : next ≡ length after.owners = cc in
           let which : number ≡ had = cc in
           let owners : new.owners ≡ after.owners ++ Holding had slot ∷ [] = ap (λ (x : State T). x.owners) made.1 in

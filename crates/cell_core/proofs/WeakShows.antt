@@ -25,8 +25,8 @@ use Rattle.cell_core.specs.declared.words.WordEvent.{WordEvent}
 use Rattle.cell_core.specs.declared.words.WordEvent.TheVariants.{Alive, Dead, Raised, Noted, Faded, Closed, Restored}
 
 -- a step that tells this, makes this and shows this
-pub shown : {T : Type 0} (state new made : State T) (step : WordStep T) (event told : WordEvent) (cell next : Cell T) → event ≡ told → new ≡ made → ShowsStep state step told cell next → Shows made next → (n : Cell T) × ShowsStep state step event cell n × Shows new n
-shown state new made step event told cell next e n a b = (next, subst (λ x. ShowsStep state step x cell next) (sym e) a, subst (λ x. Shows x next) (sym n) b)
+pub shown : {T : Type 0} (state new made : State T) (step : WordStep T) (event reported : WordEvent) (cell next : Cell T) → event ≡ reported → new ≡ made → ShowsStep state step reported cell next → Shows made next → (n : Cell T) × ShowsStep state step event cell n × Shows new n
+shown state new made step event reported cell next e n a b = (next, subst (λ x. ShowsStep state step x cell next) (sym e) a, subst (λ x. Shows x next) (sym n) b)
 
 -- who has a version, weakly or not
 abbrev pub Has : {T : Type 0} → State T → ℕ → ℕ → ℕ → Type 0
@@ -166,9 +166,9 @@ raise_shows {T} state new owner event cell s (number, place, there, own, at, roo
 
 -- note: a weak owner more
 pub note_shows : {T : Type 0} (state new : State T) (owner : ℕ) (event : WordEvent) (cell : Cell T) → Shows state cell → Notes state owner event new → (next : Cell T) × ShowsStep {T = T} state (Note owner) event cell next × Shows new next
-note_shows {T} state new owner event cell s (number, place, there, seat, at, room, told, is) =
+note_shows {T} state new owner event cell s (number, place, there, seat, at, room, reported, is) =
     let open_still = holding_sees state cell s owner number place there seat at in
-    shown state new (with_new_owner (Weakly number place) (with_note (with_slot place (with_weak_word (fetch_add there.weak 1) there) state))) (Note owner) event (Noted (length state.owners) number) cell (with_weak number cell) told is
+    shown state new (with_new_owner (Weakly number place) (with_note (with_slot place (with_weak_word (fetch_add there.weak 1) there) state))) (Note owner) event (Noted (length state.owners) number) cell (with_weak number cell) reported is
     (strong_counted state cell s owner number place seat, refl, refl)
     (note_keeps state cell number place there s at open_still.phase room)
 
@@ -265,5 +265,5 @@ fade_shows {T} state new owner event cell s (place, there, fades, at, m) =
 
 -- reset: nothing is shown
 pub reset_shows : {T : Type 0} (state new : State T) (owner : ℕ) (event : WordEvent) (cell : Cell T) → Shows state cell → Resets state owner event new → (next : Cell T) × ShowsStep {T = T} state (Reset owner) event cell next × Shows new next
-reset_shows {T} state new owner event cell s (place, there, seat, at, told, is) =
-    shown state new (with_owner owner (Freeing place) (with_slot place (with_weak_word 1 there) state)) (Reset owner) event Restored cell cell told is refl (reset_keeps state cell owner place there s seat at)
+reset_shows {T} state new owner event cell s (place, there, seat, at, reported, is) =
+    shown state new (with_owner owner (Freeing place) (with_slot place (with_weak_word 1 there) state)) (Reset owner) event Restored cell cell reported is refl (reset_keeps state cell owner place there s seat at)

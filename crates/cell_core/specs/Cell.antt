@@ -56,7 +56,7 @@ with_weak k cell = record cell { weak = one_more k cell.weak }
 abbrev pub without_weak : {T : Type 0} → ℕ → Cell T → Cell T
 without_weak k cell = record cell { weak = one_less k cell.weak }
 
--- the cell with one value more, behind the others (own)
+-- the cell with one value more, after the others (own)
 abbrev pub with_value : {T : Type 0} → T → Cell T → Cell T
 with_value value cell = record cell { published = cell.published ++ value ∷ [] }
 

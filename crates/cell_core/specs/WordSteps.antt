@@ -67,7 +67,7 @@ Probes {T} old event new =
     ((event ≡ NoSlot) × (new ≡ with_publisher (Probing 0) old))
     ((event ≡ Passed) × (new ≡ with_publisher (Probing (place + 1)) old)))
 
--- prepare, on S: store 2^62. The version is put into the slot first, with the number behind that of the version in W (own)
+-- prepare, on S: store 2^62. The version is put into the slot first, with the number after that of the version in W (own)
 abbrev pub Prepares : {T : Type 0} → State T → T → WordEvent → State T → Type 0
 Prepares {T} old value event new =
     (place : ℕ) × (there : Slot T) × (last : ℕ) × (old.publisher ≡ Preparing place) × (slice_get old.table place ≡ Some there)

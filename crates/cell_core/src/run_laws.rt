@@ -87,7 +87,7 @@ pub fn rest_was_buried<T>()
         → (place : ℕ) (there : Slot T) → slice_get after.table place ≡ Some there → there.weak ≡ 1 }
 {}
 
-/// A run that goes on publishes more behind what was published, and what was buried stays so.
+/// A run that goes on publishes more after what was published, and what was buried stays so.
 pub fn runs_only_add<T>()
     ensures published { (first : T) (run more : List (WordStep T × WordEvent))
         → (values : List T) × (published_by first (run ++ more) ≡ published_by first run ++ values) }

@@ -28,7 +28,7 @@ pub fn word_runs_show_runs<T>()
         → (next : Cell T) × (steps : List (CellStep T × Option ℕ)) × (length steps ≤ length run) × Runs cell steps next × Shows after next }
 {}
 
-/// Whatever cell the words show, a run of steps on them publishes only behind what was published, and what was buried stays so.
+/// Whatever cell the words show, a run of steps on them publishes only after what was published, and what was buried stays so.
 pub fn words_only_grow<T>()
     ensures { (before after : State T) (run : List (WordStep T × WordEvent)) (cell : Cell T) → Shows before cell → WordRuns before run after
         → (next : Cell T) × Shows after next × ((more : List T) × (next.published ≡ cell.published ++ more))

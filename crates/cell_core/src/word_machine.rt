@@ -201,7 +201,7 @@ impl<T: Drop> WordMachine<T> {
         owned_version(self.owner(owner)?)
     }
 
-    /// One owner more, behind the others: its place.
+    /// One owner more, after the others: its place.
     fn new_owner(&mut self, how: Owner) -> Result<usize, StepFault>
         ensures ok { IfOk result (λ owner. (owner ≡ length self.old.owners) × (self.new ≡ with_new_owner how self.old)) }
         ensures refused { IfErr result (λ fault. (fault ≡ StepFault.NoMemory) × (self.new ≡ self.old)) }

@@ -4,7 +4,7 @@
 //! arguments are one table, in `program`. Each number in a task is within its option's bounds. Nothing here opens a file or a socket.
 //!
 //! [`print_store`] prints the zone that a start from a zone text and its journal would serve, or, if batches that were already on the disk are damaged,
-//! the zone with those before them. It also works while a server holds the store (own). [`ToldFault`] describes in a sentence why a store cannot be
+//! the zone with those before them. It also works while a server holds the store (own). [`PrintedFault`] describes in a sentence why a store cannot be
 //! started from.
 #![tactic(auto)]
 
@@ -21,6 +21,6 @@ pub use command::{Change, Stored, Task, parse_words};
 pub use fault::{CommandFault, tell_fault};
 pub use options::{MAX_THREADS, Serve};
 pub use secondaries::{Secondary, is_routed, source_of};
-pub use start_fault::ToldFault;
+pub use start_fault::PrintedFault;
 pub use store_options::StorePlan;
 pub use stored_zone::{Part, PrintFault, print_store};

@@ -5,20 +5,20 @@ use store_recovery::{StartFault, UpdateFault};
 
 /// Why a store cannot be started from, printed with its directory: what is wrong, where, and what can be done.
 #[derive(Debug)]
-pub struct ToldFault<'a> {
+pub struct PrintedFault<'a> {
     /// The store's directory.
     pub dir: &'a str,
     /// What is wrong.
     pub fault: StartFault,
 }
 
-impl<'a> Drop for ToldFault<'a> {
+impl<'a> Drop for PrintedFault<'a> {
     fn drop(self) {
-        let ToldFault { dir: _, fault: _ } = self;
+        let PrintedFault { dir: _, fault: _ } = self;
     }
 }
 
-impl fmt::Display for ToldFault<'_> {
+impl fmt::Display for PrintedFault<'_> {
     fn fmt<W: fmt::Write>(&self, f: &mut fmt::Formatter<W>) -> fmt::Result {
         let dir = self.dir;
         match &self.fault {

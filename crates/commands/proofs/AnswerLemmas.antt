@@ -34,13 +34,13 @@ no_transfer zone peer head (Some (Ok update)) = refl
 no_transfer zone peer head (Some (Err bad)) = refl
 
 -- a request asks for the transfer that what is told of it says
-pub transfer_told : (zone : List Record) (peer : Peer) (request : List ℕ) (told : Parsed) → Tells request told → transfer_on zone peer request ≡ transfer_in zone peer told
+pub transfer_told : (zone : List Record) (peer : Peer) (request : List ℕ) (reported : Parsed) → Tells request reported → transfer_on zone peer request ≡ transfer_in zone peer reported
 unfolding transfer_on
-transfer_told zone peer request told tells =
+transfer_told zone peer request reported tells =
     ⊎_elim
-    (λ (e : told ≡ reads request). ap (transfer_in zone peer) (sym e))
-    (λ (want : IsWant request told).
-    ap (transfer_in zone peer) (reads-want request told want)
+    (λ (e : reported ≡ reads request). ap (transfer_in zone peer) (sym e))
+    (λ (want : IsWant request reported).
+    ap (transfer_in zone peer) (reads-want request reported want)
     ∙ no_transfer zone peer (header_of request) (update_in (header_of request) request)
     ∙ sym (ap (transfer_in zone peer) want.is))
     tells
@@ -96,16 +96,16 @@ writes_served result transport said past kept behind served out before after hol
 -- the line for no reply, and for one
 pub line_of_none : {T E : Type 0} (result : Result T E) (limit : ℕ) (out : List ℕ) (before after : Option (List ℕ)) (len : Option ℕ) → len ≡ None → Writes result before after (codes "-" ++ 10 ∷ [])
     → (reply : Option (List ℕ)) → StandsIn len limit out reply → Writes result before after (written reply ++ 10 ∷ [])
-line_of_none result limit out before after None e line None stands = line
-line_of_none result limit out before after None e line (Some octets) stands = absurd (cc)
-line_of_none result limit out before after (Some len) e line reply stands = absurd (cc)
+line_of_none result limit out before after None e line None is_present = line
+line_of_none result limit out before after None e line (Some octets) is_present = absurd (cc)
+line_of_none result limit out before after (Some len) e line reply is_present = absurd (cc)
 
 pub line_of_some : {T E : Type 0} (result : Result T E) (limit : ℕ) (out : List ℕ) (before after : Option (List ℕ)) (found : Option ℕ) (len : ℕ) → found ≡ Some len → Writes result before after (encode_lower (take len out) ++ 10 ∷ [])
     → (reply : Option (List ℕ)) → StandsIn found limit out reply → Writes result before after (written reply ++ 10 ∷ [])
-line_of_some result limit out before after None len e line reply stands = absurd (cc)
-line_of_some result limit out before after (Some found) len e line reply stands =
+line_of_some result limit out before after None len e line reply is_present = absurd (cc)
+line_of_some result limit out before after (Some found) len e line reply is_present =
     let same : found ≡ len = cc in
-    rw stands.1 (subst (λ (n : ℕ). Writes result before after (encode_lower (take n out) ++ 10 ∷ [])) (sym same) line)
+    rw is_present.1 (subst (λ (n : ℕ). Writes result before after (encode_lower (take n out) ++ 10 ∷ [])) (sym same) line)
 
 -- a reply is the line for what a request says that asks for no transfer
 pub said_reply : {T E : Type 0} (result : Result T E) (transport : Transport) (said : Parsed) (past : Past) (kept behind : Keeping) (before after : Option (List ℕ)) → Holds past kept
@@ -137,14 +137,14 @@ said_messages result transport said query past kept before after holds some line
     }
 
 -- the line for what is told of a request is the request's
-pub writes_told : {T E : Type 0} (result : Result T E) (transport : Transport) (request : List ℕ) (told : Parsed) (past : Past) (kept : Keeping) (before after : Option (List ℕ)) → Tells request told
-    → WritesSaid result transport told past kept before after → WritesFor result transport (Some request) past kept before after
-writes_told result transport request told past kept before after tells said =
-    let gets = gets_told transport true said.want past.newest request told tells in
-    let on : transfer_on past.newest (peer_over transport true) request ≡ transfer_in past.newest (peer_over transport true) told = transfer_told past.newest (peer_over transport true) request told tells in
+pub writes_told : {T E : Type 0} (result : Result T E) (transport : Transport) (request : List ℕ) (reported : Parsed) (past : Past) (kept : Keeping) (before after : Option (List ℕ)) → Tells request reported
+    → WritesSaid result transport reported past kept before after → WritesFor result transport (Some request) past kept before after
+writes_told result transport request reported past kept before after tells said =
+    let gets = gets_told transport true said.want past.newest request reported tells in
+    let on : transfer_on past.newest (peer_over transport true) request ≡ transfer_in past.newest (peer_over transport true) reported = transfer_told past.newest (peer_over transport true) request reported tells in
     record {
       want = gets.0;
-      line = rw on (subst (λ (g : Got). Writes result before after (written_for transport past (transfer_in past.newest (peer_over transport true) told) g.reply ++ 10 ∷ [])) gets.1 said.line);
+      line = rw on (subst (λ (g : Got). Writes result before after (written_for transport past (transfer_in past.newest (peer_over transport true) reported) g.reply ++ 10 ∷ [])) gets.1 said.line);
       goes_on = subst (λ (g : Got). Holds (followed_by past g.zone) kept) gets.1 said.goes_on;
     }
 

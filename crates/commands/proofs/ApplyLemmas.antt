@@ -86,12 +86,12 @@ messages-end input left cleared line messages way none read zero =
 pub taken_is : (left : Option (List ℕ)) (zone : List Record) (messages seen : List (Vec ℕ)) (outcome : Result (List Record) TransferFault) → seen ≡ messages → IfSome left (λ input. octets_of messages ≡ messages_on input)
     → take zone (records_of_messages (octets_of seen)) ≡ outcome → IfSome left (λ input. taken zone input ≡ outcome)
 unfolding taken
-taken_is None zone messages seen outcome is read told = tt
-taken_is (Some input) zone messages seen outcome is read told = ap (λ (l : List (List ℕ)). take zone (records_of_messages l)) (sym (ap octets_of is ∙ read)) ∙ told
+taken_is None zone messages seen outcome is read reported = tt
+taken_is (Some input) zone messages seen outcome is read reported = ap (λ (l : List (List ℕ)). take zone (records_of_messages l)) (sym (ap octets_of is ∙ read)) ∙ reported
 
 pub taken_fault : (left : Option (List ℕ)) (zone : List Record) (messages seen : List (Vec ℕ)) (fault : TransferFault) → seen ≡ messages → IfSome left (λ input. octets_of messages ≡ messages_on input)
     → (fault ≡ NoMemory) ⊎ (take zone (records_of_messages (octets_of seen)) ≡ Err fault) → IfSome left (λ input. IsOfTransfer (taken zone input) (Transfer fault))
-taken_fault None zone messages seen fault is read told = tt
+taken_fault None zone messages seen fault is read reported = tt
 taken_fault (Some input) zone messages seen fault is read (inl e) = inl e
 taken_fault (Some input) zone messages seen fault is read (inr e) = inr (taken_is (Some input) zone messages seen (Err fault) is read e)
 
@@ -125,26 +125,26 @@ tells_zone (Check source origin) zone input fault = tt
 tells_zone (Apply source origin) zone input fault = tt
 tells_zone (Steps source origin keep window) zone input fault = tt
 
-pub tells_by_zone : (left : Option (List ℕ)) (command : Command) (read outcome : Result (List Record) FileFault) (told : Result (Unit {0}) Fault) → IfOk read (λ zone. outcome ≡ Ok zone) → IfErr read (λ fault. told ≡ Err (Zone fault))
-    → IfOk read (λ zone. IfSome left (λ input. TellsIn command zone input told)) → IfSome left (λ input. IfOk outcome (λ zone. TellsIn command zone input told))
-tells_by_zone None command read outcome told is refused tells = tt
-tells_by_zone (Some input) command (Ok zone) outcome told is refused tells = subst (λ (o : Result (List Record) FileFault). IfOk o (λ z. TellsIn command z input told)) (sym is) tells
-tells_by_zone (Some input) command (Err fault) outcome told is refused tells = by outcome
+pub tells_by_zone : (left : Option (List ℕ)) (command : Command) (read outcome : Result (List Record) FileFault) (reported : Result (Unit {0}) Fault) → IfOk read (λ zone. outcome ≡ Ok zone) → IfErr read (λ fault. reported ≡ Err (Zone fault))
+    → IfOk read (λ zone. IfSome left (λ input. TellsIn command zone input reported)) → IfSome left (λ input. IfOk outcome (λ zone. TellsIn command zone input reported))
+tells_by_zone None command read outcome reported is refused tells = tt
+tells_by_zone (Some input) command (Ok zone) outcome reported is refused tells = subst (λ (o : Result (List Record) FileFault). IfOk o (λ z. TellsIn command z input reported)) (sym is) tells
+tells_by_zone (Some input) command (Err fault) outcome reported is refused tells = by outcome
   where
-    by : (o : Result (List Record) FileFault) → IfOk o (λ zone. TellsIn command zone input told)
+    by : (o : Result (List Record) FileFault) → IfOk o (λ zone. TellsIn command zone input reported)
     by (Ok zone) = subst (λ (t : Result (Unit {0}) Fault). TellsIn command zone input t) (sym refused) (tells_zone command zone input fault)
     by (Err e) = tt
 
 -- what is told of the apex of what was read is told of the text's, where the command is done
-pub tells_root : (read outcome : Result (List Record) FileFault) (told : Result (Unit {0}) Fault) (at_root : Bool) → IfOk read (λ zone. outcome ≡ Ok zone) → IfErr read (λ fault. told ≡ Err (Zone fault)) → TellsRoot read at_root
-    → OnOk told (TellsRoot outcome at_root)
+pub tells_root : (read outcome : Result (List Record) FileFault) (reported : Result (Unit {0}) Fault) (at_root : Bool) → IfOk read (λ zone. outcome ≡ Ok zone) → IfErr read (λ fault. reported ≡ Err (Zone fault)) → TellsRoot read at_root
+    → OnOk reported (TellsRoot outcome at_root)
 tells_root (Ok zone) outcome (Ok done) at_root is refused root = subst (λ (o : Result (List Record) FileFault). TellsRoot o at_root) (sym is) root
 tells_root (Ok zone) outcome (Err fault) at_root is refused root = tt
-tells_root (Err fault) outcome told at_root is refused root = subst (λ (t : Result (Unit {0}) Fault). OnOk t (TellsRoot outcome at_root)) (sym refused) tt
+tells_root (Err fault) outcome reported at_root is refused root = subst (λ (t : Result (Unit {0}) Fault). OnOk t (TellsRoot outcome at_root)) (sym refused) tt
 
 -- and so is what it has more of than stock secondaries take
-pub tells_large : (command : Command) (read outcome : Result (List Record) FileFault) (told : Result (Unit {0}) Fault) (large : Option Large) → IfOk read (λ zone. outcome ≡ Ok zone) → IfErr read (λ fault. told ≡ Err (Zone fault))
-    → TellsLarge command read large → OnOk told (TellsLarge command outcome large)
+pub tells_large : (command : Command) (read outcome : Result (List Record) FileFault) (reported : Result (Unit {0}) Fault) (large : Option Large) → IfOk read (λ zone. outcome ≡ Ok zone) → IfErr read (λ fault. reported ≡ Err (Zone fault))
+    → TellsLarge command read large → OnOk reported (TellsLarge command outcome large)
 tells_large command (Ok zone) outcome (Ok done) large is refused tells = subst (λ (o : Result (List Record) FileFault). TellsLarge command o large) (sym is) tells
 tells_large command (Ok zone) outcome (Err fault) large is refused tells = tt
-tells_large command (Err fault) outcome told large is refused tells = subst (λ (t : Result (Unit {0}) Fault). OnOk t (TellsLarge command outcome large)) (sym refused) tt
+tells_large command (Err fault) outcome reported large is refused tells = subst (λ (t : Result (Unit {0}) Fault). OnOk t (TellsLarge command outcome large)) (sym refused) tt

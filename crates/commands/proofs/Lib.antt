@@ -6,5 +6,5 @@ pub mod LinesLemmas
 pub mod PartsLemmas
 pub mod RunLemmas
 pub mod ScriptLemmas
-pub mod ToldLemmas
+pub mod ReportLemmas
 pub mod VersionsLemmas

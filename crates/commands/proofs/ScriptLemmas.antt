@@ -124,22 +124,22 @@ past_limit None zone keep window steps played read is past = tt
 past_limit (Some input) zone keep window steps played read is past = rw read (rw (sym is) past)
 
 output_is : (zone : List Record) (keep window : ℕ) (input : List ℕ) (lines : List WorldStep) (replies : List WorldReply) → script_of input ≡ Ok lines → replies_of zone keep window lines ≡ Some replies → printed_lines replies ≡ script_output zone keep window input
-output_is zone keep window input lines replies read told = sym (ap (output_of_steps zone keep window) read ∙ ap printed_replies told)
+output_is zone keep window input lines replies read reported = sym (ap (output_of_steps zone keep window) read ∙ ap printed_replies reported)
 
 -- what is written of the replies is the script's output
 pub written_out : (left : Option (List ℕ)) (zone : List Record) (keep window : ℕ) (steps played : List ScriptStep) (replies shown : List WorldReply) (before after : Option (List ℕ)) → IfSome left (λ input. script_of input ≡ Ok (map said_by steps)) → played ≡ steps
     → replies_of zone keep window (map said_by played) ≡ Some replies → shown ≡ replies → Appends before after (printed_lines shown) → IfSome left (λ input. Appends before after (script_output zone keep window input))
-written_out None zone keep window steps played replies shown before after read is told same written = tt
-written_out (Some input) zone keep window steps played replies shown before after read is told same written =
+written_out None zone keep window steps played replies shown before after read is reported same written = tt
+written_out (Some input) zone keep window steps played replies shown before after read is reported same written =
     let lines : script_of input ≡ Ok (map said_by played) = read ∙ ap (λ (s : List ScriptStep). Ok (map said_by s)) (sym is) in
-    subst (λ octets. Appends before after octets) (ap printed_lines same ∙ output_is zone keep window input (map said_by played) replies lines told) written
+    subst (λ octets. Appends before after octets) (ap printed_lines same ∙ output_is zone keep window input (map said_by played) replies lines reported) written
 
 pub begun_out : (left : Option (List ℕ)) (zone : List Record) (keep window : ℕ) (steps played : List ScriptStep) (replies shown : List WorldReply) (before after : Option (List ℕ)) → IfSome left (λ input. script_of input ≡ Ok (map said_by steps)) → played ≡ steps
     → replies_of zone keep window (map said_by played) ≡ Some replies → shown ≡ replies → Begins before after (printed_lines shown) → IfSome left (λ input. Begins before after (script_output zone keep window input))
-begun_out None zone keep window steps played replies shown before after read is told same written = tt
-begun_out (Some input) zone keep window steps played replies shown before after read is told same written =
+begun_out None zone keep window steps played replies shown before after read is reported same written = tt
+begun_out (Some input) zone keep window steps played replies shown before after read is reported same written =
     let lines : script_of input ≡ Ok (map said_by played) = read ∙ ap (λ (s : List ScriptStep). Ok (map said_by s)) (sym is) in
-    subst (λ octets. Begins before after octets) (ap printed_lines same ∙ output_is zone keep window input (map said_by played) replies lines told) written
+    subst (λ octets. Begins before after octets) (ap printed_lines same ∙ output_is zone keep window input (map said_by played) replies lines reported) written
 
 at_device : (fault : StepsFault) (fact : Type 0) → fact → AtDevice fault fact
 at_device (Script line) fact there = tt

@@ -140,7 +140,7 @@ newest_last zone (w ∷ ws) v = newest_last w.zone ws v
 pub told_of_kept : (past : Past) (kept : Keeping) (holds : Holds past kept) (whole : Bool) (chain : List Version) (upto : ℕ) (held : Option Serial) → upto ≡ length (kept_of kept)
     → told_changes whole (soa_of (newest [] (zones_of (take upto (kept_of kept))))) chain ≡ option_and_then (λ serial. changes_since 16 (zones_of (drop upto (kept_of kept))) upto serial.0 (holds.gone ++ zones_of (take upto (kept_of kept)))) held
     → told_changes whole (soa_of kept.newest.zone) chain ≡ option_and_then (λ serial. changes_since 16 [] (min 9 (length (all_of past))) serial.0 (all_of past)) held
-told_of_kept past kept holds whole chain upto held e told =
+told_of_kept past kept holds whole chain upto held e reported =
     let vs = kept_of kept in
     let taken : take upto vs ≡ vs = ap (λ (n : ℕ). take n vs) e ∙ take_all (length vs) vs (omega arith) in
     let dropped : drop upto vs ≡ [] = ap (λ (n : ℕ). drop n vs) e ∙ drop_all (length vs) vs (omega arith) in
@@ -150,7 +150,7 @@ told_of_kept past kept holds whole chain upto held e told =
     let count : upto ≡ min 9 (length (all_of past)) = omega (arith, e, size, longer, holds.count) in
     let all : holds.gone ++ zones_of (take upto vs) ≡ all_of past = ap (λ (l : List Version). holds.gone ++ zones_of l) taken ∙ sym (all_held past kept holds) in
     ap (λ (z : List Record). told_changes whole (soa_of z) chain) (sym last)
-    ∙ told
+    ∙ reported
     ∙ ap (λ (l : List Version). option_and_then (λ serial. changes_since 16 (zones_of l) upto serial.0 (holds.gone ++ zones_of (take upto vs))) held) dropped
     ∙ ap (λ (n : ℕ). option_and_then (λ serial. changes_since 16 [] n serial.0 (holds.gone ++ zones_of (take upto vs))) held) count
     ∙ ap (λ (zs : List (List Record)). option_and_then (λ serial. changes_since 16 [] (min 9 (length (all_of past))) serial.0 zs) held) all

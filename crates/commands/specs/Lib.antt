@@ -5,5 +5,5 @@ pub mod Input
 pub mod Lines
 pub mod Run
 pub mod Script
-pub mod Told
+pub mod Report
 pub mod Versions

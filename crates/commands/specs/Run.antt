@@ -23,7 +23,7 @@ use Rattle.serve_core.specs.Served.{Want}
 use Rattle.commands.specs.Answers.{output_of}
 use Rattle.commands.specs.Lines.{Begins}
 use Rattle.commands.specs.Script.{script_of, script_output}
-use Rattle.commands.specs.Told.{IsTold}
+use Rattle.commands.specs.Report.{IsReported}
 
 -- the status with which the program exits after a fault: 1 if the zone, the script or the transfer is refused, 3 on an I/O error or lack of memory
 -- without a code
@@ -101,10 +101,10 @@ BeginsToDoIn command records input before after = (wants : List Want) × Begins 
 
 -- a command that applies a transfer reports its outcome
 abbrev pub TellsIn : Command → List Record → List ℕ → Result (Unit {0}) Fault → Type 0
-TellsIn (Apply zone origin) records input told = TellsTransfer (taken records input) told
-TellsIn (Answer zone origin transport) records input told = Unit
-TellsIn (Check zone origin) records input told = Unit
-TellsIn (Steps zone origin keep window) records input told = Unit
+TellsIn (Apply zone origin) records input reported = TellsTransfer (taken records input) reported
+TellsIn (Answer zone origin transport) records input reported = Unit
+TellsIn (Check zone origin) records input reported = Unit
+TellsIn (Steps zone origin keep window) records input reported = Unit
 
 -- whether the apex of the zone that was read is the root, if the text is a zone (RFC 1034, 4.2)
 abbrev pub TellsRoot : Result (List Record) FileFault → Bool → Type 0
@@ -125,7 +125,7 @@ zone_for command text = zone_of_text (origin_of command) text
 
 -- the same, if the text is a zone, for the input after it
 abbrev pub TellsOf : Command → List ℕ → List ℕ → Result (Unit {0}) Fault → Type 0
-TellsOf command text input told = IfOk (zone_for command text) (λ zone. TellsIn command zone input told)
+TellsOf command text input reported = IfOk (zone_for command text) (λ zone. TellsIn command zone input reported)
 
 -- a zone-text fault is the text's own fault, or lack of memory; any other fault means that the text is a zone
 abbrev pub IsOfZone : Result (List Record) FileFault → Fault → Type 0
@@ -139,14 +139,14 @@ IsOfRun command input fault = IsOfInput command input fault
 
 -- a fault was written as a line and its status returned; or it could not be written, and the status is that of an I/O error
 abbrev pub EndsBy : Fault → ℕ → Option (List ℕ) → Option (List ℕ) → Type 0
-EndsBy fault status before after = ((status ≡ status_of fault) × IsTold fault before after) ⊎ (status ≡ 3)
+EndsBy fault status before after = ((status ≡ status_of fault) × IsReported fault before after) ⊎ (status ≡ 3)
 
 -- a command was refused: a fault with status 1 was written as a line; it is the fault of the zone's text at the start of the input, or one that the
 -- command's input after it can cause; for a transfer, it is the transfer's own fault or lack of memory
 pub record IsRefused (command : Command) (read before after : Option (List ℕ)) : Type 0 where
   pub fault : Fault
   pub status : status_of fault ≡ 1
-  pub told : IsTold fault before after
+  pub reported : IsReported fault before after
   pub of_zone : IfSome read (λ octets. IsOfZone (zone_for command (zone_text_of octets)) fault)
   pub of_input : IfSome read (λ octets. IsOfRun command (behind_zone_text octets) fault)
   pub of_transfer : IfSome read (λ octets. TellsOf command (zone_text_of octets) (behind_zone_text octets) (Err fault))

@@ -20,7 +20,7 @@ use Rattle.commands.specs.declared.script.ScriptCall.TheVariants as call
 use Rattle.commands.specs.declared.script.ScriptStep.{ScriptStep}
 use Rattle.commands.specs.declared.script.ScriptStep.TheVariants as script
 use Rattle.commands.specs.Lines.{MOST_OCTETS, input_lines, spaced}
-use Rattle.world_run.specs.Told.{step_words}
+use Rattle.world_run.specs.Words.{step_words}
 use Rattle.world_run.specs.World.{replies_of}
 
 -- the words of a line, separated by single spaces; two adjacent spaces enclose an empty word

@@ -32,7 +32,7 @@ pub fn run_apply<R: BufRead, W: Write>(
     // Clauses about octets hold if the reader reports its remaining octets and the writer its contents.
     ensures ok { OnOk result (IfSome (R.remaining reader.old) (λ input.
         Appends (W.contents writer.old) (W.contents writer.new) (taken_text zone.now input))) }
-    ensures told { IfSome (R.remaining reader.old) (λ input. TellsTransfer (taken zone.now input) result) }
+    ensures reported { IfSome (R.remaining reader.old) (λ input. TellsTransfer (taken zone.now input) result) }
     ensures zone { IfErr result (λ fault. AtRefusedZone fault ⊥) }
     ensures unwritten { IfErr result (λ fault. status_of fault ≡ 1 → W.contents writer.new ≡ W.contents writer.old) }
     ensures failed { IfErr result (λ fault. AtDevice fault (IfSome (R.remaining reader.old) (λ input.

@@ -52,7 +52,6 @@ pub enum Command<'a> {
     },
 }
 
-// By hand: a derived drop is proved once more in each crate that lets such a value go.
 impl<'a> Drop for Command<'a> {
     fn drop(self) {
         match self {

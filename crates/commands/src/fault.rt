@@ -2,7 +2,7 @@
 ghost use Rattle.std.specs.Prelude.{◌≡◌};
 ghost use Rattle.commands.specs.declared.fault.Fault.TheVariants.{Zone, Transfer, Device};
 ghost use Rattle.commands.specs.Run.{status_of, fault_of};
-ghost use Rattle.commands.specs.Told.{told};
+ghost use Rattle.commands.specs.Report.{fault_line};
 
 use crate::script_fault::StepsFault;
 use master_file::FileFault;
@@ -33,7 +33,6 @@ pub enum Fault {
     Device(io::Error),
 }
 
-// By hand: a derived drop is proved once more in each crate that lets such a value go.
 impl Drop for Fault {
     fn drop(self) {
         match self {
@@ -59,7 +58,7 @@ impl Fault {
 }
 
 impl fmt::Display for Fault {
-    ghost output = { λ fault. told fault };
+    ghost output = { λ fault. fault_line fault };
 
     fn fmt<W: fmt::Write>(&self, f: &mut fmt::Formatter<W>) -> fmt::Result {
         match self {

@@ -10,8 +10,8 @@ use crate::check::run_check;
 use crate::command::Command;
 use crate::fault::Fault;
 use crate::input::read_zone_text;
+use crate::report::report_fault;
 use crate::steps::run_steps;
-use crate::told::tell;
 use master_file::{FileFault, read_zone};
 use notify::{Large, large_in};
 use std::alloc::Global;
@@ -76,7 +76,7 @@ pub fn run_text<R: BufRead, W: Write + Drop, E: Write>(
                 at_root,
                 large,
             } = run_with_zone(alloc, command, text.as_slice(), reader, writer);
-            let status = tell(alloc, done, text.as_slice(), errors);
+            let status = report_fault(alloc, done, text.as_slice(), errors);
             Ended {
                 status,
                 at_root,
@@ -84,7 +84,7 @@ pub fn run_text<R: BufRead, W: Write + Drop, E: Write>(
             }
         }
         Err(fault) => Ended {
-            status: tell(alloc, Err(Fault::Device(fault)), b"", errors),
+            status: report_fault(alloc, Err(Fault::Device(fault)), b"", errors),
             at_root: false,
             large: None,
         },

@@ -5,7 +5,7 @@ ghost use Rattle.hex.specs.Hex.{encode_lower};
 ghost use Rattle.commands.specs.Lines.{Begins, spaced, spaced_behind};
 ghost use Rattle.commands.specs.Fault.{IsRefusal, AtDevice, AtLimit, IsOfScript, IsOfPlay};
 ghost use Rattle.commands.specs.Script.{script_of, script_output, IsPastLimit, said_by, printed_answer, printed, printed_lines};
-ghost use Rattle.world_run.specs.Told.{step_words};
+ghost use Rattle.world_run.specs.Words.{step_words};
 ghost use Rattle.world_run.specs.World.{replies_of};
 
 use crate::script::{ScriptStep, read_script};

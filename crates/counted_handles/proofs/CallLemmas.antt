@@ -67,14 +67,14 @@ module _ {T : Type 0} (begins : T → Type 0) (follows : T → T → Type 0) (sp
 
   -- what a load and the cut behind it leave
   pub drawn_of : (r : Reading T) (found : ℕ) (loaded kept share : Sat T) (views : List (View T)) → r.share ≡ None → Loaded begins follows r found loaded → kept ≡ (kept_share loaded.0, loaded.1) → share ≡ (given_share loaded.0, []) → views ≡ kept.0 ∷ [] → Drawn begins follows r found views share
-  drawn_of r found loaded kept share views whole told is_kept is_share is_views =
-      let view : loaded.0 ≡ Reads (record r { seen = told.0; share = Some told.1; left = r.left - 1 }) = λ i. (told.2 i).0 in
+  drawn_of r found loaded kept share views whole reported is_kept is_share is_views =
+      let view : loaded.0 ≡ Reads (record r { seen = reported.0; share = Some reported.1; left = r.left - 1 }) = λ i. (reported.2 i).0 in
       record {
-        published = told.0;
-        mark = told.1;
-        begun = told.3;
-        last = told.4;
-        views_are = is_views ∙ ap (λ (m : Sat T). m.0 ∷ []) is_kept ∙ ap (λ v. kept_share v ∷ []) view ∙ ap (λ s. Reads (record r { seen = told.0; share = s; left = r.left - 1 }) ∷ []) (sym whole);
+        published = reported.0;
+        mark = reported.1;
+        begun = reported.3;
+        last = reported.4;
+        views_are = is_views ∙ ap (λ (m : Sat T). m.0 ∷ []) is_kept ∙ ap (λ v. kept_share v ∷ []) view ∙ ap (λ s. Reads (record r { seen = reported.0; share = s; left = r.left - 1 }) ∷ []) (sym whole);
         share_is = is_share ∙ ap (λ v. (given_share v, [])) view;
       }
 
@@ -187,16 +187,16 @@ module _ {T : Type 0} (begins : T → Type 0) (follows : T → T → Type 0) (sp
   abbrev pub swapped_to : Publishing T → T → ℕ → ℕ → Publishing T
   swapped_to p value number found = record p { published = p.published ++ value ∷ []; how = Settling number (slot_of found) (given_of found); next = None; fixed = None }
 
-  pub settling_next : (p : Publishing T) (value : T) (found : ℕ) (me : Sat T) → p.share ≡ None → (told : Swapped p value found me) → IsSettling (slot_of found) (given_of found) (swapped_to p value told.0 found) told.0 me
-  settling_next p value found me whole told = record { me_is = told.3; within = told.2; few = omega arith; how = refl; share = whole; unfixed = refl }
+  pub settling_next : (p : Publishing T) (value : T) (found : ℕ) (me : Sat T) → p.share ≡ None → (reported : Swapped p value found me) → IsSettling (slot_of found) (given_of found) (swapped_to p value reported.0 found) reported.0 me
+  settling_next p value found me whole reported = record { me_is = reported.3; within = reported.2; few = omega arith; how = refl; share = whole; unfixed = refl }
 
-  pub swapped_in : (p : Publishing T) (value : T) (found : ℕ) (before settled kept share : Sat T) → p.share ≡ None → (told : Swapped p value found before) → IsSettled (swapped_to p value told.0 found) told.0 (slot_of found) settled → kept ≡ (kept_share settled.0, settled.1) → share ≡ (given_share settled.0, []) → IsSwappedIn p value (slot_of found) kept share
-  swapped_in p value found before settled kept share whole told is is_kept is_share =
+  pub swapped_in : (p : Publishing T) (value : T) (found : ℕ) (before settled kept share : Sat T) → p.share ≡ None → (reported : Swapped p value found before) → IsSettled (swapped_to p value reported.0 found) reported.0 (slot_of found) settled → kept ≡ (kept_share settled.0, settled.1) → share ≡ (given_share settled.0, []) → IsSwappedIn p value (slot_of found) kept share
+  swapped_in p value found before settled kept share whole reported is is_kept is_share =
       record {
         mark = is.mark;
         slot_is = is.slot_is;
-        last = told.1 ∙ ap (λ n. n + 1) (sym is.number_is);
-        value_is = ap (slice_get p.published) is.number_is ∙ sym (get_before p.published value told.0 (omega (arith, told.1))) ∙ is.value;
+        last = reported.1 ∙ ap (λ n. n + 1) (sym is.number_is);
+        value_is = ap (slice_get p.published) is.number_is ∙ sym (get_before p.published value reported.0 (omega (arith, reported.1))) ∙ is.value;
         name_is = is.name_is;
         within = subst (λ k. k < slots) (sym is.slot_is) is.within;
         me_is = is_kept ∙ ap (λ (m : Sat T). (kept_share m.0, m.1)) is.me_is ∙ ap (λ s. (Publishes (record p { published = p.published ++ value ∷ []; how = Probing 0; share = s; next = None; fixed = None }), [])) (sym whole);

@@ -71,7 +71,7 @@ swept_to p word last slot old now is now_is = record { me_is = now_is; how = is.
 
 -- a publisher that has looked at W
 pub looked_at : {T : Type 0} (p : Publishing T) (found : ℕ) (old now : Sat T) → IsAlone p old → Looked p found now → IsSweeping (record p { fixed = Some found; swept = 0 }) found (slot_of found) 0 now
-looked_at p found old now is told = record { me_is = told.1; how = is.how; fixed = refl; last_is = refl; swept = refl }
+looked_at p found old now is reported = record { me_is = reported.1; how = is.how; fixed = refl; last_is = refl; swept = refl }
 
 -- the last version's place, when nobody has a claim of it
 pub parted_as : {T : Type 0} (p : Publishing T) (fixed : Option ℕ) (swept slot : ℕ) (me whole : Sat T) → (e : IsEnding (record p { fixed = fixed; swept = swept }) slot me) → whole ≡ (me.0, first_with (λ (y : Room T). record y { stake = [] }) me.1) → IsParted p slot whole

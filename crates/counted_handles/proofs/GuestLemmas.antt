@@ -49,30 +49,30 @@ module _ {T : Type 0} (begins : T → Type 0) (follows : T → T → Type 0) (sp
   abbrev pub cut_as : Publishing T → Reading T → Publishing T
   cut_as p r = record (lodged p r) { share = None; left = p.left + r.left - 1; fixed = None }
 
-  pub newest_of : (p : Publishing T) (r : Reading T) (found : ℕ) (loaded kept share last reader : Sat T) → p.share ≡ None → p.left ≡ 0 → 0 < r.left → (told : Newest begins follows (lodged p r) found loaded) → kept ≡ (kept_share loaded.0, loaded.1) → share ≡ (given_share loaded.0, [])
+  pub newest_of : (p : Publishing T) (r : Reading T) (found : ℕ) (loaded kept share last reader : Sat T) → p.share ≡ None → p.left ≡ 0 → 0 < r.left → (reported : Newest begins follows (lodged p r) found loaded) → kept ≡ (kept_share loaded.0, loaded.1) → share ≡ (given_share loaded.0, [])
       → last ≡ (kept_met kept.0, kept.1) → reader ≡ (handed_met kept.0, []) → IsNewest begins follows p r found last share reader
-  newest_of p r found loaded kept share last reader whole none_left some_left told is_kept is_share is_last is_reader =
-      let kept_is : kept ≡ (Publishes (cut_as p r), []) = is_kept ∙ ap (λ (m : Sat T). (kept_share m.0, m.1)) told.1 in
+  newest_of p r found loaded kept share last reader whole none_left some_left reported is_kept is_share is_last is_reader =
+      let kept_is : kept ≡ (Publishes (cut_as p r), []) = is_kept ∙ ap (λ (m : Sat T). (kept_share m.0, m.1)) reported.1 in
       let rest : p.left + r.left - 1 ≡ r.left - 1 = omega (arith, none_left) in
       let nothing : p.left + r.left - 1 - (p.left + r.left - 1) ≡ 0 = omega arith in
       record {
-        mark = told.0;
-        last = record { history = told.2.history; last = told.2.last; value = told.2.value; slot = told.2.slot; within = told.2.within; name_is = told.2.name_is };
+        mark = reported.0;
+        last = record { history = reported.2.history; last = reported.2.last; value = reported.2.value; slot = reported.2.slot; within = reported.2.within; name_is = reported.2.name_is };
         me_is = is_last ∙ ap (λ (m : Sat T). (kept_met m.0, m.1)) kept_is ∙ (λ i. (Publishes (record p { share = sym whole i; left = nothing i; readers = p.readers - 1 + 1; fixed = None }), []));
-        share_is = is_share ∙ ap (λ (m : Sat T). (given_share m.0, [])) told.1;
+        share_is = is_share ∙ ap (λ (m : Sat T). (given_share m.0, [])) reported.1;
         reader_is = is_reader ∙ ap (λ (m : Sat T). (handed_met m.0, [])) kept_is ∙ ap (λ n. (met_by p r.gone n, [])) rest;
-        begun = told.3.0.2;
+        begun = reported.3.0.2;
       }
 
   abbrev pub greeted_as : Publishing T → Reading T → Publishing T
   greeted_as p r = record (lodged p r) { fixed = None }
 
   pub greeted_of : (p : Publishing T) (r : Reading T) (greeted last reader : Sat T) → p.left ≡ 0 → Greeted (lodged p r) greeted → last ≡ (kept_met greeted.0, greeted.1) → reader ≡ (handed_met greeted.0, []) → IsGreeted p r last reader
-  greeted_of p r greeted last reader none_left told is_last is_reader =
+  greeted_of p r greeted last reader none_left reported is_last is_reader =
       let rest : p.left + r.left ≡ r.left = omega (arith, none_left) in
       let nothing : p.left + r.left - (p.left + r.left) ≡ 0 = omega arith in
       record {
-        me_is = is_last ∙ ap (λ (m : Sat T). (kept_met m.0, m.1)) told.0 ∙ (λ i. (Publishes (record p { left = nothing i; readers = p.readers - 1 + 1; fixed = None }), []));
-        reader_is = is_reader ∙ ap (λ (m : Sat T). (handed_met m.0, [])) told.0 ∙ ap (λ n. (met_by p r.gone n, [])) rest;
-        begun = told.1.0.2;
+        me_is = is_last ∙ ap (λ (m : Sat T). (kept_met m.0, m.1)) reported.0 ∙ (λ i. (Publishes (record p { left = nothing i; readers = p.readers - 1 + 1; fixed = None }), []));
+        reader_is = is_reader ∙ ap (λ (m : Sat T). (handed_met m.0, [])) reported.0 ∙ ap (λ n. (met_by p r.gone n, [])) rest;
+        begun = reported.1.0.2;
       }

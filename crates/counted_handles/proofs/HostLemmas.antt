@@ -114,36 +114,36 @@ noted_once p mark = record p { share = Some (Once mark); noted = p.noted + 1; fi
 module _ {T : Type 0} where
   -- what the acts of a clone leave
   pub cloned_of : (r : Reading T) (mark : Mark T) (raised kept share last owner : Sat T) → Cloned r mark raised → kept ≡ (kept_gain raised.0, raised.1) → share ≡ (given_gain raised.0, []) → last ≡ (kept_reader kept.0, kept.1) → owner ≡ (given_owner kept.0, []) → IsCloned r mark last share owner
-  cloned_of r mark raised kept share last owner told is_kept is_share is_last is_owner =
-      let kept_is : kept ≡ (Hosts (with_grant_less r) (Once mark), []) = is_kept ∙ ap (λ (m : Sat T). (kept_gain m.0, m.1)) told in (
+  cloned_of r mark raised kept share last owner reported is_kept is_share is_last is_owner =
+      let kept_is : kept ≡ (Hosts (with_grant_less r) (Once mark), []) = is_kept ∙ ap (λ (m : Sat T). (kept_gain m.0, m.1)) reported in (
         is_last ∙ ap (λ (m : Sat T). (kept_reader m.0, m.1)) kept_is,
-        is_share ∙ ap (λ (m : Sat T). (given_gain m.0, [])) told,
+        is_share ∙ ap (λ (m : Sat T). (given_gain m.0, [])) reported,
         is_owner ∙ ap (λ (m : Sat T). (given_owner m.0, [])) kept_is,
       )
 
   -- a look's
   pub found_of : (r : Reading T) (mark : Mark T) (seen last owner : Sat T) → SeenAlive r mark seen → last ≡ (kept_reader seen.0, seen.1) → owner ≡ (given_owner seen.0, []) → IsFound r mark last owner
-  found_of r mark seen last owner told is_last is_owner = (
-    is_last ∙ ap (λ (m : Sat T). (kept_reader m.0, m.1)) told.0,
-    is_owner ∙ ap (λ (m : Sat T). (given_owner m.0, [])) told.0,
-    told.1,
+  found_of r mark seen last owner reported is_last is_owner = (
+    is_last ∙ ap (λ (m : Sat T). (kept_reader m.0, m.1)) reported.0,
+    is_owner ∙ ap (λ (m : Sat T). (given_owner m.0, [])) reported.0,
+    reported.1,
   )
 
   -- an upgrade's that gives a share
-  pub lifted_of : (r : Reading T) (tie : Tie T) (raised kept share last : Sat T) → (told : (mark : Mark T) × IsOfTie tie mark × (raised ≡ (Hosts (with_grant_less r) (Mixed mark tie), []))) → kept ≡ (kept_gain raised.0, raised.1) → share ≡ (given_gain raised.0, []) → last ≡ (kept_reader kept.0, kept.1) → IsLifted r tie last share
-  lifted_of r tie raised kept share last told is_kept is_share is_last =
+  pub lifted_of : (r : Reading T) (tie : Tie T) (raised kept share last : Sat T) → (reported : (mark : Mark T) × IsOfTie tie mark × (raised ≡ (Hosts (with_grant_less r) (Mixed mark tie), []))) → kept ≡ (kept_gain raised.0, raised.1) → share ≡ (given_gain raised.0, []) → last ≡ (kept_reader kept.0, kept.1) → IsLifted r tie last share
+  lifted_of r tie raised kept share last reported is_kept is_share is_last =
       record {
-        mark = told.0;
-        of = told.1;
-        share_is = is_share ∙ ap (λ (m : Sat T). (given_gain m.0, [])) told.2;
-        me_is = is_last ∙ ap (λ (m : Sat T). (kept_reader m.0, m.1)) (is_kept ∙ ap (λ (m : Sat T). (kept_gain m.0, m.1)) told.2);
+        mark = reported.0;
+        of = reported.1;
+        share_is = is_share ∙ ap (λ (m : Sat T). (given_gain m.0, [])) reported.2;
+        me_is = is_last ∙ ap (λ (m : Sat T). (kept_reader m.0, m.1)) (is_kept ∙ ap (λ (m : Sat T). (kept_gain m.0, m.1)) reported.2);
       }
 
   -- a note's
   pub noted_of : (p : Publishing T) (mark : Mark T) (noted kept weak last owner : Sat T) → p.share ≡ None → Noted p mark noted → kept ≡ (kept_untied noted.0, noted.1) → weak ≡ (given_tie noted.0, []) → last ≡ (kept_share kept.0, kept.1) → owner ≡ (given_share kept.0, []) → IsNoted p mark last owner weak
-  noted_of p mark noted kept weak last owner whole told is_kept is_weak is_last is_owner =
-      let kept_is : kept ≡ (Publishes (noted_once p mark), []) = is_kept ∙ ap (λ (m : Sat T). (kept_untied m.0, m.1)) told in (
+  noted_of p mark noted kept weak last owner whole reported is_kept is_weak is_last is_owner =
+      let kept_is : kept ≡ (Publishes (noted_once p mark), []) = is_kept ∙ ap (λ (m : Sat T). (kept_untied m.0, m.1)) reported in (
         is_last ∙ ap (λ (m : Sat T). (kept_share m.0, m.1)) kept_is ∙ (λ i. (Publishes (record p { share = sym whole i; noted = p.noted + 1; fixed = None }), [])),
         is_owner ∙ ap (λ (m : Sat T). (given_share m.0, [])) kept_is,
-        is_weak ∙ ap (λ (m : Sat T). (given_tie m.0, [])) told,
+        is_weak ∙ ap (λ (m : Sat T). (given_tie m.0, [])) reported,
       )

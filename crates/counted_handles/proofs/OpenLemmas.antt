@@ -45,8 +45,8 @@ name_or (stake ∷ stakes) = stake.views
 
 -- what was offered is what was told
 pub offered_as : {T : Type 0} (begins : T → Type 0) (value : T) (name : ℕ) (spot : RoomSpot T) (me new : Sat T) → (o : IsOffering begins value name spot me) → OfferTells me new → Offered value name spot new
-offered_as {T} begins value name spot me new o told =
-    let t = subst (λ (m : Sat T). OfferTells m new) o.me_is told in
+offered_as {T} begins value name spot me new o reported =
+    let t = subst (λ (m : Sat T). OfferTells m new) o.me_is reported in
     let values : t.0 ≡ value = ap (value_or value) (sym t.4 ∙ o.version) in
     let names : t.1 ≡ name = ap name_or (sym t.5 ∙ o.stake) in
     subst (λ v. Offered v name spot new) values (subst (λ n. Offered t.0 n spot new) names t.6)

@@ -15,7 +15,7 @@ IsPast {T} begins follows number = (version : Version T) × (version.number ≡ 
 
 -- all steps of a release are made: its subtraction found another share beside its own; or it found that one alone, so that a bury
 -- was tried, which another owner or a bury had come before; or the bury won, of a version that isn't the last, and the slot is free
--- again, or the fade behind the bury found a weak owner, who gives the slot free (own)
+-- again, or the fade after the bury found a weak owner, who gives the slot free (own)
 abbrev pub IsReleased : {T : Type 0} → (T → Type 0) → (T → T → Type 0) → Steps → Type 0
 IsReleased begins follows (Lowered found) = 1 < found
 IsReleased begins follows (Lost found) = 0 < found
@@ -59,6 +59,6 @@ HasLost (Freed number) me = ⊥
 abbrev pub LiesIn : {T : Type 0} → ℕ → Version T → Sat T → Type 0
 LiesIn {T} slot version me = (spot : RoomSpot T) × (room : Room T) × (me ≡ (Fades slot spot, (slot, room) ∷ [])) × (room.value ≡ Some version)
 
--- the fade behind a bury found weak owners: the owner has made all its steps (own)
+-- the fade after a bury found weak owners: the owner has made all its steps (own)
 abbrev pub IsOutlived : ℕ → Steps → Type 0
 IsOutlived number steps = (found : ℕ) × (steps ≡ Faded number found) × (1 < found)

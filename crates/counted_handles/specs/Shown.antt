@@ -31,14 +31,14 @@ abbrev pub version_at : {T : Type 0} → maybe.Option (Room T) → Option (Versi
 version_at none = None
 version_at (some room) = room.value
 
--- the slots: the words behind W are S and K of each slot in turn (own)
+-- the slots: the words after W are S and K of each slot in turn (own)
 abbrev pub slots_in : {T : Type 0} → List ℕ → List (maybe.Option (Room T)) → List (Slot T)
 slots_in (shares ∷ weak ∷ words) (home ∷ homes) = record { shares = shares; weak = weak; version = version_at home } ∷ slots_in words homes
 slots_in (shares ∷ []) homes = []
 slots_in [] homes = []
 slots_in (shares ∷ weak ∷ words) [] = []
 
--- the words behind the first one (own)
+-- the words after the first one (own)
 abbrev pub behind : List ℕ → List ℕ
 behind [] = []
 behind (word ∷ words) = words

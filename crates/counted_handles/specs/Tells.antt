@@ -87,7 +87,7 @@ pub record IsTaken {T : Type 0} (p : Publishing T) (slot : ℕ) (me : Sat T) : T
   pub empty : room.value ≡ None
   pub whole : room.stake ≡ []
 
--- the slot that a publication probes behind this one; behind the last one the publication ends (own)
+-- the slot that a publication probes after this one; after the last one the publication ends (own)
 abbrev pub beyond : ℕ → ℕ
 beyond slot = if slot + 1 == slots then 0 else slot + 1
 

@@ -8,19 +8,19 @@ ghost use Rattle.counted_handles.specs.Cuts.{with_reader, reader_of, lodged, wit
 
 use crate::calls::Words;
 use crate::names::Names;
-use crate::plays::{self, Hand};
+use crate::plays::{self, GrantCount};
 use crate::view::View;
 use atomic_table::Badge;
 use std::marker::Brand;
 use std::mem;
 
 // A reader with the grants that a type names goes off the publisher's token.
-fn deal_hand<T, C: Names<T>, H: Hand>(
+fn deal_grants<T, C: Names<T>, H: GrantCount>(
     words: &Words<T, C>,
     badge: &mut Badge<View<T>>,
     grants: u64,
 ) -> Badge<View<T>>
-    requires hand { grants ≡ H.grants }
+    requires count { grants ≡ H.grants }
     requires fits { Fits words.now.table_id × (badge.old.table_id ≡ words.now.table_id) }
     requires enough { (p : Publishing T) × (badge.old.views ≡ Publishes p ∷ []) × (p.share ≡ None) × (H.grants ≤ p.left) }
     ensures badges { (badge.new.table_id ≡ badge.old.table_id) × (badge.new.id ≡ badge.old.id) × (result.table_id ≡ badge.old.table_id) }
@@ -43,7 +43,7 @@ pub fn deal<T, C: Names<T>>(
     ensures badges { (badge.new.table_id ≡ badge.old.table_id) × (badge.new.id ≡ badge.old.id) × (result.table_id ≡ badge.old.table_id) }
     ensures dealt { (p : Publishing T) → badge.old.views ≡ Publishes p ∷ [] → (badge.new.views ≡ Publishes (with_reader p grants) ∷ []) × (result.views ≡ reader_of p grants ∷ []) }
 {
-    deal_hand::<T, C, Brand>(words, badge, grants)
+    deal_grants::<T, C, Brand>(words, badge, grants)
 }
 
 /// A reader with all grants that are left goes off the publisher's token.

@@ -27,7 +27,7 @@ pub enum Lapse {
 }
 
 /// What a weak owner's release did. Contracts see its steps. Nothing but a subtraction makes one, and nothing but the two stores
-/// behind it carry it on, so who has one has made the steps that it tells.
+/// after it carry it on, so who has one has made the steps that it tells.
 #[derive(Debug, Drop)]
 pub struct Lapsed {
     steps: Lapse,

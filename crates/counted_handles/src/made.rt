@@ -103,7 +103,7 @@ fn lay_out<T: Drop>(alloc: Global, first: T) -> Option<Laid<T>>
 }
 
 // The first seat's two looks at W, between which the first place is shared: the publisher's token.
-fn begin<T, C: Names<T>>(
+fn make_publisher<T, C: Names<T>>(
     words: &Words<T, C>,
     mut seat: Seat<Room<T>, View<T>>,
     version: Snapshot<Version<T>>,
@@ -137,7 +137,7 @@ pub fn make<T: Drop, C: Names<T>>(alloc: Global, first: T) -> Option<Made<T, C>>
     } = lay_out(alloc, first)?;
     match Table::new(alloc, words.as_slice(), rooms, &spots) {
         Ok((table, seat)) => {
-            let badge = begin(&table.shared, seat, version);
+            let badge = make_publisher(&table.shared, seat, version);
             Some(Made {
                 table,
                 badge,

@@ -139,7 +139,7 @@ impl<T> Play<Room<T>, View<T>> for Ends {
     ghost then = { λ _ me found new. EndTells me.0 found new };
 }
 
-/// The look behind it, which gives the last version's place back.
+/// The look after it, which gives the last version's place back.
 pub struct Shuts;
 
 impl<T> Play<Room<T>, View<T>> for Shuts {
@@ -179,23 +179,23 @@ impl<T> Split<View<T>> for Rests {
 }
 
 /// How many grants a reader is dealt.
-pub trait Hand {
+pub trait GrantCount {
     ghost use Rattle.std.specs.Prelude.{ℕ};
 
     /// The grants.
     ghost grants: { ℕ };
 }
 
-impl Hand for Brand {
+impl GrantCount for Brand {
     ghost grants = { 0 };
 }
 
 /// The publisher gives a reader of a new cell its grants.
-pub struct Deals<H: Hand> {
-    hand: PhantomData<H>,
+pub struct Deals<H: GrantCount> {
+    count: PhantomData<H>,
 }
 
-impl<T, H: Hand> Split<View<T>> for Deals<H> {
+impl<T, H: GrantCount> Split<View<T>> for Deals<H> {
     ghost left = { kept_dealt H.grants };
 
     ghost right = { dealt H.grants };

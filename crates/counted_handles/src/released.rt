@@ -42,7 +42,7 @@ pub enum Steps {
 }
 
 /// What an owner's release did. Contracts see its steps. Nothing but a subtraction makes one, and nothing but the exchange and the
-/// store behind it carry it on, so who has one has made the steps that it tells.
+/// store after it carry it on, so who has one has made the steps that it tells.
 #[derive(Debug, Drop)]
 pub struct Released {
     steps: Steps,

@@ -9,7 +9,7 @@ use Rattle.dns_rdata.specs.declared.numbers.Serial.{Serial}
 use Rattle.zone_tree.specs.Zone.{soa_of}
 use Rattle.zone_tree.specs.Version.{Version, zone_serial}
 use Rattle.transfer_core.specs.Lists.{newest as newest_zone, incremental}
-use Rattle.transfer_core.specs.Chain.{zones_of, AreBehind, told, told_changes}
+use Rattle.transfer_core.specs.Chain.{zones_of, AreBehind, reported, told_changes}
 use Rattle.transfer_core.specs.Window.{fits, serials_of, window, held_here, held, changes_from, changes_since}
 use Rattle.transfer_core.proofs.VersionLemmas.{list_told}
 use Rattle.cell_core.specs.Cell.{EachFollows}
@@ -320,7 +320,7 @@ module _ (first : List Record) (published before newer : List Version) (version 
     found : held serial (window 16 (zones_of newer) (zones_of versions)) ≡ Some (b.version.zone, zones_of b.behind)
     found = sym in_window ∙ b.found
 
-    pub told_behind : changes_since 16 (zones_of newer) (length versions) serial (zones_of versions) ≡ Some (told (soa_of version.zone) b.behind)
+    pub told_behind : changes_since 16 (zones_of newer) (length versions) serial (zones_of versions) ≡ Some (reported (soa_of version.zone) b.behind)
     told_behind =
         let few : nat_lt (length versions) (length (zones_of b.behind)) ≡ false = let n = count in let m = many in grind (arith, nat_tests) in
         ap (changes_from (length versions)) found

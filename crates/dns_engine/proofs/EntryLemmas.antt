@@ -17,19 +17,19 @@ entry_is version owner serial is at = λ i. record { version = is i; serial = at
 
 pub history_on : (published : List Version) (version : Version) (state new : HistoryState Version) (owner : Numbered Version) (serial : ℕ) → state ≡ history_of published → owner ≡ record { number = version.number; value = version } → serial ≡ zone_serial version.zone
     → new ≡ record state { entries = longest_run state.size (state.entries ++ record { version = owner; serial = serial } ∷ []) } → new ≡ history_of (published ++ version ∷ [])
-history_on published version state new owner serial held is at told =
+history_on published version state new owner serial held is at reported =
     let entries : longest_run 16 (entries_of published ++ record { version = owner; serial = serial } ∷ []) ≡ entries_of (published ++ version ∷ []) =
     ap (λ (e : Entered Version). longest_run 16 (entries_of published ++ e ∷ [])) (entry_is version owner serial is at)
     ∙ run_again 16 (map entry_of published) (entry_of version)
     ∙ ap (longest_run 16) (sym (map-append entry_of published (version ∷ []))) in
-    told
+    reported
     ∙ ap (λ (s : HistoryState Version). record s { entries = longest_run s.size (s.entries ++ record { version = owner; serial = serial } ∷ []) }) held
     ∙ (λ i. record { size = 16; entries = entries i })
 
 -- where one version alone is published
 pub history_begun : (published : List Version) (version : Version) (state new : HistoryState Version) (owner : Numbered Version) (serial : ℕ) → published ≡ version ∷ [] → state ≡ record { size = 16; entries = [] } → owner ≡ record { number = version.number; value = version } → serial ≡ zone_serial version.zone
     → new ≡ record state { entries = longest_run state.size (state.entries ++ record { version = owner; serial = serial } ∷ []) } → new ≡ history_of published
-history_begun published version state new owner serial one begun is at told = history_on [] version state new owner serial begun is at told ∙ ap history_of (sym one)
+history_begun published version state new owner serial one begun is at reported = history_on [] version state new owner serial begun is at reported ∙ ap history_of (sym one)
 
 -- a list of which the first value is the last one
 pub only_one : (published : List Version) (value : Version) → length published ≡ 1 → slice_get published 0 ≡ Some value → published ≡ value ∷ []

@@ -1,6 +1,6 @@
 pub mod ReplayLemmas
 pub mod OwnedLemmas
-pub mod ToldLemmas
+pub mod OutcomeLemmas
 pub mod SendLemmas
 pub mod ChainLemmas
 pub mod EntryLemmas

@@ -14,7 +14,7 @@ use Rattle.weak_history.specs.declared.chain.Chain.TheVariants.{Whole, Gone, Unk
 use Rattle.dns_engine.specs.Versions.{IsFirst, IsNext}
 use Rattle.dns_engine.specs.Owned.{versions_of}
 
--- a version is one of those published: those before it are as many as its number, and newer ones may stand behind it
+-- a version is one of those published: those before it are as many as its number, and newer ones may stand after it
 pub record IsPublished (first : List Record) (published : List Version) (version : Version) : Type 0 where
   pub before : List Version
   pub newer : List Version
@@ -22,7 +22,7 @@ pub record IsPublished (first : List Record) (published : List Version) (version
   pub place : published ≡ (before ++ version ∷ []) ++ newer
   pub number : length before ≡ version.number
 
--- what changed since the version of a serial that an asker holds, up to the last of versions, the first one first, behind which newer ones are
+-- what changed since the version of a serial that an asker holds, up to the last of versions, the first one first, after which newer ones are
 -- published: none where the asker tells no serial, or where it isn't in the window (RFC 1995, 4 and 5; own)
 abbrev pub changes_told : List Version → List Version → Option Serial → Option (List Record)
 changes_told versions newer held = option_and_then (λ serial. changes_since WINDOW (zones_of newer) (length versions) serial.0 (zones_of versions)) held
@@ -40,7 +40,7 @@ pub record HasBroken (versions newer : List Version) (number serial : ℕ) (gone
 -- of the versions that it needs is known to be buried
 pub record TellsSince (first : List Record) (published : List Version) (gone : List ℕ) (version : Version) (held : Option Serial) (changes : Option (List Record)) : Type 0 where
   pub here : IsPublished first published version
-  pub told : (changes ≡ changes_told (here.before ++ version ∷ []) here.newer held)
+  pub reported : (changes ≡ changes_told (here.before ++ version ∷ []) here.newer held)
       ⊎ ((serial : Serial) × (held ≡ Some serial) × (changes ≡ None) × HasBroken (here.before ++ version ∷ []) here.newer version.number serial.0 gone)
 
 -- whether the versions after an asker's are all there, and they, the oldest first (own)

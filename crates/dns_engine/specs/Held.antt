@@ -43,7 +43,7 @@ pub record IsNewest (first : List Record) (held : Held) : Type 0 where
   pub number : length (before ++ held.older) ≡ held.last.number
   pub most : length held.older ≡ min held.keep held.last.number
 
--- what is held once a version is published behind the last one
+-- what is held once a version is published after the last one
 abbrev pub held_with : Held → Version → Held
 held_with held version =
     record held { published = held.published ++ version ∷ []; last = version; older = newest held.keep (held.older ++ held.last ∷ []) }
@@ -56,7 +56,7 @@ all_held held = held.older ++ held.last ∷ []
 abbrev pub held_alone : List Version → Version → ℕ → Held
 held_alone published last keep = record { published = published; last = last; keep = keep; older = [] }
 
--- what is held once versions are published one after another behind the last one
+-- what is held once versions are published one after another after the last one
 abbrev pub held_through : Held → List Version → Held
 held_through held [] = held
 held_through held (version ∷ later) = held_through (held_with held version) later

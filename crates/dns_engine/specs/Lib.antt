@@ -3,7 +3,7 @@ pub mod Replayed
 pub mod Held
 pub mod Owned
 pub mod Entries
-pub mod Told
+pub mod Outcomes
 pub mod Chain
 pub use Rattle.update_core.specs.Act
 pub use Rattle.snapshot_cell.specs.Tokens

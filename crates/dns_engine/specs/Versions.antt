@@ -21,12 +21,12 @@ pub record Makes (update : Update) (version next : Version) : Type 0 where
   pub number : next.number ≡ version.number + 1
   pub changes : KnowsChanges version.zone next
 
--- a version may be published behind another: some update makes it
+-- a version may be published after another: some update makes it
 pub record IsNext (version next : Version) : Type 0 where
   pub update : Update
   pub makes : Makes update version next
 
--- versions may be published one after another behind a version
+-- versions may be published one after another after a version
 abbrev pub AreNext : Version → List Version → Type 0
 AreNext version [] = Unit {0}
 AreNext version (next ∷ later) = IsNext version next × AreNext next later

@@ -65,12 +65,12 @@ impl VersionChain {
     /// What a history tells, owned beside the cell. [`Spent`] where a grant was wanted for it, and nowhere else.
     pub fn of<R: Wait, Z: FirstZone, N: Naming>(
         rt: &R,
-        told: Chain<'_, SharedVersion, ZoneVersions<Z>, N>,
+        reported: Chain<'_, SharedVersion, ZoneVersions<Z>, N>,
     ) -> Result<VersionChain, Spent>
-        ensures copied { IfOk result (λ chain. IsCopied told.entry chain) }
-        ensures spent { OnErr result (told.entry ≡ WantsGrant) }
+        ensures copied { IfOk result (λ chain. IsCopied reported.entry chain) }
+        ensures spent { OnErr result (reported.entry ≡ WantsGrant) }
     {
-        match told {
+        match reported {
             Chain::Whole(owners) => Ok(VersionChain::whole(rt, owners)),
             Chain::Gone(_) => Ok(VersionChain::none()),
             Chain::Unknown => Ok(VersionChain::none()),

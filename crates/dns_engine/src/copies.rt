@@ -56,7 +56,7 @@ impl Copies {
         }
     }
 
-    /// Puts a version behind the others.
+    /// Puts a version after the others.
     pub(crate) fn push(&mut self, version: SharedVersion)
         requires { length self.old < WINDOW }
         ensures { self.new ≡ self.old ++ version ∷ [] }

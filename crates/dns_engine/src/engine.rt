@@ -8,7 +8,7 @@ ghost use Rattle.dns_engine.specs.Entries.{entries_of};
 ghost use Rattle.dns_engine.specs.Versions.{IsNext};
 ghost use Rattle.dns_engine.specs.Held.{IsLatest, free_of, state_with, state_for};
 ghost use Rattle.dns_engine.specs.Replayed.{IsReplay};
-ghost use Rattle.dns_engine.specs.Told.{IsTold};
+ghost use Rattle.dns_engine.specs.Outcomes.{IsTold};
 ghost use Rattle.dns_engine.specs.declared.fault.EngineFault.{EngineFault as Fault};
 
 use crate::fault::{EngineFault, NoEngine};
@@ -107,7 +107,7 @@ impl<'a, Z: FirstZone, N: Naming> Engine<'a, Z, N> {
         ensures latest { IsLatest Z.zone self.now.held.published self.now.held.last }
         ensures replayed { IsReplay Z.zone self.now.held.last }
     {
-        self.publisher.last()
+        self.publisher.last_number()
     }
 
     /// The version published last.
@@ -149,7 +149,7 @@ impl<'a, Z: FirstZone, N: Naming> Engine<'a, Z, N> {
         update: &Update,
         may: bool,
     ) -> Rcode
-        ensures told { IsTold self.old update.now may result self.new }
+        ensures reported { IsTold self.old update.now may result self.new }
         // Where no number is left, no rule is asked.
         ensures last { 2 ^ 64 ≤ self.old.held.last.number + 1 → result ≡ Rcode.ServFail }
         ensures replayed { IsReplay Z.zone self.old.held.last }

@@ -1,5 +1,5 @@
 //! What an update makes of a version that need not be published (RFC 2136, 3).
-ghost use Rattle.dns_engine.specs.Told.{IsJudged, IsJudgedAs};
+ghost use Rattle.dns_engine.specs.Outcomes.{IsJudged, IsJudgedAs};
 
 use crate::shared::SharedVersion;
 use dns_message::Update;
@@ -11,7 +11,7 @@ use update_core::{Outcome, apply};
 #[derive(Drop)]
 pub enum Judged {
     /// None: this code is told (RFC 2136, 2.2), NOERROR where it changes nothing.
-    Told(Rcode),
+    Code(Rcode),
     /// This one.
     Made(SharedVersion),
     /// No rule gives it a code, and there is no memory for what it makes.
@@ -25,7 +25,7 @@ pub fn judge(alloc: Global, version: &SharedVersion, update: &Update, may: bool)
 {
     let known = version.get();
     if known.number() == u64::MAX {
-        return Judged::Told(Rcode::ServFail);
+        return Judged::Code(Rcode::ServFail);
     }
     judged_of(alloc, apply(alloc, known, update, may))
 }
@@ -35,8 +35,8 @@ fn judged_of(alloc: Global, outcome: Outcome) -> Judged
     ensures { IsJudgedAs outcome result }
 {
     match outcome {
-        Outcome::Refused(code) => Judged::Told(code),
-        Outcome::Unchanged => Judged::Told(Rcode::NoError),
+        Outcome::Refused(code) => Judged::Code(code),
+        Outcome::Unchanged => Judged::Code(Rcode::NoError),
         Outcome::NoMemory => Judged::Starved,
         Outcome::Next(next) => match SharedVersion::new(alloc, next) {
             Some(shared) => Judged::Made(shared),

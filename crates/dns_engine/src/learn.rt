@@ -12,5 +12,5 @@ pub(crate) fn learn_last<Z: FirstZone, N: Naming>(publisher: &VersionPublisher<Z
     ensures history { IsHistory (IsFirst Z.zone) IsNext publisher.now.published }
     ensures last { IsLastOf publisher.now.published (record { number = publisher.now.number; value = publisher.now.value }) }
 {
-    let _ = publisher.last();
+    let _ = publisher.last_number();
 }

@@ -28,5 +28,6 @@ pub use shared::SharedVersion;
 pub use snapshot_cell::{Naming, Spent};
 pub use transfer_core::KEPT;
 pub use versions::{
-    FirstZone, ToldChain, VersionCell, VersionOwner, VersionPublisher, VersionReader, ZoneVersions,
+    FirstZone, SharedChain, VersionCell, VersionOwner, VersionPublisher, VersionReader,
+    ZoneVersions,
 };

@@ -12,7 +12,7 @@ use crate::versions::{FirstZone, VersionCell, VersionPublisher, VersionReader};
 use snapshot_cell::Naming;
 
 impl<'a, Z: FirstZone, N: Naming> Engine<'a, Z, N> {
-    /// The engine of a cell in which the first version alone is published, once it has published these behind it: it holds the newest of them, and
+    /// The engine of a cell in which the first version alone is published, once it has published these after it: it holds the newest of them, and
     /// its history has them all. It is refused as [`Engine::new`] is, and [`EngineFault::Spent`] is told also where it isn't sure to publish so
     /// many: none is then published, and both tokens come back.
     pub fn resume(

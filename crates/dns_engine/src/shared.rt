@@ -11,7 +11,6 @@ pub struct SharedVersion {
     version: Arc<Version, Global>,
 }
 
-// By hand: what a derive makes is proved once more in each crate that drops one, and with it the drops of all that a version holds.
 impl Drop for SharedVersion {
     fn drop(self) {
         let SharedVersion { version: _ } = self;

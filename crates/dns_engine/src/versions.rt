@@ -46,7 +46,7 @@ pub type VersionReader<N> = NamedReader<SharedVersion, N>;
 pub type VersionOwner<'a, Z, N> = NamedStrong<'a, SharedVersion, ZoneVersions<Z>, N>;
 
 /// What a history of versions tells of those after an asker's.
-pub type ToldChain<'a, Z, N> = Chain<'a, SharedVersion, ZoneVersions<Z>, N>;
+pub type SharedChain<'a, Z, N> = Chain<'a, SharedVersion, ZoneVersions<Z>, N>;
 
 /// The history of a cell's versions, of which is told what changed.
 pub(crate) type ChangeHistory<'a, Z, N> = History<'a, SharedVersion, ZoneVersions<Z>, N>;

@@ -235,7 +235,7 @@ body_put question opt all left old one two names start at count size room size_i
 pub record HasWritten (head : Head) (question : Option Question) (opt : Option Opt) (limit : ℕ) (all left : List Record) (out : List ℕ) (size count : ℕ) : Type 0 where
   pub octets : take size out ≡ reply_octets (answers head question opt (filled head question opt limit [] all).0)
   pub rest : left ≡ (filled head question opt limit [] all).1
-  pub told : count ≡ length (filled head question opt limit [] all).0
+  pub reported : count ≡ length (filled head question opt limit [] all).0
   pub most : size ≤ limit
 
 pub wrote : (head : Head) (question : Option Question) (opt : Option Opt) (all left : List Record) (old one two three : List ℕ) (at next count : ℕ) (counts : List ℕ) (r : Option ℕ) → 512 ≤ length old → length old ≤ 65535 → length one ≡ length old → HasBody question opt all left old one at count → IsOverwritten one two at (opt_part NoError opt) next → counts ≡ length (questions question) ∷ count ∷ 0 ∷ opt_count opt ∷ [] → WritesParts two three 0 (header_octets (answers head question opt []) counts) r → HasWritten head question opt (length old) all left three next count
@@ -268,6 +268,6 @@ wrote head question opt all left old one two three at next count counts r least 
           ∙ sym (answers_octets head question opt b.front)
           ∙ ap (λ (p : List Record × List Record). reply_octets (answers head question opt p.0)) (sym taken);
       rest = ap (λ (p : List Record × List Record). p.1) (sym taken);
-      told = b.counted ∙ ap (λ (p : List Record × List Record). length p.0) (sym taken);
+      reported = b.counted ∙ ap (λ (p : List Record × List Record). length p.0) (sym taken);
       most = omega arith;
     }

@@ -3,7 +3,7 @@ use Rattle.std.proofs.Common.{◌≡◌, ℕ, zero, suc, ◌+◌, Bool, true, Li
 use Rattle.std.proofs.lemmas.List.Elements.{All-nil, All-cons, All-head, All-tail}
 use Rattle.std.specs.Int.{to_be_bytes, w16}
 use Rattle.dns_name.specs.Name.{wire_of, name_in, IsName}
-use Rattle.dns_name.proofs.LawLemmas.{name_in-stands}
+use Rattle.dns_name.proofs.LawLemmas.{name_in-is_present}
 use Rattle.dns_rdata.specs.declared.layout.Layout.{Layout}
 use Rattle.dns_rdata.specs.declared.layout.Layout.TheVariants.{Fields, Strings, Opaque}
 use Rattle.dns_rdata.specs.Layout.{layout_of, names_in}
@@ -83,7 +83,7 @@ Keeps-each put (x ∷ xs) all =
 -- the names that octets begin with are lawful
 lawful_found : (count : ℕ) (octets : List ℕ) (found : Option (List (List ℕ))) → name_in octets ≡ found → ((rest : List ℕ) → All IsName (names_in count rest)) → All IsName (elim found as (λ _. List (List (List ℕ))) [ None ↦ [] | Some name ↦ name ∷ names_in count (drop (length (wire_of name)) octets) ])
 lawful_found count octets None e rest = All-nil IsName
-lawful_found count octets (Some name) e rest = All-cons IsName name _ (name_in-stands octets name e).0 (rest (drop (length (wire_of name)) octets))
+lawful_found count octets (Some name) e rest = All-cons IsName name _ (name_in-is_present octets name e).0 (rest (drop (length (wire_of name)) octets))
 
 pub lawful_names : (count : ℕ) (octets : List ℕ) → All IsName (names_in count octets)
 lawful_names zero octets = All-nil IsName

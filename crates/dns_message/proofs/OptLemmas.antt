@@ -6,7 +6,7 @@ use Rattle.std.proofs.lemmas.List.Elements.{filter-append}
 use Rattle.dns_rdata.specs.Numbers.{type_OPT}
 use Rattle.dns_rdata.specs.declared.numbers.Rcode.TheVariants.{FormErr, BadVers}
 use Rattle.dns_message.specs.Message.{Entry}
-use Rattle.dns_message.specs.Opt.{opt_said, said_by, said_alone, refused, told_do, refused_do, is_root, version_of, dnssec_ok_of}
+use Rattle.dns_message.specs.Opt.{opt_said, said_by, said_alone, refused, do_bit_of, refused_do, is_root, version_of, dnssec_ok_of}
 use Rattle.dns_message.specs.Reads.{record_at, records_at, HearsAt}
 use Rattle.dns_message.proofs.ReadLemmas.{Said, heard, behind_one, next_one, left, IsPassed}
 
@@ -95,25 +95,25 @@ opt_behind entry records e =
     sym (ap said_by (parts ∙ ap (λ (t : List Entry). opts records ++ t) one))
 
 -- the DO that OPTs tell
-alone_tells : (named versioned : Bool) (opt : Entry) → told_do (cond named (refused FormErr opt) (cond versioned (refused BadVers opt) (Ok (Some (record { size = opt.class; dnssec_ok = dnssec_ok_of opt }))))) ≡ Some (dnssec_ok_of opt)
+alone_tells : (named versioned : Bool) (opt : Entry) → do_bit_of (cond named (refused FormErr opt) (cond versioned (refused BadVers opt) (Ok (Some (record { size = opt.class; dnssec_ok = dnssec_ok_of opt }))))) ≡ Some (dnssec_ok_of opt)
 alone_tells true versioned opt = refl
 alone_tells false true opt = refl
 alone_tells false false opt = refl
 
-alone_told : (opt : Entry) → told_do (said_alone opt) ≡ Some (dnssec_ok_of opt)
+alone_told : (opt : Entry) → do_bit_of (said_alone opt) ≡ Some (dnssec_ok_of opt)
 alone_told opt = alone_tells (not (is_root opt.owner)) (not (version_of opt == 0)) opt
 
 one_do : (a b : Bool) → Some a ≡ Some b → a ≡ b
 one_do a b e = cc
 
 -- behind no OPT one is the only one
-first_by : (xs : List Entry) (entry : Entry) → told_do (said_by xs) ≡ None → said_alone entry ≡ said_by (xs ++ entry ∷ [])
+first_by : (xs : List Entry) (entry : Entry) → do_bit_of (said_by xs) ≡ None → said_alone entry ≡ said_by (xs ++ entry ∷ [])
 first_by [] entry e = refl
 first_by (opt ∷ []) entry e = let some = alone_told opt in absurd (cc)
 first_by (opt ∷ other ∷ more) entry e = absurd (cc)
 
 -- behind others it makes one too many, and the first tells DO
-more_by : (xs : List Entry) (entry : Entry) (dnssec_ok : Bool) → told_do (said_by xs) ≡ Some dnssec_ok → refused_do dnssec_ok ≡ said_by (xs ++ entry ∷ [])
+more_by : (xs : List Entry) (entry : Entry) (dnssec_ok : Bool) → do_bit_of (said_by xs) ≡ Some dnssec_ok → refused_do dnssec_ok ≡ said_by (xs ++ entry ∷ [])
 more_by [] entry dnssec_ok e = absurd (cc)
 more_by (opt ∷ []) entry dnssec_ok e = ap refused_do (one_do dnssec_ok (dnssec_ok_of opt) (sym e ∙ alone_told opt))
 more_by (opt ∷ other ∷ more) entry dnssec_ok e = ap refused_do (one_do dnssec_ok (dnssec_ok_of opt) (sym e))
@@ -129,15 +129,15 @@ turned false c e = ap not e
 pub HearsAt-other : (msg : List ℕ) (at rtype next : ℕ) (said : Said) → IsPassed msg at rtype next → not (rtype == type_OPT) ≡ true → HearsAt msg at said said next
 HearsAt-other msg at rtype next said one other = record {
   entry = one.entry;
-  stands = one.stands;
+  is_present = one.is_present;
   says = λ records e. e ∙ other_says one.entry records (is_type rtype false (turned (rtype == type_OPT) true other) one.entry one.rtype_is);
 }
 
-pub HearsAt-more : (msg : List ℕ) (at rtype next : ℕ) (said after : Said) (dnssec_ok : Bool) → IsPassed msg at rtype next → not (rtype == type_OPT) ≡ false → told_do said ≡ Some dnssec_ok → after ≡ refused_do dnssec_ok → HearsAt msg at said after next
-HearsAt-more msg at rtype next said after dnssec_ok one opt told is = record {
+pub HearsAt-more : (msg : List ℕ) (at rtype next : ℕ) (said after : Said) (dnssec_ok : Bool) → IsPassed msg at rtype next → not (rtype == type_OPT) ≡ false → do_bit_of said ≡ Some dnssec_ok → after ≡ refused_do dnssec_ok → HearsAt msg at said after next
+HearsAt-more msg at rtype next said after dnssec_ok one opt reported is = record {
   entry = one.entry;
-  stands = one.stands;
-  says = λ records e. is ∙ more_by (opts records) one.entry dnssec_ok (sym (ap told_do e) ∙ told) ∙ opt_behind one.entry records (is_type rtype true (turned (rtype == type_OPT) false opt) one.entry one.rtype_is);
+  is_present = one.is_present;
+  says = λ records e. is ∙ more_by (opts records) one.entry dnssec_ok (sym (ap do_bit_of e) ∙ reported) ∙ opt_behind one.entry records (is_type rtype true (turned (rtype == type_OPT) false opt) one.entry one.rtype_is);
 }
 
 abbrev alone_at : Entry × ℕ → Said × ℕ
@@ -146,8 +146,8 @@ alone_at r = (said_alone r.0, r.1)
 same_found : (x y : Said × ℕ) → Some x ≡ Some y → x ≡ y
 same_found x y e = cc
 
-pub HearsAt-found : (msg : List ℕ) (at rtype next : ℕ) (said : Said) (found : Option (Said × ℕ)) → IsPassed msg at rtype next → not (rtype == type_OPT) ≡ false → told_do said ≡ None → found ≡ option_map (λ r. (said_alone r.0, r.1)) (record_at msg at) → MatchOption found (record_at msg at ≡ None) (λ r. HearsAt msg at said r.0 r.1)
-HearsAt-found msg at rtype next said found one opt none is = by found (is ∙ ap (option_map alone_at) one.stands)
+pub HearsAt-found : (msg : List ℕ) (at rtype next : ℕ) (said : Said) (found : Option (Said × ℕ)) → IsPassed msg at rtype next → not (rtype == type_OPT) ≡ false → do_bit_of said ≡ None → found ≡ option_map (λ r. (said_alone r.0, r.1)) (record_at msg at) → MatchOption found (record_at msg at ≡ None) (λ r. HearsAt msg at said r.0 r.1)
+HearsAt-found msg at rtype next said found one opt none is = by found (is ∙ ap (option_map alone_at) one.is_present)
   where
     by : (o : Option (Said × ℕ)) → o ≡ Some (said_alone one.entry, next) → MatchOption o (record_at msg at ≡ None) (λ r. HearsAt msg at said r.0 r.1)
     by None e = absurd (cc)
@@ -157,9 +157,9 @@ HearsAt-found msg at rtype next said found one opt none is = by found (is ∙ ap
         let alone : r.0 ≡ said_alone one.entry = ap (λ (t : Said × ℕ). t.0) both in
         record {
           entry = one.entry;
-          stands = one.stands ∙ ap (λ (n : ℕ). Some (one.entry, n)) place;
-          says = λ records f. alone ∙ first_by (opts records) one.entry (sym (ap told_do f) ∙ none) ∙ opt_behind one.entry records (is_type rtype true (turned (rtype == type_OPT) false opt) one.entry one.rtype_is);
+          is_present = one.is_present ∙ ap (λ (n : ℕ). Some (one.entry, n)) place;
+          says = λ records f. alone ∙ first_by (opts records) one.entry (sym (ap do_bit_of f) ∙ none) ∙ opt_behind one.entry records (is_type rtype true (turned (rtype == type_OPT) false opt) one.entry one.rtype_is);
         }
 
 pub IsHearing-heard : (count : ℕ) (msg : List ℕ) (at done place : ℕ) (said after : Said) (next : ℕ) → IsHearing count msg at done place said → done < count → HearsAt msg place said after next → IsHearing count msg at (done + 1) next after
-IsHearing-heard count msg at done place said after next on more is = IsHearing-one count msg at done place said after is.entry next on more is.stands is.says
+IsHearing-heard count msg at done place said after next on more is = IsHearing-one count msg at done place said after is.entry next on more is.is_present is.says

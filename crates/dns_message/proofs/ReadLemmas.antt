@@ -197,17 +197,17 @@ questions_none msg count (Some r) e h = answer_none msg r.0 (records_at (number_
 
 pub seen_none : (msg : List ℕ) (count : ℕ) → count ≡ number_at msg 4 → count ≢ 1 → option_and_then (seen msg) (body_in msg) ≡ None
 unfolding body_in
-seen_none msg count told ne = questions_none msg (number_at msg 4) (questions_at (number_at msg 4) msg 12) refl (λ e. ne (told ∙ e))
+seen_none msg count reported ne = questions_none msg (number_at msg 4) (questions_at (number_at msg 4) msg 12) refl (λ e. ne (reported ∙ e))
 
 pub seen_question : (msg : List ℕ) (count : ℕ) (o : Option (Question × ℕ)) → count ≡ number_at msg 4 → count ≡ 1 → o ≡ question_at msg 12 → option_and_then (seen msg) (body_in msg) ≡ behind_question msg o
-seen_question msg count o told one e = seen_one msg (sym told ∙ one) ∙ ap (behind_question msg) (sym e)
+seen_question msg count o reported one e = seen_one msg (sym reported ∙ one) ∙ ap (behind_question msg) (sym e)
 
 pub seen_section : (msg : List ℕ) (k count at : ℕ) (o : Option ℕ) → count ≡ number_at msg k → o ≡ option_map place_of (records_at count msg at) → end_at msg k at ≡ o
-seen_section msg k count at o told e = ap (λ n. option_map place_of (records_at n msg at)) (sym told) ∙ sym e
+seen_section msg k count at o reported e = ap (λ n. option_map place_of (records_at n msg at)) (sym reported) ∙ sym e
 
 pub seen_answer : (msg : List ℕ) (one count : ℕ) (o : Option (Question × ℕ)) (q : Question) (at : ℕ) (r : Option ℕ) → one ≡ number_at msg 4 → one ≡ 1 → o ≡ question_at msg 12 → o ≡ Some (q, at) → count ≡ number_at msg 6 → r ≡ option_map place_of (records_at count msg at) → option_and_then (seen msg) (body_in msg) ≡ behind_answer msg q r
-seen_answer msg one count o q at r told is e was counted f =
-    seen_question msg one o told is e ∙ ap (behind_question msg) was ∙ ap (behind_answer msg q) (seen_section msg 6 count at r counted f)
+seen_answer msg one count o q at r reported is e was counted f =
+    seen_question msg one o reported is e ∙ ap (behind_question msg) was ∙ ap (behind_answer msg q) (seen_section msg 6 count at r counted f)
 
 pub seen_authority : (msg : List ℕ) (count : ℕ) (q : Question) (before : Option ℕ) (r : Option (Option Serial × ℕ)) (at : ℕ) → option_and_then (seen msg) (body_in msg) ≡ behind_answer msg q before → before ≡ Some at → count ≡ number_at msg 8 → r ≡ option_map (holding msg q) (records_at count msg at) → option_and_then (seen msg) (body_in msg) ≡ behind_authority msg q r
 seen_authority msg count q before r at front was counted f =
@@ -300,7 +300,7 @@ held_of_one msg q count at next serial asks one e is =
 -- a record that was passed over
 pub record IsPassed (msg : List ℕ) (at rtype next : ℕ) : Type 0 where
   pub entry : Entry
-  pub stands : record_at msg at ≡ Some (entry, next)
+  pub is_present : record_at msg at ≡ Some (entry, next)
   pub rtype_is : entry.rtype ≡ rtype
 
 passed_by : (msg : List ℕ) (at rtype next : ℕ) (o : Option (Entry × ℕ)) → record_at msg at ≡ o → Some (rtype, next) ≡ option_map typed o → IsPassed msg at rtype next
@@ -310,7 +310,7 @@ passed_by msg at rtype next (Some r) is e =
     let place : r.1 ≡ next = ap (λ (t : ℕ × ℕ). t.1) (sym both) in
     record {
       entry = r.0;
-      stands = is ∙ ap (λ n. Some (r.0, n)) place;
+      is_present = is ∙ ap (λ n. Some (r.0, n)) place;
       rtype_is = ap (λ (t : ℕ × ℕ). t.0) (sym both);
     }
 
@@ -328,7 +328,7 @@ pub not_passed : (msg : List ℕ) (at : ℕ) (found : Option (RType × ℕ)) →
 not_passed msg at found is e = typed_none (record_at msg at) (sym (ap (option_map numbers) e) ∙ is)
 
 pub IsPast-passed : (count : ℕ) (msg : List ℕ) (at done place rtype next : ℕ) → IsPast count msg at done place → done < count → IsPassed msg place rtype next → IsPast count msg at (done + 1) next
-IsPast-passed count msg at done place rtype next past more one = IsPast-one count msg at done place one.entry next past more one.stands
+IsPast-passed count msg at done place rtype next past more one = IsPast-one count msg at done place one.entry next past more one.is_present
 
 -- the type of a record behind its owner
 found_by : (msg : List ℕ) (next : ℕ) (found : Option (RType × ℕ)) (o : Result (Name × ℕ) NameReadFault) → Some next ≡ behind_of o → ((owner : Name) → option_map numbers found ≡ option_map typed (record_of msg (Ok (owner, next)))) → option_map numbers found ≡ option_map typed (record_of msg o)

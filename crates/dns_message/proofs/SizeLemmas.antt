@@ -4,7 +4,7 @@ use Rattle.std.proofs.lemmas.Bool.{le-leb}
 use Rattle.std.proofs.lemmas.List.{take-append-drop}
 use Rattle.std.specs.List.{flat_map}
 use Rattle.dns_name.specs.Name.{Name, wire_of, name_in, IsName}
-use Rattle.dns_name.proofs.LawLemmas.{name_in-stands}
+use Rattle.dns_name.proofs.LawLemmas.{name_in-is_present}
 use Rattle.dns_rdata.specs.declared.layout.Layout.{Layout}
 use Rattle.dns_rdata.specs.declared.layout.Layout.TheVariants.{Fields, Strings, Opaque}
 use Rattle.dns_rdata.specs.Layout.{layout_of, names_in}
@@ -43,7 +43,7 @@ names_short compress (name ∷ names) table at =
 found_short : (count : ℕ) (octets : List ℕ) (found : Option Name) → name_in octets ≡ found → ((rest : List ℕ) → length (flat_map wire_of (names_in count rest)) ≤ length rest) → length (flat_map wire_of (elim found as (λ _. List Name) [ None ↦ [] | Some name ↦ name ∷ names_in count (drop (length (wire_of name)) octets) ])) ≤ length octets
 found_short count octets None e rest = omega arith
 found_short count octets (Some name) e rest =
-    let stands = ap length (name_in-stands octets name e).1 in
+    let is_present = ap length (name_in-is_present octets name e).1 in
     let back = drop (length (wire_of name)) octets in
     let split = length-append (wire_of name) back in
     let full = length-append (wire_of name) (flat_map wire_of (names_in count back)) in

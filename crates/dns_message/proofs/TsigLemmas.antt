@@ -9,8 +9,8 @@ use Rattle.dns_message.proofs.ReadLemmas.{behind_one, next_one, left, IsPassed}
 abbrev behind : List Entry → List Entry × ℕ → List Entry × ℕ
 behind front r = (front ++ r.0, r.1)
 
-abbrev told : List Entry × ℕ → Bool × ℕ
-told r = (has_tsig r.0, r.1)
+abbrev reported : List Entry × ℕ → Bool × ℕ
+reported r = (has_tsig r.0, r.1)
 
 pub record IsHad (count : ℕ) (msg : List ℕ) (at done place : ℕ) (has : Bool) : Type 0 where
   pub front : List Entry
@@ -56,14 +56,14 @@ IsHad-passed count msg at done place rtype next has after on more past so = reco
       on.is
       ∙ ap (λ n. option_map (behind on.front) (records_at n msg place)) (left count done more)
       ∙ ap (option_map (behind on.front)) (next_one (count - (done + 1)) msg place)
-      ∙ ap (λ o. option_map (behind on.front) (behind_one (count - (done + 1)) msg o)) past.stands
+      ∙ ap (λ o. option_map (behind on.front) (behind_one (count - (done + 1)) msg o)) past.is_present
       ∙ behind_next on.front past.entry (records_at (count - (done + 1)) msg next);
   says = so ∙ ap (λ b. b || (rtype == type_TSIG)) on.says ∙ ap (λ t. has_tsig on.front || (t == type_TSIG)) (sym past.rtype_is) ∙ sym (more_had on.front past.entry);
 }
 
-pub IsHad-stop : (count : ℕ) (msg : List ℕ) (at done place : ℕ) (has : Bool) → IsHad count msg at done place has → done < count → record_at msg place ≡ None → option_map told (records_at count msg at) ≡ None
+pub IsHad-stop : (count : ℕ) (msg : List ℕ) (at done place : ℕ) (has : Bool) → IsHad count msg at done place has → done < count → record_at msg place ≡ None → option_map reported (records_at count msg at) ≡ None
 IsHad-stop count msg at done place has on more is =
-    ap (option_map told)
+    ap (option_map reported)
     (on.is
     ∙ ap (λ n. option_map (behind on.front) (records_at n msg place)) (left count done more)
     ∙ ap (option_map (behind on.front)) (next_one (count - (done + 1)) msg place)
@@ -73,7 +73,7 @@ none_left : (msg : List ℕ) (place : ℕ) (front : List Entry) → option_map (
 unfolding records_at
 none_left msg place front = ap (λ (t : List Entry). Some (t, place)) (append-nil front)
 
-pub IsHad-end : (count : ℕ) (msg : List ℕ) (at done place : ℕ) (has : Bool) → IsHad count msg at done place has → count ≤ done → option_map told (records_at count msg at) ≡ Some (has, place)
+pub IsHad-end : (count : ℕ) (msg : List ℕ) (at done place : ℕ) (has : Bool) → IsHad count msg at done place has → count ≤ done → option_map reported (records_at count msg at) ≡ Some (has, place)
 IsHad-end count msg at done place has on all =
-    ap (option_map told) (on.is ∙ ap (λ n. option_map (behind on.front) (records_at n msg place)) (omega arith) ∙ none_left msg place on.front)
+    ap (option_map reported) (on.is ∙ ap (λ n. option_map (behind on.front) (records_at n msg place)) (omega arith) ∙ none_left msg place on.front)
     ∙ ap (λ (b : Bool). Some (b, place)) (sym on.says)

@@ -27,7 +27,7 @@ first_of (x ∷ xs) = Some x
 abbrev pub answers : Head → Option Question → Option Opt → List Record → Message
 answers head question opt records = record { head = head; rcode = NoError; aa = true; tc = false; question = question; answer = records; authority = []; additional = []; opt = opt; below_cut = false }
 
--- the records that such a message has which takes, behind those that it has, as many from the front of others as fit into so
+-- the records that such a message has which takes, after those that it has, as many from the front of others as fit into so
 -- many octets; and the records that are left
 abbrev pub filled : Head → Option Question → Option Opt → ℕ → List Record → List Record → List Record × List Record
 filled head question opt limit front [] = (front, [])
@@ -40,22 +40,22 @@ abbrev pub StopsTaking : Head → Option Question → Option Opt → ℕ → Lis
 StopsTaking head question opt limit front [] = Unit {0}
 StopsTaking head question opt limit front (r ∷ rs) = fits (answers head question opt (front ++ r ∷ [])) limit ≡ false
 
--- what stands in such a message behind its header and in front of its OPT
+-- what stands in such a message after its header and before its OPT
 abbrev pub placed : Option Question → List Record → Encoding
 placed question records = before (each question_octets (questions question)) (each record_octets records)
 
 -- the first of the records that are left is written into a buffer at a position, as names are; none is where none is left,
--- or where it doesn't fit, and what is in front of the position stays then
+-- or where it doesn't fit, and what is before the position stays then
 abbrev pub PutsFirst : List Record → List ℕ → List ℕ → ℕ → List Entry → List Entry → Option ℕ → Type 0
 PutsFirst [] old new at before after result = (result ≡ None) × (take at new ≡ take at old)
 PutsFirst (r ∷ rs) old new at before after result = WritesEncoding (record_octets r) old new at before after result
 
--- behind records that were written at a position, one more doesn't fit: the first of those that are left, if any is
+-- after records that were written at a position, one more doesn't fit: the first of those that are left, if any is
 abbrev pub StopsBehind : List Record → List Record → List ℕ → List ℕ → ℕ → List Entry → Type 0
 StopsBehind front [] old new at positions = Unit {0}
 StopsBehind front (r ∷ rs) old new at positions = WritesEncoding (each record_octets (front ++ r ∷ [])) old new at positions positions None
 
--- as many records from the front of a list as fit were written into a buffer at a position; what is behind them in the buffer
+-- as many records from the front of a list as fit were written into a buffer at a position; what is after them in the buffer
 -- is of no matter
 pub record Fills (all left : List Record) (old new : List ℕ) (at : ℕ) (positions : List Entry) (next count : ℕ) : Type 0 where
   pub front : List Record
@@ -72,8 +72,8 @@ abbrev pub IsFull : Option Question → Option Opt → List Record → List Reco
 IsFull question opt front [] limit = Unit {0}
 IsFull question opt front (r ∷ rs) limit = limit < 12 + length (placed question (front ++ r ∷ []) [] 12).0 + length (opt_part NoError opt)
 
--- behind the place of a header the question was written, and as many records from the front of a list as leave room for the OPT;
--- what is behind them in the buffer is of no matter
+-- after the place of a header the question was written, and as many records from the front of a list as leave room for the OPT;
+-- what is after them in the buffer is of no matter
 pub record HasBody (question : Option Question) (opt : Option Opt) (all left : List Record) (old new : List ℕ) (next count : ℕ) : Type 0 where
   pub front : List Record
   pub parts : all ≡ front ++ left

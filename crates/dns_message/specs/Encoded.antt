@@ -10,26 +10,26 @@ pub record IsTrueOf (msg : List ℕ) (table : Table) : Type 0 where
   pub targets : IsTable msg (keyed table)
   pub names : table_of msg (keyed table) ≡ table
 
--- octets and the table behind them were written at a position of a buffer: the octets end before the next position, all
+-- octets and the table after them were written at a position of a buffer: the octets end before the next position, all
 -- else is as it was, and the positions and keys are those of the table, which is true of the message that ends there
 pub record IsEncoded (written : List ℕ × Table) (old new : List ℕ) (at : ℕ) (positions : List Entry) (next : ℕ) : Type 0 where
   pub octets : IsOverwritten old new at written.0 next
   pub positions_are : positions ≡ keyed written.1
   pub true_of : IsTrueOf (take next new) written.1
 
--- so many octets don't fit a buffer from a position on, and what stands in front of the position is as it was
+-- so many octets don't fit a buffer from a position on, and what stands before the position is as it was
 pub record IsStopped (old new : List ℕ) (at size : ℕ) : Type 0 where
   pub short : length old < at + size
   pub front : take at new ≡ take at old
 
--- octets are written part by part into a buffer at a position, which gives the position behind them; none where they don't
+-- octets are written part by part into a buffer at a position, which gives the position after them; none where they don't
 -- fit
 abbrev pub WritesParts : List ℕ → List ℕ → ℕ → List ℕ → Option ℕ → Type 0
 WritesParts old new at octets None = IsStopped old new at (length octets)
 WritesParts old new at octets (Some next) = IsOverwritten old new at octets next
 
 -- something is written into a buffer at a position, where names are at the positions before, and then at the positions
--- after: it gives the position behind it; none where it doesn't fit
+-- after: it gives the position after it; none where it doesn't fit
 abbrev pub WritesEncoding : Encoding → List ℕ → List ℕ → ℕ → List Entry → List Entry → Option ℕ → Type 0
 WritesEncoding put old new at before after None = IsStopped old new at (length (put (table_of (take at old) before) at).0)
 WritesEncoding put old new at before after (Some next) = IsEncoded (put (table_of (take at old) before) at) old new at after next

@@ -8,7 +8,7 @@ use Rattle.dns_rdata.specs.Layout.{layout_of}
 use Rattle.wire_names.specs.NameAt.{name_at}
 use Rattle.dns_message.specs.Message.{Entry}
 
--- so many names, one after another from a position of a message on, through pointers, and the position behind the last;
+-- so many names, one after another from a position of a message on, through pointers, and the position after the last;
 -- none where one has a fault (RFC 1035, 4.1.4)
 unfoldable pub names_at : ℕ → List ℕ → ℕ → Option (List Name × ℕ)
 names_at zero msg at = Some ([], at)
@@ -22,8 +22,8 @@ names_at (suc count) msg at =
 abbrev pub octets_from : List ℕ → ℕ → ℕ → List ℕ
 octets_from msg at size = take size (drop at msg)
 
--- so many octets of data at a position, which lie by a layout, with the names in full: the octets in front of the names
--- and behind them are as they stand; none where a name has a fault, or the octets behind the names don't end with the data
+-- so many octets of data at a position, which lie by a layout, with the names in full: the octets before the names
+-- and after them are as they stand; none where a name has a fault, or the octets after the names don't end with the data
 abbrev pub expanded_by : Layout → List ℕ → ℕ → ℕ → Option (List ℕ)
 expanded_by (Fields front names back compressed) msg at size =
     option_and_then

@@ -7,7 +7,7 @@ use Rattle.dns_message.specs.Message.{message_limit, number_at}
 abbrev pub frame_of : List ℕ → List ℕ
 frame_of message = to_be_bytes w16 (length message) ++ message
 
--- the message of the frame that octets begin with, and the octets behind that frame; none where they end before its end
+-- the message of the frame that octets begin with, and the octets after that frame; none where they end before its end
 abbrev pub frame_in : List ℕ → Option (List ℕ × List ℕ)
 frame_in octets =
     let size = number_at octets 0 in

@@ -21,7 +21,7 @@ opcode_QUERY = 0
 abbrev pub opcode_UPDATE : ℕ
 opcode_UPDATE = 5
 
--- the most octets of a message, which the length of 16 bits in front of it can tell (RFC 1035, 4.2.2)
+-- the most octets of a message, which the length of 16 bits before it can tell (RFC 1035, 4.2.2)
 abbrev pub message_limit : ℕ
 message_limit = 65535
 
@@ -43,14 +43,14 @@ pub record Entry : Type 0 where
   pub at : ℕ
   pub size : ℕ
 
--- what stands behind a message's header: its questions, and the records of its three other sections (RFC 1035, 4.1)
+-- what stands after a message's header: its questions, and the records of its three other sections (RFC 1035, 4.1)
 pub record Body : Type 0 where
   pub questions : List Question
   pub answer : List Entry
   pub authority : List Entry
   pub additional : List Entry
 
--- a reply: what it copies from a request's header, its code, AA and TC, a question or none, three sections, and behind the other
+-- a reply: what it copies from a request's header, its code, AA and TC, a question or none, three sections, and after the other
 -- additional records an OPT or none (RFC 1035, 4.1; RFC 6891, 6.1.1); and whether the last name looked up is at or below a zone cut
 -- (RFC 1034, 4.3.2)
 pub record Message : Type 0 where

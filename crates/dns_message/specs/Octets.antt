@@ -26,14 +26,14 @@ flags_octets m = (128 + 8 * m.head.opcode + 4 * bit m.aa + 2 * bit m.tc + bit m.
 unfoldable pub question_octets : Question → Encoding
 question_octets q = before (named true q.name) (these (to_be_bytes w16 q.rtype.0 ++ to_be_bytes w16 q.class.0))
 
--- so many names that octets begin with, with pointers or in full, and the octets behind these as they are; names from the
+-- so many names that octets begin with, with pointers or in full, and the octets after these as they are; names from the
 -- first on that can't be read are as they are
 unfoldable pub names_octets : Bool → ℕ → List ℕ → Encoding
 names_octets compress count octets =
     let names = names_in count octets in
     before (each (named compress) names) (these (drop (length (flat_map wire_of names)) octets))
 
--- data that lies by a layout: the octets in front of its names as they are, and then the names; strings as they are, and data of a type that
+-- data that lies by a layout: the octets before its names as they are, and then the names; strings as they are, and data of a type that
 -- nobody knows, in which no name is compressed (RFC 3597, 4)
 abbrev pub octets_by : Layout → List ℕ → Encoding
 octets_by (Fields front names back compressed) octets = before (these (take front octets)) (names_octets compressed names (drop front octets))

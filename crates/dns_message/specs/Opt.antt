@@ -14,11 +14,11 @@ use Rattle.dns_message.specs.declared.edns.OptFault.{OptFault}
 abbrev pub max_udp : ℕ
 max_udp = 1232
 
--- VERSION, eight bits in the place of an OPT's TTL, behind eight of the code (RFC 6891, 6.1.3)
+-- VERSION, eight bits in the place of an OPT's TTL, after eight of the code (RFC 6891, 6.1.3)
 abbrev pub version_of : Entry → ℕ
 version_of opt = opt.ttl / 2 ^ 16 % 2 ^ 8
 
--- DO, the bit behind VERSION (RFC 6891, 6.1.3 and 6.1.4)
+-- DO, the bit after VERSION (RFC 6891, 6.1.3 and 6.1.4)
 abbrev pub dnssec_ok_of : Entry → Bool
 dnssec_ok_of opt = opt.ttl / 2 ^ 15 % 2 == 1
 
@@ -40,10 +40,10 @@ said_alone opt =
     else Ok (Some (record { size = opt.class; dnssec_ok = dnssec_ok_of opt }))
 
 -- the DO of the first OPT, by what OPTs say; none where there is no OPT
-abbrev pub told_do : Result (Option Edns) OptFault → Option Bool
-told_do (Ok None) = None
-told_do (Ok (Some edns)) = Some edns.dnssec_ok
-told_do (Err fault) = Some fault.dnssec_ok
+abbrev pub do_bit_of : Result (Option Edns) OptFault → Option Bool
+do_bit_of (Ok None) = None
+do_bit_of (Ok (Some edns)) = Some edns.dnssec_ok
+do_bit_of (Err fault) = Some fault.dnssec_ok
 
 -- what more OPTs than one say, of which the first has this DO (RFC 6891, 6.1.1)
 abbrev pub refused_do : Bool → Result (Option Edns) OptFault
@@ -83,7 +83,7 @@ abbrev pub opt_count : Option Opt → ℕ
 opt_count None = 0
 opt_count (Some opt) = 1
 
--- the OPT of a reply as it stands at a position, behind the other additional records (RFC 6891, 6.1.2)
+-- the OPT of a reply as it stands at a position, after the other additional records (RFC 6891, 6.1.2)
 abbrev pub opt_entries : Rcode → Option Opt → ℕ → List Entry
 opt_entries code None at = []
 opt_entries code (Some opt) at = record { owner = []; rtype = type_OPT; class = max_udp; ttl = opt_ttl code opt; at = at + 11; size = 0 } ∷ []

@@ -1,4 +1,4 @@
--- How a request is read: its header, and what stands behind it (RFC 1035, 4.1).
+-- How a request is read: its header, and what stands after it (RFC 1035, 4.1).
 use Rattle.std.specs.Prelude.{◌≡◌, ℕ, zero, suc, Bool, ◌+◌, ◌/◌, ◌%◌, ◌&&◌, not, ◌==◌, List, [], ◌∷◌, ◌++◌, length, take, drop, nat_le, Option, Some, None, option_map, option_and_then, Result, Ok, Err, slice_index, if◌then◌else◌}
 use Rattle.std.specs.Int.{from_be_bytes, w32}
 use Rattle.std.proofs.Common.{lit<}
@@ -34,7 +34,7 @@ header_of msg = record {
 abbrev pub is_reply : List ℕ → Bool
 is_reply msg = nat_le 128 (slice_index msg 2)
 
--- the question whose name was read, with its type and its class behind the name, and the position behind these; none
+-- the question whose name was read, with its type and its class after the name, and the position after these; none
 -- where the name has a fault or the octets end before (RFC 1035, 4.1.2)
 abbrev pub question_of : List ℕ → Result (Name × ℕ) NameReadFault → Option (Question × ℕ)
 question_of msg (Err fault) = None
@@ -43,7 +43,7 @@ question_of msg (Ok r) =
     let class = number_at msg (r.1 + 2) in
     if nat_le (r.1 + 4) (length msg) then Some (record { name = r.0; rtype = record { 0 = rtype }; class = record { 0 = class } }, r.1 + 4) else None
 
--- the question at a position of a message, its name through pointers, and the position behind it (RFC 1035, 4.1.2)
+-- the question at a position of a message, its name through pointers, and the position after it (RFC 1035, 4.1.2)
 abbrev pub question_at : List ℕ → ℕ → Option (Question × ℕ)
 question_at msg at = question_of msg (name_at msg at)
 
@@ -51,8 +51,8 @@ question_at msg at = question_of msg (name_at msg at)
 abbrev pub long_number_at : List ℕ → ℕ → ℕ
 long_number_at msg at = from_be_bytes w32 (take 4 (drop at msg))
 
--- the record whose owner was read: behind the name its type, its class, its TTL, how many octets its data has, and so
--- many octets; and the position behind these; none where the name has a fault or the octets end before
+-- the record whose owner was read: after the name its type, its class, its TTL, how many octets its data has, and so
+-- many octets; and the position after these; none where the name has a fault or the octets end before
 -- (RFC 1035, 4.1.3)
 abbrev pub record_of : List ℕ → Result (Name × ℕ) NameReadFault → Option (Entry × ℕ)
 record_of msg (Err fault) = None
@@ -63,34 +63,34 @@ record_of msg (Ok r) =
     then Some (record { owner = r.0; rtype = number_at msg r.1; class = number_at msg (r.1 + 2); ttl = long_number_at msg (r.1 + 4); at = r.1 + 10; size = size }, next)
     else None
 
--- the record at a position of a message, its owner through pointers, and the position behind it (RFC 1035, 4.1.3)
+-- the record at a position of a message, its owner through pointers, and the position after it (RFC 1035, 4.1.3)
 abbrev pub record_at : List ℕ → ℕ → Option (Entry × ℕ)
 record_at msg at = record_of msg (name_at msg at)
 
--- the type of a record at a position of a message, and the position behind it
+-- the type of a record at a position of a message, and the position after it
 abbrev pub typed : Entry × ℕ → ℕ × ℕ
 typed r = (r.0.rtype, r.1)
 
 -- a record stands at a position, and so much do OPTs say that have said so much before it
 pub record HearsAt (msg : List ℕ) (at : ℕ) (said heard : Result (Option Edns) OptFault) (next : ℕ) : Type 0 where
   pub entry : Entry
-  pub stands : record_at msg at ≡ Some (entry, next)
+  pub is_present : record_at msg at ≡ Some (entry, next)
   pub says : (records : List Entry) → said ≡ opt_said records → heard ≡ opt_said (records ++ entry ∷ [])
 
--- so many records, one after another from a position on, and the position behind the last; none where one can't be read
+-- so many records, one after another from a position on, and the position after the last; none where one can't be read
 unfoldable pub records_at : ℕ → List ℕ → ℕ → Option (List Entry × ℕ)
 records_at zero msg at = Some ([], at)
 records_at (suc count) msg at =
     option_and_then (λ r. option_map (λ rest. (r.0 ∷ rest.0, rest.1)) (records_at count msg r.1)) (record_at msg at)
 
--- so many questions, one after another from a position on, and the position behind the last; none where one can't be read
+-- so many questions, one after another from a position on, and the position after the last; none where one can't be read
 unfoldable pub questions_at : ℕ → List ℕ → ℕ → Option (List Question × ℕ)
 questions_at zero msg at = Some ([], at)
 questions_at (suc count) msg at =
     option_and_then (λ q. option_map (λ rest. (q.0 ∷ rest.0, rest.1)) (questions_at count msg q.1)) (question_at msg at)
 
--- what stands behind the header, by its counts QDCOUNT, ANCOUNT, NSCOUNT and ARCOUNT: questions and three sections of
--- records; octets behind these are ignored (RFC 1035, 4.1; own)
+-- what stands after the header, by its counts QDCOUNT, ANCOUNT, NSCOUNT and ARCOUNT: questions and three sections of
+-- records; octets after these are ignored (RFC 1035, 4.1; own)
 unfoldable pub body_in : List ℕ → Option Body
 body_in msg =
     option_and_then (λ questions.
@@ -102,8 +102,8 @@ body_in msg =
     (records_at (number_at msg 6) msg questions.1))
     (questions_at (number_at msg 4) msg 12)
 
--- the serial in the data of an SOA as it stands in a message: behind two names, through pointers, are five numbers of 32
--- bits, of which it is the first; none where a name has a fault or the data don't end behind these (RFC 1035, 3.3.13)
+-- the serial in the data of an SOA as it stands in a message: after two names, through pointers, are five numbers of 32
+-- bits, of which it is the first; none where a name has a fault or the data don't end after these (RFC 1035, 3.3.13)
 abbrev pub serial_at : List ℕ → Entry → Option Serial
 serial_at msg entry =
     option_and_then
@@ -130,7 +130,7 @@ only_question [] = None
 only_question (question ∷ []) = Some question
 only_question (question ∷ other ∷ more) = None
 
--- what is seen of what stands behind a header: its one question, the serial of the zone that one who asks for an IXFR
+-- what is seen of what stands after a header: its one question, the serial of the zone that one who asks for an IXFR
 -- holds, and what the OPTs in its additional section say; none of another number of questions
 abbrev pub seen : List ℕ → Body → Option (Question × Option Serial × Result (Option Edns) OptFault)
 seen msg body =

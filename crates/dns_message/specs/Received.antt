@@ -19,7 +19,7 @@ abbrev pub received : List ℕ → Entry → RawRecord
 received msg entry = raw_with entry (unwrap_or (expanded_data msg entry) [])
 
 -- the records of a reply's answer section; none where the octets are no reply, its RCODE isn't NOERROR, or a question or a record of
--- any section can't be read. Octets behind the last record are ignored (RFC 1035, 4.1; RFC 5936, 2.2; own)
+-- any section can't be read. Octets after the last record are ignored (RFC 1035, 4.1; RFC 5936, 2.2; own)
 abbrev pub received_records : List ℕ → Option (List RawRecord)
 received_records msg =
     if nat_lt (length msg) 12 || not (is_reply msg) || not (rcode_of msg == 0) then None

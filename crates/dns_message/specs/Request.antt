@@ -16,13 +16,13 @@ use Rattle.dns_message.specs.declared.query.Parsed.{Parsed}
 use Rattle.dns_message.specs.declared.query.Parsed.TheVariants.{Silent, Fault, BadOpt, Query, Update, NoMemory}
 use Rattle.dns_message.specs.declared.update.Update.{Update as DynamicUpdate}
 
--- what a question says behind a header: a query, where the OPT in its additional section is obeyed or there is none, else that it
+-- what a question says after a header: a query, where the OPT in its additional section is obeyed or there is none, else that it
 -- isn't (RFC 1035, 4.1; RFC 6891, 7)
 abbrev pub asked_with : Head → Question → Option Serial → Result (Option Edns) OptFault → Parsed
 asked_with head question serial (Ok edns) = Query (record { head = head; question = question; serial = serial; edns = edns })
 asked_with head question serial (Err fault) = BadOpt head question fault.rcode fault.dnssec_ok
 
--- what a header and what is seen behind it say: FORMERR where that can't be read or hasn't one question (RFC 1035, 4.1; own)
+-- what a header and what is seen after it say: FORMERR where that can't be read or hasn't one question (RFC 1035, 4.1; own)
 abbrev pub query_of : Head → Option (Question × Option Serial × Result (Option Edns) OptFault) → Parsed
 query_of head None = Fault head FormErr
 query_of head (Some r) = asked_with head r.0 r.1 r.2
@@ -32,7 +32,7 @@ abbrev pub update_read : Head → Result DynamicUpdate (Question × OptFault) �
 update_read head (Ok update) = Update update
 update_read head (Err bad) = BadOpt head bad.0 bad.1.rcode bad.1.dnssec_ok
 
--- what the header of an update and what is read behind it say: FORMERR where no update can be read (RFC 2136, 2; own)
+-- what the header of an update and what is read after it say: FORMERR where no update can be read (RFC 2136, 2; own)
 abbrev pub update_of : Head → Option (Result DynamicUpdate (Question × OptFault)) → Parsed
 update_of head None = Fault head FormErr
 update_of head (Some read) = update_read head read
@@ -43,7 +43,7 @@ abbrev pub is_update : List ℕ → Bool
 is_update msg = not (nat_lt (length msg) 12) && not (is_reply msg) && opcode_of msg == opcode_UPDATE
 
 -- how octets are read: fewer than twelve, or a reply, are silent; an OPCODE other than QUERY and UPDATE is NOTIMP; else it is
--- as the header and what stands behind it say (RFC 1035, 4.1.1; RFC 2136, 2; own)
+-- as the header and what stands after it say (RFC 1035, 4.1.1; RFC 2136, 2; own)
 abbrev pub reads : List ℕ → Parsed
 reads msg =
     if nat_lt (length msg) 12 || is_reply msg then Silent
@@ -59,12 +59,12 @@ said_in query (said.Fault head code) = Fault head code
 said_in query (said.BadOpt head code dnssec_ok) = BadOpt head query.question code dnssec_ok
 
 -- memory was wanted while an update was read: so it is told with the update's header
-pub record IsWant (msg : List ℕ) (told : Parsed) : Type 0 where
+pub record IsWant (msg : List ℕ) (reported : Parsed) : Type 0 where
   pub whole : 12 ≤ length msg
   pub asks : is_reply msg ≡ false
   pub update : opcode_of msg ≡ opcode_UPDATE
-  pub is : told ≡ NoMemory (header_of msg)
+  pub is : reported ≡ NoMemory (header_of msg)
 
 -- what is told of octets: how they are read, or that memory was wanted
 abbrev pub Tells : List ℕ → Parsed → Type 0
-Tells msg told = (told ≡ reads msg) ⊎ IsWant msg told
+Tells msg reported = (reported ≡ reads msg) ⊎ IsWant msg reported

@@ -37,19 +37,19 @@ octets_of section msg entry =
 abbrev pub raw_with : Entry → List ℕ → RawRecord
 raw_with entry octets = record { owner = fold_name entry.owner; rtype = entry.rtype; class = entry.class; ttl = entry.ttl; octets = octets }
 
--- the record of a section at a position of a message, and the position behind it; none where it can't be read, or its data
+-- the record of a section at a position of a message, and the position after it; none where it can't be read, or its data
 -- haven't their type's form (RFC 1035, 4.1.3; RFC 2136, 2.4 and 2.5)
 abbrev pub raw_at : Section → List ℕ → ℕ → Option (RawRecord × ℕ)
 raw_at section msg at =
     option_and_then (λ e. option_map (λ octets. (raw_with e.0 octets, e.1)) (octets_of section msg e.0)) (record_at msg at)
 
--- so many of them, one after another from a position on, and the position behind the last; none where one can't be read
+-- so many of them, one after another from a position on, and the position after the last; none where one can't be read
 unfoldable pub raws_at : Section → ℕ → List ℕ → ℕ → Option (List RawRecord × ℕ)
 raws_at section zero msg at = Some ([], at)
 raws_at section (suc count) msg at =
     option_and_then (λ r. option_map (λ rest. (r.0 ∷ rest.0, rest.1)) (raws_at section count msg r.1)) (raw_at section msg at)
 
--- the entry of a zone section, of whatever type, which is judged as its name and its class are, and the position behind it
+-- the entry of a zone section, of whatever type, which is judged as its name and its class are, and the position after it
 -- (RFC 2136, 2.3 and 3.1.1)
 abbrev pub zone_entry : Question × ℕ → ZoneEntry × ℕ
 zone_entry q = (record { name = q.0.name; rtype = q.0.rtype; class = q.0.class }, q.1)
@@ -68,7 +68,7 @@ abbrev pub update_made : Head → ZoneEntry → List RawRecord → List RawRecor
 update_made head zone prerequisites updates (Ok edns) = Ok (record { head = head; edns = edns; zone = zone; prerequisites = prerequisites; updates = updates })
 update_made head zone prerequisites updates (Err fault) = Err (zone_question zone, fault)
 
--- what is read behind the header of an update, by its counts ZOCOUNT, PRCOUNT, UPCOUNT and ADCOUNT; octets behind these sections
+-- what is read after the header of an update, by its counts ZOCOUNT, PRCOUNT, UPCOUNT and ADCOUNT; octets after these sections
 -- are ignored (RFC 2136, 2; own)
 unfoldable pub update_in : Head → List ℕ → Option (Result Update (Question × OptFault))
 update_in head msg =

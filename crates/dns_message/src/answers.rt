@@ -37,7 +37,7 @@ pub trait RecordList {
     fn first(&self) -> Option<SentRecord<'_>>
         ensures { option_map sent result ≡ first_of (left self.now) };
 
-    /// Goes on behind the first record that is left.
+    /// Goes on after the first record that is left.
     fn advance(&mut self)
         ensures { left self.new ≡ drop 1 (left self.old) };
 }
@@ -79,8 +79,8 @@ pub fn write_answers<L: RecordList>(
     (at, count)
 }
 
-/// Writes the question behind the place of a header, and behind it as many records from the front of a list as leave room for the
-/// OPT: the position behind them, and how many they are.
+/// Writes the question after the place of a header, and after it as many records from the front of a list as leave room for the
+/// OPT: the position after them, and how many they are.
 fn put_body<L: RecordList>(
     out: &mut [u8],
     question: Option<&Question>,
@@ -98,7 +98,7 @@ fn put_body<L: RecordList>(
     put_answers(front, start, &mut names, records)
 }
 
-/// Writes as many records from the front of a list as fit at a position: the position behind them, and how many they are.
+/// Writes as many records from the front of a list as fit at a position: the position after them, and how many they are.
 fn put_answers<L: RecordList>(
     out: &mut [u8],
     at: usize,
@@ -120,7 +120,7 @@ fn put_answers<L: RecordList>(
     (next, count)
 }
 
-/// Writes the first of the records that are left at a position: the position behind it; None where none is left, or it
+/// Writes the first of the records that are left at a position: the position after it; None where none is left, or it
 /// doesn't fit.
 fn put_first<L: RecordList>(
     out: &mut [u8],

@@ -19,7 +19,7 @@ pub(crate) fn count_section(section: &[Shown<'_>]) -> Option<u16>
     Some(count)
 }
 
-/// The number of an additional section's records, with an OPT behind them or without one; None where it hasn't 16 bits
+/// The number of an additional section's records, with an OPT after them or without one; None where it hasn't 16 bits
 /// (RFC 6891, 6.1.1).
 pub(crate) fn count_additional(section: &[Shown<'_>], opt: Option<Opt>) -> Option<u16>
     ensures { Counts (length (section_of section.now) + opt_count opt) result }

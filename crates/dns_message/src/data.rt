@@ -12,7 +12,7 @@ use dns_name::{Name, first_name};
 use dns_rdata::{Layout, RType};
 use wire_names::NameWriter;
 
-/// Writes a name at a position, with pointers or in full: the position behind it, or None where it doesn't fit
+/// Writes a name at a position, with pointers or in full: the position after it, or None where it doesn't fit
 /// (RFC 1035, 4.1.4).
 pub(crate) fn put_name(
     out: &mut [u8],
@@ -46,7 +46,7 @@ pub(crate) fn put_name_octets(
     names.write_octets(octets, compress, out, at)
 }
 
-/// Writes data behind the number of its octets as they are written, as [`put_name`] does (RFC 1035, 4.1.3).
+/// Writes data after the number of its octets as they are written, as [`put_name`] does (RFC 1035, 4.1.3).
 pub(crate) fn put_measured(
     out: &mut [u8],
     at: usize,

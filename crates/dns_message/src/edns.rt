@@ -3,7 +3,7 @@ ghost use Rattle.std.specs.Prelude.{◌≡◌, ◌≤◌, ◌++◌, ◌∷◌, [
 ghost use Rattle.dns_rdata.specs.declared.numbers.Rcode.{Rcode as Code};
 ghost use Rattle.dns_message.specs.Encoded.{WritesParts};
 ghost use Rattle.dns_message.specs.Message.{Entry as Standing};
-ghost use Rattle.dns_message.specs.Opt.{said_alone, told_do, refused_do, opt_said, udp_limit, opt_ttl, opt_octets, opt_part};
+ghost use Rattle.dns_message.specs.Opt.{said_alone, do_bit_of, refused_do, opt_said, udp_limit, opt_ttl, opt_octets, opt_part};
 ghost use Rattle.dns_message.specs.Reads.{record_at, records_at, HearsAt};
 
 use crate::entry::{Entry, entry_at, type_at};
@@ -112,7 +112,7 @@ fn opt_among(octets: &Message<'_>, at: usize, count: u16) -> Option<Result<Optio
     Some(said)
 }
 
-/// What the OPTs among records say, where the record at a position stands behind them, and the position behind that one; None where
+/// What the OPTs among records say, where the record at a position stands after them, and the position after that one; None where
 /// it can't be read. Of an OPT alone that is the first the owner is read, and others are passed over.
 fn heard_at(
     octets: &Message<'_>,
@@ -125,15 +125,15 @@ fn heard_at(
     if rtype != RType::OPT {
         return Some((said, next));
     }
-    match told_do(said) {
+    match do_bit_of(said) {
         None => heard_first(octets, at),
         Some(dnssec_ok) => Some((too_many(dnssec_ok), next)),
     }
 }
 
 /// The DO of the first OPT, by what OPTs say; None where there is no OPT.
-fn told_do(said: Result<Option<Edns>, OptFault>) -> Option<bool>
-    ensures { result ≡ told_do said }
+fn do_bit_of(said: Result<Option<Edns>, OptFault>) -> Option<bool>
+    ensures { result ≡ do_bit_of said }
 {
     match said {
         Ok(None) => None,
@@ -150,7 +150,7 @@ fn too_many(dnssec_ok: bool) -> Result<Option<Edns>, OptFault>
     Err(OptFault { rcode, dnssec_ok })
 }
 
-/// What the OPT at a position says that is the only one, and the position behind it; None where it can't be read.
+/// What the OPT at a position says that is the only one, and the position after it; None where it can't be read.
 fn heard_first(octets: &Message<'_>, at: usize) -> Option<(Result<Option<Edns>, OptFault>, usize)>
     ensures { result ≡ option_map (λ r. (said_alone r.0, r.1)) (record_at octets.now at) }
 {

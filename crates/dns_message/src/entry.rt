@@ -45,7 +45,7 @@ impl Model for Entry {
     ghost invariant = { λ a. a.at + a.size < 2 ^ 63 };
 }
 
-/// The record at a position, its owner through pointers, and the position behind it; None where it can't be read
+/// The record at a position, its owner through pointers, and the position after it; None where it can't be read
 /// (RFC 1035, 4.1.3).
 pub(crate) fn entry_at(octets: &Message<'_>, at: usize) -> Option<(Entry, usize)>
     ensures read { result ≡ record_at octets.now at }
@@ -57,7 +57,7 @@ pub(crate) fn entry_at(octets: &Message<'_>, at: usize) -> Option<(Entry, usize)
     entry_behind(octets.octets(), owner, at)
 }
 
-/// The type of the record at a position, which is passed over, and the position behind it; None where it can't be read
+/// The type of the record at a position, which is passed over, and the position after it; None where it can't be read
 /// (RFC 1035, 4.1.3).
 pub(crate) fn type_at(octets: &Message<'_>, at: usize) -> Option<(RType, usize)>
     ensures { option_map (λ r. (r.0.0, r.1)) result ≡ option_map typed (record_at octets.now at) }
@@ -66,7 +66,7 @@ pub(crate) fn type_at(octets: &Message<'_>, at: usize) -> Option<(RType, usize)>
     type_behind(octets.octets(), at)
 }
 
-/// The type of the record whose owner ends at a position, and the position behind it; None where the octets end before.
+/// The type of the record whose owner ends at a position, and the position after it; None where the octets end before.
 fn type_behind(octets: &[u8], at: usize) -> Option<(RType, usize)>
     ensures { (owner : Owner) → option_map (λ r. (r.0.0, r.1)) result ≡ option_map typed (record_of octets.now (Ok (owner, at))) }
 {
@@ -79,7 +79,7 @@ fn type_behind(octets: &[u8], at: usize) -> Option<(RType, usize)>
     Some((rtype, beyond))
 }
 
-/// The record whose owner was read, which ends at a position, and the position behind the record; None where the octets end before
+/// The record whose owner was read, which ends at a position, and the position after the record; None where the octets end before
 /// (RFC 1035, 4.1.3).
 fn entry_behind(octets: &[u8], owner: Name, at: usize) -> Option<(Entry, usize)>
     ensures read { result ≡ record_of octets.now (Ok (owner, at)) }

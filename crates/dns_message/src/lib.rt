@@ -1,7 +1,7 @@
 //! Messages: how a request is read, how a reply is written, and their frames over TCP (RFC 1035, 4.1 and 4.2; RFC 2136, 2).
 //!
 //! Contracts see a request as what its octets say ([`Parsed`]), and a reply as its header, its question, the lists of its
-//! records and its OPT (RFC 6891). Names are read through pointers, and written with pointers to names in front of them (RFC 1035, 4.1.4).
+//! records and its OPT (RFC 6891). Names are read through pointers, and written with pointers to names before them (RFC 1035, 4.1.4).
 //! No call takes memory but that which reads an update. What is written is read again, and worked examples: `message_laws`.
 #![tactic(auto)]
 

@@ -3,7 +3,7 @@ ghost use Rattle.std.specs.Prelude.{◌≡◌, ◌+◌, ◌≤◌, ◌++◌, len
 ghost use Rattle.std.specs.Int.{to_be_bytes, w16, w32};
 ghost use Rattle.wire_names.specs.Written.{WritesOctets};
 
-/// Writes octets at a position: the position behind them, or None where they don't fit.
+/// Writes octets at a position: the position after them, or None where they don't fit.
 pub(crate) fn put(out: &mut [u8], at: usize, octets: &[u8]) -> Option<usize>
     ensures { WritesOctets out.old out.new at octets.now result }
 {

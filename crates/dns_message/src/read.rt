@@ -69,7 +69,7 @@ pub const OPCODE_UPDATE: u8 = 5;
 /// record can't be read; the first of these that holds is told (own). Of an update it is FORMERR as well where the data of a
 /// prerequisite or of an update haven't their type's form (RFC 2136, 2.4 and 2.5; own). Of what can be read `BadOpt` is told, with FORMERR, of an OPT in the additional section whose owner isn't the root, and of
 /// two; and else, with BADVERS, of a version above 0 (RFC 6891, 6.1.1 and 6.1.3). Names are read through pointers, of a query's
-/// records only an IXFR's SOA has its data looked at, and octets behind the last record are ignored.
+/// records only an IXFR's SOA has its data looked at, and octets after the last record are ignored.
 ///
 /// Only an update takes memory: `NoMemory` is told only of one, where a growth was refused.
 pub fn parse(alloc: Global, octets: &[u8]) -> Parsed
@@ -121,7 +121,7 @@ pub fn parse_into(octets: &[u8], query: &mut Query) -> Said
     Said::Fault(head, Rcode::NotImp)
 }
 
-/// What a header of a query and what stands behind it say, as [`parse_into`] tells it (RFC 1035, 4.1; RFC 6891, 7; own).
+/// What a header of a query and what stands after it say, as [`parse_into`] tells it (RFC 1035, 4.1; RFC 6891, 7; own).
 fn query_into(octets: &[u8], head: Head, query: &mut Query) -> Said
     requires { HEADER ≤ length octets.now }
     ensures { said_in query.new result ≡ query_of head (option_and_then (seen octets.now) (body_in octets.now)) }
@@ -139,7 +139,7 @@ fn query_into(octets: &[u8], head: Head, query: &mut Query) -> Said
     }
 }
 
-/// What a header of an update and what stands behind it say, or that a growth was refused (RFC 2136, 2).
+/// What a header of an update and what stands after it say, or that a growth was refused (RFC 2136, 2).
 fn parse_update(alloc: Global, octets: &[u8], head: Head) -> Parsed
     requires { HEADER ≤ length octets.now }
     ensures { (result ≡ update_of head (update_in head octets.now)) ⊎ (result ≡ Parsed.NoMemory head) }
@@ -206,7 +206,7 @@ fn seen_in_long(octets: &[u8], query: &mut Query) -> Option<Result<Option<Edns>,
     seen_into(&message, query)
 }
 
-/// Reads the question behind a header into a query, and the serial of the zone that one who asks for an IXFR holds, and gives what the
+/// Reads the question after a header into a query, and the serial of the zone that one who asks for an IXFR holds, and gives what the
 /// OPTs among the additional records say; None of another QDCOUNT than one, and where the question or a record can't be read
 /// (RFC 1035, 4.1; RFC 1995, 3; RFC 6891, 6.1.1; own).
 fn seen_into(octets: &Message<'_>, query: &mut Query) -> Option<Result<Option<Edns>, OptFault>>
@@ -224,7 +224,7 @@ fn seen_into(octets: &Message<'_>, query: &mut Query) -> Option<Result<Option<Ed
 }
 
 /// The serial of the zone that one who asks for an IXFR holds, by the so many records of the authority section at a
-/// position, and the position behind the last; None where one of them can't be read (RFC 1995, 3).
+/// position, and the position after the last; None where one of them can't be read (RFC 1995, 3).
 fn authority_at(
     octets: &Message<'_>,
     question: &Question,
@@ -274,7 +274,7 @@ fn serial_at(octets: &Message<'_>, entry: &Entry) -> Option<Serial>
     Some(Serial(long_number_at(octets.octets(), at)?))
 }
 
-/// Reads the question at a position into one, and gives the position behind it; None where it can't be read (RFC 1035, 4.1.2).
+/// Reads the question at a position into one, and gives the position after it; None where it can't be read (RFC 1035, 4.1.2).
 fn question_into(octets: &Message<'_>, at: usize, question: &mut Question) -> Option<usize>
     ensures { option_map (λ next. (question.new, next)) result ≡ question_at octets.now at }
 {
@@ -284,7 +284,7 @@ fn question_into(octets: &Message<'_>, at: usize, question: &mut Question) -> Op
     type_into(octets.octets(), at, question)
 }
 
-/// Reads the type and the class at a position, where the name of a question ends, into it, and gives the position behind them; None
+/// Reads the type and the class at a position, where the name of a question ends, into it, and gives the position after them; None
 /// where the octets end before (RFC 1035, 4.1.2).
 fn type_into(octets: &[u8], at: usize, question: &mut Question) -> Option<usize>
     ensures { option_map (λ next. (question.new, next)) result ≡ question_of octets.now (Ok (question.old.name, at)) }
@@ -294,7 +294,7 @@ fn type_into(octets: &[u8], at: usize, question: &mut Question) -> Option<usize>
     Some(at + 4)
 }
 
-/// The question at a position, and the position behind it; None where it can't be read (RFC 1035, 4.1.2).
+/// The question at a position, and the position after it; None where it can't be read (RFC 1035, 4.1.2).
 pub(crate) fn question_at(octets: &Message<'_>, at: usize) -> Option<(Question, usize)>
     ensures { result ≡ question_at octets.now at }
 {
@@ -303,7 +303,7 @@ pub(crate) fn question_at(octets: &Message<'_>, at: usize) -> Option<(Question, 
     Some((question, next))
 }
 
-/// The position behind so many records; None where one of them can't be read (RFC 1035, 4.1.3).
+/// The position after so many records; None where one of them can't be read (RFC 1035, 4.1.3).
 pub(crate) fn behind_records(octets: &Message<'_>, at: usize, count: u16) -> Option<usize>
     ensures { result ≡ option_map (λ r. r.1) (records_at count octets.now at) }
 {
@@ -314,7 +314,7 @@ pub(crate) fn behind_records(octets: &Message<'_>, at: usize, count: u16) -> Opt
     behind_some(octets, at, count)
 }
 
-/// The position behind so many records, as [`behind_records`] gives it.
+/// The position after so many records, as [`behind_records`] gives it.
 fn behind_some(octets: &Message<'_>, at: usize, count: u16) -> Option<usize>
     ensures { result ≡ option_map (λ r. r.1) (records_at count octets.now at) }
 {

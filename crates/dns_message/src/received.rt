@@ -21,7 +21,7 @@ const RCODES: u8 = 16;
 
 /// The records of the answer section of a message that was received, in their order, each with its owner in lower case and
 /// the names in its data in full; a record whose data can't be read has none, which is the form of no type that has names.
-/// None where the octets are no reply of RCODE NOERROR, or a question or a record of any section can't be read; octets behind
+/// None where the octets are no reply of RCODE NOERROR, or a question or a record of any section can't be read; octets after
 /// the last record are ignored (RFC 1035, 4.1; RFC 5936, 2.2; own). An `Err` only where a growth was refused; none is asked for
 /// where there is no such record.
 pub fn received_records(alloc: Global, octets: &[u8]) -> Result<Option<RawRecords>, AllocError>
@@ -83,7 +83,7 @@ fn answer_at(octets: &Message<'_>) -> Option<usize>
     Some(answer)
 }
 
-/// The position behind so many questions; None where one of them can't be read (RFC 1035, 4.1.2).
+/// The position after so many questions; None where one of them can't be read (RFC 1035, 4.1.2).
 pub(crate) fn behind_questions(octets: &Message<'_>, at: usize, count: u16) -> Option<usize>
     ensures { result ≡ option_map (λ r. r.1) (questions_at count octets.now at) }
 {

@@ -11,7 +11,7 @@ use dns_rdata::{Class, Layout, RawRecord};
 use std::alloc::{AllocError, Global};
 use wire_names::Message;
 
-/// So many records of a section, and the position behind the last; None where one can't be read, or its data haven't their
+/// So many records of a section, and the position after the last; None where one can't be read, or its data haven't their
 /// type's form (RFC 2136, 2.4 and 2.5). An `Err` only where a growth was refused.
 pub(crate) fn raw_records(
     alloc: Global,
@@ -34,7 +34,7 @@ pub(crate) fn raw_records(
     Ok(Some((RawRecords::new(records), place)))
 }
 
-/// The record of a section at a position, and the position behind it, as [`raw_records`] gives them.
+/// The record of a section at a position, and the position after it, as [`raw_records`] gives them.
 fn raw_record(
     alloc: Global,
     octets: &Message<'_>,
@@ -95,7 +95,7 @@ fn is_looked_at(section: Section, entry: &Entry) -> bool
     }
 }
 
-/// A record's data with the names in it in full; None where a name has a fault, or the octets behind the names don't end with
+/// A record's data with the names in it in full; None where a name has a fault, or the octets after the names don't end with
 /// the data (RFC 1035, 4.1.4).
 pub(crate) fn expanded(
     alloc: Global,
@@ -132,7 +132,7 @@ fn as_it_stands(
     Ok(Some(own))
 }
 
-/// Data of so many octets in front, so many names and so many octets behind, with the names in full, as [`expanded`] gives it.
+/// Data of so many octets in front, so many names and so many octets after, with the names in full, as [`expanded`] gives it.
 fn expanded_fields(
     alloc: Global,
     octets: &Message<'_>,

@@ -51,7 +51,6 @@ pub struct RawRecords {
     records: Vec<RawRecord>,
 }
 
-// By hand: a derived drop is proved once more in each crate that lets such a value go.
 impl Drop for RawRecords {
     fn drop(self) {
         let RawRecords { records: _ } = self;
@@ -105,7 +104,6 @@ pub struct Update {
     pub updates: RawRecords,
 }
 
-// By hand: a derived drop is proved once more in each crate that lets such a value go.
 impl Drop for Update {
     fn drop(self) {
         let Update {
@@ -118,7 +116,7 @@ impl Drop for Update {
     }
 }
 
-/// The update behind a header, which the update has as its head, or that its OPT isn't obeyed; None where none can be read: where
+/// The update after a header, which the update has as its head, or that its OPT isn't obeyed; None where none can be read: where
 /// the zone section has other than one entry, where a record of another section can't be read,
 /// and where the data of one haven't their type's form (RFC 2136, 2; RFC 6891, 7; own). An `Err` only where a growth was refused.
 pub(crate) fn read_update(
@@ -203,7 +201,7 @@ fn update_made(
     }
 }
 
-/// The entry of the zone section, of whatever type, and the position behind it; None of another number of entries than one, and
+/// The entry of the zone section, of whatever type, and the position after it; None of another number of entries than one, and
 /// where it can't be read (RFC 2136, 2.3).
 fn zone_at(octets: &Message<'_>) -> Option<(ZoneEntry, usize)>
     requires { HEADER ≤ length octets.now }

@@ -29,10 +29,10 @@ const TC: u8 = 2;
 /// Writes a reply to the front of `out`, and gives how many octets it has: the whole reply where it fits the limit, and a
 /// message's 65,535 octets; else, unless the last name looked up is at or below a zone cut, the reply without its additional
 /// section where that fits; else its header and question alone with TC 1; in each case with its OPT, where it has one
-/// (RFC 1035, 4.1, 4.2.1 and 4.2.2; RFC 2181, 9; RFC 6891, 7; own). What is behind a whole reply stays, and in any case what
-/// is behind the limit. It takes no memory.
+/// (RFC 1035, 4.1, 4.2.1 and 4.2.2; RFC 2181, 9; RFC 6891, 7; own). What is after a whole reply stays, and in any case what
+/// is past the limit. It takes no memory.
 ///
-/// The names of the question, of owners and of NS, CNAME, SOA, PTR and MX data have pointers to names in front of them
+/// The names of the question, of owners and of NS, CNAME, SOA, PTR and MX data have pointers to names before them
 /// in the reply (RFC 1035, 4.1.4); the target of an SRV is written in full (RFC 2782).
 pub fn write_reply(reply: &Reply<'_>, limit: usize, out: &mut [u8]) -> usize
     requires least { MIN_LIMIT ≤ limit }

@@ -13,8 +13,8 @@ use Rattle.dns_name.proofs.LabelLemmas.{wire_of-fold, fold_labels}
 use Rattle.dns_name.proofs.ReadLemmas.{name_in_read, IsRead-from, labels_read-wire_of}
 
 -- what is read is a name that stands in front
-pub name_in-stands : (octets : List ℕ) (name : List (List ℕ)) → name_in octets ≡ Some name → IsName name × (octets ≡ wire_of name ++ drop (length (wire_of name)) octets)
-name_in-stands octets name e =
+pub name_in-is_present : (octets : List ℕ) (name : List (List ℕ)) → name_in octets ≡ Some name → IsName name × (octets ≡ wire_of name ++ drop (length (wire_of name)) octets)
+name_in-is_present octets name e =
     let read = name_in_read octets name e in
     let is = IsRead-from 0 octets (name, read.rest) read.is in
     let rest = drop_at (wire_of name) read.rest (length (wire_of name)) refl in

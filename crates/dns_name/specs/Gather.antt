@@ -1,11 +1,11 @@
--- What the reader of a text has gathered: the labels that are closed, and the one in hand.
+-- What the reader of a text has gathered: the labels that are closed, and the current one.
 use Rattle.std.specs.Prelude.{◌≡◌, ℕ, false, List, [], ◌∷◌, ◌++◌, length, take, nat_lt, ◌==◌, Some}
 use Rattle.std.specs.List.{list_any}
 use Rattle.dns_name.specs.Text.{marks, pieces_of}
 use Rattle.dns_name.specs.declared.text.Mark.{Mark}
 use Rattle.dns_name.specs.declared.text.Gathered.{Gathered}
 
--- the octets of labels, with no zero octet behind them
+-- the octets of labels, with no zero octet after them
 abbrev pub front_of : List (List ℕ) → List ℕ
 front_of [] = []
 front_of (label ∷ labels) = length label ∷ label ++ front_of labels
@@ -15,7 +15,7 @@ pub record HasFront (gathered : Gathered) (labels : List (List ℕ)) : Type 0 wh
   pub crowded : gathered.crowded ≡ nat_lt 254 (length (front_of labels))
   pub octets : gathered.crowded ≡ false → gathered.octets.items ≡ front_of labels
 
--- the closed labels and the one in hand, of which 64 octets are kept
+-- the closed labels and the current one, of which 64 octets are kept
 pub record IsGathered (gathered : Gathered) (labels : List (List ℕ)) (label : List ℕ) : Type 0 where
   pub in_hand : gathered.label.items ≡ take 64 label
   pub empty : gathered.empty ≡ list_any (λ label. length label == 0) labels

@@ -1,4 +1,4 @@
--- How a name lies in octets: a length octet from 1 to 63 before each label, and a zero octet behind the last (RFC 1035, 3.1).
+-- How a name lies in octets: a length octet from 1 to 63 before each label, and a zero octet after the last (RFC 1035, 3.1).
 use Rattle.std.specs.Prelude.{◌≡◌, ℕ, ◌<◌, List, [], ◌∷◌, ◌++◌, length, Some, None}
 use Rattle.dns_name.specs.Name.{Name, IsName, labels_read, name_in}
 
@@ -18,7 +18,7 @@ pub record IsFirstLabel (octets label rest : List ℕ) : Type 0 where
   pub short : length label < 64
   pub octets_are : octets ≡ length label ∷ label ++ rest
 
--- octets begin with these, in which a name is written in full, and the rest stands behind them (RFC 1035, 3.1)
+-- octets begin with these, in which a name is written in full, and the rest stands after them (RFC 1035, 3.1)
 pub record IsFirstName (octets own rest : List ℕ) : Type 0 where
   pub name : name_in octets ≡ Some (labels_in own)
   pub whole : IsWhole own

@@ -11,7 +11,7 @@ use Rattle.std.specs.declared.cmp.Ordering.{Ordering}
 abbrev pub Name : Type 0
 Name = List (List ℕ)
 
--- a name's octets on the wire: each label behind its length, then a zero octet (RFC 1035, 3.1)
+-- a name's octets on the wire: each label after its length, then a zero octet (RFC 1035, 3.1)
 abbrev pub wire_of : Name → List ℕ
 wire_of [] = 0 ∷ []
 wire_of (label ∷ name) = length label ∷ label ++ wire_of name
@@ -58,7 +58,7 @@ is_one_under (Some name) other = is_under name other
 abbrev pub canonical_cmp : Name → Name → Ordering
 canonical_cmp name other = slice_cmp (slice_cmp nat_cmp) (reverse (fold_name name)) (reverse (fold_name other))
 
--- what the octets behind the first k begin with: labels up to a zero octet, and the octets behind that; none where a
+-- what the octets after the first k begin with: labels up to a zero octet, and the octets after that; none where a
 -- length octet is over 63 or the octets end before (RFC 1035, 3.1)
 abbrev pub labels_read : ℕ → List ℕ → Option (Name × List ℕ)
 labels_read k [] = None

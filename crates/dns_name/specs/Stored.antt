@@ -50,7 +50,7 @@ pub record IsStored (octets : List ℕ) : Type 0 where
 abbrev pub IsClosed : List ℕ → Type 0
 IsClosed octets = octets ≡ flat_map stored_label (labels_stored octets)
 
--- no octet stands in front of one that stands for another
+-- no octet stands before one that stands for another
 abbrev pub IsPlain : List ℕ → Type 0
 IsPlain octets = list_any (λ octet. octet == 1) octets ≡ false
 
@@ -61,14 +61,14 @@ pub record IsFirstPiece (octets piece rest : List ℕ) : Type 0 where
   pub closed : IsClosed rest
   pub shorter : length rest < length octets
 
--- they end with what stands for a label, and what is in front of it is what stands for labels again
+-- they end with what stands for a label, and what is before it is what stands for labels again
 pub record IsLastPiece (octets front piece : List ℕ) : Type 0 where
   pub labels : labels_stored octets ≡ labels_stored front ++ octets_stored piece ∷ []
   pub octets_are : octets ≡ front ++ piece ++ 0 ∷ []
   pub closed : IsClosed front
   pub shorter : length front < length octets
 
--- they end with what stands for a label, each octet of which stands for itself, and this is in front of it
+-- they end with what stands for a label, each octet of which stands for itself, and this is before it
 pub record IsPlainFront (octets front : List ℕ) : Type 0 where
   pub piece : List ℕ
   pub last : IsLastPiece octets front piece

@@ -8,20 +8,20 @@ use Rattle.dns_name.specs.declared.text.NameFault.TheVariants.{LabelTooLong, Nam
 use Rattle.dns_name.specs.declared.text.Mark.{Mark}
 use Rattle.dns_name.specs.declared.text.Mark.TheVariants.{Dot, Octet}
 
--- the octet that three digits behind a backslash stand for; none where one is no digit or the number is over 255
+-- the octet that three digits after a backslash stand for; none where one is no digit or the number is over 255
 abbrev pub numbered : List ℕ → Option (Mark × ℕ)
 numbered (a ∷ b ∷ c ∷ text) =
     if is_ascii_digit a && is_ascii_digit b && is_ascii_digit c && nat_le ((a - 48) * 100 + (b - 48) * 10 + (c - 48)) 255 then
     Some (Octet ((a - 48) * 100 + (b - 48) * 10 + (c - 48)), 4) else None
 numbered _ = None
 
--- what stands behind a backslash: three digits for the octet of that number, another character for itself
+-- what stands after a backslash: three digits for the octet of that number, another character for itself
 abbrev pub escaped : List ℕ → Option (Mark × ℕ)
 escaped [] = None
 escaped (x ∷ text) = if is_ascii_digit x then numbered (x ∷ text) else Some (Octet x, 2)
 
 -- the first mark of a text, a dot between labels or an octet of a label, and how many characters spell it;
--- none where they are a backslash with neither form behind it (RFC 1035, 5.1)
+-- none where they are a backslash with neither form after it (RFC 1035, 5.1)
 abbrev pub mark_at : List ℕ → Option (Mark × ℕ)
 mark_at [] = None
 mark_at (c ∷ text) = if c == 92 then escaped text else if c == 46 then Some (Dot, 1) else Some (Octet c, 1)
@@ -35,13 +35,13 @@ octet_of (Octet c) = c
 abbrev pub octet_at : List ℕ → Option (ℕ × ℕ)
 octet_at text = option_map (λ m. (octet_of m.0, m.1)) (mark_at text)
 
--- the marks of the text behind its first k characters
+-- the marks of the text after its first k characters
 abbrev pub marks : ℕ → List ℕ → Option (List Mark)
 marks k [] = Some []
 marks zero (c ∷ text) = option_and_then (λ m. option_map (λ ms. m.0 ∷ ms) (marks (m.1 - 1) text)) (mark_at (c ∷ text))
 marks (suc k) (c ∷ text) = marks k text
 
--- an octet in front of the first piece
+-- an octet before the first piece
 abbrev pub onto_first : ℕ → List (List ℕ) → List (List ℕ)
 onto_first c [] = (c ∷ []) ∷ []
 onto_first c (piece ∷ pieces) = (c ∷ piece) ∷ pieces
@@ -53,7 +53,7 @@ pieces_of (Dot ∷ ms) = [] ∷ pieces_of ms
 pieces_of (Octet c ∷ ms) = onto_first c (pieces_of ms)
 
 -- the labels of the pieces: where the last piece is empty, the text ended in a dot and stands for itself;
--- else the origin is behind it (RFC 1035, 5.1)
+-- else the origin is after it (RFC 1035, 5.1)
 abbrev pub completed : Name → List (List ℕ) → List (List ℕ)
 completed origin [] = origin
 completed origin (piece ∷ []) = if length piece == 0 then [] else piece ∷ origin
@@ -84,20 +84,20 @@ name_of_text text origin =
 abbrev pub digits_of : ℕ → List ℕ
 digits_of c = (48 + c / 100) ∷ (48 + c / 10 % 10) ∷ (48 + c % 10) ∷ []
 
--- whether a character stands in a text only behind a backslash: one of . \ " ; ( ) @ $ (RFC 1035, 5.1; own)
+-- whether a character stands in a text only after a backslash: one of . \ " ; ( ) @ $ (RFC 1035, 5.1; own)
 abbrev pub is_special : ℕ → Bool
 is_special c = c == 46 || c == 92 || c == 34 || c == 59 || c == 40 || c == 41 || c == 64 || c == 36
 
--- an octet of a label as text: behind a backslash where it is special, as three digits where it is no printed
+-- an octet of a label as text: after a backslash where it is special, as three digits where it is no printed
 -- character, else as itself (RFC 1035, 5.1)
 abbrev pub octet_text : ℕ → List ℕ
 octet_text c = if nat_lt c 33 || nat_lt 126 c then 92 ∷ digits_of c else if is_special c then 92 ∷ c ∷ [] else c ∷ []
 
--- a label as text, with the dot behind it
+-- a label as text, with the dot after it
 abbrev pub label_text : List ℕ → List ℕ
 label_text label = flat_map octet_text label ++ 46 ∷ []
 
--- a name as text: its labels with a dot behind each; the root is a dot (RFC 1035, 5.1)
+-- a name as text: its labels with a dot after each; the root is a dot (RFC 1035, 5.1)
 abbrev pub text_of : Name → List ℕ
 text_of [] = 46 ∷ []
 text_of (label ∷ name) = flat_map label_text (label ∷ name)

@@ -4,8 +4,8 @@ ghost use Rattle.dns_name.specs.Stored.{IsClosed, IsPlainFront};
 
 use crate::stored::{CLOSING, ESCAPE};
 
-/// The octets in front of the last label, where each octet of that label stands for itself; None where there is no label, or some octet of it
-/// stands in front of another.
+/// The octets before the last label, where each octet of that label stands for itself; None where there is no label, or some octet of it
+/// stands before another.
 pub(crate) fn plain_front(octets: &[u8]) -> Option<&[u8]>
     requires { IsClosed octets.now }
     ensures { IfSome result (λ front. IsPlainFront octets.now front.now) }

@@ -40,7 +40,7 @@ fn label_count(octets: &[u8]) -> usize
     count
 }
 
-/// The octets behind the first labels, as many as are said.
+/// The octets after the first labels, as many as are said.
 fn without(octets: &[u8], count: usize) -> &[u8]
     requires { IsWhole octets.now }
     ensures whole { IsWhole result.now }

@@ -1,11 +1,11 @@
-//! The number that stands in front of a stored name.
+//! The number that stands before a stored name.
 ghost use Rattle.std.specs.Prelude.{◌≡◌, ◌<◌, ◌+◌, ◌*◌, ◌^◌, slice_index};
 ghost use Rattle.dns_name.specs.Front.{number_of, front_of, name_front};
 
 use crate::sought::Sought;
 use crate::stored::{SoughtName, StoredName};
 
-/// The octet at a place, or 0 behind the end.
+/// The octet at a place, or 0 after the end.
 fn octet_at(octets: &[u8], at: usize) -> u64
     ensures is { result ≡ slice_index octets.now at }
     ensures short { result < 256 }
@@ -28,15 +28,15 @@ fn four_at(octets: &[u8], at: usize) -> u64
         + octet_at(octets, at + 3)
 }
 
-/// The number that the first eight octets are, the highest first, with zeros behind the end.
+/// The number that the first eight octets are, the highest first, with zeros after the end.
 fn number_of(octets: &[u8]) -> u64
     ensures { result ≡ number_of 8 octets.now }
 {
     four_at(octets, 0) * 4_294_967_296 + four_at(octets, 4)
 }
 
-/// The number of the eight octets behind those that octets begin with; 0 where they come before all that begin so, and the greatest
-/// where they come behind them.
+/// The number of the eight octets after those that octets begin with; 0 where they come before all that begin so, and the greatest
+/// where they come after them.
 fn front_of(base: &[u8], octets: &[u8]) -> u64
     ensures { result ≡ front_of base.now octets.now }
 {
@@ -67,7 +67,7 @@ fn front_beside(base: &[u8], octets: &[u8]) -> u64
 }
 
 impl StoredName {
-    /// The number that stands in front of the name, of names that begin as another does in the form in which they are stored: where two
+    /// The number that stands before the name, of names that begin as another does in the form in which they are stored: where two
     /// numbers differ, their names stand to each other as they do (own).
     pub fn front(&self, base: &StoredName) -> u64
         ensures { result ≡ name_front base.now self.now }
@@ -77,7 +77,7 @@ impl StoredName {
 }
 
 impl SoughtName {
-    /// The number that stands in front of the name, as that of a stored name (own).
+    /// The number that stands before the name, as that of a stored name (own).
     pub fn front(&self, base: &StoredName) -> u64
         ensures { result ≡ name_front base.now self.now }
     {
@@ -86,7 +86,7 @@ impl SoughtName {
 }
 
 impl<'r> Sought<'r> {
-    /// The number that stands in front of the name, as that of a stored name (own).
+    /// The number that stands before the name, as that of a stored name (own).
     pub fn front(&self, base: &StoredName) -> u64
         ensures { result ≡ name_front base.now self.now }
     {

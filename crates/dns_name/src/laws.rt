@@ -12,10 +12,10 @@ use crate::name::{MAX_BELOW_ASTERISK, MAX_LABEL, MAX_NAME};
 use crate::print::MAX_TEXT;
 use crate::stored::MAX_STORED;
 
-/// What octets are read as is a name, and its octets stand in front of them; a name's octets are read as that name,
-/// whatever stands behind them (RFC 1035, 3.1).
+/// What octets are read as is a name, and its octets stand before them; a name's octets are read as that name,
+/// whatever stands after them (RFC 1035, 3.1).
 pub fn one_reading()
-    ensures stands { (octets : List ℕ) (name : Name) → name_in octets ≡ Some name → IsName name × (octets ≡ wire_of name ++ drop (length (wire_of name)) octets) }
+    ensures is_present { (octets : List ℕ) (name : Name) → name_in octets ≡ Some name → IsName name × (octets ≡ wire_of name ++ drop (length (wire_of name)) octets) }
     ensures back { (name : Name) (rest : List ℕ) → IsName name → name_in (wire_of name ++ rest) ≡ Some name }
 {}
 

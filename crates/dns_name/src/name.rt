@@ -20,7 +20,7 @@ pub const MAX_NAME: usize = 255;
 /// The most octets of a label (RFC 1035, 2.3.4).
 pub const MAX_LABEL: usize = 63;
 
-/// The most octets of a name that the label `*` still fits in front of.
+/// The most octets of a name that the label `*` still fits before.
 pub const MAX_BELOW_ASTERISK: usize = 253;
 
 /// A domain name, in the spelling that it was given (RFC 1034, 3.1). It lies in the value itself.
@@ -200,7 +200,7 @@ impl Name {
         true
     }
 
-    /// The label `*` in front of the name; None where that has more than 255 octets (RFC 4592, 2.1.1).
+    /// The label `*` before the name; None where that has more than 255 octets (RFC 4592, 2.1.1).
     pub fn with_asterisk(&self) -> Option<Name>
         ensures found { IfSome result (λ n. n ≡ asterisk ∷ self.now) }
         ensures none { IsNone result ↔ (MAX_BELOW_ASTERISK < length (wire_of self.now)) }

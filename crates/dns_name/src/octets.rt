@@ -1,4 +1,4 @@
-//! A name's octets: labels behind their lengths, up to a zero octet (RFC 1035, 3.1).
+//! A name's octets: labels after their lengths, up to a zero octet (RFC 1035, 3.1).
 ghost use Rattle.std.specs.Prelude.{◌≡◌, ◌+◌, ◌≤◌, ◌↔◌, [], ◌∷◌, ◌++◌, length, IsTrue, MatchOption, None, option_map};
 ghost use Rattle.std.specs.Bool.{OnFalse, OnTrue};
 ghost use Rattle.dns_name.specs.Labels.{labels_in, IsWhole, IsFirstLabel, IsFirstName};
@@ -7,7 +7,7 @@ ghost use Rattle.dns_name.specs.Name.{wire_of, name_in, is_under};
 use crate::name::{MAX_LABEL, MAX_NAME};
 use arrayvec::ArrayVec;
 
-/// The first label, and the octets behind it; None at the zero octet.
+/// The first label, and the octets after it; None at the zero octet.
 pub fn first_label(octets: &[u8]) -> Option<(&[u8], &[u8])>
     requires { IsWhole octets.now }
     ensures { MatchOption result (labels_in octets.now ≡ []) (λ parts. IsFirstLabel octets.now parts.0.now parts.1.now) }
@@ -20,7 +20,7 @@ pub fn first_label(octets: &[u8]) -> Option<(&[u8], &[u8])>
     Some(rest.split_at(len))
 }
 
-/// The octets of the name that the octets begin with, written in full, and the octets behind it; None where they begin with no name
+/// The octets of the name that the octets begin with, written in full, and the octets after it; None where they begin with no name
 /// (RFC 1035, 3.1).
 pub fn first_name(octets: &[u8]) -> Option<(&[u8], &[u8])>
     ensures { MatchOption result (name_in octets.now ≡ None) (λ parts. IsFirstName octets.now parts.0.now parts.1.now) }
@@ -61,7 +61,7 @@ pub(crate) fn ends_in(octets: &[u8], other: &[u8]) -> bool
     rest.eq_ignore_ascii_case(other)
 }
 
-/// Puts octets behind the others, where there is room.
+/// Puts octets after the others, where there is room.
 pub(crate) fn append(to: &mut ArrayVec<u8, MAX_NAME>, octets: &[u8])
     requires { length to.old.items + length octets.now ≤ MAX_NAME }
     ensures { to.new.items ≡ to.old.items ++ octets.now }
@@ -69,7 +69,7 @@ pub(crate) fn append(to: &mut ArrayVec<u8, MAX_NAME>, octets: &[u8])
     let _ = to.try_extend_from_slice(octets);
 }
 
-/// Puts a label behind the others, after its length. False where that leaves no room for the zero octet: nothing is
+/// Puts a label after the others, after its length. False where that leaves no room for the zero octet: nothing is
 /// put then.
 pub(crate) fn append_label(to: &mut ArrayVec<u8, MAX_NAME>, label: &[u8]) -> bool
     ensures room { IsTrue result ↔ (length to.old.items + length label.now + 2 ≤ MAX_NAME) }

@@ -10,7 +10,7 @@ use crate::name::Name;
 use std::cmp::Ordering;
 
 impl Name {
-    /// Whether the octets, labels behind their lengths up to a zero octet, are those of this name, without regard to case (RFC 4343, 3).
+    /// Whether the octets, labels after their lengths up to a zero octet, are those of this name, without regard to case (RFC 4343, 3).
     pub fn is_spelt_by(&self, wire: &[u8]) -> bool
         requires whole { IsWhole wire.now }
         requires lawful { IsName (labels_in wire.now) }

@@ -13,7 +13,7 @@ use std::fmt;
 /// The most characters of a name's text: four for each octet but the closing one.
 pub const MAX_TEXT: usize = 1016;
 
-/// Whether a character stands in a text only behind a backslash.
+/// Whether a character stands in a text only after a backslash.
 fn is_special(octet: u8) -> bool
     ensures { result ≡ is_special octet }
 {
@@ -23,7 +23,7 @@ fn is_special(octet: u8) -> bool
     )
 }
 
-/// A character behind the others.
+/// A character after the others.
 fn put(text: &mut ArrayString<MAX_TEXT>, character: u8)
     requires room { array_string_len text.old < MAX_TEXT }
     requires ascii { character < 128 }
@@ -32,7 +32,7 @@ fn put(text: &mut ArrayString<MAX_TEXT>, character: u8)
     text.push(char::from(character));
 }
 
-/// The three digits of an octet behind the others.
+/// The three digits of an octet after the others.
 fn put_digits(text: &mut ArrayString<MAX_TEXT>, octet: u8)
     requires { array_string_len text.old + 3 ≤ MAX_TEXT }
     ensures { text.new.bytes ≡ text.old.bytes ++ digits_of octet }
@@ -42,7 +42,7 @@ fn put_digits(text: &mut ArrayString<MAX_TEXT>, octet: u8)
     put(text, b'0' + octet % 10);
 }
 
-/// An octet of a label behind the others.
+/// An octet of a label after the others.
 fn put_octet(text: &mut ArrayString<MAX_TEXT>, octet: u8)
     requires { array_string_len text.old + 4 ≤ MAX_TEXT }
     ensures bytes { text.new.bytes ≡ text.old.bytes ++ octet_text octet }
@@ -59,7 +59,7 @@ fn put_octet(text: &mut ArrayString<MAX_TEXT>, octet: u8)
     }
 }
 
-/// A label and its dot behind the others.
+/// A label and its dot after the others.
 fn put_label(text: &mut ArrayString<MAX_TEXT>, label: &[u8])
     requires { array_string_len text.old + 4 * length label.now + 1 ≤ MAX_TEXT }
     ensures bytes { text.new.bytes ≡ text.old.bytes ++ label_text label.now }
@@ -72,8 +72,8 @@ fn put_label(text: &mut ArrayString<MAX_TEXT>, label: &[u8])
 }
 
 impl Name {
-    /// The name as text: its labels with a dot behind each, and the root as a dot. In a label the characters
-    /// `. \ " ; ( ) @ $` have a backslash in front, and octets outside 33 to 126 are three digits behind one
+    /// The name as text: its labels with a dot after each, and the root as a dot. In a label the characters
+    /// `. \ " ; ( ) @ $` have a backslash in front, and octets outside 33 to 126 are three digits after one
     /// (RFC 1035, 5.1).
     pub fn to_text(&self) -> ArrayString<MAX_TEXT>
         ensures { result.bytes ≡ text_of self.now }

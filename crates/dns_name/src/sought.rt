@@ -18,7 +18,7 @@ use std::marker::Model;
 /// Room in which a name is put in the form in which it is sought.
 pub type SoughtRoom = ArrayVec<u8, MAX_STORED>;
 
-/// What stands for a label in lower case, behind the others.
+/// What stands for a label in lower case, after the others.
 fn put_folded(to: &mut SoughtRoom, label: &[u8])
     requires { length to.old.items + 2 * length label.now + 1 ≤ MAX_STORED }
     ensures octets { to.new.items ≡ to.old.items ++ stored_label (map to_ascii_lowercase label.now) }
@@ -30,7 +30,7 @@ fn put_folded(to: &mut SoughtRoom, label: &[u8])
     to.push(CLOSING);
 }
 
-/// Writes what stands for an octet in front of a place, and gives the place where that begins.
+/// Writes what stands for an octet before a place, and gives the place where that begins.
 fn write_octet(out: &mut [u8], at: usize, octet: u8) -> usize
     requires room { 2 ≤ at }
     requires within { at ≤ length out.old }
@@ -48,7 +48,7 @@ fn write_octet(out: &mut [u8], at: usize, octet: u8) -> usize
     at - 2
 }
 
-/// Writes what stands for a label in lower case in front of a place, and gives the place where that begins.
+/// Writes what stands for a label in lower case before a place, and gives the place where that begins.
 fn write_label(out: &mut [u8], end: usize, label: &[u8]) -> usize
     requires room { 2 * length label.now + 1 ≤ end }
     requires within { end ≤ length out.old }
@@ -67,7 +67,7 @@ fn write_label(out: &mut [u8], end: usize, label: &[u8]) -> usize
     at
 }
 
-/// What stands for a name in lower case, where nothing is yet. It is written from the leftmost label on, each in front of those before it.
+/// What stands for a name in lower case, where nothing is yet. It is written from the leftmost label on, each before those before it.
 pub(crate) fn put_name(to: &mut SoughtRoom, octets: &[u8])
     requires whole { IsWhole octets.now }
     requires short { length octets.now ≤ MAX_NAME }
@@ -138,7 +138,7 @@ fn put_octets(to: &mut SoughtRoom, octets: &[u8])
     let _ = to.try_extend_from_slice(octets);
 }
 
-/// What stands for a name in lower case, in place of what stands for a name that it is under: only the labels in front of that are put.
+/// What stands for a name in lower case, in place of what stands for a name that it is under: only the labels before that are put.
 fn put_below(to: &mut SoughtRoom, octets: &[u8], base: &[u8])
     requires whole { IsWhole octets.now }
     requires short { length octets.now ≤ MAX_NAME }
@@ -195,8 +195,8 @@ impl<'r> Sought<'r> {
         }
     }
 
-    /// The name in lower case, where it is under an apex that is sought in that form and spelt here: only the labels in front of the apex
-    /// are put behind its octets, in place of what is in the room.
+    /// The name in lower case, where it is under an apex that is sought in that form and spelt here: only the labels before the apex
+    /// are put after its octets, in place of what is in the room.
     pub fn below(top: &Sought<'_>, apex: &Name, name: &Name, room: &'r mut SoughtRoom) -> Sought<'r>
         requires top { top.now ≡ fold_name apex.now }
         requires under { is_under name.now apex.now ≡ true }
@@ -244,7 +244,7 @@ impl<'r> Sought<'r> {
         }
     }
 
-    /// The label `*` in front of the name, put in the room in place of what is there (RFC 4592, 2.1.1).
+    /// The label `*` before the name, put in the room in place of what is there (RFC 4592, 2.1.1).
     pub fn with_asterisk<'s>(&self, room: &'s mut SoughtRoom) -> Sought<'s>
         requires { length (wire_of self.now) ≤ MAX_BELOW_ASTERISK }
         ensures { result ≡ asterisk ∷ self.now }

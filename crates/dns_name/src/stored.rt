@@ -22,10 +22,10 @@ pub const MAX_STORED: usize = 510;
 /// The octet that closes a label.
 pub(crate) const CLOSING: u8 = 0;
 
-/// The octet in front of one that stands for another.
+/// The octet before one that stands for another.
 pub(crate) const ESCAPE: u8 = 1;
 
-/// What stands for an octet of a label, behind the others.
+/// What stands for an octet of a label, after the others.
 pub(crate) fn put_octet(to: &mut ArrayVec<u8, MAX_STORED>, octet: u8)
     requires { length to.old.items + 2 ≤ MAX_STORED }
     ensures octets { to.new.items ≡ to.old.items ++ stored_octet octet }
@@ -54,7 +54,7 @@ fn first_closing(octets: &[u8]) -> Option<usize>
     None
 }
 
-/// What stands for the first label, and the octets behind the one that closes it; None where there is no label.
+/// What stands for the first label, and the octets after the one that closes it; None where there is no label.
 fn first_piece(octets: &[u8]) -> Option<(&[u8], &[u8])>
     requires { IsClosed octets.now }
     ensures { MatchOption result (labels_stored octets.now ≡ []) (λ parts. IsFirstPiece octets.now parts.0.now parts.1.now) }
@@ -104,7 +104,7 @@ fn write_over(out: &mut [u8], octets: &[u8])
     }
 }
 
-/// Writes a label behind its length over as many octets.
+/// Writes a label after its length over as many octets.
 fn write_label(out: &mut [u8], label: &[u8])
     requires room { length out.old ≡ length label.now + 1 }
     requires short { length label.now ≤ MAX_LABEL }
@@ -114,7 +114,7 @@ fn write_label(out: &mut [u8], label: &[u8])
     write_over(&mut out[1..], label);
 }
 
-/// Writes the labels that octets without an escape stand for over as many octets, each behind its length, as they stand on the wire: the
+/// Writes the labels that octets without an escape stand for over as many octets, each after its length, as they stand on the wire: the
 /// first that is stored is the last there.
 fn write_front(out: &mut [u8], octets: &[u8])
     requires closed { IsClosed octets.now }
@@ -130,7 +130,7 @@ fn write_front(out: &mut [u8], octets: &[u8])
     }
 }
 
-/// What stands for the last label, and the octets in front of it; None where there is no label.
+/// What stands for the last label, and the octets before it; None where there is no label.
 fn last_piece(octets: &[u8]) -> Option<(&[u8], &[u8])>
     requires { IsClosed octets.now }
     ensures { MatchOption result (labels_stored octets.now ≡ []) (λ parts. IsLastPiece octets.now parts.0.now parts.1.now) }
@@ -143,7 +143,7 @@ fn last_piece(octets: &[u8]) -> Option<(&[u8], &[u8])>
     Some(labels.split_at(start))
 }
 
-/// Puts the octets that a piece stands for behind the others.
+/// Puts the octets that a piece stands for after the others.
 fn put_octets(to: &mut ArrayVec<u8, MAX_NAME>, piece: &[u8])
     requires { length to.old.items + length (octets_stored piece.now) ≤ MAX_NAME }
     ensures { to.new.items ≡ to.old.items ++ octets_stored piece.now }
@@ -155,7 +155,7 @@ fn put_octets(to: &mut ArrayVec<u8, MAX_NAME>, piece: &[u8])
     }
 }
 
-/// Puts the label that a piece stands for behind the others, after its length; one octet that stands for another, as many labels of a
+/// Puts the label that a piece stands for after the others, after its length; one octet that stands for another, as many labels of a
 /// long name can be, without a pass over it.
 fn put_piece(to: &mut ArrayVec<u8, MAX_NAME>, piece: &[u8])
     requires room { length to.old.items + length (octets_stored piece.now) < MAX_NAME }
@@ -185,7 +185,7 @@ fn put_escaped_front(to: &mut ArrayVec<u8, MAX_NAME>, octets: &[u8])
     }
 }
 
-/// The labels of a stored name, each behind its length, as they stand on the wire, where nothing is yet. Where no octet stands for
+/// The labels of a stored name, each after its length, as they stand on the wire, where nothing is yet. Where no octet stands for
 /// another, which is so of most names, they are as many octets as are stored.
 pub(crate) fn put_name_front(to: &mut ArrayVec<u8, MAX_NAME>, octets: &[u8])
     requires stored { IsStored octets.now }

@@ -45,7 +45,7 @@ fn mark_at(text: &[u8]) -> Option<(Mark, usize)>
     }
 }
 
-/// What stands behind a backslash, and how many characters the backslash and it are.
+/// What stands after a backslash, and how many characters the backslash and it are.
 fn escaped(text: &[u8]) -> Option<(Mark, usize)>
     ensures { result ≡ escaped text.now }
 {
@@ -74,7 +74,7 @@ fn numbered(text: &[u8]) -> Option<(Mark, usize)>
 
 /// The octet that the front of a text stands for, and how many characters spell it: a backslash and three digits the
 /// octet of that number, a backslash and another character that character, and another octet itself. None where
-/// there is no text, or where a backslash has neither form behind it (RFC 1035, 5.1).
+/// there is no text, or where a backslash has neither form after it (RFC 1035, 5.1).
 pub fn octet_at(text: &[u8]) -> Option<(u8, usize)>
     ensures octet { result ≡ octet_at text.now }
     ensures within { IfSome result (λ spelt. (0 < spelt.1) × (spelt.1 ≤ length text.now)) }
@@ -86,7 +86,7 @@ pub fn octet_at(text: &[u8]) -> Option<(u8, usize)>
     }
 }
 
-/// What is read of a name's text: the octets of the closed labels, the first 64 octets of the label in hand, and
+/// What is read of a name's text: the octets of the closed labels, the first 64 octets of the current label, and
 /// what is wrong with the closed labels.
 #[derive(Drop)]
 struct Gathered {
@@ -111,14 +111,14 @@ impl Gathered {
         }
     }
 
-    /// One more octet of the label in hand.
+    /// One more octet of the current label.
     fn push(&mut self, octet: u8)
         ensures { (labels : List (List ℕ)) (label : List ℕ) → IsGathered self.old labels label → IsGathered self.new labels (label ++ octet ∷ []) }
     {
         let _ = self.label.try_push(octet);
     }
 
-    /// The label in hand is whole.
+    /// The current label is whole.
     fn close(&mut self)
         ensures { (labels : List (List ℕ)) (label : List ℕ) → IsGathered self.old labels label → IsGathered self.new (labels ++ label ∷ []) [] }
     {
@@ -129,7 +129,7 @@ impl Gathered {
         self.label.clear();
     }
 
-    /// The name of the closed labels, with those of another behind them.
+    /// The name of the closed labels, with those of another after them.
     fn named(mut self, behind: &Name) -> Result<Name, NameFault>
         requires { (labels : List (List ℕ)) × IsGathered self labels [] }
         ensures { (labels : List (List ℕ)) → IsGathered self labels [] → result ≡ lawful (labels ++ behind.now) }
@@ -149,7 +149,7 @@ impl Gathered {
     }
 }
 
-/// The labels of a text; None where a backslash has no escape behind it.
+/// The labels of a text; None where a backslash has no escape after it.
 fn gather(text: &[u8]) -> Option<Gathered>
     ensures { MatchOption result (marks 0 text.now ≡ None) (IsAllOf text.now) }
 {
@@ -167,8 +167,8 @@ fn gather(text: &[u8]) -> Option<Gathered>
 }
 
 impl Name {
-    /// The name that a text stands for: labels with dots between them, an octet as itself, behind a backslash, or as
-    /// three digits behind one. A text that ends in no dot has the origin behind it; a dot alone is the root, and `@`
+    /// The name that a text stands for: labels with dots between them, an octet as itself, after a backslash, or as
+    /// three digits after one. A text that ends in no dot has the origin after it; a dot alone is the root, and `@`
     /// alone the origin, where `\@` is a label (RFC 1035, 5.1).
     pub fn from_text(text: &[u8], origin: &Name) -> Result<Name, NameFault>
         ensures { result ≡ name_of_text text.now origin.now }

@@ -11,7 +11,7 @@ use Rattle.dns_rdata.specs.Layout.{layout_of}
 use Rattle.dns_rdata.specs.Data.{names_then, parts, are_strings, data_by, data_of}
 use Rattle.std.proofs.lemmas.List.Elements.{All-append, All-drop, All-take}
 use Rattle.dns_name.proofs.LabelLemmas.{octets_front, AreOctets-label, wire_of-fold}
-use Rattle.dns_name.proofs.LawLemmas.{name_in-stands, name_in-wire_of, fold-IsName}
+use Rattle.dns_name.proofs.LawLemmas.{name_in-is_present, name_in-wire_of, fold-IsName}
 use Rattle.dns_rdata.proofs.NameLemmas.{map_some, and_then_some, cond_some, fold_name-fold_name}
 
 -- octets that a reading gives: as many as were read, which the reading gives again
@@ -28,7 +28,7 @@ IsRead-names zero back octets own e =
 IsRead-names (suc names) back octets own e =
     let name = and_then_some _ (name_in octets) own e in
     let rest = map_some _ (names_then names back (drop (length (wire_of name.0)) octets)) own name.2 in
-    let has = name_in-stands octets name.0 name.1 in
+    let has = name_in-is_present octets name.0 name.1 in
     let kept = fold-IsName name.0 has.0 in
     let behind = IsRead-names names back (drop (length (wire_of name.0)) octets) rest.0 rest.1 in
     let folded = fold_name name.0 in
@@ -96,7 +96,7 @@ octets_names zero back octets own e h =
 octets_names (suc names) back octets own e h =
     let name = and_then_some _ (name_in octets) own e in
     let rest = map_some _ (names_then names back (drop (length (wire_of name.0)) octets)) own name.2 in
-    let has = name_in-stands octets name.0 name.1 in
+    let has = name_in-is_present octets name.0 name.1 in
     let front = octets_front (wire_of name.0) (drop (length (wire_of name.0)) octets) (subst (All (λ octet. octet < 256)) has.1 h) in
     let behind = octets_names names back (drop (length (wire_of name.0)) octets) rest.0 rest.1 (All-drop (λ octet. octet < 256) (length (wire_of name.0)) octets h) in
     let folded = subst (All (λ octet. octet < 256)) (sym (wire_of-fold name.0 has.0.labels)) (AreOctets-label (wire_of name.0) front) in

@@ -6,7 +6,7 @@ use Rattle.std.proofs.lemmas.Bool.Decides.{nat_tests, Decides-eqb}
 use Rattle.std.proofs.lemmas.List.{length-append, length-drop, map-append, drop-drop}
 use Rattle.std.proofs.Math.Seq.{take-length, take-append-add, drop-append-add}
 use Rattle.dns_name.specs.Name.{wire_of, fold_name, name_in}
-use Rattle.dns_name.proofs.LawLemmas.{name_in-stands}
+use Rattle.dns_name.proofs.LawLemmas.{name_in-is_present}
 use Rattle.dns_name.proofs.LabelLemmas.{wire_of-fold}
 use Rattle.dns_rdata.specs.declared.layout.Layout.{Layout}
 use Rattle.dns_rdata.specs.declared.layout.Layout.TheVariants.{Fields}
@@ -15,8 +15,8 @@ use Rattle.dns_rdata.specs.Data.{names_then, parts, data_by, data_of}
 use Rattle.dns_rdata.proofs.NameLemmas.{map_some, and_then_some, cond_some}
 
 -- whether so many names stand in front of so many octets
-abbrev pub stands : ℕ → ℕ → List ℕ → Bool
-stands names back octets = is_some (names_then names back octets)
+abbrev pub is_present : ℕ → ℕ → List ℕ → Bool
+is_present names back octets = is_some (names_then names back octets)
 
 is_some-map : {A B : Type 0} (f : A → B) (o : Option A) → is_some (option_map f o) ≡ is_some o
 is_some-map f None = refl
@@ -25,19 +25,19 @@ is_some-map f (Some x) = refl
 pub parts_short : (front names back : ℕ) (octets : List ℕ) → length octets < front → is_some (parts front names back octets) ≡ false
 parts_short front names back octets h = let f : nat_le front (length octets) ≡ false = grind (arith, nat_tests) in rw f refl
 
-pub parts_start : (front names back : ℕ) (octets : List ℕ) → front ≤ length octets → stands names back (drop front octets) ≡ is_some (parts front names back octets)
+pub parts_start : (front names back : ℕ) (octets : List ℕ) → front ≤ length octets → is_present names back (drop front octets) ≡ is_some (parts front names back octets)
 parts_start front names back octets h =
     let t : nat_le front (length octets) ≡ true = grind (arith, nat_tests) in
     rw t (sym (is_some-map (λ (rest : List ℕ). take front octets ++ rest) (names_then names back (drop front octets))))
 
 -- a name is read
-pub stands_more : (names i back : ℕ) (rest : List ℕ) (name : List (List ℕ)) → i < names → name_in rest ≡ Some name → stands (names - i) back rest ≡ stands (names - (i + 1)) back (drop (length (wire_of name)) rest)
+pub stands_more : (names i back : ℕ) (rest : List ℕ) (name : List (List ℕ)) → i < names → name_in rest ≡ Some name → is_present (names - i) back rest ≡ is_present (names - (i + 1)) back (drop (length (wire_of name)) rest)
 stands_more names i back rest name h e =
     let left : names - i ≡ suc (names - (i + 1)) = omega arith in
     rw (left, e) (is_some-map (λ (behind : List ℕ). wire_of (fold_name name) ++ behind) (names_then (names - (i + 1)) back (drop (length (wire_of name)) rest)))
 
 -- one step of the walk, by what its calls say
-pub stands_step : (rest : List ℕ) (names i back len : ℕ) (name : List (List ℕ)) (all : Bool) → stands (names - i) back rest ≡ all → i < names → Some name ≡ name_in rest → len ≡ length (wire_of name) → stands (names - (i + 1)) back (take (length rest - len) (drop len rest)) ≡ all
+pub stands_step : (rest : List ℕ) (names i back len : ℕ) (name : List (List ℕ)) (all : Bool) → is_present (names - i) back rest ≡ all → i < names → Some name ≡ name_in rest → len ≡ length (wire_of name) → is_present (names - (i + 1)) back (take (length rest - len) (drop len rest)) ≡ all
 stands_step rest names i back len name all so_far h read size =
     let more = stands_more names i back rest name h (sym read) in
     let left = length-drop len rest in
@@ -45,7 +45,7 @@ stands_step rest names i back len name all so_far h read size =
     rw (after, size) (sym more ∙ so_far)
 
 -- no name stands where one is wanted
-pub stands_refused : (names i back : ℕ) (rest : List ℕ) → i < names → name_in rest ≡ None → stands (names - i) back rest ≡ false
+pub stands_refused : (names i back : ℕ) (rest : List ℕ) → i < names → name_in rest ≡ None → is_present (names - i) back rest ≡ false
 stands_refused names i back rest h e =
     let left : names - i ≡ suc (names - (i + 1)) = omega arith in
     rw (left, e) refl
@@ -55,7 +55,7 @@ is_some-cond true octets = refl
 is_some-cond false octets = refl
 
 -- behind the names
-pub stands_end : (names i back : ℕ) (rest : List ℕ) → names ≤ i → stands (names - i) back rest ≡ (length rest == back)
+pub stands_end : (names i back : ℕ) (rest : List ℕ) → names ≤ i → is_present (names - i) back rest ≡ (length rest == back)
 stands_end names i back rest h =
     let left : names - i ≡ 0 = omega arith in
     rw left (is_some-cond (length rest == back) rest)
@@ -77,7 +77,7 @@ lowered_names (suc names) back octets own e =
     let wire = wire_of name.0 in
     let behind = drop (length wire) octets in
     let rest = map_some _ (names_then names back behind) own name.2 in
-    let has = name_in-stands octets name.0 name.1 in
+    let has = name_in-is_present octets name.0 name.1 in
     let more = lowered_names names back behind rest.0 rest.1 in
     let whole : octets ≡ wire ++ behind = has.1 in
     let size : length octets ≡ length wire + length behind = ap length whole ∙ length-append wire behind in

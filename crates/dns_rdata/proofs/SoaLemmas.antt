@@ -4,7 +4,7 @@ use Rattle.std.specs.Int.{from_be_bytes, w32}
 use Rattle.std.proofs.lemmas.Bool.Decides.{Decides-eqb}
 use Rattle.std.proofs.lemmas.List.{length-append, drop-drop}
 use Rattle.dns_name.specs.Name.{wire_of, name_in}
-use Rattle.dns_name.proofs.LawLemmas.{name_in-stands}
+use Rattle.dns_name.proofs.LawLemmas.{name_in-is_present}
 use Rattle.dns_rdata.specs.Layout.{layout_of}
 use Rattle.dns_rdata.specs.Data.{names_then, data_of, behind_names, soa_number}
 use Rattle.dns_rdata.proofs.NameLemmas.{map_some, and_then_some, cond_some}
@@ -33,7 +33,7 @@ last_behind (suc names) back octets own e =
     let name = and_then_some _ (name_in octets) own e in
     let rest = map_some _ (names_then names back (drop (length (wire_of name.0)) octets)) own name.2 in
     let more = last_behind names back (drop (length (wire_of name.0)) octets) rest.0 rest.1 in
-    last_step names back (length octets) (length (wire_of name.0)) (length (drop (length (wire_of name.0)) octets)) octets name.0 name.1 (ap length (name_in-stands octets name.0 name.1).1 ∙ length-append (wire_of name.0) (drop (length (wire_of name.0)) octets)) refl refl refl more
+    last_step names back (length octets) (length (wire_of name.0)) (length (drop (length (wire_of name.0)) octets)) octets name.0 name.1 (ap length (name_in-is_present octets name.0 name.1).1 ∙ length-append (wire_of name.0) (drop (length (wire_of name.0)) octets)) refl refl refl more
 
 -- what an SOA's data has
 pub record IsSoa (octets : List ℕ) : Type 0 where

@@ -8,7 +8,7 @@ use Rattle.std.proofs.lemmas.List.{get_or_past, drop-drop, length-drop, length-t
 use Rattle.std.proofs.lemmas.List.Elements.{All-nil, All-cons, All-drop, All-take, All-append}
 use Rattle.std.proofs.lemmas.Nat.{from_be_bytes-to_be_bytes_4}
 use Rattle.dns_name.specs.Name.{Name, IsName, wire_of, fold_name, name_in}
-use Rattle.dns_name.proofs.LawLemmas.{name_in-stands, name_in-wire_of, fold-IsName}
+use Rattle.dns_name.proofs.LawLemmas.{name_in-is_present, name_in-wire_of, fold-IsName}
 use Rattle.dns_rdata.specs.Layout.{layout_of}
 use Rattle.dns_rdata.specs.Data.{names_then, data_of, behind_names, serial_of, with_serial}
 use Rattle.dns_rdata.proofs.NameLemmas.{map_some, and_then_some, cond_some}
@@ -50,8 +50,8 @@ two_names octets e =
     let numbers = drop (length (wire_of second.0)) after in
     let last = map_some _ (names_then 0 20 numbers) behind.0 second.2 in
     let test = cond_some _ (Some numbers) last.0 last.1 in
-    let front = name_in-stands octets first.0 first.1 in
-    let middle = name_in-stands after second.0 second.1 in
+    let front = name_in-is_present octets first.0 first.1 in
+    let middle = name_in-is_present after second.0 second.1 in
     let first_same = fold-IsName first.0 front.0 in
     let second_same = fold-IsName second.0 middle.0 in
     let seam : wire_of (fold_name first.0) ++ behind.0 ≡ wire_of first.0 ++ after = behind.2 ∙ front.1 in

@@ -9,18 +9,18 @@ use Rattle.dns_rdata.specs.declared.layout.Layout.{Layout}
 use Rattle.dns_rdata.specs.declared.layout.Layout.TheVariants.{Fields, Strings, Opaque}
 use Rattle.dns_rdata.specs.Layout.{layout_of}
 
--- so many names in full and behind them so many octets: the same octets with the names in lower case; none of any others
+-- so many names in full and after them so many octets: the same octets with the names in lower case; none of any others
 abbrev pub names_then : ℕ → ℕ → List ℕ → Option (List ℕ)
 names_then zero back octets = if length octets == back then Some octets else None
 names_then (suc names) back octets =
     option_and_then (λ name. option_map (λ rest. wire_of (fold_name name) ++ rest) (names_then names back (drop (length (wire_of name)) octets))) (name_in octets)
 
--- so many octets in front, so many names, so many octets behind
+-- so many octets in front, so many names, so many octets after
 abbrev pub parts : ℕ → ℕ → ℕ → List ℕ → Option (List ℕ)
 parts front names back octets =
     if nat_le front (length octets) then option_map (λ rest. take front octets ++ rest) (names_then names back (drop front octets)) else None
 
--- whether octets are strings: nothing, or a length octet, so many octets, and strings behind. Each string takes an octet or
+-- whether octets are strings: nothing, or a length octet, so many octets, and strings after. Each string takes an octet or
 -- more, so there are no more of them than octets: that many steps are enough (RFC 1035, 3.3)
 abbrev pub are_strings_by : ℕ → List ℕ → Bool
 are_strings_by steps [] = true
@@ -61,13 +61,13 @@ pub record IsData (d : Data) : Type 0 where
 abbrev pub target_of : List ℕ → Option Name
 target_of octets = name_in octets
 
--- the octets behind so many names; nothing where they don't stand there
+-- the octets after so many names; nothing where they don't stand there
 abbrev pub behind_names : ℕ → List ℕ → List ℕ
 behind_names zero octets = octets
 behind_names (suc names) octets =
     elim (name_in octets) [ None ↦ [] | Some name ↦ behind_names names (drop (length (wire_of name)) octets) ]
 
--- of the five numbers of four octets behind an SOA's two names, the one that so many stand in front of (RFC 1035, 3.3.13)
+-- of the five numbers of four octets after an SOA's two names, the one that so many stand before (RFC 1035, 3.3.13)
 abbrev pub soa_number : ℕ → List ℕ → ℕ
 soa_number before octets = from_be_bytes w32 (take 4 (drop (4 * before) (behind_names 2 octets)))
 

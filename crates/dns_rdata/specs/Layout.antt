@@ -6,7 +6,7 @@ use Rattle.dns_rdata.specs.declared.layout.Layout.{Layout}
 use Rattle.dns_rdata.specs.declared.layout.Layout.TheVariants.{Fields, Strings, Opaque}
 use Rattle.dns_rdata.specs.Numbers.{type_A, type_NS, type_CNAME, type_SOA, type_PTR, type_MX, type_TXT, type_AAAA, type_SRV, is_metatype}
 
--- of each type that is known: so many octets in front, so many names, so many octets behind, and whether a message may write
+-- of each type that is known: so many octets in front, so many names, so many octets after, and whether a message may write
 -- the names with pointers; or strings. Of any other that a record of a zone can have octets of any number, in which nobody looks
 -- for names. None for a metatype, and for a number of more than 16 bits (RFC 1035, 3.3 and 3.4.1; RFC 2782; RFC 3596, 2.2;
 -- RFC 3597, 3, 4 and 6)
@@ -24,7 +24,7 @@ layout_of rtype =
     else if is_metatype rtype || nat_le (2 ^ 16) rtype then None
     else Some Opaque
 
--- so many names, one behind the other, each written in full; those in front of the first that isn't one
+-- so many names, one after the other, each written in full; those before the first that isn't one
 abbrev pub names_in : ℕ → List ℕ → List Name
 names_in zero octets = []
 names_in (suc names) octets =

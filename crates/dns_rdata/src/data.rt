@@ -60,7 +60,7 @@ impl MadeWith<Global> for RData {
     }
 }
 
-/// The numbers behind the names of an SOA's data (RFC 1035, 3.3.13).
+/// The numbers after the names of an SOA's data (RFC 1035, 3.3.13).
 #[derive(Clone, Copy, Debug, PartialEq, Eq)]
 pub struct Soa {
     /// The zone's serial.
@@ -158,7 +158,7 @@ impl RData {
         None
     }
 
-    /// The numbers behind the names of an SOA's data; None of any other type (RFC 1035, 3.3.13).
+    /// The numbers after the names of an SOA's data; None of any other type (RFC 1035, 3.3.13).
     pub fn soa(&self) -> Option<Soa>
         ensures found { IsSome result ↔ (self.now.rtype ≡ type_SOA) }
         ensures serial { IfSome result (λ soa. soa.serial.0 ≡ serial_of self.now.octets) }
@@ -213,7 +213,7 @@ pub fn soa_serial(octets: &[u8]) -> Serial
     soa_numbers(octets).serial
 }
 
-/// The numbers behind the two names of an SOA's data: they end it.
+/// The numbers after the two names of an SOA's data: they end it.
 fn soa_numbers(octets: &[u8]) -> Soa
     requires { data_of type_SOA octets.now ≡ Some octets.now }
     ensures serial { result.serial.0 ≡ serial_of octets.now }

@@ -30,7 +30,7 @@ pub(crate) fn has_form(rtype: RType, octets: &[u8]) -> bool
     }
 }
 
-/// Whether there are so many octets in front, so many names, and so many octets behind.
+/// Whether there are so many octets in front, so many names, and so many octets after.
 fn has_parts(octets: &[u8], front: usize, names: usize, back: usize) -> bool
     ensures { result ≡ is_some (parts front names back octets.now) }
 {

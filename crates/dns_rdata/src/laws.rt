@@ -16,7 +16,7 @@ pub fn read_again()
         → data_of rtype octets ≡ Some own → length own ≡ length octets }
 {}
 
-/// Octets are strings exactly where they are those of some strings in a row, each behind its length (RFC 1035, 3.3).
+/// Octets are strings exactly where they are those of some strings in a row, each after its length (RFC 1035, 3.3).
 pub fn strings_in_a_row()
     ensures { (octets : List ℕ) → (are_strings octets ≡ true)
         ↔ ((strings : List (List ℕ)) × (octets ≡ flat_map counted strings)) }

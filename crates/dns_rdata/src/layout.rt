@@ -4,7 +4,7 @@ ghost use Rattle.dns_rdata.specs.Layout.{layout_of};
 
 use crate::numbers::RType;
 
-/// The octets of the five numbers behind the names of an SOA's data (RFC 1035, 3.3.13).
+/// The octets of the five numbers after the names of an SOA's data (RFC 1035, 3.3.13).
 pub(crate) const SOA_NUMBERS: usize = 20;
 
 /// How a type's data lies.
@@ -12,11 +12,11 @@ pub(crate) const SOA_NUMBERS: usize = 20;
 pub enum Layout {
     /// Octets of a fixed count, names, and octets of a fixed count.
     Fields {
-        /// How many octets stand in front of the names.
+        /// How many octets stand before the names.
         front: usize,
         /// How many names there are.
         names: usize,
-        /// How many octets stand behind the names.
+        /// How many octets stand after the names.
         back: usize,
         /// Whether a message may write the names with pointers (RFC 1035, 4.1.4; RFC 2782).
         compressed: bool,

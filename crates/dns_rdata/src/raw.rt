@@ -24,7 +24,6 @@ pub struct RawRecord {
     pub octets: Vec<u8>,
 }
 
-// By hand: a derived drop is proved once more in each crate that lets such a value go.
 impl Drop for RawRecord {
     fn drop(self) {
         let RawRecord {

@@ -39,7 +39,6 @@ pub struct RRset {
     rdata: SmallVec<RData, 1>,
 }
 
-// By hand: a derived drop is proved once more in each crate that lets such a value go.
 impl Drop for RRset {
     fn drop(self) {
         let RRset {

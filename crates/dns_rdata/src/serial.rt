@@ -20,7 +20,7 @@ impl Serial {
         }
     }
 
-    /// The serial after this one; 0 behind the greatest number (RFC 1982, 3.1).
+    /// The serial after this one; 0 after the greatest number (RFC 1982, 3.1).
     pub fn next(self) -> Serial
         ensures { result.0 ≡ serial_next self.0 }
     {

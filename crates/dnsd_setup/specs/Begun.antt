@@ -9,8 +9,8 @@ use Rattle.store_compaction.specs.Kept.{CompactedState}
 use Rattle.store_server.specs.declared.served.ServerStore.{ServerStore}
 use Rattle.store_server.specs.declared.served.ServerStore.TheVariants.{Nowhere, Store as Kept}
 use Rattle.store_server.specs.Resumed.{IsGiven, WritesOn}
-use Rattle.dnsd_setup.specs.declared.begin.StartedZone.{StartedZone}
-use Rattle.dnsd_setup.specs.declared.begin.StartedZone.TheVariants.{Zone, Store}
+use Rattle.dnsd_setup.specs.declared.started_zone.StartedZone.{StartedZone}
+use Rattle.dnsd_setup.specs.declared.started_zone.StartedZone.TheVariants.{Zone, Store}
 
 -- a zone, or a store that a start has opened or created
 abbrev pub CanBegin : StartedZone → Type 0

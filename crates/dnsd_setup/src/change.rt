@@ -2,7 +2,7 @@
 use crate::zone_file::text_from;
 use change_command::{write_change, write_message};
 use command_line::Change;
-use commands::{DONE, FAILED, Fault, REFUSED, Source, tell_of};
+use commands::{DONE, FAILED, Fault, REFUSED, Source, report_fault_of};
 use dns_name::Name;
 use master_file::read_zone;
 use std::alloc::Global;
@@ -53,7 +53,7 @@ fn zone_from(
         Ok(zone) => Ok(zone),
         Err(fault) => {
             let mut errors = Vec::new(alloc);
-            let status = tell_of(alloc, Err(Fault::Zone(fault)), source, text, &mut errors);
+            let status = report_fault_of(alloc, Err(Fault::Zone(fault)), source, text, &mut errors);
             Err(RefusedText { status, errors })
         }
     }

@@ -3,9 +3,9 @@ ghost use Rattle.std.specs.Prelude.{IfOk};
 ghost use Rattle.dnsd_setup.specs.Begun.{CanBegin};
 ghost use Rattle.store_server.specs.Resumed.{IsGiven};
 
-use crate::begin::{StartedStore, StartedZone};
+use crate::started_zone::{StartedStore, StartedZone};
 use crate::zone_file::tell_zone;
-use command_line::{Serve, StorePlan, ToldFault};
+use command_line::{PrintedFault, Serve, StorePlan};
 use commands::{FAILED, REFUSED};
 use log_lines::Level;
 use std::fs::{File, Files};
@@ -112,7 +112,7 @@ fn tell_refusal<R: Env + AllocGlobal + Eprint>(
 ) -> io::Result<u8> {
     let mark = Level::Error.mark_for(rt);
     let status = status_of(&refusal);
-    let told = match refusal {
+    let reported = match refusal {
         Refusal::Text(fault) => return tell_zone(rt, text, fault),
         Refusal::Held => eprintln!(rt; "{mark}error: the store '{dir}' is held by another server"),
         Refusal::NoJournal(number) => eprintln!(rt;
@@ -122,8 +122,8 @@ fn tell_refusal<R: Env + AllocGlobal + Eprint>(
             "{mark}error: the journal of '{dir}' belongs to '{dir}/zone-{number}', which isn't there"
         ),
         Refusal::NoStart(fault) => {
-            let told = ToldFault { dir, fault };
-            eprintln!(rt; "{mark}error: {told}")
+            let reported = PrintedFault { dir, fault };
+            eprintln!(rt; "{mark}error: {reported}")
         }
         Refusal::Newer { has, given } => {
             let (has, given) = (has.0, given.0);
@@ -145,7 +145,7 @@ fn tell_refusal<R: Env + AllocGlobal + Eprint>(
             eprintln!(rt; "{mark}error: the store '{dir}' can't be read or written: {fault}")
         }
     };
-    told?;
+    reported?;
     Ok(status)
 }
 

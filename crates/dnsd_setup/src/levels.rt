@@ -8,7 +8,7 @@ use zone_server::{Event, JobEnd};
 pub(crate) fn level_of_event(event: &Event) -> Level {
     match event {
         Event::Update { .. } => Level::Info,
-        Event::End { end, .. } | Event::Untold { end } => level_of_end(end),
+        Event::End { end, .. } | Event::Unlogged { end } => level_of_end(end),
         Event::Serving | Event::Again { .. } => Level::Notice,
         Event::Lost { .. }
         | Event::Silent { .. }

@@ -5,7 +5,6 @@
 //! manager.
 #![tactic(auto)]
 
-mod begin;
 mod bound;
 mod change;
 pub mod descriptors;
@@ -14,17 +13,18 @@ mod levels;
 mod lines;
 mod log;
 mod peer_lines;
+mod started_zone;
 mod stored;
 mod streams;
 mod writer;
 mod zone_file;
 
-pub use begin::{ServedZone, StartedStore, StartedZone, ZoneStore};
 pub use bound::{BoundSockets, WorkerSockets, bind_sockets};
 pub use change::run_change;
 pub use kept::start_store_for;
 pub use lines::{LogLine, ROOT_APEX};
 pub use log::{Listening, Log};
+pub use started_zone::{ServedZone, StartedStore, StartedZone, ZoneStore};
 pub use stored::{run_journal, run_stored};
 pub use streams::run_on_streams;
 pub use writer::{Entries, Entry, start_entries};

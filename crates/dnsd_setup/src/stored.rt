@@ -1,5 +1,5 @@
 //! Printing the zone of a store, and what its updates changed.
-use command_line::{PrintFault, Stored, ToldFault, print_store};
+use command_line::{PrintFault, PrintedFault, Stored, print_store};
 use commands::{DONE, FAILED, REFUSED};
 use std::io::{self, BufWriter};
 use std::rt::Files;
@@ -31,8 +31,8 @@ pub fn run_journal<R: Files + Print + Eprint + AllocGlobal>(rt: &R, dir: &str) -
         return Ok(FAILED);
     };
     match write_changes(rt.alloc(), &text, &journal) {
-        Ok(told) => {
-            print!(rt; "{told}")?;
+        Ok(reported) => {
+            print!(rt; "{reported}")?;
             Ok(DONE)
         }
         Err(fault) => tell_no_start(rt, dir, fault),
@@ -56,8 +56,8 @@ fn store_from<R: Files + Eprint + AllocGlobal>(
 /// Reports on standard error why a store cannot be started from, and returns the program's status.
 fn tell_no_start<R: Eprint + AllocGlobal>(rt: &R, dir: &str, fault: StartFault) -> io::Result<u8> {
     let status = status_of(&fault);
-    let told = ToldFault { dir, fault };
-    eprintln!(rt; "error: {told}")?;
+    let reported = PrintedFault { dir, fault };
+    eprintln!(rt; "error: {reported}")?;
     Ok(status)
 }
 

@@ -1,7 +1,7 @@
 //! Commands over a zone's text, standard input and standard output.
 use crate::zone_file::text_from;
 use commands::{
-    Command, DONE, Ended, FAILED, Fault, Outcome, Source, run_text, run_with_zone, tell_of,
+    Command, DONE, Ended, FAILED, Fault, Outcome, Source, report_fault_of, run_text, run_with_zone,
 };
 use std::alloc::Global;
 use std::io::{self, BufRead, BufReader, BufWriter, Write};
@@ -53,7 +53,7 @@ fn run_with_source<R: Files + Eprint + AllocGlobal, I: BufRead, O: Write + Drop>
         at_root,
         large,
     } = run_with_zone(alloc, command, text.as_slice(), input, output);
-    let mut status = tell_of(alloc, done, command.zone(), text.as_slice(), errors);
+    let mut status = report_fault_of(alloc, done, command.zone(), text.as_slice(), errors);
     if has_warnings && status == DONE {
         status = tell_warnings(alloc, command, text.as_slice(), errors)?;
     }
@@ -76,6 +76,12 @@ fn tell_warnings(
             errors.extend_from_slice(lines.as_bytes())?;
             Ok(DONE)
         }
-        Err(fault) => Ok(tell_of(alloc, Err(Fault::Zone(fault)), command.zone(), text, errors)),
+        Err(fault) => Ok(report_fault_of(
+            alloc,
+            Err(Fault::Zone(fault)),
+            command.zone(),
+            text,
+            errors,
+        )),
     }
 }

@@ -3,7 +3,7 @@ use crate::lines::LogLine;
 use crate::peer_lines::{PeerLine, PeerLines};
 use dns_name::Name;
 use dns_rdata::Serial;
-use log_lines::{Level, LogQueue, Sink, Told, is_in_journal};
+use log_lines::{Level, LogQueue, NextLine, Sink, is_in_journal};
 use sockets::ServiceManager;
 use std::alloc::{AllocError, Global};
 use std::net::Net;
@@ -68,8 +68,8 @@ struct ErrorLines<E> {
 }
 
 impl<E: Eprint + AllocGlobal + Wait + Clock> Sink<Entry> for ErrorLines<E> {
-    fn put<R: Wait>(&mut self, _rt: &R, told: Told<Entry>) {
-        let Told { lost, line } = told;
+    fn put<R: Wait>(&mut self, _rt: &R, next: NextLine<Entry>) {
+        let NextLine { lost, line } = next;
         if lost > 0 {
             let mark = Level::Warning.mark(self.in_journal);
             let _ = eprintln!(self.rt; "{mark}{lost} log lines lost here");

@@ -2,9 +2,9 @@
 ghost use Rattle.std.specs.Prelude.{IfOk};
 ghost use Rattle.dnsd_setup.specs.Begun.{CanBegin};
 
-use crate::begin::StartedZone;
+use crate::started_zone::StartedZone;
 use command_line::Serve;
-use commands::{Fault, Source, read_zone_text, tell};
+use commands::{Fault, Source, read_zone_text, report_fault};
 use log_lines::Level;
 use master_file::{FileFault, read_zone};
 use std::io::{BufRead, BufReader};
@@ -74,7 +74,7 @@ pub(crate) fn tell_zone<R: Env + Eprint + AllocGlobal>(
 ) -> io::Result<u8> {
     let alloc = rt.alloc();
     let mut errors = Vec::new(alloc);
-    let status = tell(alloc, Err(Fault::Zone(fault)), text, &mut errors);
+    let status = report_fault(alloc, Err(Fault::Zone(fault)), text, &mut errors);
     rt.eprint(Level::Error.mark_for(rt))?;
     rt.eprint(String::from_utf8_lossy(alloc, errors.as_slice())?)?;
     Ok(status)

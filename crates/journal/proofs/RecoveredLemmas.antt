@@ -75,15 +75,15 @@ same_batches (batch ∷ batches) (first ∷ found) short small e =
 -- a body of these batches is one
 is_one : (batches : List (List (List ℕ))) (number : ℕ) (body : List ℕ) → All (All IsShort) batches → slice_get (map batch_of batches) number ≡ Some body
     → (updates : List (List ℕ)) × IsBatch body updates
-is_one [] number body short stands = absurd (none_stands number body stands)
+is_one [] number body short is_present = absurd (none_stands number body is_present)
   where
     none_stands : (number : ℕ) (body : List ℕ) → slice_get [] number ≡ Some body → ⊥
     none_stands number body e = cc
-is_one (batch ∷ batches) zero body short stands = (batch, record { short = All-head (All IsShort) batch batches short; spelt = some_same body (batch_of batch) stands })
+is_one (batch ∷ batches) zero body short is_present = (batch, record { short = All-head (All IsShort) batch batches short; spelt = some_same body (batch_of batch) is_present })
   where
     some_same : (x y : List ℕ) → Some y ≡ Some x → x ≡ y
     some_same x y e = cc
-is_one (batch ∷ batches) (suc number) body short stands = is_one batches number body (All-tail (All IsShort) batch batches short) stands
+is_one (batch ∷ batches) (suc number) body short is_present = is_one batches number body (All-tail (All IsShort) batch batches short) is_present
 
 -- what was brought to the disk is recovered first
 pub synced_recovered : (text left : List ℕ) (head other : Head) (batches : List (List (List ℕ))) (updates : List (List ℕ)) (number end : ℕ) (torn : Bool)
@@ -144,6 +144,6 @@ written_accepted text head batches (Damaged at) is same fit short refused =
     (subst (λ (o : List ℕ). ShowsLater (salt_of refused.head) (length refused.bodies) (drop refused.place o)) whole.2 refused.later.0))
 written_accepted text head batches (NoBatch number) is same fit short refused =
     let whole = whole_read head refused.head batches refused.bodies refused.rest is fit refused.opened in
-    let batch = is_one batches number refused.no_batch.body short (ap (λ (bs : List (List ℕ)). slice_get bs number) (sym whole.1) ∙ refused.no_batch.stands) in
+    let batch = is_one batches number refused.no_batch.body short (ap (λ (bs : List (List ℕ)). slice_get bs number) (sym whole.1) ∙ refused.no_batch.is_present) in
     absurd (refused.no_batch.none batch.0 batch.1)
 written_accepted text head batches NoMemory is same fit short refused = refl

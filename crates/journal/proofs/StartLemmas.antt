@@ -102,7 +102,7 @@ pub no_batch_from : (text octets : List ℕ) (head : Head) (salt behind : List �
 no_batch_from text octets head salt behind bodies rest number torn (BadHead fault) is is_salt spelt read same count tail refused = absurd refused
 no_batch_from text octets head salt behind bodies rest number torn OtherText is is_salt spelt read same count tail refused = absurd refused
 no_batch_from text octets head salt behind bodies rest number torn (Damaged at) is is_salt spelt read same count tail refused = absurd refused
-no_batch_from text octets head salt behind bodies rest number torn (NoBatch told) is is_salt spelt read same count tail refused = record {
+no_batch_from text octets head salt behind bodies rest number torn (NoBatch reported) is is_salt spelt read same count tail refused = record {
   head = head;
   bodies = bodies;
   rest = rest;
@@ -138,13 +138,13 @@ no_batch_at bodies number d updates so_far within none = record {
   batches = so_far.batches;
   before = so_far.are;
   body = get_or (now_of bodies) number d.now;
-  stands = slice_get-get_or (now_of bodies) number d.now (omega (arith, within, lent_long bodies));
+  is_present = slice_get-get_or (now_of bodies) number d.now (omega (arith, within, lent_long bodies));
   none = λ updates is. none updates (subst (λ (o : List ℕ). IsBatch o updates) (lent_at bodies number d within) is);
 }
 
 -- what is told of an option that is something, or nothing
 pub told_some : {X : Type 0} (found : Option X) (x : X) (P : Type 0) (Q : X → Type 0) → found ≡ Some x → MatchOption found P Q → Q x
-told_some found x P Q e told = subst (λ o. MatchOption o P Q) e told
+told_some found x P Q e reported = subst (λ o. MatchOption o P Q) e reported
 
 pub told_none : {X : Type 0} (found : Option X) (P : Type 0) (Q : X → Type 0) → found ≡ None → MatchOption found P Q → P
-told_none found P Q e told = subst (λ o. MatchOption o P Q) e told
+told_none found P Q e reported = subst (λ o. MatchOption o P Q) e reported

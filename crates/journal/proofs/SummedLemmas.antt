@@ -73,9 +73,9 @@ one_summed salt m n octets body rest other left one two =
     (sym a.counted ∙ b.counted, bodies.0, sums.1)
 
 -- what is told in front of a body, where octets begin with a frame
-pub record Leads (salt : List ℕ) (number size told : ℕ) (behind body rest : List ℕ) : Type 0 where
+pub record Leads (salt : List ℕ) (number size reported : ℕ) (behind body rest : List ℕ) : Type 0 where
   pub is_size : size ≡ length body
-  pub is_number : told ≡ number
+  pub is_number : reported ≡ number
   pub is_behind : behind ≡ body ++ (sha256 (salt ++ text_of number body) ++ rest)
   pub long : length behind ≡ length body + 32 + length rest
 
@@ -83,17 +83,17 @@ pub record Leads (salt : List ℕ) (number size told : ℕ) (behind body rest : 
 behind_long : (body sum rest : List ℕ) → length sum ≡ 32 → length (body ++ (sum ++ rest)) ≡ length body + 32 + length rest
 behind_long body sum rest long = simp length-append (omega arith)
 
-pub summed_leads : (salt octets : List ℕ) (size told : ℕ) (after behind : List ℕ) → size < body_limit → told < 2 ^ 64
-    → octets ≡ to_be_bytes w32 size ++ after → after ≡ to_be_bytes w64 told ++ behind
-    → (number : ℕ) (body rest : List ℕ) → IsSummed salt number octets body rest → Leads salt number size told behind body rest
-summed_leads salt octets size told after behind small fits first second number body rest frame =
+pub summed_leads : (salt octets : List ℕ) (size reported : ℕ) (after behind : List ℕ) → size < body_limit → reported < 2 ^ 64
+    → octets ≡ to_be_bytes w32 size ++ after → after ≡ to_be_bytes w64 reported ++ behind
+    → (number : ℕ) (body rest : List ℕ) → IsSummed salt number octets body rest → Leads salt number size reported behind body rest
+summed_leads salt octets size reported after behind small fits first second number body rest frame =
     let sum : List ℕ = sha256 (salt ++ text_of number body) in
     let all : octets ≡ to_be_bytes w32 (length body) ++ (to_be_bytes w64 number ++ (body ++ (sum ++ rest))) = frame.spelt ∙ summed_parts salt number body rest in
     let four = same_parts (to_be_bytes w32 size) after (to_be_bytes w32 (length body)) (to_be_bytes w64 number ++ (body ++ (sum ++ rest))) refl (sym first ∙ all) in
-    let eight = same_parts (to_be_bytes w64 told) behind (to_be_bytes w64 number) (body ++ (sum ++ rest)) refl (sym second ∙ four.1) in
+    let eight = same_parts (to_be_bytes w64 reported) behind (to_be_bytes w64 number) (body ++ (sum ++ rest)) refl (sym second ∙ four.1) in
     record {
       is_size = same_number_4 size (length body) (omega (arith, small)) (omega (arith, frame.short)) four.0;
-      is_number = same_number_8 told number fits frame.counted eight.0;
+      is_number = same_number_8 reported number fits frame.counted eight.0;
       is_behind = eight.1;
       long = ap length eight.1 ∙ behind_long body sum rest (length-sha256 _);
     }
@@ -134,11 +134,11 @@ summed_from salt octets size number after behind body left sum rest small fits f
     }
 
 -- octets that begin with a frame have its sum
-pub sum_of_summed : (salt octets : List ℕ) (size told : ℕ) (after behind part left sum others : List ℕ) → size < body_limit → told < 2 ^ 64
-    → octets ≡ to_be_bytes w32 size ++ after → after ≡ to_be_bytes w64 told ++ behind → behind ≡ part ++ left → left ≡ sum ++ others → length part ≡ size → length sum ≡ 32
+pub sum_of_summed : (salt octets : List ℕ) (size reported : ℕ) (after behind part left sum others : List ℕ) → size < body_limit → reported < 2 ^ 64
+    → octets ≡ to_be_bytes w32 size ++ after → after ≡ to_be_bytes w64 reported ++ behind → behind ≡ part ++ left → left ≡ sum ++ others → length part ≡ size → length sum ≡ 32
     → (number : ℕ) (body rest : List ℕ) → IsSummed salt number octets body rest → sum ≡ sha256 (salt ++ take (12 + size) octets)
-sum_of_summed salt octets size told after behind part left sum others small fits first second third fourth is_size is_long number body rest frame =
-    let leads = summed_leads salt octets size told after behind small fits first second number body rest frame in
+sum_of_summed salt octets size reported after behind part left sum others small fits first second third fourth is_size is_long number body rest frame =
+    let leads = summed_leads salt octets size reported after behind small fits first second number body rest frame in
     let shows = summed_shows salt number octets body rest frame in
     let bodies = same_parts part left body (sha256 (salt ++ text_of number body) ++ rest) (is_size ∙ leads.is_size) (sym third ∙ leads.is_behind) in
     let sums = same_parts sum others (sha256 (salt ++ text_of number body)) rest (is_long ∙ sym (length-sha256 _)) (sym fourth ∙ bodies.1) in

@@ -52,7 +52,7 @@ pub record IsNoBatch (bodies : List (List ℕ)) (number : ℕ) : Type 0 where
   pub batches : List (List (List ℕ))
   pub before : AreBatches (take number bodies) batches
   pub body : List ℕ
-  pub stands : slice_get bodies number ≡ Some body
+  pub is_present : slice_get bodies number ≡ Some body
   pub none : (updates : List (List ℕ)) → IsBatch body updates → ⊥
 
 -- why bodies are refused as batches

@@ -1,6 +1,6 @@
 //! The lines that wait.
 ghost use Rattle.std.specs.Prelude.{◌≡◌, ◌==◌, ◌&&◌, ◌≤◌, length, IfOk};
-ghost use Rattle.log_lines.specs.Backlog.{nothing_waits, with_line, next_told, after_next};
+ghost use Rattle.log_lines.specs.Backlog.{nothing_waits, with_line, next_line, after_next};
 
 use circular_buffer::HeapCircularBuffer;
 use std::alloc::{AllocError, Global};
@@ -9,7 +9,7 @@ use std::mem;
 
 /// What is to be written next.
 #[derive(Drop)]
-pub struct Told<T> {
+pub struct NextLine<T> {
     /// How many lines were lost before this one.
     pub lost: u64,
     /// The line; none where lines were lost and no other has come since.
@@ -19,7 +19,7 @@ pub struct Told<T> {
 /// Lines that wait, the oldest first, at most so many, and how many were lost after them.
 #[derive(Drop)]
 pub struct Backlog<T> {
-    lines: HeapCircularBuffer<Told<T>>,
+    lines: HeapCircularBuffer<NextLine<T>>,
     lost: u64,
 }
 
@@ -55,22 +55,22 @@ impl<T: Drop> Backlog<T> {
         }
         let lost = mem::replace(&mut self.lost, 0);
         let line = Some(line);
-        let _ = self.lines.push_back(Told { lost, line });
+        let _ = self.lines.push_back(NextLine { lost, line });
     }
 
     /// Takes the oldest line that waits; where none does, how many were lost, if any (own).
-    pub fn take(&mut self) -> Option<Told<T>>
-        ensures told { result ≡ next_told self.old }
+    pub fn take(&mut self) -> Option<NextLine<T>>
+        ensures next { result ≡ next_line self.old }
         ensures rest { self.new ≡ after_next self.old }
     {
-        if let Some(told) = self.lines.pop_front() {
-            return Some(told);
+        if let Some(next) = self.lines.pop_front() {
+            return Some(next);
         }
         let lost = mem::replace(&mut self.lost, 0);
         if lost == 0 {
             return None;
         }
-        Some(Told { lost, line: None })
+        Some(NextLine { lost, line: None })
     }
 
     /// Whether there is nothing to be written: no line waits, and none was lost after the last that was taken.

@@ -9,6 +9,6 @@ mod backlog;
 mod level;
 mod queue;
 
-pub use backlog::{Backlog, Told};
+pub use backlog::{Backlog, NextLine};
 pub use level::{Level, is_in_journal};
 pub use queue::{LogQueue, Sink};

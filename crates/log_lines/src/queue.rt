@@ -1,5 +1,5 @@
 //! Lines that threads add, and one writes.
-use crate::backlog::{Backlog, Told};
+use crate::backlog::{Backlog, NextLine};
 use std::alloc::{AllocError, Global};
 use std::sync::{Condvar, Mutex, Wait};
 use std::time::{Clock, Duration};
@@ -11,7 +11,7 @@ const GATHERED_MILLIS: u64 = 1;
 /// What lines are written to.
 pub trait Sink<T> {
     /// Writes that lines were lost, if any were, and then the line, if there is one. It may wait as long as it likes.
-    fn put<R: Wait>(&mut self, rt: &R, told: Told<T>);
+    fn put<R: Wait>(&mut self, rt: &R, next_line: NextLine<T>);
 
     /// Does what is due beside the lines, and says how long at most the next line may be waited for before this is called again; None: until there is one.
     /// It is called after each line, and when that time has passed.
@@ -22,7 +22,7 @@ pub trait Sink<T> {
 #[derive(Drop)]
 enum Next<T> {
     /// It writes this.
-    Line(Told<T>),
+    Line(NextLine<T>),
     /// It waits again: no line has come in time.
     Nothing,
     /// It ends: the queue is closed, and nothing is left.
@@ -84,7 +84,7 @@ impl<T: Drop> LogQueue<T> {
         let mut at_most = None;
         for _ in rt.forever() {
             match self.next(rt, at_most) {
-                Next::Line(told) => sink.put(rt, told),
+                Next::Line(next_line) => sink.put(rt, next_line),
                 Next::Nothing => {}
                 Next::Ended => break,
             }
@@ -99,7 +99,7 @@ impl<T: Drop> LogQueue<T> {
         self.gather(rt, at_most);
         let mut state = self.state.lock(rt);
         match state.backlog.take() {
-            Some(told) => Next::Line(told),
+            Some(next_line) => Next::Line(next_line),
             None if state.closed => Next::Ended,
             None => Next::Nothing,
         }

@@ -25,14 +25,14 @@ same_of name other t (r ∷ rs) same =
 -- a record of a set of addresses, whose first record doesn't stand in the answer
 one_addition : (zone answer : List Record) (r q : Record) (name : List (List ℕ)) (t : ℕ) → (t ≡ type_A) ⊎ (t ≡ type_AAAA) → Contains zone r → is_of name t r ≡ true → is_of name t q ≡ true → list_any (is_of q.owner q.rtype) answer ≡ false
     → IsAddition zone answer r
-one_addition zone answer r q name t address stands of first apart =
+one_addition zone answer r q name t address is_present of first apart =
     let rtype : r.rtype ≡ t = eqb-true r.rtype t (and_right (is_same r.owner name) (r.rtype == t) of) in
     let other : q.rtype ≡ t = eqb-true q.rtype t (and_right (is_same q.owner name) (q.rtype == t) first) in
     let same : is_same r.owner q.owner ≡ true =
     is_same_equiv.congr r.owner name q.owner (and_left (is_same r.owner name) (r.rtype == t) of) ∙ is_same_equiv.symm name q.owner ∙ and_left (is_same q.owner name) (q.rtype == t) first
     in
     record {
-      stands = stands;
+      is_present = is_present;
       address = subst (λ n. (n ≡ type_A) ⊎ (n ≡ type_AAAA)) (sym rtype) address;
       apart = ap (λ n. list_any (is_of r.owner n) answer) (rtype ∙ sym other) ∙ same_of r.owner q.owner q.rtype answer same ∙ apart;
     }

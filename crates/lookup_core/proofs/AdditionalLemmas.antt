@@ -193,8 +193,8 @@ pub wanted_none : (answer set : List Record) → set ≡ [] → filter (is_wante
 wanted_none answer set none = ap (λ s. filter (is_wanted answer) (s ∷ [])) none
 
 pub wanted_answered : (answer set : List Record) → list_any (is_of (owner_of set) (rtype_of set)) answer ≡ true → filter (is_wanted answer) (set ∷ []) ≡ []
-wanted_answered answer set stands =
-    ap (λ b. cond (not (is_none_of set) && not b) (set ∷ []) []) stands
+wanted_answered answer set is_present =
+    ap (λ b. cond (not (is_none_of set) && not b) (set ∷ []) []) is_present
     ∙ (elim (is_none_of set) as (λ b. cond (not b && false) (set ∷ []) [] ≡ []) [ true ↦ refl | false ↦ refl ])
 
 pub wanted_new : (answer set : List Record) → is_none_of set ≡ false → list_any (is_of (owner_of set) (rtype_of set)) answer ≡ false → filter (is_wanted answer) (set ∷ []) ≡ set ∷ []

@@ -157,11 +157,11 @@ chain_from-other zone more searched at rtype NoName is other = rw (is, chain_fro
 
 pub ends : (zone : List Record) (name : List (List ℕ)) (rtype : ℕ) (aliases : List Shown) (more : ℕ) (at : List (List ℕ)) (found : Look) (end : End)
     → IsOnTheWay zone name rtype aliases (suc more) at → look zone at rtype ≡ found → is_alias found ≡ false → end ≡ Found found → Ends zone name rtype aliases end
-ends zone name rtype aliases more at found end way seen other told = record {
+ends zone name rtype aliases more at found end way seen other reported = record {
   chain =
       way.chain ∙ ap (onto (section_shown aliases)) (chain_from-other zone more (searched_before aliases) at rtype found seen other)
       ∙ ap (λ rs. record { aliases = rs; end = Found found }) (append-nil (section_shown aliases))
-      ∙ ap (λ e. record { aliases = section_shown aliases; end = e }) (sym told);
+      ∙ ap (λ e. record { aliases = section_shown aliases; end = e }) (sym reported);
   some = way.some;
 }
 
@@ -180,7 +180,7 @@ found_end NoName other = refl
 
 pub ends_there : (zone : List Record) (name : List (List ℕ)) (rtype : ℕ) (aliases : List Shown) (more : ℕ) (at : List (List ℕ)) (found : Look) (end : End)
     → IsOnTheWay zone name rtype aliases (suc more) at → found ≡ look zone at rtype → is_alias found ≡ false → end ≡ end_at found → Ends zone name rtype aliases end
-ends_there zone name rtype aliases more at found end way seen other told = ends zone name rtype aliases more at found end way (sym seen) other (told ∙ found_end found other)
+ends_there zone name rtype aliases more at found end way seen other reported = ends zone name rtype aliases more at found end way (sym seen) other (reported ∙ found_end found other)
 
 -- names are spelt the same where they have the same octets
 pub spelt_test : (name other : List (List ℕ)) (octets others : List ℕ) (r : Bool) → IsName name → IsName other → octets ≡ wire_of name → others ≡ wire_of other → (IsTrue r ↔ (octets ≡ others))

@@ -47,10 +47,10 @@ rrset_of-same zone name other t same =
     zone
 
 set_at : (zone : List Record) (at : List (List ℕ)) (set : List Record) → 0 < length set → set ≡ rrset_of zone (owner_of set) (rtype_of set) → All (λ r. stands_at at r ≡ true) set → IsSetAt zone at set
-set_at zone at [] some whole stands = absurd (omega arith)
-set_at zone at (r ∷ rs) some whole stands = record {
+set_at zone at [] some whole is_present = absurd (omega arith)
+set_at zone at (r ∷ rs) some whole is_present = record {
   some = some;
-  is = whole ∙ rrset_of-same zone r.owner at r.rtype (stands 0 r (omega arith));
+  is = whole ∙ rrset_of-same zone r.owner at r.rtype (is_present 0 r (omega arith));
 }
 
 pub sets_at : (zone : List Record) (at : List (List ℕ)) (sets : List (List Record)) → AreAllAt zone at sets → All (IsSetAt zone at) sets

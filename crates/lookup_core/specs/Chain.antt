@@ -8,7 +8,7 @@ use Rattle.zone_tree.specs.Zone.{apex_of}
 use Rattle.lookup_core.specs.declared.aliases.TheConstants.{MOST_ALIASES}
 use Rattle.lookup_core.specs.Look.{Look, Cut, Alias, Data, NoData, NoName, look}
 
--- the end of a chain of aliases: what was found at the last name looked up, or a stop behind an alias
+-- the end of a chain of aliases: what was found at the last name looked up, or a stop after an alias
 pub data End : Type 0 where
   Found : Look → End
   Stop : End
@@ -18,7 +18,7 @@ pub record Chain : Type 0 where
   pub aliases : List Record
   pub end : End
 
--- an alias in front of a chain
+-- an alias before a chain
 abbrev pub onto : List Record → Chain → Chain
 onto aliases chain = record { aliases = aliases ++ chain.aliases; end = chain.end }
 

@@ -23,6 +23,6 @@ IsReached name aliases r = (r.owner ≡ name) ⊎ Any (λ alias. target (alias �
 
 -- a record of the zone: an address whose owner and type don't stand in the answer
 pub record IsAddition (zone answer : List Record) (r : Record) : Type 0 where
-  pub stands : Contains zone r
+  pub is_present : Contains zone r
   pub address : (r.rtype ≡ type_A) ⊎ (r.rtype ≡ type_AAAA)
   pub apart : list_any (is_of r.owner r.rtype) answer ≡ false

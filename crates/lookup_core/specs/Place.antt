@@ -23,7 +23,7 @@ cut_of zone name = find (is_cut zone) (reverse (self_and_ancestors name))
 abbrev pub closest_encloser : List Record → Name → Option Name
 closest_encloser zone name = find (exists zone) (drop 1 (self_and_ancestors name))
 
--- the source of synthesis: `*` in front of the closest encloser (RFC 4592, 3.3.1)
+-- the source of synthesis: `*` before the closest encloser (RFC 4592, 3.3.1)
 abbrev pub source_of : List Record → Name → Option Name
 source_of zone name = elim (closest_encloser zone name) [ None ↦ None | Some encloser ↦ Some (asterisk ∷ encloser) ]
 

@@ -94,7 +94,7 @@ AreServersOfEnd zone _ = Unit {0}
 abbrev pub chain_shown : List Shown → End → chain.Chain
 chain_shown aliases end = record { aliases = section_shown aliases; end = end_shown end }
 
--- what remains of a chain behind these aliases, when so many more may follow and this name is looked up next; each alias
+-- what remains of a chain after these aliases, when so many more may follow and this name is looked up next; each alias
 -- shows a record
 pub record IsOnTheWay (zone : List Record) (name : Name) (rtype : ℕ) (aliases : List Shown) (more : ℕ) (at : Name) : Type 0 where
   pub chain : chain.chain zone name rtype ≡ chain.onto (section_shown aliases) (chain.chain_from zone more (searched_before aliases) at rtype)
@@ -111,7 +111,7 @@ sections_shown said = record {
   below_cut = said.below_cut;
 }
 
--- an answer's sections by those in front of the additional one
+-- an answer's sections by those before the additional one
 abbrev pub front_shown : List Record → Front → Sections
 front_shown zone front =
     let answer = section_shown front.answer.items in
@@ -130,6 +130,6 @@ pub record IsStanding (shown : Shown) : Type 0 where
   pub one : length shown.sets.now ≡ 1
   pub records : records_shown shown ≡ flat_map (λ set. set) shown.sets.now
 
--- sets with more of them behind: those that are not among them, each once, up to so many as an additional section has
+-- sets with more of them after: those that are not among them, each once, up to so many as an additional section has
 abbrev pub with_more : List (List Record) → List (List Record) → List (List Record)
 with_more sets more = sets ++ take (most_sets - length sets) (each_once sets more)

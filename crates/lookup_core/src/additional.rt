@@ -8,7 +8,7 @@ ghost use Rattle.zone_tree.specs.Zone.{is_of, rrset_of};
 ghost use Rattle.lookup_core.specs.Additional.{has_hosts, hosts_in, hosts_of, is_same_set, is_wanted, wanted_sets, additional_of};
 ghost use Rattle.lookup_core.specs.Shown.{AreAllAt, section_shown, with_more};
 
-use crate::sections::standing;
+use crate::sections::unchanged_set;
 use crate::sets::set_of;
 use arrayvec::ArrayVec;
 use dns_name::Name;
@@ -72,7 +72,7 @@ impl<'z> Additional<'z> {
         ensures { self.new ≡ with_more self.old (set.now ∷ []) }
     {
         if !self.shown.is_full() && !self.has(set) {
-            self.shown.push(standing(set));
+            self.shown.push(unchanged_set(set));
         }
     }
 

@@ -74,7 +74,7 @@ pub(crate) fn follow<'z, Z: ZoneRead>(
     }
 }
 
-/// The same behind the first alias: from its target on, at which this was found. The names searched are kept in lower case, so that each is
+/// The same after the first alias: from its target on, at which this was found. The names searched are kept in lower case, so that each is
 /// folded once, and those that are the same have the same octets (RFC 4343, 3). It is a function of its own, since most chains end before.
 #[inline(never)]
 fn follow_on<'z, Z: ZoneRead>(

@@ -49,14 +49,14 @@ fn cut_of<Z: ZoneRead>(zone: &Z, name: &Name) -> Option<Name>
     None
 }
 
-/// The source of synthesis: `*` in front of the closest encloser (RFC 4592, 3.3.1).
+/// The source of synthesis: `*` before the closest encloser (RFC 4592, 3.3.1).
 fn source_of<Z: ZoneRead>(zone: &Z, name: &Name) -> Option<Name>
     ensures { result ≡ source_of (Z.records zone.now) name.now }
 {
     closest_encloser(zone, name)?.with_asterisk()
 }
 
-/// Of the name's ancestors that exist, the one with most labels (RFC 4592, 3.3.1). `*` fits in front of it, since the
+/// Of the name's ancestors that exist, the one with most labels (RFC 4592, 3.3.1). `*` fits before it, since the
 /// name has a label more.
 fn closest_encloser<Z: ZoneRead>(zone: &Z, name: &Name) -> Option<Name>
     ensures is { result ≡ closest_encloser (Z.records zone.now) name.now }

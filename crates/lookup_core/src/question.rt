@@ -71,7 +71,7 @@ pub fn fill_front<'z, Z: ZoneRead>(
     front.rcode = rcode_of(&end);
     front.below_cut = is_referral(&end);
     front.authority = authority_of(zone, &end);
-    // A referral is authoritative for the aliases in front of it alone.
+    // A referral is authoritative for the aliases before it alone.
     front.aa = !front.answer.is_empty() || !front.below_cut;
     if let End::Data(found) = end {
         front.answer.push(found);

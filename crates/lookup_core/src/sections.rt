@@ -32,7 +32,7 @@ pub struct Answer<'z> {
     pub below_cut: bool,
 }
 
-/// An answer in front of its additional section, which these sections tell.
+/// An answer before its additional section, which these sections tell.
 #[derive(Drop)]
 pub struct Front<'z> {
     /// The reply code (RFC 1035, 4.1.1).
@@ -90,7 +90,7 @@ pub(crate) fn authority_of<'z, Z: ZoneRead>(zone: &'z Z, end: &End<'z>) -> Array
 {
     let mut authority = ArrayVec::new();
     match end {
-        End::Cut(_, servers) => authority.push(standing(*servers)),
+        End::Cut(_, servers) => authority.push(unchanged_set(*servers)),
         End::NoData | End::NoName => authority.push(negative_soa(zone)),
         End::Data(_) | End::Stop => {}
     }
@@ -98,7 +98,7 @@ pub(crate) fn authority_of<'z, Z: ZoneRead>(zone: &'z Z, end: &End<'z>) -> Array
 }
 
 /// A set as it stands in the zone: under its own owner, with its own TTL.
-pub(crate) fn standing(set: &RRset) -> Shown<'_>
+pub(crate) fn unchanged_set(set: &RRset) -> Shown<'_>
     ensures records { records_shown result ≡ set.now }
     ensures sets { result.sets.now ≡ set.now ∷ [] }
     ensures owner { result.owner ≡ owner_of set.now }

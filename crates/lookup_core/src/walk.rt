@@ -28,7 +28,7 @@ pub(crate) fn match_down<'z, Z: ZoneRead>(zone: &'z Z, name: &Name) -> Matched<'
     match_sought(zone, &top, name, &sought)
 }
 
-/// The same of a name at or below the apex, at which this SOA stands: only the labels in front of the apex are put in the form in
+/// The same of a name at or below the apex, at which this SOA stands: only the labels before the apex are put in the form in
 /// which names are sought.
 pub(crate) fn match_below<'z, Z: ZoneRead>(zone: &'z Z, soa: &RRset, name: &Name) -> Matched<'z>
     requires soa { soa.now ≡ soa_of (Z.records zone.now) }
@@ -116,7 +116,7 @@ fn known_sets<'z, Z: ZoneRead>(
     }
 }
 
-/// All sets at the source of synthesis, `*` in front of the closest encloser; None where it doesn't exist (RFC 4592, 3.3.1).
+/// All sets at the source of synthesis, `*` before the closest encloser; None where it doesn't exist (RFC 4592, 3.3.1).
 fn source_sets<'z, Z: ZoneRead>(zone: &'z Z, encloser: &Sought<'_>) -> Option<&'z [RRset]>
     requires { length (wire_of encloser.now) ≤ MAX_BELOW_ASTERISK }
     ensures none { IsNone result → exists (Z.records zone.now) (asterisk ∷ encloser.now) ≡ false }

@@ -15,7 +15,7 @@ use Rattle.zone_tree.proofs.LawLemmas.{same_lists}
 use Rattle.zone_tree.proofs.Rising.{rises_from_pairs, each_weaker}
 use Rattle.zone_tree.proofs.SetLemmas.{record_total}
 use Rattle.master_file.specs.declared.record_entry.RecordEntry.{RecordEntry}
-use Rattle.master_file.specs.ZoneText.{record_in, with_one, with_all, timed, in_lower, zone_records, zone_of_all, zone_of_read, told}
+use Rattle.master_file.specs.ZoneText.{record_in, with_one, with_all, timed, in_lower, zone_records, zone_of_all, zone_of_read, reported}
 use Rattle.record_text.specs.declared.cause.Cause.TheVariants.{Limit}
 use Rattle.master_file.specs.WrittenZone.{is_other, soa_first, rr_at, rrs_from}
 use Rattle.master_file.proofs.InsertLemmas.{each_inserted}
@@ -194,4 +194,4 @@ zone_again zone is =
     let ps = rrs_from 1 (soa_first zone) in
     let same = records_again zone is in
     let ok = ok_zone ps (of_is_zone ps (subst (λ (z : List Record). IsZone z) (sym same) is)) in
-    ap (λ (o : Option ℕ). told Limit o (zone_of_all ps)) ok.0 ∙ ok.1 ∙ ap (λ (z : List Record). Ok z) same
+    ap (λ (o : Option ℕ). reported Limit o (zone_of_all ps)) ok.0 ∙ ok.1 ∙ ap (λ (z : List Record). Ok z) same

@@ -22,7 +22,7 @@ use Rattle.master_file.specs.declared.faulty.Sought.{Sought}
 use Rattle.master_file.specs.declared.faulty.Sought.TheVariants as sought
 use Rattle.master_file.specs.FaultyLine.{shows}
 use Rattle.master_file.specs.Records.{Read}
-use Rattle.master_file.specs.ZoneText.{with_one, with_all, first_line, is_too_many, is_second_soa, is_conflict, outside_line, told, told_whole, zone_records, zone_of_all, zone_of_read}
+use Rattle.master_file.specs.ZoneText.{with_one, with_all, first_line, is_too_many, is_second_soa, is_conflict, outside_line, reported, told_whole, zone_records, zone_of_all, zone_of_read}
 use Rattle.master_file.proofs.IsZoneLemmas.{few_none, apart_none, are_few, are_apart, aliases_alone, no_wild_cuts, soa_count, len_zone, server_count, not_zero, not_nil}
 use Rattle.master_file.proofs.JudgeLemmas.{holds_of_all, no_line, limits_judge, soa_judges}
 use Rattle.master_file.proofs.RuleLemmas.{conflicts_judge}
@@ -167,7 +167,7 @@ none_at_all test (p ∷ ps) = refl
 
 -- the fault that is told after the whole of a text
 abbrev zone_by : Option ℕ → Bool → Bool → Option ℕ → Option ℕ → List RecordEntry → Result (List Record) FileFault
-zone_by second none unserved outside conflict ps = told Apex second (told_whole none (told_whole unserved (told Outside outside (told Conflict conflict (Ok (zone_records ps))))))
+zone_by second none unserved outside conflict ps = reported Apex second (told_whole none (told_whole unserved (reported Outside outside (reported Conflict conflict (Ok (zone_records ps))))))
 
 pub none_by : (broken : BrokenRule) (sets : List (List Record)) → AllPairs IsSetBefore sets → length (records_in sets) ≤ 1000000 → IsFirstFault broken sets → place_of_rule broken ≤ 4 → length (soa_of (records_in sets)) ≤ 1 → length (soa_of (records_in sets)) ≡ 0
 none_by rule.TooManyRecords sets rising few is early one = let many = is.broken in absurd (omega arith)
@@ -188,7 +188,7 @@ module _ (read : Read) (sets : List (List Record)) (is : records_in sets ≡ zon
 
   of_all : zone_of_read read ≡ zone_of_all all
   of_all =
-      ap (λ (o : Option ℕ). told Limit o (elim read.fault as (λ _. Result (List Record) FileFault) [ Some f ↦ Err f | None ↦ zone_of_all all ])) few
+      ap (λ (o : Option ℕ). reported Limit o (elim read.fault as (λ _. Result (List Record) FileFault) [ Some f ↦ Err f | None ↦ zone_of_all all ])) few
       ∙ ap (λ (f : Option FileFault). elim f as (λ _. Result (List Record) FileFault) [ Some g ↦ Err g | None ↦ zone_of_all all ]) whole
 
   abbrev none_there : Bool
@@ -226,6 +226,6 @@ module _ (read : Read) (sets : List (List Record)) (is : records_in sets ≡ zon
       told_outside line e =
           of_all ∙ (λ i. zone_by (one_shown all sets is (omega arith) i) (ap (λ (n : ℕ). n == 0) (sym soas ∙ one) i) (served i) ((sym outside ∙ sym e) i) (first_line is_conflict [] all) all)
 
-      pub told_conflict : (line : Option ℕ) → first_line is_conflict [] all ≡ line → None ≡ outside_line apex all → zone_of_read read ≡ told Conflict line (Ok (zone_records all))
+      pub told_conflict : (line : Option ℕ) → first_line is_conflict [] all ≡ line → None ≡ outside_line apex all → zone_of_read read ≡ reported Conflict line (Ok (zone_records all))
       told_conflict line shown e =
           of_all ∙ (λ i. zone_by (one_shown all sets is (omega arith) i) (ap (λ (n : ℕ). n == 0) (sym soas ∙ one) i) (served i) ((sym outside ∙ sym e) i) (shown i) all)

@@ -14,7 +14,7 @@ use Rattle.master_file.specs.declared.record_entry.RecordEntry.{RecordEntry}
 use Rattle.record_text.specs.declared.cause.Cause.{Cause}
 use Rattle.record_text.specs.declared.cause.Cause.TheVariants.{Limit, Outside, Apex, Conflict}
 use Rattle.master_file.specs.declared.fault.FileFault.{FileFault}
-use Rattle.master_file.specs.ZoneText.{record_in, with_all, timed, first_line, is_too_many, is_second_soa, is_conflict, outside_line, told, told_whole, zone_of_all, zone_of_read, zone_records}
+use Rattle.master_file.specs.ZoneText.{record_in, with_all, timed, first_line, is_too_many, is_second_soa, is_conflict, outside_line, reported, told_whole, zone_of_all, zone_of_read, zone_records}
 use Rattle.master_file.specs.Records.{Read}
 use Rattle.master_file.proofs.KeptLemmas.{one, count_cons, same_set}
 use Rattle.master_file.proofs.JudgeLemmas.{ascends_all, holds_of_all, no_line, AreFew, limits_judge, HasOneSoa, soa_judges}
@@ -36,7 +36,7 @@ pub record IsReadable (p : RecordEntry) : Type 0 where
   pub lawful : IsLawful (record_in p)
   pub short : length p.rdata.octets ≤ 4096
 
-told_ok : (cause : Cause) (o : Option ℕ) (next : Result (List Record) FileFault) (zone : List Record) → told cause o next ≡ Ok zone → (o ≡ None) × (next ≡ Ok zone)
+told_ok : (cause : Cause) (o : Option ℕ) (next : Result (List Record) FileFault) (zone : List Record) → reported cause o next ≡ Ok zone → (o ≡ None) × (next ≡ Ok zone)
 told_ok cause None next zone e = (refl, e)
 told_ok cause (Some line) next zone e = let no : ⊥ = cc in absurd no
 
@@ -58,8 +58,8 @@ pub of_zone : (ps : List RecordEntry) (zone : List Record) → first_line is_too
 of_zone ps zone few e =
     let kept = with_all [] ps in
     let apex = apex_of kept in
-    let fifth = told Conflict (first_line is_conflict [] ps) (Ok (zone_records ps)) in
-    let fourth = told Outside (outside_line apex ps) fifth in
+    let fifth = reported Conflict (first_line is_conflict [] ps) (Ok (zone_records ps)) in
+    let fourth = reported Outside (outside_line apex ps) fifth in
     let third = told_whole (length (rrset_of kept apex type_NS) == 0) fourth in
     let second = told_whole (length (soa_of kept) == 0) third in
     let a = told_ok Apex (first_line is_second_soa [] ps) second zone e in
@@ -88,11 +88,11 @@ ok_zone ps h =
     let outside = no_line (outside_judges apex) [] ps tt h.inside in
     let conflict = no_line conflicts_judge [] ps tt h.apart in (
       none.0,
-      ap (λ (o : Option ℕ). told Apex o (told_whole (length (soa_of kept) == 0) (told_whole (length (rrset_of kept apex type_NS) == 0) (told Outside (outside_line apex ps) (told Conflict (first_line is_conflict [] ps) (Ok (zone_records ps))))))) second.0
-          ∙ ap (λ (b : Bool). told_whole b (told_whole (length (rrset_of kept apex type_NS) == 0) (told Outside (outside_line apex ps) (told Conflict (first_line is_conflict [] ps) (Ok (zone_records ps)))))) h.soa
-          ∙ ap (λ (b : Bool). told_whole b (told Outside (outside_line apex ps) (told Conflict (first_line is_conflict [] ps) (Ok (zone_records ps))))) h.servers
-          ∙ ap (λ (o : Option ℕ). told Outside o (told Conflict (first_line is_conflict [] ps) (Ok (zone_records ps)))) (outside_first apex [] ps ∙ outside.0)
-          ∙ ap (λ (o : Option ℕ). told Conflict o (Ok (zone_records ps))) conflict.0,
+      ap (λ (o : Option ℕ). reported Apex o (told_whole (length (soa_of kept) == 0) (told_whole (length (rrset_of kept apex type_NS) == 0) (reported Outside (outside_line apex ps) (reported Conflict (first_line is_conflict [] ps) (Ok (zone_records ps))))))) second.0
+          ∙ ap (λ (b : Bool). told_whole b (told_whole (length (rrset_of kept apex type_NS) == 0) (reported Outside (outside_line apex ps) (reported Conflict (first_line is_conflict [] ps) (Ok (zone_records ps)))))) h.soa
+          ∙ ap (λ (b : Bool). told_whole b (reported Outside (outside_line apex ps) (reported Conflict (first_line is_conflict [] ps) (Ok (zone_records ps))))) h.servers
+          ∙ ap (λ (o : Option ℕ). reported Outside o (reported Conflict (first_line is_conflict [] ps) (Ok (zone_records ps)))) (outside_first apex [] ps ∙ outside.0)
+          ∙ ap (λ (o : Option ℕ). reported Conflict o (Ok (zone_records ps))) conflict.0,
     )
 
 -- what a test shows none of, and each of which it shows none
@@ -335,5 +335,5 @@ read_is_zone read found each e =
 pub zone_is_read : (read : Read) → read.fault ≡ None → IsZone (zone_records read.rrs) → zone_of_read read ≡ Ok (zone_records read.rrs)
 zone_is_read read none is =
     let ok = ok_zone read.rrs (of_is_zone read.rrs is) in
-    ap (λ (o : Option ℕ). told Limit o (elim read.fault as (λ _. Result (List Record) FileFault) [ Some f ↦ Err f | None ↦ zone_of_all read.rrs ])) ok.0
+    ap (λ (o : Option ℕ). reported Limit o (elim read.fault as (λ _. Result (List Record) FileFault) [ Some f ↦ Err f | None ↦ zone_of_all read.rrs ])) ok.0
     ∙ ap (λ (f : Option FileFault). elim f as (λ _. Result (List Record) FileFault) [ Some g ↦ Err g | None ↦ zone_of_all read.rrs ]) none ∙ ok.1

@@ -33,7 +33,7 @@ count_with q kept p h = count_inserted record_total q (record_in p) kept h
 -- a test shows a record exactly where what held before it holds no more
 pub record Judges (test : List Record → RecordEntry → Bool) (Q : List Record → Type 0) : Type 0 where
   pub keeps : (kept : List Record) (p : RecordEntry) → Ascends kept → Q kept → test kept p ≡ false → Q (with_one kept p)
-  pub told : (kept : List Record) (p : RecordEntry) → Ascends kept → Q (with_one kept p) → test kept p ≡ true → ⊥
+  pub reported : (kept : List Record) (p : RecordEntry) → Ascends kept → Q (with_one kept p) → test kept p ≡ true → ⊥
   pub before : (kept : List Record) (p : RecordEntry) → Ascends kept → Q (with_one kept p) → Q kept
 
 none_first : (b : Bool) (line : ℕ) (o : Option ℕ) → cond b (Some line) o ≡ None → (b ≡ false) × (o ≡ None)
@@ -57,7 +57,7 @@ module _ {test : List Record → RecordEntry → Bool} {Q : List Record → Type
   no_line kept [] h q = (refl, q)
   no_line kept (p ∷ ps) h q =
       let rest = no_line (with_one kept p) ps (ascends_with kept p h) q in
-      (first_none (test kept p) p.line (first_line test (with_one kept p) ps) (judges.told kept p h rest.1) rest.0, judges.before kept p h rest.1)
+      (first_none (test kept p) p.line (first_line test (with_one kept p) ps) (judges.reported kept p h rest.1) rest.0, judges.before kept p h rest.1)
 
 -- lengths
 all_count : (xs : List Record) → length (filter (λ (r : Record). true) xs) ≡ length xs
@@ -108,7 +108,7 @@ limits_judge = record {
     each = λ owner rtype. few_each (is_new kept p) (is_of owner rtype (record_in p)) (length (rrset_of kept p.owner p.rdata.rtype)) (length kept) (length (rrset_of kept owner rtype)) (length (rrset_of (with_one kept p) owner rtype))
         (count_with (is_of owner rtype) kept p h) (same_set kept p.owner owner p.rdata.rtype rtype) (q.each owner rtype) none;
   };
-  told = λ kept p h q shows. few_told (is_new kept p) (length (rrset_of kept p.owner p.rdata.rtype)) (length kept) (length (rrset_of (with_one kept p) p.owner p.rdata.rtype)) (length (with_one kept p))
+  reported = λ kept p h q shows. few_told (is_new kept p) (length (rrset_of kept p.owner p.rdata.rtype)) (length kept) (length (rrset_of (with_one kept p) p.owner p.rdata.rtype)) (length (with_one kept p))
       (count_with (is_of p.owner p.rdata.rtype) kept p h ∙ ap (λ (b : Bool). one (is_new kept p && b) + length (rrset_of kept p.owner p.rdata.rtype)) (own_set p)) (length_with kept p h) (q.each p.owner p.rdata.rtype) q.all shows;
   before = λ kept p h q. record {
     all = let l = length_with kept p h in let a = q.all in omega arith;
@@ -136,6 +136,6 @@ is_soa r = r.rtype == type_SOA
 pub soa_judges : Judges is_second_soa HasOneSoa
 soa_judges = record {
   keeps = λ kept p h q none. soa_keeps (is_new kept p) (p.rdata.rtype == type_SOA) (length (soa_of kept)) (length (soa_of (with_one kept p))) (count_with is_soa kept p h) q none;
-  told = λ kept p h q shows. soa_told (is_new kept p) (p.rdata.rtype == type_SOA) (length (soa_of kept)) (length (soa_of (with_one kept p))) (count_with is_soa kept p h) q shows;
+  reported = λ kept p h q shows. soa_told (is_new kept p) (p.rdata.rtype == type_SOA) (length (soa_of kept)) (length (soa_of (with_one kept p))) (count_with is_soa kept p h) q shows;
   before = λ kept p h q. let l = count_with is_soa kept p h in omega arith;
 }

@@ -18,7 +18,7 @@ use Rattle.master_file.specs.declared.fault.FileFault.{FileFault}
 use Rattle.master_file.specs.declared.record_entry.RecordEntry.{RecordEntry}
 use Rattle.master_file.specs.Records.{directive_of, directed, owned_of, ttl_in, rr_of, record_of, behind, judged, words_of, fault_line, fault_at, Read, faulty, in_front, records_from}
 use Rattle.master_file.specs.TextLaws.{on_fault, on_line}
-use Rattle.master_file.specs.ZoneText.{record_in, with_one, with_all, timed, in_lower, first_line, is_too_many, is_second_soa, is_conflict, outside_line, told, told_whole, zone_of_all, zone_of_read, zone_records}
+use Rattle.master_file.specs.ZoneText.{record_in, with_one, with_all, timed, in_lower, first_line, is_too_many, is_second_soa, is_conflict, outside_line, reported, told_whole, zone_of_all, zone_of_read, zone_records}
 
 -- readings of records that are the same but for something
 then_on : {A B E : Type 0} (g : B → B) (r : Result A E) (h k : A → Result B E) → ((x : A) → k x ≡ on_ok g (h x)) → and_then r k ≡ on_ok g (and_then r h)
@@ -158,10 +158,10 @@ module _ (f : ℕ → ℕ) where
     abbrev Zone : Type 0
     Zone = Result (List Record) FileFault
 
-    told_moved : (cause : Cause) (o p : Option ℕ) (next other : Zone) → p ≡ option_map f o → other ≡ on_fault (on_line f) next → told cause p other ≡ on_fault (on_line f) (told cause o next)
-    told_moved cause o p next other e h = ap (λ (q : Option ℕ). told cause q other) e ∙ ap (told cause (option_map f o)) h ∙ by o
+    told_moved : (cause : Cause) (o p : Option ℕ) (next other : Zone) → p ≡ option_map f o → other ≡ on_fault (on_line f) next → reported cause p other ≡ on_fault (on_line f) (reported cause o next)
+    told_moved cause o p next other e h = ap (λ (q : Option ℕ). reported cause q other) e ∙ ap (reported cause (option_map f o)) h ∙ by o
       where
-        by : (q : Option ℕ) → told cause (option_map f q) (on_fault (on_line f) next) ≡ on_fault (on_line f) (told cause q next)
+        by : (q : Option ℕ) → reported cause (option_map f q) (on_fault (on_line f) next) ≡ on_fault (on_line f) (reported cause q next)
         by None = refl
         by (Some line) = refl
 
@@ -171,7 +171,7 @@ module _ (f : ℕ → ℕ) where
 
     abbrev zone_by : List Record → Option ℕ → Option ℕ → Option ℕ → Zone → Zone
     zone_by kept second outside conflict zone =
-        told Apex second (told_whole (length (soa_of kept) == 0) (told_whole (length (rrset_of kept (apex_of kept) type_NS) == 0) (told Outside outside (told Conflict conflict zone))))
+        reported Apex second (told_whole (length (soa_of kept) == 0) (told_whole (length (rrset_of kept (apex_of kept) type_NS) == 0) (reported Outside outside (reported Conflict conflict zone))))
 
     zone_moved : (rrs : List RecordEntry) → zone_of_all (map moved rrs) ≡ on_fault (on_line f) (zone_of_all rrs)
     zone_moved rrs =
@@ -184,7 +184,7 @@ module _ (f : ℕ → ℕ) where
         (told_moved Conflict _ _ _ _ (first_moved is_conflict (λ k rr. refl) [] rrs) (ap Ok (zone_records_moved rrs))))))
 
     abbrev after_limit : List RecordEntry → Option FileFault → Zone
-    after_limit rrs fault = elim fault as (λ _. Zone) [ Some told ↦ Err told | None ↦ zone_of_all rrs ]
+    after_limit rrs fault = elim fault as (λ _. Zone) [ Some reported ↦ Err reported | None ↦ zone_of_all rrs ]
 
     after_moved : (rrs : List RecordEntry) (fault : Option FileFault) → after_limit (map moved rrs) (option_map (on_line f) fault) ≡ on_fault (on_line f) (after_limit rrs fault)
     after_moved rrs None = zone_moved rrs

@@ -19,7 +19,7 @@ use Rattle.record_text.proofs.OwnLemmas.{IsOwnCause, TellsOwn, own_or, on_own, t
 use Rattle.master_file.specs.declared.context.Context.{Context}
 use Rattle.master_file.specs.declared.fault.FileFault.{FileFault}
 use Rattle.master_file.specs.declared.record_entry.RecordEntry.{RecordEntry}
-use Rattle.master_file.specs.ZoneText.{with_all, first_line, is_too_many, is_second_soa, is_conflict, outside_line, told, told_whole, zone_of_all, zone_of_read, zone_of_text, zone_records}
+use Rattle.master_file.specs.ZoneText.{with_all, first_line, is_too_many, is_second_soa, is_conflict, outside_line, reported, told_whole, zone_of_all, zone_of_read, zone_of_text, zone_records}
 use Rattle.master_file.specs.Records.{alone, argument_of, directed, directive_of, owned_of, ttl_in, rr_of, record_of, behind, judged, words_of, fault_at, Read, faulty, in_front, records_from, start, records_of}
 
 alone_own : {A : Type 0} (x : A) (words : List Written) → TellsOwn (alone x words)
@@ -83,7 +83,7 @@ abbrev TellsOwnFault : Result (List Record) FileFault → Type 0
 TellsOwnFault (Ok zone) = Unit {0}
 TellsOwnFault (Err fault) = IsOwnCause fault.cause
 
-told_own : (c : Cause) (o : Option ℕ) (next : Result (List Record) FileFault) → IsOwnCause c → TellsOwnFault next → TellsOwnFault (told c o next)
+told_own : (c : Cause) (o : Option ℕ) (next : Result (List Record) FileFault) → IsOwnCause c → TellsOwnFault next → TellsOwnFault (reported c o next)
 told_own c None next h k = k
 told_own c (Some line) next h k = h
 
@@ -95,8 +95,8 @@ all_own : (ps : List RecordEntry) → TellsOwnFault (zone_of_all ps)
 all_own ps =
     let kept = with_all [] ps in
     let apex = apex_of kept in
-    let fifth = told Conflict (first_line is_conflict [] ps) (Ok (zone_records ps)) in
-    let fourth = told Outside (outside_line apex ps) fifth in
+    let fifth = reported Conflict (first_line is_conflict [] ps) (Ok (zone_records ps)) in
+    let fourth = reported Outside (outside_line apex ps) fifth in
     let third = told_whole (length (rrset_of kept apex type_NS) == 0) fourth in
     told_own Apex (first_line is_second_soa [] ps) (told_whole (length (soa_of kept) == 0) third) tt
     (whole_own (length (soa_of kept) == 0) third

@@ -34,7 +34,7 @@ first_of before after head found words e h = subst (λ (o : Option EntryHead). M
 -- a fault of the first entry is that of the whole
 pub fault_first : (context : Context) (before after : List Entry) (head : EntryHead) (found : Option EntryHead) (items words : List Word) (cause : Cause) → found ≡ Some head → MatchOption found ((before ≡ []) × (after ≡ [])) (λ (h : EntryHead). IsFirst before after h (map written items)) → words ≡ items → IsToldOf (judged context head.line head.indented (map written words)) cause → (cause ≡ NoMemory) ⊎ (records_from context before ≡ faulty (fault_at head.line head.unclosed cause))
 fault_first context before after head found items words cause e h same (inl none) = inl none
-fault_first context before after head found items words cause e h same (inr told) =
+fault_first context before after head found items words cause e h same (inr reported) =
     inr (from_first context before after head (map written items) (first_of before after head found (map written items) e h)
     ∙ ap (λ (ws : List Word). then head.line head.unclosed after (judged context head.line head.indented (map written ws))) (sym same)
-    ∙ ap (then head.line head.unclosed after) told)
+    ∙ ap (then head.line head.unclosed after) reported)

@@ -173,7 +173,7 @@ conflicts_judge = record {
             (count_with (is_of owner type_CNAME) kept p h) (count_with (stands_at owner) kept p h) (same_alias kept p.owner owner) (same_at kept p.owner owner) (q.alone owner) (sym (beside kept p) ∙ parts.0);
         cuts = none_more (is_new kept p) (is_wild p.owner && p.rdata.rtype == type_NS) (length (filter is_wild_cut kept)) (length (filter is_wild_cut (with_one kept p))) (count_with is_wild_cut kept p h) q.cuts parts.1;
       };
-  told = λ kept p h q shows. either ⊥ (is_beside_alias kept p) (is_wild p.owner && p.rdata.rtype == type_NS) shows
+  reported = λ kept p h q shows. either ⊥ (is_beside_alias kept p) (is_wild p.owner && p.rdata.rtype == type_NS) shows
       (λ e. alone_told (is_new kept p) (p.rdata.rtype == type_CNAME) (length (rrset_of (with_one kept p) p.owner type_CNAME)) (length (rrsets_of (with_one kept p) p.owner)) (length (rrset_of kept p.owner type_CNAME)) (length (rrsets_of kept p.owner))
       (count_with (is_of p.owner type_CNAME) kept p h ∙ ap (λ (b : Bool). one (is_new kept p && (b && p.rdata.rtype == type_CNAME)) + length (rrset_of kept p.owner type_CNAME)) (own p.owner))
       (count_with (stands_at p.owner) kept p h ∙ ap (λ (b : Bool). one (is_new kept p && b) + length (rrsets_of kept p.owner)) (own p.owner))
@@ -205,7 +205,7 @@ outside_tied apex r s e = ap not (under_folded r.owner s.owner apex (tied_parts 
 pub outside_judges : (apex : List (List ℕ)) → Judges (shows_outside apex) (AreInside apex)
 outside_judges apex = record {
   keeps = λ kept p h q none. none_more (is_new kept p) (is_outside apex (record_in p)) (length (filter (is_outside apex) kept)) (length (filter (is_outside apex) (with_one kept p))) (count_with (is_outside apex) kept p h) q none;
-  told = λ kept p h q shows. shown_none (is_outside apex) (outside_tied apex) kept p h q shows;
+  reported = λ kept p h q shows. shown_none (is_outside apex) (outside_tied apex) kept p h q shows;
   before = λ kept p h q. let l = count_with (is_outside apex) kept p h in omega arith;
 }
 

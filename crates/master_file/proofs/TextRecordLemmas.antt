@@ -31,7 +31,7 @@ use Rattle.master_file.specs.declared.fault.FileFault.{FileFault}
 use Rattle.master_file.specs.declared.record_entry.RecordEntry.{RecordEntry}
 use Rattle.master_file.specs.Records.{argument_of, directed, directive_of, owned_of, ttl_in, rr_of, record_of, behind, judged, words_of, fault_at, Read, faulty, in_front, records_from, start, records_of}
 use Rattle.master_file.specs.TextLaws.{IsRead, rrs_of, last_ttl}
-use Rattle.master_file.specs.ZoneText.{record_in, with_one, with_all, timed, first_line, is_too_many, told, zone_of_all, zone_of_read, zone_of_text, zone_records}
+use Rattle.master_file.specs.ZoneText.{record_in, with_one, with_all, timed, first_line, is_too_many, reported, zone_of_all, zone_of_read, zone_of_text, zone_records}
 use Rattle.master_file.proofs.IsZoneLemmas.{of_zone}
 use Rattle.master_file.proofs.ShownLemmas.{shown, timed_owner, timed_rtype, timed_rdata, is_read, each_read, each_of_all}
 
@@ -304,8 +304,8 @@ same_record r s a b c d =
 
 kept_is : (rrs : List RecordEntry) (s r : Record) → IsKept rrs s → s.owner ≡ r.owner → s.rtype ≡ r.rtype → s.rdata ≡ r.rdata → last_ttl (rrs_of r.owner r.rtype rrs) ≡ Some r.ttl → shown rrs s ≡ r
 kept_is rrs s r h owner rtype rdata last =
-    let told = sym (last_timed rrs s h.of) ∙ ap (λ (o : List (List ℕ)). last_ttl (rrs_of o s.rtype rrs)) owner ∙ ap (λ (t : ℕ). last_ttl (rrs_of r.owner t rrs)) rtype ∙ last in
-    same_record (shown rrs s) r (shown_owner rrs s h.folded ∙ owner) (timed_rtype rrs s ∙ rtype) (same_some (timed rrs s).ttl r.ttl told) (timed_rdata rrs s ∙ rdata)
+    let reported = sym (last_timed rrs s h.of) ∙ ap (λ (o : List (List ℕ)). last_ttl (rrs_of o s.rtype rrs)) owner ∙ ap (λ (t : ℕ). last_ttl (rrs_of r.owner t rrs)) rtype ∙ last in
+    same_record (shown rrs s) r (shown_owner rrs s h.folded ∙ owner) (timed_rtype rrs s ∙ rtype) (same_some (timed rrs s).ttl r.ttl reported) (timed_rdata rrs s ∙ rdata)
 
 has-zone_of_text : (rrs : List RecordEntry) → EachFolded rrs → (r : Record) → IsOfText rrs r → Contains (zone_records rrs) r
 has-zone_of_text rrs folded r h =
@@ -321,7 +321,7 @@ has-zone_of_text rrs folded r h =
     (contained_map (shown rrs) kept found.x found.contained)
 
 -- the zone of a text
-told_ok : (cause : Cause) (o : Option ℕ) (next : Result (List Record) FileFault) (zone : List Record) → told cause o next ≡ Ok zone → (o ≡ None) × (next ≡ Ok zone)
+told_ok : (cause : Cause) (o : Option ℕ) (next : Result (List Record) FileFault) (zone : List Record) → reported cause o next ≡ Ok zone → (o ≡ None) × (next ≡ Ok zone)
 told_ok cause None next zone e = (refl, e)
 told_ok cause (Some line) next zone e = let no : ⊥ = cc in absurd no
 

@@ -9,7 +9,7 @@ use Rattle.master_file.specs.declared.record_entry.RecordEntry.{RecordEntry}
 abbrev pub origin : Name
 origin = codes "test" ∷ []
 
--- lines, an LF behind each
+-- lines, an LF after each
 abbrev pub lines : List (List ℕ) → List ℕ
 lines texts = flat_map (λ text. text ++ 10 ∷ []) texts
 
@@ -27,6 +27,6 @@ records =
     server 2 origin 5 (codes "a" ∷ origin) ∷ server 3 origin 60 (codes "b" ∷ [])
     ∷ record { line = 5; owner = codes "d" ∷ codes "c" ∷ origin; ttl = record { 0 = 60 }; rdata = record { rtype = type_MX; octets = 0 ∷ 7 ∷ wire_of (codes "c" ∷ origin) } } ∷ []
 
--- a text with a quote without its end, behind a word that is judged first: a name where one is due
+-- a text with a quote without its end, after a word that is judged first: a name where one is due
 abbrev pub unclosed_text : List ℕ → List ℕ
 unclosed_text name = lines (codes "a 5 NS (" ∷ (name ++ 32 ∷ 34 ∷ codes "c") ∷ codes ")" ∷ [])

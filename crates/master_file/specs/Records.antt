@@ -19,7 +19,7 @@ use Rattle.record_text.specs.Reading.{on_ok, and_then}
 use Rattle.zone_lexing.specs.Word.Written.{Plain}
 use Rattle.zone_lexing.specs.Word.Written.{Unclosed as no_word}
 
--- what is read of an argument, where no word stands behind it
+-- what is read of an argument, where no word stands after it
 abbrev pub alone : {A : Type 0} → A → List Written → Result A Cause
 alone x [] = Ok x
 alone x (word ∷ words) = Err (surplus_of word)
@@ -29,7 +29,7 @@ abbrev pub argument_of : {A : Type 0} → (Written → Result A Cause) → List 
 argument_of read [] = Err Directive
 argument_of read (word ∷ words) = and_then (read word) (λ x. alone x words)
 
--- what is in force behind a directive: `$ORIGIN` has a name, relative to the origin before it, and `$TTL` a TTL; both are
+-- what is in force after a directive: `$ORIGIN` has a name, relative to the origin before it, and `$TTL` a TTL; both are
 -- read in upper case alone (RFC 1035, 5.1; RFC 2308, 4; own)
 unfoldable pub directed : Context → List ℕ → List Written → Result Context Cause
 directed context directive arguments =
@@ -44,7 +44,7 @@ directive_of true words = None
 directive_of false (Plain text ∷ words) = if begins_with 36 text then Some (text, words) else None
 directive_of false words = None
 
--- the owner of a record, and the words behind it: a line that begins with a blank takes the owner of the record before
+-- the owner of a record, and the words after it: a line that begins with a blank takes the owner of the record before
 -- (RFC 1035, 5.1). Owners are in lower case
 abbrev pub owned_of : Context → Bool → List Written → Result (Name × List Written) Cause
 owned_of context true words = on_ok (λ owner. (owner, words)) (ok_or context.owner NoOwner)
@@ -66,18 +66,18 @@ rr_of context line owner words =
 abbrev pub record_of : Context → ℕ → Bool → List Written → Result RecordEntry Cause
 record_of context line indented words = and_then (owned_of context indented words) (λ owned. rr_of context line owned.0 owned.1)
 
--- what is in force behind a record
+-- what is in force after a record
 abbrev pub behind : Context → RecordEntry → Context
 behind context rr = record context { owner = Some rr.owner; ttl = Some rr.ttl }
 
--- what is in force behind an entry, and its record where it has one
+-- what is in force after an entry, and its record where it has one
 abbrev pub judged : Context → ℕ → Bool → List Written → Result (Context × Option RecordEntry) Cause
 judged context line indented words = elim (directive_of indented words) [
   | Some directive ↦ on_ok (λ next. (next, None)) (directed context directive.0 directive.1)
   | None ↦ on_ok (λ rr. (behind context rr, Some rr)) (record_of context line indented words)
 ]
 
--- the words of an entry; a quote or a parenthesis without its other one stands behind them
+-- the words of an entry; a quote or a parenthesis without its other one stands after them
 abbrev pub words_of : Entry → List Written
 words_of entry = elim entry.unclosed [ None ↦ entry.words | Some line ↦ entry.words ++ no_word ∷ [] ]
 
@@ -104,7 +104,7 @@ nothing = record { rrs = []; fault = None }
 abbrev pub faulty : FileFault → Read
 faulty fault = record { rrs = []; fault = Some fault }
 
--- one record in front of what is read
+-- one record before what is read
 abbrev pub in_front : RecordEntry → Read → Read
 in_front rr rest = record { rrs = rr ∷ rest.rrs; fault = rest.fault }
 

@@ -32,7 +32,7 @@ is_set_of r set = is_same (owner_of set) r.owner && rtype_of set == r.rtype
 abbrev pub joined : List Record → Record → List Record
 joined set r = map (λ (s : Record). record s { ttl = r.ttl }) (with_record r set)
 
--- sets with one more record: in the last one where that is of its owner and type, and else a set of its own behind them
+-- sets with one more record: in the last one where that is of its owner and type, and else a set of its own after them
 abbrev pub put_last : List (List Record) → Record → List (List Record)
 put_last [] r = (r ∷ []) ∷ []
 put_last (set ∷ []) r = if is_set_of r set then joined set r ∷ [] else set ∷ (r ∷ []) ∷ []

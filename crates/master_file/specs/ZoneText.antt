@@ -74,9 +74,9 @@ abbrev pub zone_records : List RecordEntry → List Record
 zone_records rrs = map (λ r. in_lower (timed rrs r)) (with_all [] rrs)
 
 -- a fault, at a line that shows it, or else what follows
-abbrev pub told : Cause → Option ℕ → Result (List Record) FileFault → Result (List Record) FileFault
-told cause None next = next
-told cause (Some line) next = Err (record { line = line; cause = cause })
+abbrev pub reported : Cause → Option ℕ → Result (List Record) FileFault → Result (List Record) FileFault
+reported cause None next = next
+reported cause (Some line) next = Err (record { line = line; cause = cause })
 
 -- and at line 0 where a test shows it
 abbrev pub told_whole : Bool → Result (List Record) FileFault → Result (List Record) FileFault
@@ -87,16 +87,16 @@ told_whole false next = next
 -- tried in this order (own)
 abbrev pub zone_of_all : List RecordEntry → Result (List Record) FileFault
 zone_of_all rrs = let kept = with_all [] rrs in
-    told Apex (first_line is_second_soa [] rrs)
+    reported Apex (first_line is_second_soa [] rrs)
     (told_whole (length (soa_of kept) == 0)
     (told_whole (length (rrset_of kept (apex_of kept) type_NS) == 0)
-    (told Outside (outside_line (apex_of kept) rrs)
-    (told Conflict (first_line is_conflict [] rrs)
+    (reported Outside (outside_line (apex_of kept) rrs)
+    (reported Conflict (first_line is_conflict [] rrs)
     (Ok (zone_records rrs))))))
 
 -- the zone of what is read of a text: a record too many stands before a fault of the text
 abbrev pub zone_of_read : Read → Result (List Record) FileFault
-zone_of_read read = told Limit (first_line is_too_many [] read.rrs) (elim read.fault [ Some fault ↦ Err fault | None ↦ zone_of_all read.rrs ])
+zone_of_read read = reported Limit (first_line is_too_many [] read.rrs) (elim read.fault [ Some fault ↦ Err fault | None ↦ zone_of_all read.rrs ])
 
 -- the zone of a text, or the fault that is told (RFC 1035, 5)
 abbrev pub zone_of_text : Name → List ℕ → Result (List Record) FileFault

@@ -14,7 +14,7 @@ use zone_lexing::Word;
 /// What is in force where an entry begins.
 #[derive(Drop)]
 pub(crate) struct Context {
-    /// What names without a final dot have behind them.
+    /// What names without a final dot have after them.
     pub origin: Name,
     /// The TTL of `$TTL`.
     pub default_ttl: Option<Ttl>,
@@ -60,7 +60,7 @@ impl Context {
 
     /// Puts a directive in force: `$ORIGIN` and `$TTL`, in upper case (RFC 1035, 5.1; RFC 2308, 4).
     ///
-    /// `Directive` at another one, and without an argument; the argument's own fault; `BadData` at a word behind it, and
+    /// `Directive` at another one, and without an argument; the argument's own fault; `BadData` at a word after it, and
     /// `Unclosed` where no word stands. Nothing changes then.
     #[tactic(auto, unfolding(crate::specs::Records::directed))]
     pub fn direct(&mut self, directive: &[u8], arguments: &[Word<'_>]) -> Result<(), Cause>

@@ -36,7 +36,7 @@ pub(crate) enum Sought {
     Conflict,
 }
 
-/// The records of a text, in its order, and the fault behind them.
+/// The records of a text, in its order, and the fault after them.
 pub(crate) fn read_all(
     alloc: Global,
     text: &[u8],
@@ -142,7 +142,7 @@ fn is_shown(
     }
 }
 
-/// A place between two: the likely one, or the one behind it, or else the middle.
+/// A place between two: the likely one, or the one after it, or else the middle.
 fn place_between(low: usize, high: usize, likely: usize) -> usize
     requires { low + 1 < high }
     ensures low { low < result }
@@ -238,7 +238,7 @@ pub(crate) fn fault_of(alloc: Global, text: &[u8], origin: &Name) -> Result<File
     let mut likely = Likely::last();
     let Some(sets) = within_limits(alloc, all, Some(&mut likely))? else {
         let line = first_shown(alloc, &records, Sought::Limit, &likely)?;
-        return Ok(told(line, Cause::Limit));
+        return Ok(fault_at(line, Cause::Limit));
     };
     match fault {
         Some(fault) => Ok(fault),
@@ -264,24 +264,24 @@ fn judge(
     if has_second_soa(&sets) {
         drop(sets);
         let line = first_shown(alloc, records, Sought::SecondSoa, likely)?;
-        return Ok(told(line, Cause::Apex));
+        return Ok(fault_at(line, Cause::Apex));
     }
     let apex = match find_apex(&sets) {
         Ok(apex) => apex,
-        Err(_) => return Ok(told(0, Cause::Apex)),
+        Err(_) => return Ok(fault_at(0, Cause::Apex)),
     };
     if !apex.has_name_server {
-        return Ok(told(0, Cause::Apex));
+        return Ok(fault_at(0, Cause::Apex));
     }
     if let Some(line) = first_outside(records, &apex.name) {
-        return Ok(told(line, Cause::Outside));
+        return Ok(fault_at(line, Cause::Outside));
     }
     let line = first_conflict(alloc, records, sets, likely)?;
-    Ok(told(line, Cause::Conflict))
+    Ok(fault_at(line, Cause::Conflict))
 }
 
 /// A fault, at its line.
-fn told(line: u64, cause: Cause) -> FileFault
+fn fault_at(line: u64, cause: Cause) -> FileFault
     ensures { result ≡ record { line = line; cause = cause } }
 {
     FileFault { line, cause }

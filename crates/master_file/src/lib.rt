@@ -1,6 +1,6 @@
 //! Zone text (RFC 1035, 5.1; RFC 2308, 4): a text as a zone, and a zone as text again.
 //!
-//! Contracts see the records of a text that are left as a list, and the first fault behind them; a zone as the list of
+//! Contracts see the records of a text that are left as a list, and the first fault after them; a zone as the list of
 //! its records. Entries are judged in order and the words of each from left to right, and the first fault is told.
 #![tactic(auto)]
 

@@ -39,7 +39,7 @@ impl Likely {
     }
 }
 
-/// The place of the first record at a line or behind it, and else of the last.
+/// The place of the first record at a line or after it, and else of the last.
 fn place_of(records: &[KeptRecord], line: u64) -> usize {
     for (at, kept) in records.iter().enumerate() {
         if kept.line() >= line {

@@ -44,7 +44,7 @@ pub(crate) fn read_record(
     read_behind(alloc, context, line, owner, behind)
 }
 
-/// The owner of a record, and the words behind it.
+/// The owner of a record, and the words after it.
 fn read_owner<'w, 'a>(
     context: &Context,
     indented: bool,
@@ -67,7 +67,7 @@ fn read_owner<'w, 'a>(
     Ok((owner(*word, &context.origin)?.fold(), behind))
 }
 
-/// The record of an owner that the words behind it stand for.
+/// The record of an owner that the words after it stand for.
 fn read_behind(
     alloc: Global,
     context: &Context,

@@ -47,10 +47,10 @@ impl<'a> Records<'a> {
         }
     }
 
-    /// The next record; None behind the last. Entries are judged in order and the words of each from left to right, and
+    /// The next record; None after the last. Entries are judged in order and the words of each from left to right, and
     /// the first fault is told (RFC 1035, 5.1).
     ///
-    /// `NoMemory` only where a growth was refused, at line 0. Nothing is said of the records behind a fault.
+    /// `NoMemory` only where a growth was refused, at line 0. Nothing is said of the records after a fault.
     pub fn next(&mut self, alloc: Global) -> Result<Option<RecordEntry>, FileFault>
         ensures record { IfOk result (λ found. MatchOption found
             (self.old ≡ nothing)
@@ -73,7 +73,7 @@ impl<'a> Records<'a> {
 }
 
 /// The next entry, with its words in the list that is given; a quote or a parenthesis without its other one stands
-/// behind them.
+/// after them.
 fn next_entry<'a>(
     entries: &mut Entries<'a>,
     words: &mut Vec<Word<'a>>,

@@ -48,7 +48,7 @@ fn put_all(alloc: Global, records: Vec<KeptRecord>) -> Result<Option<Vec<RRset>>
     Ok(Some(sets))
 }
 
-/// Puts a record into the last of the sets where that is of its owner and type, and else behind them. Whether there was
+/// Puts a record into the last of the sets where that is of its owner and type, and else after them. Whether there was
 /// room for it.
 fn put(alloc: Global, sets: &mut Vec<RRset>, kept: KeptRecord) -> Result<bool, AllocError>
     ensures put { IfOk result (λ room. OnTrue room (sets.new.items ≡ put_last sets.old.items (in_lower (record_in kept)))) }
@@ -66,7 +66,7 @@ fn put(alloc: Global, sets: &mut Vec<RRset>, kept: KeptRecord) -> Result<bool, A
     Ok(true)
 }
 
-/// Puts the set of a record alone behind all others.
+/// Puts the set of a record alone after all others.
 fn put_alone(alloc: Global, sets: &mut Vec<RRset>, kept: KeptRecord) -> Result<(), AllocError>
     ensures { OnOk result (sets.new.items ≡ sets.old.items ++ (in_lower (record_in kept) ∷ []) ∷ []) }
 {
@@ -75,7 +75,7 @@ fn put_alone(alloc: Global, sets: &mut Vec<RRset>, kept: KeptRecord) -> Result<(
     Ok(())
 }
 
-/// Puts a record into its set, and that behind all others. Whether there was room for it.
+/// Puts a record into its set, and that after all others. Whether there was room for it.
 fn put_in(sets: &mut Vec<RRset>, mut last: RRset, kept: KeptRecord) -> Result<bool, AllocError>
     requires of { is_set_of (record_in kept) last ≡ true }
     requires owner { owner_of last ≡ fold_name kept.owner }

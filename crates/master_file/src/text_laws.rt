@@ -11,7 +11,7 @@ ghost use Rattle.master_file.specs.TextLaws.{on_fault, on_line, IsRead, rrs_of, 
 ghost use Rattle.master_file.specs.ZoneText.{zone_of_text};
 
 /// A comment changes nothing: neither the zone of a text nor the fault that is told of it, its line neither. It stands
-/// outside quotes, and behind no backslash, up to its line's end (RFC 1035, 5.1).
+/// outside quotes, and after no backslash, up to its line's end (RFC 1035, 5.1).
 pub fn comments_change_no_zone()
     ensures line { (origin : List (List ℕ)) (text remark more : List ℕ) → ends_outside text ≡ true → is_remark remark ≡ true
         → zone_of_text origin (text ++ 59 ∷ remark ++ 10 ∷ more) ≡ zone_of_text origin (text ++ 10 ∷ more) }
@@ -19,7 +19,7 @@ pub fn comments_change_no_zone()
         → zone_of_text origin (text ++ 59 ∷ remark) ≡ zone_of_text origin text }
 {}
 
-/// A blank line, behind a line or in front of the first, changes nothing but the line of a fault that is told below it,
+/// A blank line, after a line or before the first, changes nothing but the line of a fault that is told below it,
 /// which is one more (RFC 1035, 5.1).
 pub fn blank_lines_change_no_zone()
     ensures behind { (origin : List (List ℕ)) (text blanks more : List ℕ) → list_all is_blank blanks ≡ true

@@ -39,7 +39,7 @@ pub fn written_zone_is_the_zone()
 pub fn text_without_a_fault_is_a_zone()
     ensures is_zone { (origin : List (List ℕ)) (text : List ℕ) (zone : List Record) → IsName origin → All (All (λ octet. octet < 256)) origin
         → All (λ octet. octet < 256) text → zone_of_text origin text ≡ Ok zone → IsZone zone }
-    ensures told { (origin : List (List ℕ)) (text : List ℕ) → (records_of origin text).fault ≡ None
+    ensures reported { (origin : List (List ℕ)) (text : List ℕ) → (records_of origin text).fault ≡ None
         → IsZone (zone_records (records_of origin text).rrs) → zone_of_text origin text ≡ Ok (zone_records (records_of origin text).rrs) }
 {}
 

@@ -35,7 +35,7 @@ fn write_others<Z: ZoneRead>(text: &mut String, zone: &Z) -> Result<(), AllocErr
     Ok(())
 }
 
-/// Writes the lines of a set's records behind a text, as [`write_zone`] writes them.
+/// Writes the lines of a set's records after a text, as [`write_zone`] writes them.
 ///
 /// The fault is a growth that was refused.
 pub fn write_set(text: &mut String, set: &RRset) -> Result<(), AllocError>

@@ -12,8 +12,8 @@ pub record DatagramsState : Type 0 where
   pub faults : ℕ
 
 -- the octets that contracts name: the datagrams that are left to be received, and those that were sent
-abbrev pub told : DatagramsState → List Datagram × List Datagram
-told tray = (tray.left, tray.sent)
+abbrev pub datagram_octets : DatagramsState → List Datagram × List Datagram
+datagram_octets datagrams = (datagrams.left, datagrams.sent)
 
 -- no datagram is received or sent yet
 abbrev pub datagrams_of : List Datagram → List ℕ → DatagramsState
@@ -21,16 +21,16 @@ datagrams_of datagrams refused = record { left = datagrams; sent = []; refused =
 
 -- after a receive: the first of the datagrams that were left is removed
 abbrev pub after_receive : DatagramsState → DatagramsState
-after_receive tray = record { left = drop 1 tray.left; sent = tray.sent; refused = tray.refused; sends = tray.sends; faults = tray.faults }
+after_receive datagrams = record { left = drop 1 datagrams.left; sent = datagrams.sent; refused = datagrams.refused; sends = datagrams.sends; faults = datagrams.faults }
 
 -- after a receive that fails; the failure is counted
 abbrev pub after_failure : DatagramsState → DatagramsState
-after_failure tray = record { left = tray.left; sent = tray.sent; refused = tray.refused; sends = tray.sends; faults = count_of tray.faults 1 }
+after_failure datagrams = record { left = datagrams.left; sent = datagrams.sent; refused = datagrams.refused; sends = datagrams.sends; faults = count_of datagrams.faults 1 }
 
 -- after a send
 abbrev pub after_send : DatagramsState → Datagram → DatagramsState
-after_send tray datagram = record { left = tray.left; sent = tray.sent ++ datagram ∷ []; refused = tray.refused; sends = count_of tray.sends 1; faults = tray.faults }
+after_send datagrams datagram = record { left = datagrams.left; sent = datagrams.sent ++ datagram ∷ []; refused = datagrams.refused; sends = count_of datagrams.sends 1; faults = datagrams.faults }
 
 -- after a send that fails; the failure is counted
 abbrev pub after_refusal : DatagramsState → DatagramsState
-after_refusal tray = record { left = tray.left; sent = tray.sent; refused = tray.refused; sends = count_of tray.sends 1; faults = count_of tray.faults 1 }
+after_refusal datagrams = record { left = datagrams.left; sent = datagrams.sent; refused = datagrams.refused; sends = count_of datagrams.sends 1; faults = count_of datagrams.faults 1 }

@@ -11,8 +11,8 @@ pub record StreamState : Type 0 where
   pub calls : ℕ
 
 -- the octets that contracts name: those that are left to be read, and those that were written
-abbrev pub told : StreamState → List ℕ × List ℕ
-told tape = (tape.left, tape.written)
+abbrev pub stream_octets : StreamState → List ℕ × List ℕ
+stream_octets stream = (stream.left, stream.written)
 
 -- a stream of which nothing is read or written yet; `room` octets can be written
 abbrev pub stream_of : List ℕ → ℕ → ℕ → StreamState
@@ -20,16 +20,16 @@ stream_of octets room step = record { left = octets; written = []; step = step; 
 
 -- the number of octets that a read gives into a buffer of `count` octets: as many of those left as fit, at most `step`
 abbrev pub given : StreamState → ℕ → ℕ
-given tape count = min tape.step (min count (length tape.left))
+given stream count = min stream.step (min count (length stream.left))
 
 -- the number of octets that a write of `count` octets takes: as many as there is room for, at most `step`
 abbrev pub taken : StreamState → ℕ → ℕ
-taken tape count = min tape.step (min count tape.room)
+taken stream count = min stream.step (min count stream.room)
 
 -- after a read that gives `count` octets
 abbrev pub after_read : StreamState → ℕ → StreamState
-after_read tape count = record { left = drop count tape.left; written = tape.written; step = tape.step; room = tape.room; calls = tape.calls - 1 }
+after_read stream count = record { left = drop count stream.left; written = stream.written; step = stream.step; room = stream.room; calls = stream.calls - 1 }
 
 -- after a write that takes `count` of these octets
 abbrev pub after_write : StreamState → List ℕ → ℕ → StreamState
-after_write tape octets count = record { left = tape.left; written = tape.written ++ take count octets; step = tape.step; room = tape.room - count; calls = tape.calls - 1 }
+after_write stream octets count = record { left = stream.left; written = stream.written ++ take count octets; step = stream.step; room = stream.room - count; calls = stream.calls - 1 }

@@ -4,8 +4,8 @@ ghost use Rattle.dns_message.specs.Message.{message_limit};
 ghost use Rattle.requests.specs.Served.{EndsAs, Grows};
 ghost use Rattle.requests.specs.Exchanged.{EndsBy};
 ghost use Rattle.tcp_connections.specs.Asked.{EachGrows};
-ghost use Rattle.memory_devices.specs.MemoryStream.{told as tape_told};
-ghost use Rattle.memory_devices.specs.MemoryDatagrams.{told as tray_told};
+ghost use Rattle.memory_devices.specs.MemoryStream.{stream_octets};
+ghost use Rattle.memory_devices.specs.MemoryDatagrams.{datagram_octets};
 
 use crate::memory_datagrams::MemoryDatagrams;
 use crate::memory_stream::MemoryStream;
@@ -21,19 +21,19 @@ pub fn answer_stream<R: Wait, M: Messages, A: tcp_connections::Handler<M>, G: Ga
     rt: &R,
     alloc: Global,
     handler: &mut A,
-    tape: MemoryStream,
+    stream: MemoryStream,
     gate: &G,
     room: &mut [u8],
     out: &mut [u8],
 ) -> (StreamEnd, MemoryStream)
     requires room { 0 < length room.old }
     requires out { message_limit ≤ length out.old }
-    ensures ends { EndsAs (A.is_reply (A.peer handler.old)) result.0 (A.seen handler.old (A.asker handler.old)) (tape_told tape) (A.seen handler.new (A.asker handler.old)) (Some (tape_told result.1)) }
+    ensures ends { EndsAs (A.is_reply (A.peer handler.old)) result.0 (A.seen handler.old (A.asker handler.old)) (stream_octets stream) (A.seen handler.new (A.asker handler.old)) (Some (stream_octets result.1)) }
     ensures grows { EachGrows (A.seen handler.new) (A.seen handler.old) }
 {
-    let mut stream = Counted::new(tape);
-    let end = serve_stream(rt, alloc, handler, &mut stream, gate, room, out);
-    (end, stream.inner)
+    let mut counted = Counted::new(stream);
+    let end = serve_stream(rt, alloc, handler, &mut counted, gate, room, out);
+    (end, counted.inner)
 }
 
 /// Answers at most `most` datagrams held in memory, one after another. Returns how that ended, and the datagrams. The replies are sent in the
@@ -42,7 +42,7 @@ pub fn answer_stream<R: Wait, M: Messages, A: tcp_connections::Handler<M>, G: Ga
 pub fn answer_datagrams<R: Wait, A: Handler, G: Gate>(
     rt: &R,
     handler: &mut A,
-    tray: MemoryDatagrams,
+    datagrams: MemoryDatagrams,
     allowed: Allowed<'_>,
     most: u64,
     gate: &G,
@@ -51,10 +51,10 @@ pub fn answer_datagrams<R: Wait, A: Handler, G: Gate>(
 ) -> (DatagramsEnd, MemoryDatagrams)
     requires request_room { message_limit ≤ length request.old }
     requires reply_room { message_limit ≤ length out.old }
-    ensures ends { EndsBy A.is_reply allowed.entry.addresses.now result.0 (A.seen handler.old) (tray_told tray) tray.faults most (A.seen handler.new) (Some (tray_told result.1)) result.1.faults }
+    ensures ends { EndsBy A.is_reply allowed.entry.addresses.now result.0 (A.seen handler.old) (datagram_octets datagrams) datagrams.faults most (A.seen handler.new) (Some (datagram_octets result.1)) result.1.faults }
     ensures grows { Grows (A.seen handler.new) (A.seen handler.old) }
 {
-    let mut tray = tray;
-    let end = serve_udp(rt, handler, &mut tray, allowed, most, gate, request, out);
-    (end, tray)
+    let mut left = datagrams;
+    let end = serve_udp(rt, handler, &mut left, allowed, most, gate, request, out);
+    (end, left)
 }

@@ -28,7 +28,7 @@ pub struct NamedParts<Z: FirstZone, N: Naming> {
 #[derive(Drop)]
 pub struct Played<Z: FirstZone, N: Naming> {
     /// Whether the test passes; None if memory allocation fails.
-    pub told: Option<bool>,
+    pub outcome: Option<bool>,
     /// The publisher.
     pub publisher: VersionPublisher<Z, N>,
     /// The readers.
@@ -192,7 +192,7 @@ fn play_in<R: Wait, Z: FirstZone, N: ServerName, P: Play>(
         readers,
     } = named_parts::<R, Z, N>(rt, alloc, parts)?;
     let Played {
-        told,
+        outcome,
         publisher,
         readers,
     } = play.play(rt, alloc, &cell, publisher, readers, ledgers);
@@ -204,7 +204,7 @@ fn play_in<R: Wait, Z: FirstZone, N: ServerName, P: Play>(
             readers,
         },
     );
-    told
+    outcome
 }
 
 /// Runs a test in a cell that starts with the zone, then closes the cell. Returns whether the test passes; None if memory allocation fails.

@@ -3,7 +3,7 @@ ghost use Rattle.std.specs.Prelude.{◌≡◌, ◌≤◌, ◌↔◌, ◌⊎◌, 
 ghost use Rattle.dns_message.specs.Message.{message_limit};
 ghost use Rattle.std.specs.List.{Contains};
 ghost use Rattle.requests.specs.Datagrams.{Receives, SendsOrFails, count_of};
-ghost use Rattle.memory_devices.specs.MemoryDatagrams.{told, datagrams_of, after_receive, after_failure, after_send, after_refusal};
+ghost use Rattle.memory_devices.specs.MemoryDatagrams.{datagram_octets, datagrams_of, after_receive, after_failure, after_send, after_refusal};
 
 use crate::datagram::Datagram;
 use dns_message::MAX_LIMIT;
@@ -78,16 +78,16 @@ impl MemoryDatagrams {
 }
 
 impl Datagrams for MemoryDatagrams {
-    ghost datagrams = { λ tray. Some (told tray) };
+    ghost datagrams = { λ datagrams. Some (datagram_octets datagrams) };
 
-    ghost failed = { λ tray. tray.faults };
+    ghost failed = { λ datagrams. datagrams.faults };
 
     fn receive(&mut self, buf: &mut [u8]) -> Option<(usize, SocketAddr)>
         requires { message_limit ≤ length buf.old }
         ensures bound { IfSome result (λ received. received.0 ≤ length buf.new) }
-        ensures receives { IfSome result (λ received. Receives (Some (told self.old)) (Some (told self.new)) (take received.0 buf.new, received.1)) }
+        ensures receives { IfSome result (λ received. Receives (Some (datagram_octets self.old)) (Some (datagram_octets self.new)) (take received.0 buf.new, received.1)) }
         ensures same { IfSome result (λ _. self.new.faults ≡ self.old.faults) }
-        ensures nothing { result ≡ None → Some (told self.new) ≡ Some (told self.old) }
+        ensures nothing { result ≡ None → Some (datagram_octets self.new) ≡ Some (datagram_octets self.old) }
         ensures counted { result ≡ None → self.new.faults ≡ count_of self.old.faults 1 }
         ensures received { IfSome result (λ _. self.new ≡ after_receive self.old) }
         ensures fails { IsNone result ↔ (self.old.left ≡ []) }
@@ -101,7 +101,7 @@ impl Datagrams for MemoryDatagrams {
     }
 
     fn send(&mut self, octets: &[u8], to: SocketAddr)
-        ensures sends { SendsOrFails (Some (told self.old)) self.old.faults (Some (told self.new)) self.new.faults (octets.now, to) }
+        ensures sends { SendsOrFails (Some (datagram_octets self.old)) self.old.faults (Some (datagram_octets self.new)) self.new.faults (octets.now, to) }
         ensures sent { (self.new ≡ after_send self.old (octets.now, to)) ⊎ (self.new ≡ after_refusal self.old) }
         ensures refused { Contains self.old.refused self.old.sends → self.new ≡ after_refusal self.old }
     {

@@ -2,7 +2,7 @@
 ghost use Rattle.std.specs.Prelude.{◌≡◌, ℕ, ◌<◌, ◌↔◌, [], length, take, Some, IfOk, IsErr, OnErr};
 ghost use Rattle.std.specs.Io.{ReadsAtMost, WritesAtMost};
 ghost use Rattle.requests.specs.Octets.{Gives, Takes, IsAtEnd};
-ghost use Rattle.memory_devices.specs.MemoryStream.{told, stream_of, given, taken, after_read, after_write};
+ghost use Rattle.memory_devices.specs.MemoryStream.{stream_octets, stream_of, given, taken, after_read, after_write};
 
 use crate::copy::copy_front;
 use requests::Stream;
@@ -43,7 +43,7 @@ impl MemoryStream {
         step: usize,
     ) -> Result<MemoryStream, AllocError>
         requires { 0 < step }
-        ensures { IfOk result (λ tape. tape ≡ stream_of octets.items room step) }
+        ensures { IfOk result (λ stream. stream ≡ stream_of octets.items room step) }
     {
         let output = Vec::with_capacity(alloc, room)?;
         Ok(MemoryStream {
@@ -79,13 +79,13 @@ impl MemoryStream {
 }
 
 impl Stream for MemoryStream {
-    ghost octets = { λ tape. Some (told tape) };
+    ghost octets = { λ stream. Some (stream_octets stream) };
 
     fn read(&mut self, buf: &mut [u8]) -> io::Result<usize>
         ensures bound { ReadsAtMost result buf.new }
-        ensures gives { IfOk result (λ n. Gives (Some (told self.old)) (Some (told self.new)) (take n buf.new)) }
-        ensures end { IfOk result (λ n. n ≡ 0 → 0 < length buf.new → IsAtEnd (Some (told self.new))) }
-        ensures failed { OnErr result (Gives (Some (told self.old)) (Some (told self.new)) []) }
+        ensures gives { IfOk result (λ n. Gives (Some (stream_octets self.old)) (Some (stream_octets self.new)) (take n buf.new)) }
+        ensures end { IfOk result (λ n. n ≡ 0 → 0 < length buf.new → IsAtEnd (Some (stream_octets self.new))) }
+        ensures failed { OnErr result (Gives (Some (stream_octets self.old)) (Some (stream_octets self.new)) []) }
         ensures read { IfOk result (λ n. (n ≡ given self.old (length buf.new)) × (self.new ≡ after_read self.old n)) }
         ensures fails { IsErr result ↔ (self.old.calls ≡ 0) }
         ensures same { OnErr result (self.new ≡ self.old) }
@@ -101,8 +101,8 @@ impl Stream for MemoryStream {
 
     fn write(&mut self, buf: &[u8]) -> io::Result<usize>
         ensures bound { WritesAtMost result buf.now }
-        ensures takes { IfOk result (λ n. Takes (Some (told self.old)) (Some (told self.new)) (take n buf.now)) }
-        ensures failed { OnErr result (Takes (Some (told self.old)) (Some (told self.new)) []) }
+        ensures takes { IfOk result (λ n. Takes (Some (stream_octets self.old)) (Some (stream_octets self.new)) (take n buf.now)) }
+        ensures failed { OnErr result (Takes (Some (stream_octets self.old)) (Some (stream_octets self.new)) []) }
         ensures wrote { IfOk result (λ n. (n ≡ taken self.old (length buf.now)) × (self.new ≡ after_write self.old buf.now n)) }
         ensures fails { IsErr result ↔ (self.old.calls ≡ 0) }
         ensures same { OnErr result (self.new ≡ self.old) }

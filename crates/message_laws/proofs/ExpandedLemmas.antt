@@ -6,7 +6,7 @@ use Rattle.std.proofs.lemmas.List.Elements.{All-head, All-tail}
 use Rattle.std.specs.Int.{to_be_bytes, w16}
 use Rattle.std.specs.List.{flat_map}
 use Rattle.dns_name.specs.Name.{wire_of, name_in, IsName}
-use Rattle.dns_name.proofs.LawLemmas.{name_in-stands}
+use Rattle.dns_name.proofs.LawLemmas.{name_in-is_present}
 use Rattle.dns_rdata.specs.declared.layout.Layout.{Layout}
 use Rattle.dns_rdata.specs.declared.layout.Layout.TheVariants.{Fields, Strings, Opaque}
 use Rattle.dns_rdata.specs.Data.{names_then, parts, data_by, data_of}
@@ -79,7 +79,7 @@ IsNames-found zero back octets own e =
 IsNames-found (suc count) back octets own e =
     let name = and_then_some _ (name_in octets) own e in
     let rest = map_some _ (names_then count back (drop (length (wire_of name.0)) octets)) own name.2 in
-    let has = name_in-stands octets name.0 name.1 in
+    let has = name_in-is_present octets name.0 name.1 in
     let others = IsNames-found count back (drop (length (wire_of name.0)) octets) rest.0 rest.1 in
     let more = IsNames-more name.0 (names_in count (drop (length (wire_of name.0)) octets)) count back octets has.1 others in
     subst (λ (found : Option (List (List ℕ))). IsNames (names_by count octets found) (suc count) back octets) (sym name.1) more

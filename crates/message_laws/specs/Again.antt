@@ -29,11 +29,11 @@ pub record IsReply (m : Message) : Type 0 where
   pub additional : All IsRecord m.additional
   pub carried : length (reply_octets m) < 2 ^ 16
 
--- a place of a message that is written: the table of the names in front of it, and the position
+-- a place of a message that is written: the table of the names before it, and the position
 abbrev pub Place : Type 0
 Place = Table × ℕ
 
--- the place behind something that is written at a place
+-- the place after something that is written at a place
 abbrev pub behind : Encoding → Place → Place
 behind put place = let written = put place.0 place.1 in (written.1, place.1 + length written.0)
 
@@ -41,7 +41,7 @@ behind put place = let written = put place.0 place.1 in (written.1, place.1 + le
 abbrev pub octets_at : Encoding → Place → List ℕ
 octets_at put place = (put place.0 place.1).0
 
--- where a record's data begin where the record is written at a place: behind the owner are the type, the class, the TTL
+-- where a record's data begin where the record is written at a place: after the owner are the type, the class, the TTL
 -- and the length of the data, ten octets (RFC 1035, 4.1.3)
 abbrev pub data_place : Record → Place → Place
 data_place r place = let owner = behind (named true r.owner) place in (owner.0, owner.1 + 10)
@@ -59,8 +59,8 @@ unfoldable pub entries_at : List Record → Place → List Entry
 entries_at [] place = []
 entries_at (r ∷ rs) place = entry_at r place ∷ entries_at rs (behind (record_octets r) place)
 
--- the places behind a reply's question, answer and authority sections, and behind its additional records, but for the OPT; the
--- question is behind the header, with an empty table (RFC 1035, 4.1)
+-- the places after a reply's question, answer and authority sections, and after its additional records, but for the OPT; the
+-- question is after the header, with an empty table (RFC 1035, 4.1)
 abbrev pub question_end : Message → Place
 question_end m = behind (each question_octets (questions m.question)) ([], 12)
 
@@ -73,7 +73,7 @@ authority_end m = behind (each record_octets m.authority) (answer_end m)
 abbrev pub additional_end : Message → Place
 additional_end m = behind (each record_octets m.additional) (authority_end m)
 
--- the sections that are read where a reply was written are those that were written, with their expanded data, and behind the other
+-- the sections that are read where a reply was written are those that were written, with their expanded data, and after the other
 -- additional records the OPT, where there is one; and reading ends with the octets
 pub record IsReadAgain (m : Message) : Type 0 where
   pub question : questions_at (length (questions m.question)) (reply_octets m) 12 ≡ Some (questions m.question, (question_end m).1)
@@ -85,7 +85,7 @@ pub record IsReadAgain (m : Message) : Type 0 where
   pub additional_data : map (expanded_data (reply_octets m)) (entries_at m.additional (authority_end m)) ≡ map (λ r. Some r.rdata) m.additional
   pub opt : records_at (opt_count m.opt) (reply_octets m) (additional_end m).1 ≡ Some (opt_entries m.rcode m.opt (additional_end m).1, length (reply_octets m))
 
--- what stands behind a reply's header
+-- what stands after a reply's header
 abbrev pub body_written : Message → Body
 body_written m = record {
   questions = questions m.question;

@@ -10,7 +10,7 @@ use Rattle.dns_message.specs.declared.query.Question.{Question}
 use Rattle.dns_message.specs.declared.update.ZoneEntry.{ZoneEntry}
 use Rattle.dns_message.specs.Message.{Message}
 
--- what is in front of a question: ID 0x1234, RD 1, one question
+-- what is before a question: ID 0x1234, RD 1, one question
 abbrev pub request_front : List ℕ
 request_front = 18 ∷ 52 ∷ 1 ∷ 0 ∷ 0 ∷ 1 ∷ 0 ∷ 0 ∷ 0 ∷ 0 ∷ 0 ∷ 0 ∷ []
 
@@ -27,7 +27,7 @@ asked = record { name = www; rtype = record { 0 = 1 }; class = record { 0 = 1 } 
 abbrev pub asker : Head
 asker = record { id = 4660; opcode = 0; rd = true; four_bits = lit< tt }
 
--- what is in front of the question of an IXFR: one question, and one record in the authority section
+-- what is before the question of an IXFR: one question, and one record in the authority section
 abbrev pub changes_front : List ℕ
 changes_front = 18 ∷ 52 ∷ 1 ∷ 0 ∷ 0 ∷ 1 ∷ 0 ∷ 0 ∷ 0 ∷ 1 ∷ 0 ∷ 0 ∷ []
 
@@ -55,7 +55,7 @@ address = record { owner = web; rtype = 1; ttl = 3600; rdata = 192 ∷ 0 ∷ 2 �
 abbrev pub answer : Message
 answer = record { head = asker; rcode = NoError; aa = true; tc = false; question = Some asked; answer = alias ∷ address ∷ []; authority = []; additional = []; opt = None; below_cut = false }
 
--- the alias: its owner is at position 12, and example.test behind www at 16
+-- the alias: its owner is at position 12, and example.test after www at 16
 abbrev pub alias_octets : List ℕ
 alias_octets = 192 ∷ 12 ∷ 0 ∷ 5 ∷ 0 ∷ 1 ∷ 0 ∷ 0 ∷ 14 ∷ 16 ∷ 0 ∷ 6 ∷ 3 ∷ 119 ∷ 101 ∷ 98 ∷ 192 ∷ 16 ∷ []
 
@@ -107,7 +107,7 @@ shortest_octets =
     (18 ∷ 52 ∷ 135 ∷ 0 ∷ 0 ∷ 1 ∷ 0 ∷ 0 ∷ 0 ∷ 0 ∷ 0 ∷ 0 ∷ [])
     ++ (1 ∷ 115 ∷ 7 ∷ 101 ∷ 120 ∷ 97 ∷ 109 ∷ 112 ∷ 108 ∷ 101 ∷ 4 ∷ 116 ∷ 101 ∷ 115 ∷ 116 ∷ 0 ∷ 0 ∷ 33 ∷ 0 ∷ 1 ∷ [])
 
--- what is in front of the zone section of an update: ID 0x4321, OPCODE UPDATE, RD, which says nothing there, one entry of
+-- what is before the zone section of an update: ID 0x4321, OPCODE UPDATE, RD, which says nothing there, one entry of
 -- the zone section, and so many prerequisites and updates, no additional record (RFC 2136, 2.2)
 abbrev pub update_front : ℕ → ℕ → List ℕ
 update_front prerequisites updates = 67 ∷ 33 ∷ 41 ∷ 0 ∷ 0 ∷ 1 ∷ 0 ∷ prerequisites ∷ 0 ∷ updates ∷ 0 ∷ 0 ∷ []
@@ -123,7 +123,7 @@ abbrev pub zone : ZoneEntry
 zone = record { name = zone_name; rtype = record { 0 = 6 }; class = record { 0 = 1 } }
 
 -- the mail exchange of example.test is WEB.example.test with preference 10, for an hour: the owner is at position 12, and so
--- is what stands behind WEB
+-- is what stands after WEB
 abbrev pub exchange_octets : List ℕ
 exchange_octets = 192 ∷ 12 ∷ 0 ∷ 15 ∷ 0 ∷ 1 ∷ 0 ∷ 0 ∷ 14 ∷ 16 ∷ 0 ∷ 8 ∷ 0 ∷ 10 ∷ 3 ∷ 87 ∷ 69 ∷ 66 ∷ 192 ∷ 12 ∷ []
 

@@ -6,7 +6,7 @@ use Rattle.dns_message.specs.Message.{Message}
 use Rattle.dns_message.specs.declared.edns.Edns.{Edns}
 use Rattle.dns_message.specs.declared.query.Question.{Question}
 
--- what is in front of the question of a request with so many records in its answer section and so many additional records: ID
+-- what is before the question of a request with so many records in its answer section and so many additional records: ID
 -- 0x1234, RD 1
 abbrev pub asked_front : ℕ → ℕ → List ℕ
 asked_front answers additionals = 18 ∷ 52 ∷ 1 ∷ 0 ∷ 0 ∷ 1 ∷ 0 ∷ answers ∷ 0 ∷ 0 ∷ 0 ∷ additionals ∷ []
@@ -27,7 +27,7 @@ owned_opt = 192 ∷ 12 ∷ 0 ∷ 41 ∷ 16 ∷ 0 ∷ 0 ∷ 1 ∷ 0 ∷ 0 ∷ 0 �
 abbrev pub option_opt : List ℕ
 option_opt = 0 ∷ 0 ∷ 41 ∷ 16 ∷ 0 ∷ 0 ∷ 0 ∷ 0 ∷ 0 ∷ 0 ∷ 4 ∷ 253 ∷ 233 ∷ 0 ∷ 0 ∷ []
 
--- an address at the name asked, which stands in front of an OPT
+-- an address at the name asked, which stands before an OPT
 abbrev pub other_record : List ℕ
 other_record = 192 ∷ 12 ∷ 0 ∷ 1 ∷ 0 ∷ 1 ∷ 0 ∷ 0 ∷ 0 ∷ 0 ∷ 0 ∷ 4 ∷ 192 ∷ 0 ∷ 2 ∷ 1 ∷ []
 
@@ -42,7 +42,7 @@ with_do = record { size = 4096; dnssec_ok = true }
 abbrev pub takes : ℕ → Edns
 takes size = record { size = size; dnssec_ok = false }
 
--- what is in front of the zone section of an update without prerequisites and updates, and with so many additional records
+-- what is before the zone section of an update without prerequisites and updates, and with so many additional records
 abbrev pub empty_front : ℕ → List ℕ
 empty_front additionals = 67 ∷ 33 ∷ 41 ∷ 0 ∷ 0 ∷ 1 ∷ 0 ∷ 0 ∷ 0 ∷ 0 ∷ 0 ∷ additionals ∷ []
 
@@ -79,6 +79,6 @@ refusal code = record answer { rcode = code; aa = false; answer = []; opt = Some
 abbrev pub refusal_octets : ℕ → List ℕ → List ℕ
 refusal_octets code opt = (18 ∷ 52 ∷ 129 ∷ code ∷ 0 ∷ 1 ∷ 0 ∷ 0 ∷ 0 ∷ 0 ∷ 0 ∷ 1 ∷ []) ++ asked_octets ++ opt
 
--- a reply with an address in its additional section, and an OPT behind it
+-- a reply with an address in its additional section, and an OPT after it
 abbrev pub service_replied : Message
 service_replied = record service_answer { opt = Some (record { dnssec_ok = false }) }

@@ -40,26 +40,26 @@ pub fn silent_is_short_or_reply()
     ensures { (msg : List ℕ) → (reads msg ≡ Parsed.Silent) ↔ ((length msg < HEADER) ⊎ (QR ≤ slice_index msg 2)) }
 {}
 
-/// Octets that begin with the frame of a message give that message and the octets behind the frame (RFC 1035, 4.2.2).
+/// Octets that begin with the frame of a message give that message and the octets after the frame (RFC 1035, 4.2.2).
 pub fn frame_is_taken_again()
     ensures { (message rest : List ℕ) → length message ≤ message_limit → frame_in (frame_of message ++ rest) ≡ Some (message, rest) }
 {}
 
-/// A question whose name is in full is read as itself, whatever stands in front of it and behind it (RFC 1035, 4.1.2).
+/// A question whose name is in full is read as itself, whatever stands before it and after it (RFC 1035, 4.1.2).
 pub fn question_in_full_is_read()
     ensures { (front rest : List ℕ) (question : Question) → IsQuestion question
         → question_at (front ++ (question_in_full question ++ rest)) (length front) ≡ Some (question, length front + length (question_in_full question)) }
 {}
 
-/// The question that a reply repeats is read, behind a request's header, as the question that it is, whatever records
+/// The question that a reply repeats is read, after a request's header, as the question that it is, whatever records
 /// follow it; that of an IXFR has no serial then (RFC 1035, 4.1; RFC 1995, 3).
 pub fn question_is_read_again()
     ensures { (m : Message) (question : Question) → IsAnswerTo m question
         → reads (request_of m) ≡ Parsed.Query (record { head = m.head; question = question; serial = None; edns = None }) }
 {}
 
-/// A record that is written behind a message is read as itself, its data as they were written, whatever follows it; and
-/// its names are in the table behind it (RFC 1035, 4.1.3 and 4.1.4).
+/// A record that is written after a message is read as itself, its data as they were written, whatever follows it; and
+/// its names are in the table after it (RFC 1035, 4.1.3 and 4.1.4).
 pub fn record_is_read_again()
     ensures read { (msg rest : List ℕ) (table : Table) (r : Record) → IsTrueOf msg table → IsRecord r → length (data_at r (table, length msg)) < 2 ^ 16
         → record_at (msg ++ (octets_at (record_octets r) (table, length msg) ++ rest)) (length msg) ≡ Some (entry_at r (table, length msg), (behind (record_octets r) (table, length msg)).1) }
@@ -67,7 +67,7 @@ pub fn record_is_read_again()
         → IsTrueOf (msg ++ octets_at (record_octets r) (table, length msg)) (behind (record_octets r) (table, length msg)).0 }
 {}
 
-/// The expanded data of a record that is written behind a message, which has its names in full, are the data that were
+/// The expanded data of a record that is written after a message, which has its names in full, are the data that were
 /// written, whatever follows (RFC 1035, 3.3 and 4.1.4; RFC 2782).
 pub fn data_is_read_again()
     ensures { (msg rest : List ℕ) (table : Table) (r : Record) → IsTrueOf msg table → IsRecord r
@@ -83,7 +83,7 @@ pub fn sections_are_read_again()
 {}
 
 /// The OPT of a reply is read as one of version 0, with the size of datagrams that the server takes and with DO as it was written,
-/// and the upper bits of the code stand in front of these (RFC 6891, 6.1.3).
+/// and the upper bits of the code stand before these (RFC 6891, 6.1.3).
 pub fn opt_is_read_again()
     ensures said { (code : Code) (opt : Opt) (at : ℕ) → said_by (opt_entries code (Some opt) at) ≡ Ok (Some (record { size = max_udp; dnssec_ok = opt.dnssec_ok })) }
     ensures code { (code : Code) (opt : Opt) → opt_ttl code opt / 2 ^ 24 ≡ extended_bits code }

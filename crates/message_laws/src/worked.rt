@@ -52,7 +52,7 @@ pub fn update_examples()
     ensures rd { (header_of (update_front 0 1)).rd ≡ updater.rd }
 {}
 
-/// Requests with an OPT: as it is, with DO, with an option, behind another record; two, of which the first tells DO; one of version
+/// Requests with an OPT: as it is, with DO, with an option, after another record; two, of which the first tells DO; one of version
 /// 1, one at another name, which is told before its version; and one in the answer section, which is none (RFC 6891, 6.1.1 to
 /// 6.1.3). What one takes who says nothing, 100, 1,000 and 4,096 (RFC 6891, 6.2.3 and 6.2.5; own).
 #[tactic(auto, unfolding(dns_message::specs::Expanded::names_at, dns_message::specs::Reads::records_at, dns_message::specs::Reads::questions_at, dns_message::specs::Reads::body_in, wire_names::specs::NameAt::name_at, wire_names::specs::NameAt::name_from))]

@@ -3,9 +3,9 @@ use Rattle.std.proofs.Common.{◌≡◌, Bool, ℕ, ◌+◌, ◌-◌, ◌<◌, �
 use Rattle.std.specs.Prelude.{nat_lt, ◌==◌, if◌then◌else◌}
 use Rattle.std.proofs.lemmas.Bool.{false≢true}
 use Rattle.std.proofs.lemmas.Bool.Decides.{nat_tests}
-use Rattle.notify.specs.Course.{Sending, sending_of, Course, FollowsOn, InOrder, begins, passes, told, silent, answered}
+use Rattle.notify.specs.Course.{Sending, sending_of, Course, FollowsOn, InOrder, begins, passes, reported, silent, answered}
 use Rattle.notify.specs.Notified.{untold}
-use Rattle.notify.specs.Told.{told_first, told_again, told_next, is_now, is_done_with, due_after, is_due, as_silent, as_told, answered_telling, as_answered}
+use Rattle.notify.specs.Copies.{told_first, told_again, next_notify, is_now, is_done_with, due_after, is_due, as_silent, as_notified, answered_telling, as_answered}
 use Rattle.notify.specs.declared.secondary.Secondary.{Secondary}
 use Rattle.notify.specs.declared.secondary.Telling.{Telling}
 
@@ -33,7 +33,7 @@ ripe s time number t false false false is long due = record { newer = grind (ari
 
 -- the next one follows on what was sent last
 next_known : (sent : List Sending) (time number id : ℕ) (s : Secondary) (tell : Option Telling) → InOrder sent × IsKnown sent time tell → is_now (due_after s time number tell) ≡ true
-    → InOrder (sending_of (told_next number id time tell) time ∷ sent) × IsKnown (sending_of (told_next number id time tell) time ∷ sent) time (Some (told_next number id time tell))
+    → InOrder (sending_of (next_notify number id time tell) time ∷ sent) × IsKnown (sending_of (next_notify number id time tell) time ∷ sent) time (Some (next_notify number id time tell))
 next_known [] time number id s None known due = (tt, (refl, refl, refl, le_refl time, le_refl 1000))
 next_known [] time number id s (Some t) known due = absurd known.1
 next_known (last ∷ sent) time number id s None known due = absurd known.1
@@ -77,10 +77,10 @@ known_of sent time s (begins address none is) =
 known_of sent time s (passes {before = before} course passed) =
     let k = known_of sent before s course in
     (k.0, later_known sent before time s.telling passed k.1)
-known_of sent time s (told {sent = before} {s = was} number id course due speaks more is) =
-    let next : Telling = told_next number id time was.telling in
+known_of sent time s (reported {sent = before} {s = was} number id course due speaks more is) =
+    let next : Telling = next_notify number id time was.telling in
     subst (λ (ss : List Sending). Knows ss time s) (sym more)
-    (known_as (sending_of next time ∷ before) time (as_told next was) s is (next_known before time number id was was.telling (known_of before time was course) due))
+    (known_as (sending_of next time ∷ before) time (as_notified next was) s is (next_known before time number id was was.telling (known_of before time was course) due))
 known_of sent time s (silent {s = was} number course due falls is) = known_as sent time (as_silent was) s is (known_of sent time was course)
 known_of sent time s (answered {s = was} apex octets course heard is) =
     let k = known_of sent time was course in

@@ -6,10 +6,10 @@ use Rattle.std.specs.List.{AllByRecursion}
 use Rattle.std.specs.declared.net.socket_addr.SocketAddr.{SocketAddr}
 use Rattle.dns_name.specs.Name.{Name}
 use Rattle.dns_rdata.specs.Record.{Record}
-use Rattle.notify.specs.Course.{Sending, sending_of, Course, begins as starts, passes, told, silent, answered}
+use Rattle.notify.specs.Course.{Sending, sending_of, Course, begins as starts, passes, reported, silent, answered}
 use Rattle.notify.specs.Notified.{Notified, untold, shown}
 use Rattle.notify.specs.Notify.{notify_octets}
-use Rattle.notify.specs.Told.{told_first, told_again, told_next, is_due, falls_silent, as_silent, as_told, is_answered_by, as_answered}
+use Rattle.notify.specs.Copies.{told_first, told_again, next_notify, is_due, falls_silent, as_silent, as_notified, is_answered_by, as_answered}
 use Rattle.notify.specs.Turns.{IsFirst, TurnsAs, GoesOn, IsAnsweredBy, Hears}
 use Rattle.notify.specs.Runs.{Posted, posted, Run, begins, shows, goes, hears, AreDistinct, IsSentTo, none, its, others, IsNotify, AreNotifies, TakesCourse}
 use Rattle.notify.specs.declared.due.Due.{Due}
@@ -60,7 +60,7 @@ other_course : (post : Posted) (sent : List Posted) (time : ℕ) (s : Secondary)
 other_course post sent time s other course own is = course own (other_own s.address post sent own other is)
 
 -- the version that is told next is the one that is served
-next_number : (number id time : ℕ) (tell : Option Telling) → number ≡ (told_next number id time tell).number
+next_number : (number id time : ℕ) (tell : Option Telling) → number ≡ (next_notify number id time tell).number
 next_number number id time None = refl
 next_number number id time (Some t) = same (t.number == number) refl
   where
@@ -70,15 +70,15 @@ next_number number id time (Some t) = same (t.number == number) refl
 
 -- a NOTIFY goes on with a course
 told_course : (number id : ℕ) (zone : List Record) (post : Posted) (sent : List Posted) (time : ℕ) (s : Secondary) → is_due time number s ≡ true → falls_silent s ≡ false
-    → post.to ≡ s.address → post.octets ≡ notify_octets (told_next number id time s.telling).id post.zone → post.number ≡ number → post.time ≡ time
-    → TakesCourse sent time s → TakesCourse (post ∷ sent) time (as_told (told_next number id time s.telling) s)
+    → post.to ≡ s.address → post.octets ≡ notify_octets (next_notify number id time s.telling).id post.zone → post.number ≡ number → post.time ≡ time
+    → TakesCourse sent time s → TakesCourse (post ∷ sent) time (as_notified (next_notify number id time s.telling) s)
 told_course number id zone post sent time s due falls to octets numbered timed course own is =
     let parts = its_own s.address post sent own to is in
     let c = course parts.0 parts.2 in
-    let next : Telling = told_next number id time s.telling in
+    let next : Telling = next_notify number id time s.telling in
     let sending : Sending = sending_of next time in
     let notify : IsNotify post sending = record { octets = octets; number = numbered ∙ next_number number id time s.telling; time = timed } in
-    (sending ∷ c.0, subst (λ (posts : List Posted). AreNotifies posts (sending ∷ c.0)) (sym parts.1) (notify, c.1), told number id c.2 due falls refl refl)
+    (sending ∷ c.0, subst (λ (posts : List Posted). AreNotifies posts (sending ∷ c.0)) (sym parts.1) (notify, c.1), reported number id c.2 due falls refl refl)
 
 silent_course : (number : ℕ) (sent : List Posted) (time : ℕ) (s : Secondary) → is_due time number s ≡ true → falls_silent s ≡ true → TakesCourse sent time s → TakesCourse sent time (as_silent s)
 silent_course number sent time s due falls course own is = let c = course own is in (c.0, c.1, silent number c.2 due falls refl)
@@ -142,11 +142,11 @@ goes_known addresses sent more old new number id zone (Some (Silent to)) out dis
     (λ course. course_as sent old.time (as_silent s) later turns.2 (silent_course number sent old.time s first.passes turns.0 course)) is)
 goes_known addresses sent more old new number id zone (Some (Send to len)) out distinct known (front, s, back, later, first, turns, is) posts =
     let post : Posted = record { to = to; octets = take len out; number = number; zone = zone; time = old.time } in
-    let next : Telling = told_next number id old.time s.telling in
+    let next : Telling = next_notify number id old.time s.telling in
     subst (λ (m : List Posted). Courses addresses m new) (sym posts)
     (one_changes addresses sent (post ∷ sent) old new front s later back distinct known first.parts (ap address_of turns.4)
     (λ o other course. other_course post sent old.time o (λ same. other (sym turns.1 ∙ same)) course)
-    (λ course. course_as (post ∷ sent) old.time (as_told next s) later turns.4 (told_course number id zone post sent old.time s first.passes turns.0 turns.1 turns.2 refl refl course)) is)
+    (λ course. course_as (post ∷ sent) old.time (as_notified next s) later turns.4 (told_course number id zone post sent old.time s first.passes turns.0 turns.1 turns.2 refl refl course)) is)
 
 hears_known : (addresses : List SocketAddr) (sent : List Posted) (old new : Notified) (apex : Name) (from : SocketAddr) (octets : List ℕ) (heard : Option Heard) → AreDistinct addresses → Courses addresses sent old
     → Hears apex from octets old heard new → Courses addresses sent new

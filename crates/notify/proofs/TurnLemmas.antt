@@ -7,7 +7,7 @@ use Rattle.std.specs.declared.net.socket_addr.SocketAddr.{SocketAddr}
 use Rattle.dns_name.specs.Name.{Name}
 use Rattle.dns_rdata.specs.Record.{Record}
 use Rattle.notify.specs.Notified.{Notified}
-use Rattle.notify.specs.Told.{is_due, as_answered}
+use Rattle.notify.specs.Copies.{is_due, as_answered}
 use Rattle.notify.specs.Turns.{IsFirst, FindsFirst, TurnsAs, GoesOn, IsAnsweredBy, heard_of, Hears}
 use Rattle.notify.specs.declared.due.Due.{Due}
 use Rattle.notify.specs.declared.secondary.Secondary.{Secondary}

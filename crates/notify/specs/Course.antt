@@ -3,7 +3,7 @@ use Rattle.std.specs.Prelude.{◌≡◌, ℕ, ◌+◌, ◌≤◌, true, false, L
 use Rattle.std.specs.declared.net.socket_addr.SocketAddr.{SocketAddr}
 use Rattle.dns_name.specs.Name.{Name}
 use Rattle.notify.specs.Notified.{untold}
-use Rattle.notify.specs.Told.{first_wait, is_due, falls_silent, as_silent, told_next, as_told, is_answered_by, as_answered}
+use Rattle.notify.specs.Copies.{first_wait, is_due, falls_silent, as_silent, next_notify, as_notified, is_answered_by, as_answered}
 use Rattle.notify.specs.declared.secondary.Secondary.{Secondary}
 use Rattle.notify.specs.declared.secondary.Telling.{Telling}
 
@@ -22,8 +22,8 @@ sending_of telling time = record { number = telling.number; id = telling.id; tim
 pub data Course : List Sending → ℕ → Secondary → Type 0 where
   begins : {sent : List Sending} {time : ℕ} {s : Secondary} (address : SocketAddr) → sent ≡ [] → s ≡ untold address → Course sent time s
   passes : {sent : List Sending} {before time : ℕ} {s : Secondary} → Course sent before s → before ≤ time → Course sent time s
-  told : {sent more : List Sending} {time : ℕ} {s later : Secondary} (number id : ℕ) → Course sent time s → is_due time number s ≡ true → falls_silent s ≡ false
-      → more ≡ sending_of (told_next number id time s.telling) time ∷ sent → later ≡ as_told (told_next number id time s.telling) s → Course more time later
+  reported : {sent more : List Sending} {time : ℕ} {s later : Secondary} (number id : ℕ) → Course sent time s → is_due time number s ≡ true → falls_silent s ≡ false
+      → more ≡ sending_of (next_notify number id time s.telling) time ∷ sent → later ≡ as_notified (next_notify number id time s.telling) s → Course more time later
   silent : {sent : List Sending} {time : ℕ} {s later : Secondary} (number : ℕ) → Course sent time s → is_due time number s ≡ true → falls_silent s ≡ true → later ≡ as_silent s → Course sent time later
   answered : {sent : List Sending} {time : ℕ} {s later : Secondary} (apex : Name) (octets : List ℕ) → Course sent time s → is_answered_by apex octets s ≡ true → later ≡ as_answered s → Course sent time later
 

@@ -1,5 +1,5 @@
 pub mod Notify
-pub mod Told
+pub mod Copies
 pub mod Notified
 pub mod Turns
 pub mod Course

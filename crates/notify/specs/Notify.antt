@@ -22,7 +22,7 @@ abbrev pub notify_limit : ℕ
 notify_limit = 512
 
 -- the header: the ID; QR 0, OPCODE NOTIFY, AA 1, TC 0 and RD 0 in one octet; RA, Z and RCODE 0 in the next; one question, so many
--- answers, and nothing behind these (RFC 1035, 4.1.1; RFC 1996, 3.2, 3.3, 3.7 and 3.9)
+-- answers, and nothing after these (RFC 1035, 4.1.1; RFC 1996, 3.2, 3.3, 3.7 and 3.9)
 abbrev pub notify_header : ℕ → ℕ → List ℕ
 notify_header id answers = to_be_bytes w16 id ++ ((8 * opcode_NOTIFY + 4) ∷ 0 ∷ []) ++ flat_map (to_be_bytes w16) (1 ∷ answers ∷ 0 ∷ 0 ∷ [])
 
@@ -52,11 +52,11 @@ is_read_as name (Err fault) = false
 abbrev pub is_notify_reply : List ℕ → Bool
 is_notify_reply msg = is_reply msg && opcode_of msg == opcode_NOTIFY
 
--- whether a header has no question behind it, or the name behind it is this one
+-- whether a header has no question after it, or the name after it is this one
 abbrev pub asks_no_other : Name → List ℕ → Bool
 asks_no_other apex msg = number_at msg 4 == 0 || is_read_as apex (name_at msg 12)
 
 -- whether octets answer the NOTIFY of an ID for the zone at an apex: they are a header or more, of a NOTIFY's reply, with that ID; and
--- where a question stands behind it, its name is the apex. The RCODE is of no matter (RFC 1996, 3.3, 3.6 and 3.12)
+-- where a question stands after it, its name is the apex. The RCODE is of no matter (RFC 1996, 3.3, 3.6 and 3.12)
 abbrev pub is_answer : Name → ℕ → List ℕ → Bool
 is_answer apex id msg = not (nat_lt (length msg) 12) && is_notify_reply msg && number_at msg 0 == id && asks_no_other apex msg

@@ -6,14 +6,14 @@ use Rattle.dns_name.specs.Name.{Name}
 use Rattle.dns_rdata.specs.Record.{Record}
 use Rattle.notify.specs.Notified.{Notified}
 use Rattle.notify.specs.Notify.{notify_octets}
-use Rattle.notify.specs.Told.{is_due, falls_silent, as_silent, told_next, as_told, is_answered_by, as_answered}
+use Rattle.notify.specs.Copies.{is_due, falls_silent, as_silent, next_notify, as_notified, is_answered_by, as_answered}
 use Rattle.notify.specs.declared.due.Due.{Due}
 use Rattle.notify.specs.declared.due.Due.TheVariants.{Send, Silent}
 use Rattle.notify.specs.declared.due.Heard.{Heard}
 use Rattle.notify.specs.declared.due.Heard.TheVariants.{Answered, Again}
 use Rattle.notify.specs.declared.secondary.Secondary.{Secondary}
 
--- the first of a list that passes, with what stands in front of it, where none does, and behind it
+-- the first of a list that passes, with what stands before it, where none does, and after it
 pub record IsFirst {A : Type 0} (Passes : A → Type 0) (all front : List A) (first : A) (back : List A) : Type 0 where
   pub parts : all ≡ front ++ first ∷ back
   pub passes : Passes first
@@ -31,8 +31,8 @@ FindsFirst Passes xs found =
 abbrev pub TurnsAs : ℕ → ℕ → ℕ → List Record → List ℕ → Secondary → Due → Secondary → Type 0
 TurnsAs time number id zone out s (Silent to) later = (falls_silent s ≡ true) × (to ≡ s.address) × (later ≡ as_silent s)
 TurnsAs time number id zone out s (Send to len) later =
-    let telling = told_next number id time s.telling in
-    (falls_silent s ≡ false) × (to ≡ s.address) × (take len out ≡ notify_octets telling.id zone) × (len ≤ length out) × (later ≡ as_told telling s)
+    let telling = next_notify number id time s.telling in
+    (falls_silent s ≡ false) × (to ≡ s.address) × (take len out ≡ notify_octets telling.id zone) × (len ≤ length out) × (later ≡ as_notified telling s)
 
 -- where a version of this number and zone is served: the first secondary that something is due to has its turn, and all others stay as
 -- they are; or nothing is due to any

@@ -13,7 +13,7 @@ mod secondary;
 
 pub use due::{Due, Heard};
 pub use large::{BIND_MOST, Large, Many, large_in, passed_by};
-pub use laws::{runs_are_courses, told_in_order};
+pub use laws::{notified_in_order, runs_are_courses};
 pub use message::{MAX_NOTIFY, is_answer, write_notify};
 pub use notifier::Notifier;
 pub use secondary::{MAX_COPIES, Secondary, Telling};

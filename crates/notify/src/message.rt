@@ -103,7 +103,7 @@ fn is_notify_reply(octets: &[u8]) -> bool
     octets[2] >= QR && octets[2] / OPCODE % OPCODES == OPCODE_NOTIFY
 }
 
-/// Whether a header has no question behind it, or the name behind it is this one (RFC 1996, 3.6).
+/// Whether a header has no question after it, or the name after it is this one (RFC 1996, 3.6).
 fn asks_no_other(apex: &Name, octets: &[u8]) -> bool
     requires { HEADER ≤ length octets.now }
     ensures { result ≡ asks_no_other apex.now octets.now }
@@ -119,7 +119,7 @@ fn number_at(octets: &[u8], at: usize) -> u16
     u16::from_be_bytes([octets[at], octets[at + 1]])
 }
 
-/// Whether the name behind a header can be read, and is this one.
+/// Whether the name after a header can be read, and is this one.
 fn is_read_as(name: &Name, octets: &[u8]) -> bool
     ensures { result ≡ is_read_as name.now (name_at octets.now 12) }
 {

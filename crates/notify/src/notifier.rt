@@ -1,12 +1,12 @@
 //! All secondaries: what is due to them next, and what they answer.
 ghost use Rattle.std.specs.Prelude.{◌≡◌, ◌≤◌, true, length, map, IfOk};
 ghost use Rattle.notify.specs.Notified.{untold, shown};
-ghost use Rattle.notify.specs.Told.{due_in, is_due, soonest};
+ghost use Rattle.notify.specs.Copies.{due_in, is_due, soonest};
 ghost use Rattle.notify.specs.Turns.{FindsFirst, TurnsAs, GoesOn, IsAnsweredBy, heard_of, Hears};
 
 use crate::due::{Due, Heard};
 use crate::message::{MAX_NOTIFY, write_notify};
-use crate::secondary::{Secondary, sooner, told_next};
+use crate::secondary::{Secondary, next_notify, sooner};
 use dns_name::Name;
 use std::alloc::{AllocError, Global};
 use std::marker::Model;
@@ -102,9 +102,9 @@ fn turn(
     if secondary.falls_silent() {
         return (Due::Silent(to), secondary.as_silent());
     }
-    let telling = told_next(secondary.telling, version.number(), id, time);
+    let telling = next_notify(secondary.telling, version.number(), id, time);
     let len = write_notify(version.zone(), telling.id, out);
-    (Due::Send { to, len }, secondary.as_told(telling))
+    (Due::Send { to, len }, secondary.as_notified(telling))
 }
 
 /// What is heard of a secondary that answers.

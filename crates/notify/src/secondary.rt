@@ -1,6 +1,6 @@
 //! What is known of a secondary: what it was told last, and whether it answers.
 ghost use Rattle.std.specs.Prelude.{◌≡◌, ◌↔◌, false, IsTrue};
-ghost use Rattle.notify.specs.Told.{told_next, due_in, is_due, falls_silent, sooner, as_silent, as_told, is_answered_by, as_answered};
+ghost use Rattle.notify.specs.Copies.{next_notify, due_in, is_due, falls_silent, sooner, as_silent, as_notified, is_answered_by, as_answered};
 ghost use Rattle.notify.specs.Turns.{IsAnsweredBy};
 
 use crate::message::is_answer;
@@ -25,7 +25,7 @@ pub struct Telling {
     pub id: u16,
     /// How many copies of the NOTIFY were sent; at most [`MAX_COPIES`] are counted.
     pub copies: u8,
-    /// How long the wait behind the last copy is, in milliseconds.
+    /// How long the wait after the last copy is, in milliseconds.
     pub wait: u64,
     /// When the last copy was sent, in milliseconds.
     pub at: u64,
@@ -63,20 +63,20 @@ impl Secondary {
     pub fn due_in(&self, time: u64, number: u64) -> Option<u64>
         ensures { result ≡ due_in time number self.now }
     {
-        let Some(told) = &self.telling else {
+        let Some(sent) = &self.telling else {
             return Some(0);
         };
-        let passed = time.saturating_sub(told.at);
-        if number < told.number {
+        let passed = time.saturating_sub(sent.at);
+        if number < sent.number {
             return None;
         }
-        if told.number < number {
+        if sent.number < number {
             return Some(FIRST_WAIT.saturating_sub(passed));
         }
-        if told.answered || (told.copies >= MAX_COPIES && !self.falls_silent()) {
+        if sent.answered || (sent.copies >= MAX_COPIES && !self.falls_silent()) {
             return None;
         }
-        Some(told.wait.saturating_sub(passed))
+        Some(sent.wait.saturating_sub(passed))
     }
 
     /// Whether something is due to it.
@@ -104,8 +104,8 @@ impl Secondary {
     }
 
     /// The same, once it is sent a NOTIFY, and told so.
-    pub(crate) fn as_told(self, telling: Telling) -> Secondary
-        ensures { result ≡ as_told telling self }
+    pub(crate) fn as_notified(self, telling: Telling) -> Secondary
+        ensures { result ≡ as_notified telling self }
     {
         Secondary {
             telling: Some(telling),
@@ -127,7 +127,7 @@ impl Secondary {
     {
         match &self.telling {
             None => false,
-            Some(told) => !told.answered && is_answer(apex, told.id, octets),
+            Some(sent) => !sent.answered && is_answer(apex, sent.id, octets),
         }
     }
 
@@ -137,9 +137,9 @@ impl Secondary {
     {
         let telling = match self.telling {
             None => None,
-            Some(told) => Some(Telling {
+            Some(sent) => Some(Telling {
                 answered: true,
-                ..told
+                ..sent
             }),
         };
         Secondary {
@@ -164,8 +164,8 @@ pub(crate) fn sooner(a: Option<u64>, b: Option<u64>) -> Option<u64>
 
 /// What is told next, where a version of this number is served: another copy where the version was told already, else its first, of
 /// this ID.
-pub(crate) fn told_next(telling: Option<Telling>, number: u64, id: u16, time: u64) -> Telling
-    ensures { result ≡ told_next number id time telling }
+pub(crate) fn next_notify(telling: Option<Telling>, number: u64, id: u16, time: u64) -> Telling
+    ensures { result ≡ next_notify number id time telling }
 {
     let first = Telling {
         number,
@@ -177,11 +177,11 @@ pub(crate) fn told_next(telling: Option<Telling>, number: u64, id: u16, time: u6
     };
     match telling {
         None => first,
-        Some(told) if told.number == number => Telling {
-            copies: told.copies.saturating_add(1).min(MAX_COPIES),
-            wait: told.wait.saturating_mul(2).min(LONGEST_WAIT),
+        Some(sent) if sent.number == number => Telling {
+            copies: sent.copies.saturating_add(1).min(MAX_COPIES),
+            wait: sent.wait.saturating_mul(2).min(LONGEST_WAIT),
             at: time,
-            ..told
+            ..sent
         },
         Some(_) => first,
     }

@@ -6,7 +6,7 @@ use denote.RawPtr.{Ptr, ◌+ₚ◌}
 use Rattle.raw_slots.specs.declared.place.Place.{Place}
 use Rattle.raw_slots.specs.declared.place.Spot.{Spot}
 
--- behind n things of this size, from p on
+-- after n things of this size, from p on
 abbrev pub beyond : ℕ → Ptr → ℕ → Ptr
 beyond size p zero = p
 beyond size p (suc n) = beyond size p n +ₚ size
@@ -31,7 +31,7 @@ pub record AreAlong {T : Type 0} (bytes : ℕ) (p : Ptr) (n : ℕ) (spots : List
   pub size : length spots ≡ n
   pub each : (k : ℕ) (s : Spot T) → slice_get spots k ≡ Some s → s.at ≡ beyond bytes p k
 
--- the spots of n places of this size, side by side from p on, behind the first k
+-- the spots of n places of this size, side by side from p on, after the first k
 abbrev pub spots_from : {T : Type 0} → ℕ → Ptr → ℕ → ℕ → List (Spot T)
 spots_from bytes p k zero = []
 spots_from bytes p k (suc n) = record { at = beyond bytes p k } ∷ spots_from bytes p (suc k) n

@@ -53,7 +53,7 @@ pub fn cut_all<T, V>(
     }
 }
 
-/// Joins whole places, which lie side by side from `first` on, to the row behind them.
+/// Joins whole places, which lie side by side from `first` on, to the row after them.
 pub fn join_all<T, V>(row: &mut Row<T>, mut places: Vec<Place<T, V>>, first: Spot<T>)
     requires { IsChain T.row first.at places.items × (row.old.at ≡ after T.row first.at (length places.items)) × (length places.items + length row.old.values ≤ row.old.total) }
     ensures { (row.new.values ≡ map (λ (y : Place T V). y.value) places.items ++ row.old.values) × (row.new.at ≡ first.at) × (row.new.total ≡ row.old.total) }

@@ -45,7 +45,7 @@ impl<T> Row<T> {
         ensures { (self.old.values ≡ result.value ∷ self.new.values) × (result.stake ≡ []) × (result.at ≡ self.old.at) × (self.new.at ≡ next_to T.row self.old.at) × (self.new.total ≡ self.old.total) }
     {
         let at = self.at;
-        // SAFETY: the row has a value at `at`, so the place behind it is in or at the end of its block.
+        // SAFETY: the row has a value at `at`, so the place after it is in or at the end of its block.
         self.at = unsafe { at.add(1) };
         Place {
             at,

@@ -139,18 +139,18 @@ long_front a b c d rest h =
 pub name_read : (name origin : List (List ℕ)) → IsName name → All (All (λ c. c < 256)) name → name_named (text_of name) origin ≡ Ok name
 unfolding name_named
 name_read name origin is octets =
-    let told : Result (List (List ℕ)) NameFault → Result (List (List ℕ)) Cause = λ r. elim r [ Ok n ↦ Ok n | Err fault ↦ Err BadName ] in
-    ap told (name_of_text-text_of name origin is octets)
+    let reported : Result (List (List ℕ)) NameFault → Result (List (List ℕ)) Cause = λ r. elim r [ Ok n ↦ Ok n | Err fault ↦ Err BadName ] in
+    ap reported (name_of_text-text_of name origin is octets)
 
 pub name_front : (name : List (List ℕ)) (rest : List ℕ) → IsName name → All (All (λ c. c < 256)) name → HasFront field.Name (wire_of name ++ rest) rest
 unfolding word_at
 name_front name rest is octets =
-    let stands = name_in-wire_of name rest is in
+    let is_present = name_in-wire_of name rest is in
     record {
       front = wire_of name;
       word = text_of name;
       is = refl;
-      at = rw stands refl;
+      at = rw is_present refl;
       read = λ origin. ap (on_ok wire_of) (name_read name origin is octets);
     }
 

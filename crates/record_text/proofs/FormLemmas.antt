@@ -4,7 +4,7 @@ use Rattle.std.proofs.lemmas.Bool.Decides.{nat_tests, Decides-eqb}
 use Rattle.std.proofs.lemmas.List.{nil_from_length, length-drop}
 use Rattle.std.proofs.lemmas.List.Elements.{All-nil, All-cons, All-head, All-tail, All-drop}
 use Rattle.dns_name.specs.Name.{wire_of, name_in}
-use Rattle.dns_name.proofs.LawLemmas.{name_in-stands}
+use Rattle.dns_name.proofs.LawLemmas.{name_in-is_present}
 use Rattle.dns_rdata.specs.Layout.{layout_of}
 use Rattle.dns_rdata.specs.Data.{names_then, parts, are_strings, data_of}
 use Rattle.dns_rdata.proofs.StringLemmas.{are_strings-behind}
@@ -51,12 +51,12 @@ names_has zero back fields octets own e all behind =
     behind octets ((Decides-eqb (length octets) back).0 test.0) all
 names_has (suc names) back fields octets own e all behind =
     let name = and_then_some _ (name_in octets) own e in
-    let stands = name_in-stands octets name.0 name.1 in
+    let is_present = name_in-is_present octets name.0 name.1 in
     let rest = drop (length (wire_of name.0)) octets in
     let more = map_some _ (names_then names back rest) own name.2 in
-    let whole = subst AreOctets stands.1 all in
-    let front = name_front name.0 rest stands.0 (labels_octets name.0 (all_front (wire_of name.0) rest whole)) in
-    (rest, subst (λ (os : List ℕ). HasFront field.Name os rest) (sym stands.1) front, names_has names back fields rest more.0 more.1 (all_back (wire_of name.0) rest whole) behind)
+    let whole = subst AreOctets is_present.1 all in
+    let front = name_front name.0 rest is_present.0 (labels_octets name.0 (all_front (wire_of name.0) rest whole)) in
+    (rest, subst (λ (os : List ℕ). HasFront field.Name os rest) (sym is_present.1) front, names_has names back fields rest more.0 more.1 (all_back (wire_of name.0) rest whole) behind)
 
 -- what a form of parts says
 record AreParts (front names back : ℕ) (octets : List ℕ) : Type 0 where

@@ -34,14 +34,14 @@ are_bytes (octet ∷ octets) h zero = All-head (λ (c : ℕ). c < 256) octet oct
 are_bytes (octet ∷ octets) h (suc i) = are_bytes octets (All-tail (λ (c : ℕ). c < 256) octet octets h) i
 
 -- what a decoding tells
-abbrev told : Result (List ℕ) FromHexError → Result (List ℕ) Cause
-told decoded = elim decoded as (λ _. Result (List ℕ) Cause) [ Ok octets ↦ Ok octets | Err fault ↦ Err BadData ]
+abbrev reported : Result (List ℕ) FromHexError → Result (List ℕ) Cause
+reported decoded = elim decoded as (λ _. Result (List ℕ) Cause) [ Ok octets ↦ Ok octets | Err fault ↦ Err BadData ]
 
 -- and so are their digits
 hexes_back : (octets : List ℕ) → AreOctets octets → hexes_of (hex_words octets) ≡ Ok octets
 hexes_back [] h = refl
 hexes_back (octet ∷ octets) h =
-    ap (λ (r : Result (List ℕ) FromHexError). and_then (told r) (λ (front : List ℕ). Ok (front ++ []))) (decode_of-encode_lower (octet ∷ octets) (are_bytes (octet ∷ octets) h))
+    ap (λ (r : Result (List ℕ) FromHexError). and_then (reported r) (λ (front : List ℕ). Ok (front ++ []))) (decode_of-encode_lower (octet ∷ octets) (are_bytes (octet ∷ octets) h))
     ∙ ap (λ (os : List ℕ). Ok os) (append-nil (octet ∷ octets))
 
 words_back : (octets : List ℕ) → length octets ≤ 4096 → AreOctets octets → generic_of (drop 1 (generic_words octets)) ≡ Ok octets

@@ -80,7 +80,7 @@ as_data rtype octets =
 unfoldable pub as_own_data : ℕ → List ℕ → Result (List ℕ) Cause
 as_own_data rtype octets = elim (data_of rtype octets) [ None ↦ Err BadData | Some own ↦ if bytes_eq own octets then Ok own else Err BadData ]
 
--- the data of a type that words spell relative to an origin: as octets behind `\#`, or in the type's own form; the first fault in reading
+-- the data of a type that words spell relative to an origin: as octets after `\#`, or in the type's own form; the first fault in reading
 -- order is told, and the limit of octets last (RFC 1035, 5.1; RFC 3597, 5)
 abbrev pub data_of_words : ℕ → Name → List Written → Result (List ℕ) Cause
 data_of_words rtype origin words =

@@ -10,7 +10,7 @@ use Rattle.record_text.specs.Reading.{on_ok, and_then}
 use Rattle.zone_lexing.specs.Word.{Written}
 use Rattle.zone_lexing.specs.Word.Written.{Plain, Quoted, Unclosed}
 
--- the word in front of such data: `\#`
+-- the word before such data: `\#`
 abbrev pub generic_mark : List ℕ
 generic_mark = 92 ∷ 35 ∷ []
 
@@ -33,12 +33,12 @@ hex_of (Plain text) = elim (decode_of text) [ Ok octets ↦ Ok octets | Err faul
 hex_of (Quoted text) = Err BadData
 hex_of Unclosed = Err cause.Unclosed
 
--- and of words of them, one behind the other
+-- and of words of them, one after the other
 abbrev pub hexes_of : List Written → Result (List ℕ) Cause
 hexes_of [] = Ok []
 hexes_of (word ∷ words) = and_then (hex_of word) (λ front. on_ok (λ rest. front ++ rest) (hexes_of words))
 
--- the octets that words behind `\#` are: as many as the first of them says
+-- the octets that words after `\#` are: as many as the first of them says
 unfoldable pub generic_of : List Written → Result (List ℕ) Cause
 generic_of [] = Err BadData
 generic_of (word ∷ words) = and_then (size_of word) (λ size. and_then (hexes_of words) (λ octets. if length octets == size then Ok octets else Err BadData))

@@ -8,7 +8,7 @@ use Rattle.zone_lexing.specs.Word.{Written}
 use Rattle.zone_lexing.specs.Word.Written.{Plain, Quoted, Unclosed}
 use Rattle.record_text.specs.declared.cause.Cause.TheVariants as cause
 
--- the name that a text stands for: `@` alone is the origin, and a text that ends in no dot has the origin behind it
+-- the name that a text stands for: `@` alone is the origin, and a text that ends in no dot has the origin after it
 unfoldable pub name_named : List ℕ → Name → Result Name Cause
 name_named text origin = elim (name_of_text text origin) [ Ok name ↦ Ok name | Err fault ↦ Err BadName ]
 
@@ -18,7 +18,7 @@ name_of origin (Plain text) = name_named text origin
 name_of origin (Quoted text) = Err BadData
 name_of origin Unclosed = Err cause.Unclosed
 
--- and one that stands as an owner or behind a directive
+-- and one that stands as an owner or after a directive
 abbrev pub owner_of : Name → Written → Result Name Cause
 owner_of origin (Plain text) = name_named text origin
 owner_of origin (Quoted text) = Err BadName

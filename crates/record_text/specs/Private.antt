@@ -10,13 +10,13 @@ IsLasting (mark.Ttl ttl) = ttl.0 < 2 ^ 31
 IsLasting mark.Class = Unit {0}
 IsLasting (mark.Type rtype) = Unit {0}
 
--- octets that a reading gives stand behind the others
+-- octets that a reading gives stand after the others
 pub record ReadsBehind (reading : Result (List ℕ) Cause) (before after : List ℕ) : Type 0 where
   pub front : List ℕ
   pub read : reading ≡ Ok front
   pub octets : after ≡ before ++ front
 
--- a word is written behind a space, and how many octets it takes is told; nothing where there is none
+-- a word is written after a space, and how many octets it takes is told; nothing where there is none
 abbrev pub WritesWord : Option (List ℕ × ℕ) → List ℕ → List ℕ → Option ℕ → Type 0
 WritesWord None before after len = (len ≡ None) × (after ≡ before)
 WritesWord (Some word) before after len = (len ≡ Some word.1) × (after ≡ before ++ 32 ∷ word.0)

@@ -8,7 +8,7 @@ use Rattle.record_text.specs.Reading.{on_ok, and_then}
 use Rattle.zone_lexing.specs.Word.Written.{Plain, Quoted, Unclosed}
 use Rattle.record_text.specs.declared.cause.Cause.TheVariants as cause
 
--- the octets of the text behind its first k characters
+-- the octets of the text after its first k characters
 abbrev pub unescaped_behind : ℕ → List ℕ → Option (List ℕ)
 unescaped_behind k [] = Some []
 unescaped_behind zero (c ∷ text) =
@@ -16,11 +16,11 @@ unescaped_behind zero (c ∷ text) =
 unescaped_behind (suc k) (c ∷ text) = unescaped_behind k text
 
 -- the octets of a text, its escapes undone: `\DDD` is the octet of that number, `\X` is X; none where a backslash has
--- neither form behind it (RFC 1035, 5.1)
+-- neither form after it (RFC 1035, 5.1)
 unfoldable pub unescaped : List ℕ → Option (List ℕ)
 unescaped text = unescaped_behind 0 text
 
--- a string's octets behind their number, which is at most 255 (RFC 1035, 3.3)
+-- a string's octets after their number, which is at most 255 (RFC 1035, 3.3)
 abbrev pub counted : List ℕ → Result (List ℕ) Cause
 counted octets = if nat_le (length octets) 255 then Ok (length octets ∷ octets) else Err BadData
 
@@ -34,7 +34,7 @@ string_of (Plain text) = string_in text
 string_of (Quoted text) = string_in text
 string_of Unclosed = Err cause.Unclosed
 
--- the strings that words are, one behind the other
+-- the strings that words are, one after the other
 abbrev pub strings_of : List Written → Result (List ℕ) Cause
 strings_of [] = Ok []
 strings_of (word ∷ words) = and_then (string_of word) (λ front. on_ok (λ rest. front ++ rest) (strings_of words))

@@ -1,4 +1,4 @@
--- The data of a record as text (RFC 1035, 5.1; RFC 4291, 2.2), each word behind a space.
+-- The data of a record as text (RFC 1035, 5.1; RFC 4291, 2.2), each word after a space.
 use Rattle.std.specs.Prelude.{ℕ, zero, suc, false, ◌||◌, ◌==◌, List, [], ◌∷◌, ◌++◌, length, take, drop, map, nat_lt, nat_le, if◌then◌else◌, Option, Some, None, option_map, decimal, flat_map}
 use Rattle.std.specs.Fmt.{digits}
 use Rattle.std.specs.Int.{from_be_bytes, w16, w32}
@@ -23,12 +23,12 @@ abbrev pub groups_text : List ℕ → List ℕ
 groups_text [] = []
 groups_text (group ∷ groups) = group_text group ++ flat_map (λ next. 58 ∷ group_text next) groups
 
--- an octet of a string as text: `"` and `\` behind a backslash, octets outside 32 to 126 as three digits behind one
+-- an octet of a string as text: `"` and `\` after a backslash, octets outside 32 to 126 as three digits after one
 -- (RFC 1035, 5.1)
 abbrev pub string_octet : ℕ → List ℕ
 string_octet c = if nat_lt c 32 || nat_lt 126 c then 92 ∷ digits_of c else if c == 34 || c == 92 then 92 ∷ c ∷ [] else c ∷ []
 
--- the strings in the octets behind the first k of them (RFC 1035, 3.3.14)
+-- the strings in the octets after the first k of them (RFC 1035, 3.3.14)
 abbrev pub strings_in : ℕ → List ℕ → List (List ℕ)
 strings_in k [] = []
 strings_in zero (n ∷ octets) = take n octets ∷ strings_in n octets
@@ -49,7 +49,7 @@ words_at [] octets = []
 words_at (field ∷ fields) octets =
     elim (word_at field octets) [ None ↦ [] | Some word ↦ Plain word.0 ∷ words_at fields (drop word.1 octets) ]
 
--- the words of a type's data; of a type that nobody here knows octets behind `\#` (RFC 3597, 5)
+-- the words of a type's data; of a type that nobody here knows octets after `\#` (RFC 3597, 5)
 unfoldable pub words_of : ℕ → List ℕ → List Written
 words_of rtype octets =
     if rtype == type_TXT then map (λ string. Quoted (flat_map string_octet string)) (strings_in 0 octets)
@@ -61,6 +61,6 @@ as_text (Plain text) = text
 as_text (Quoted text) = 34 ∷ text ++ 34 ∷ []
 as_text Unclosed = []
 
--- words as text, each behind a space
+-- words as text, each after a space
 abbrev pub text_of_words : List Written → List ℕ
 text_of_words words = flat_map (λ word. 32 ∷ as_text word) words

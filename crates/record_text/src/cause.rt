@@ -65,7 +65,7 @@ impl Cause {
         }
     }
 
-    /// The name that is printed of it behind the code (own).
+    /// The name that is printed of it after the code (own).
     pub fn name(self) -> &'static str
         ensures { result.now ≡ name_of self }
     {

@@ -31,7 +31,7 @@ pub(crate) enum Field {
 }
 
 /// The data of a type that words spell, relative to the origin (RFC 1035, 3.3, 3.4.1 and 5.1; RFC 2782; RFC 3596), or octets of any type
-/// behind `\\#` (RFC 3597, 5). The words are judged from left to right, and the first fault is told.
+/// after `\\#` (RFC 3597, 5). The words are judged from left to right, and the first fault is told.
 ///
 /// `Number` and `BadName` at a word that is no number for its field or no name; `BadData` at another word that isn't of
 /// its form, at too few or too many words, and at a type that nobody here knows without `\\#`; `Unclosed` where no word stands; `Limit`
@@ -54,7 +54,7 @@ pub fn read_data(
     Ok(RData::from_wire(alloc, rtype, &octets)?)
 }
 
-/// Puts the octets that words spell for a type behind the others, names as they are written.
+/// Puts the octets that words spell for a type after the others, names as they are written.
 fn put_words(
     alloc: Global,
     octets: &mut Vec<u8>,
@@ -112,7 +112,7 @@ pub(crate) fn form_of(rtype: RType) -> Option<&'static [Field]>
     }
 }
 
-/// Puts the octets that words stand for behind the others, one word a field.
+/// Puts the octets that words stand for after the others, one word a field.
 fn put_fields(
     octets: &mut Vec<u8>,
     fields: &[Field],
@@ -144,7 +144,7 @@ pub fn surplus(word: Word<'_>) -> Cause
     }
 }
 
-/// Puts the octets that a word stands for behind the others.
+/// Puts the octets that a word stands for after the others.
 fn put_field(octets: &mut Vec<u8>, field: Field, word: Word<'_>, origin: &Name) -> Result<(), Cause>
     ensures put { OnOk result (ReadsBehind (field_of origin.now field (written word.entry)) octets.old.items octets.new.items) }
     ensures fault { IfErr result (IsToldOf (field_of origin.now field (written word.entry))) }

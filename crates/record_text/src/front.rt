@@ -1,4 +1,4 @@
-//! What stands in front of a record's data: its TTL, its class and its type (RFC 1035, 5.1).
+//! What stands before a record's data: its TTL, its class and its type (RFC 1035, 5.1).
 ghost use Rattle.std.specs.Prelude.{◌≡◌, ◌<◌, ◌^◌, Ok, map, IfOk, IfErr, IfSome, Err};
 ghost use Rattle.std.specs.Option.{is_some};
 ghost use Rattle.record_text.specs.Front.{mark_of, front_of, front_seen};
@@ -11,7 +11,7 @@ use crate::numbers::{is_number, ttl};
 use dns_rdata::{RType, Ttl};
 use zone_lexing::Word;
 
-/// What a word in front of the data is.
+/// What a word before the data is.
 pub(crate) enum Mark {
     /// The TTL.
     Ttl(Ttl),
@@ -21,7 +21,7 @@ pub(crate) enum Mark {
     Type(RType),
 }
 
-/// What stands in front of a record's data, and the words behind.
+/// What stands before a record's data, and the words after.
 #[derive(Drop)]
 pub struct Front<'w, 'a> {
     /// The record's own TTL.
@@ -32,7 +32,7 @@ pub struct Front<'w, 'a> {
     pub words: &'w [Word<'a>],
 }
 
-/// What the words behind an owner begin with: TTL and class, in either order and each left out or not, and the type
+/// What the words after an owner begin with: TTL and class, in either order and each left out or not, and the type
 /// (RFC 1035, 5.1).
 ///
 /// `Number` at a TTL that is too great, `BadClass` at a class other than IN, `UnknownType` at another word that is no
@@ -60,7 +60,7 @@ pub fn read_front<'w, 'a>(words: &'w [Word<'a>]) -> Result<Front<'w, 'a>, Cause>
     Err(Cause::BadData)
 }
 
-/// What a word in front of the data is, where a TTL has stood before it or not, and a class.
+/// What a word before the data is, where a TTL has stood before it or not, and a class.
 fn read_mark(timed: bool, classed: bool, word: Word<'_>) -> Result<Mark, Cause>
     ensures lasts { IfOk result IsLasting }
     ensures mark { result ≡ mark_of timed classed (written word.entry) }

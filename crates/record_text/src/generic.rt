@@ -16,7 +16,7 @@ use hex::FromHexError;
 use std::alloc::{AllocError, Global};
 use zone_lexing::Word;
 
-/// The word in front of such data.
+/// The word before such data.
 const MARK: &[u8] = b"\\#";
 
 /// The hexadecimal digits.
@@ -32,7 +32,7 @@ pub(crate) fn are_generic(words: &[Word<'_>]) -> bool
     }
 }
 
-/// The data of a type that words behind `\#` spell: they are to be of the type's form as they stand, names in full and in
+/// The data of a type that words after `\#` spell: they are to be of the type's form as they stand, names in full and in
 /// lower case.
 ///
 /// `Number` at a number of octets that is no number; `Limit` where it is greater than data may have; `BadData` at a word that
@@ -52,7 +52,7 @@ pub(crate) fn read_generic(alloc: Global, rtype: RType, words: &[Word<'_>]) -> R
     }
 }
 
-/// The octets that words behind `\#` are: as many as the first of them says.
+/// The octets that words after `\#` are: as many as the first of them says.
 fn generic_octets(alloc: Global, words: &[Word<'_>]) -> Result<Vec<u8>, Cause>
     ensures octets { IfOk result (λ own. generic_of (map written words.now) ≡ Ok own.items) }
     ensures within { IfOk result (λ own. length own.items ≤ max_data) }
@@ -61,7 +61,7 @@ fn generic_octets(alloc: Global, words: &[Word<'_>]) -> Result<Vec<u8>, Cause>
     let Some((first, behind)) = words.split_first() else {
         return Err(Cause::BadData);
     };
-    let size = told_size(*first)?;
+    let size = stated_size(*first)?;
     let mut octets = Vec::new(alloc);
     put_hexes(alloc, &mut octets, behind)?;
     if octets.len() == size {
@@ -73,7 +73,7 @@ fn generic_octets(alloc: Global, words: &[Word<'_>]) -> Result<Vec<u8>, Cause>
 
 /// How many octets a word says that there are.
 #[tactic(auto, unfolding(crate::specs::Number::decimal_of))]
-fn told_size(word: Word<'_>) -> Result<usize, Cause>
+fn stated_size(word: Word<'_>) -> Result<usize, Cause>
     ensures size { result ≡ size_of (written word.entry) }
     ensures within { IfOk result (λ size. size ≤ max_data) }
 {
@@ -87,7 +87,7 @@ fn told_size(word: Word<'_>) -> Result<usize, Cause>
     }
 }
 
-/// Puts the octets that words of hexadecimal digits are behind the others.
+/// Puts the octets that words of hexadecimal digits are after the others.
 fn put_hexes(alloc: Global, octets: &mut Vec<u8>, words: &[Word<'_>]) -> Result<(), Cause>
     ensures put { OnOk result (ReadsBehind (hexes_of (map written words.now)) octets.old.items octets.new.items) }
     ensures fault { IfErr result (IsToldOf (hexes_of (map written words.now))) }
@@ -98,7 +98,7 @@ fn put_hexes(alloc: Global, octets: &mut Vec<u8>, words: &[Word<'_>]) -> Result<
     Ok(())
 }
 
-/// Puts the octets of one such word behind the others.
+/// Puts the octets of one such word after the others.
 fn put_hex(alloc: Global, octets: &mut Vec<u8>, word: Word<'_>) -> Result<(), Cause>
     ensures put { OnOk result (ReadsBehind (hex_of (written word.entry)) octets.old.items octets.new.items) }
     ensures fault { IfErr result (IsToldOf (hex_of (written word.entry))) }
@@ -117,7 +117,7 @@ fn put_hex(alloc: Global, octets: &mut Vec<u8>, word: Word<'_>) -> Result<(), Ca
     Ok(())
 }
 
-/// Writes octets as such data behind the text, each word behind a space.
+/// Writes octets as such data after the text, each word after a space.
 pub(crate) fn write_generic(text: &mut String, octets: &[u8]) -> Result<(), AllocError>
     ensures { OnOk result (string_bytes text.new ≡ string_bytes text.old ++ text_of_words (generic_words octets.now)) }
 {

@@ -129,7 +129,7 @@ fn is_in(text: &[u8]) -> Result<bool, Cause>
     }
 }
 
-/// Writes the word of a type behind the text; `TYPE` and its number for one that has none (RFC 1035, 3.2.2; RFC 3596, 2.1; RFC 2782;
+/// Writes the word of a type after the text; `TYPE` and its number for one that has none (RFC 1035, 3.2.2; RFC 3596, 2.1; RFC 2782;
 /// RFC 3597, 5). The fault is a growth that was refused; the text then ends anywhere.
 #[tactic(auto, unfolding(crate::specs::Mnemonics::type_word))]
 pub fn write_type(text: &mut String, rtype: RType) -> Result<(), AllocError>

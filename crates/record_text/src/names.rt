@@ -20,7 +20,7 @@ pub fn name(word: Word<'_>, origin: &Name) -> Result<Name, Cause>
     }
 }
 
-/// The name that a word is as an owner or behind a directive, relative to the origin; `@` alone is the origin
+/// The name that a word is as an owner or after a directive, relative to the origin; `@` alone is the origin
 /// (RFC 1035, 5.1).
 ///
 /// `BadName` at a word that is no name, and at a quoted string; `Unclosed` where no word stands.

@@ -73,7 +73,7 @@ pub(crate) fn decimal(text: &[u8], most: u32) -> Option<u32>
     Some(value)
 }
 
-/// A number with one more digit behind its others; None where that is no digit, or where it is too great.
+/// A number with one more digit after its others; None where that is no digit, or where it is too great.
 fn with_digit(value: u32, octet: u8, most: u32) -> Option<u32>
     ensures { result ≡ (if is_ascii_digit octet && nat_le (value * 10 + (octet - 48)) most then Some (value * 10 + (octet - 48)) else None) }
 {

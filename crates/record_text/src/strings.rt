@@ -11,7 +11,7 @@ use dns_name::octet_at;
 use std::alloc::{AllocError, Global};
 use zone_lexing::Word;
 
-/// Puts the strings that words are behind the other octets, each behind its length (RFC 1035, 3.3.14).
+/// Puts the strings that words are after the other octets, each after its length (RFC 1035, 3.3.14).
 ///
 /// `BadData` at a string of more than 255 octets, and at a backslash that neither a character nor three digits up to 255
 /// follow; `Unclosed` where no word stands; `NoMemory` where a growth was refused.
@@ -29,7 +29,7 @@ pub(crate) fn put_strings(
     Ok(())
 }
 
-/// Puts one string behind the other octets.
+/// Puts one string after the other octets.
 fn put_string(alloc: Global, octets: &mut Vec<u8>, word: Word<'_>) -> Result<(), Cause>
     ensures put { OnOk result (ReadsBehind (string_of (written word.entry)) octets.old.items octets.new.items) }
     ensures fault { IfErr result (IsToldOf (string_of (written word.entry))) }
@@ -40,7 +40,7 @@ fn put_string(alloc: Global, octets: &mut Vec<u8>, word: Word<'_>) -> Result<(),
     }
 }
 
-/// Puts the string that a text is behind the other octets.
+/// Puts the string that a text is after the other octets.
 fn put_text(alloc: Global, octets: &mut Vec<u8>, text: &[u8]) -> Result<(), Cause>
     ensures put { OnOk result (ReadsBehind (string_in text.now) octets.old.items octets.new.items) }
     ensures fault { IfErr result (IsToldOf (string_in text.now)) }
@@ -58,7 +58,7 @@ fn put_text(alloc: Global, octets: &mut Vec<u8>, text: &[u8]) -> Result<(), Caus
     Ok(())
 }
 
-/// The octets of a text, its escapes undone; None where a backslash has no escape behind it (RFC 1035, 5.1).
+/// The octets of a text, its escapes undone; None where a backslash has no escape after it (RFC 1035, 5.1).
 fn unescaped(alloc: Global, text: &[u8]) -> Result<Option<Vec<u8>>, AllocError>
     ensures { IfOk result (λ own. option_map (λ v. v.items) own ≡ unescaped text.now) }
 {

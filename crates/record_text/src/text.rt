@@ -12,10 +12,10 @@ use dns_rdata::{RData, RType};
 use std::alloc::AllocError;
 use std::net::Ipv6Addr;
 
-/// Writes the words of a record's data behind the text, each behind a space (RFC 1035, 5.1): names whole with a final
+/// Writes the words of a record's data after the text, each after a space (RFC 1035, 5.1): names whole with a final
 /// dot, numbers in decimal, addresses with dots, addresses of version 6 as eight groups in lower case without leading
-/// zeros and without `::`, and strings quoted, `"` and `\` in them behind a backslash and octets outside 32 to 126 as
-/// three digits behind one; of a type that nobody here knows `\#`, how many octets there are, and these in hexadecimal digits of lower
+/// zeros and without `::`, and strings quoted, `"` and `\` in them after a backslash and octets outside 32 to 126 as
+/// three digits after one; of a type that nobody here knows `\#`, how many octets there are, and these in hexadecimal digits of lower
 /// case (RFC 3597, 5).
 ///
 /// The fault is a growth that was refused; the text then ends anywhere.
@@ -31,7 +31,7 @@ pub fn write_data(text: &mut String, rdata: &RData) -> Result<(), AllocError>
     }
 }
 
-/// Writes the strings in the octets, each behind a space.
+/// Writes the strings in the octets, each after a space.
 fn write_strings(text: &mut String, octets: &[u8]) -> Result<(), AllocError>
     ensures { OnOk result (string_bytes text.new ≡ string_bytes text.old ++ text_of_words (words_of type_TXT octets.now)) }
 {
@@ -73,7 +73,7 @@ fn write_octet(text: &mut String, octet: u8) -> Result<(), AllocError>
     }
 }
 
-/// Writes the words of octets that are these fields, each behind a space.
+/// Writes the words of octets that are these fields, each after a space.
 fn write_fields(text: &mut String, fields: &[Field], octets: &[u8]) -> Result<(), AllocError>
     ensures { OnOk result (string_bytes text.new ≡ string_bytes text.old ++ text_of_words (words_at fields.now octets.now)) }
 {
@@ -87,7 +87,7 @@ fn write_fields(text: &mut String, fields: &[Field], octets: &[u8]) -> Result<()
     Ok(())
 }
 
-/// Writes the field that octets begin with behind a space, and gives how many octets it takes. None, with nothing
+/// Writes the field that octets begin with after a space, and gives how many octets it takes. None, with nothing
 /// written, where they begin with no such field.
 #[tactic(auto, unfolding(crate::specs::Text::word_at))]
 fn write_field(text: &mut String, field: Field, octets: &[u8]) -> Result<Option<usize>, AllocError>
@@ -129,7 +129,7 @@ fn write_field(text: &mut String, field: Field, octets: &[u8]) -> Result<Option<
     }
 }
 
-/// Writes the address of version 6 that octets begin with behind a space.
+/// Writes the address of version 6 that octets begin with after a space.
 #[tactic(auto, unfolding(crate::specs::Text::word_at))]
 fn write_address6(text: &mut String, octets: &[u8]) -> Result<Option<usize>, AllocError>
     ensures word { IfOk result (WritesWord (word_at field.Address6 octets.now) (string_bytes text.old) (string_bytes text.new)) }

@@ -22,14 +22,14 @@ pub told_whole : (zone : List Record) (versions : List Version) (served : List R
 told_whole zone versions served whole e h = rw e (ap Some (list_told zone versions served h.behind h.last))
 
 -- over a stream, and over UDP
-pub sent_by_stream : (zone : List Record) (changes told : Option (List Record)) (peer : Peer) (query : QueryAsked) (opt : Option Opt) (list : List Record) (octets : List (List ℕ)) → is_stream peer.transport ≡ true → told ≡ changes → opt ≡ reply_opt query.edns → list ≡ list_for zone told query
+pub sent_by_stream : (zone : List Record) (changes reported : Option (List Record)) (peer : Peer) (query : QueryAsked) (opt : Option Opt) (list : List Record) (octets : List (List ℕ)) → is_stream peer.transport ≡ true → reported ≡ changes → opt ≡ reply_opt query.edns → list ≡ list_for zone reported query
     → octets ≡ octets_of (packed query.head query.question opt list) → octets ≡ messages_to zone changes peer query
-sent_by_stream zone changes told peer query opt list octets e f own g h =
+sent_by_stream zone changes reported peer query opt list octets e f own g h =
     rw e (h ∙ ap (λ (o : Option Opt). octets_of (packed query.head query.question o list)) own ∙ ap (λ l. octets_of (packed query.head query.question (reply_opt query.edns) l)) (g ∙ ap (λ o. list_for zone o query) f))
 
-pub sent_by_datagram : (zone : List Record) (changes told : Option (List Record)) (peer : Peer) (query : QueryAsked) (opt : Option Opt) (limit : ℕ) (list soa : List Record) (octets : List (List ℕ)) → is_stream peer.transport ≡ false → told ≡ changes → opt ≡ reply_opt query.edns → limit ≡ udp_limit query.edns → list ≡ list_for zone told query → soa ≡ soa_of zone
+pub sent_by_datagram : (zone : List Record) (changes reported : Option (List Record)) (peer : Peer) (query : QueryAsked) (opt : Option Opt) (limit : ℕ) (list soa : List Record) (octets : List (List ℕ)) → is_stream peer.transport ≡ false → reported ≡ changes → opt ≡ reply_opt query.edns → limit ≡ udp_limit query.edns → list ≡ list_for zone reported query → soa ≡ soa_of zone
     → octets ≡ datagram query.head query.question opt limit list soa ∷ [] → octets ≡ messages_to zone changes peer query
-sent_by_datagram zone changes told peer query opt limit list soa octets e f own most g k h =
+sent_by_datagram zone changes reported peer query opt limit list soa octets e f own most g k h =
     rw e (h ∙ ap (λ (o : Option Opt). datagram query.head query.question o limit list soa ∷ []) own ∙ ap (λ (n : ℕ). datagram query.head query.question (reply_opt query.edns) n list soa ∷ []) most ∙ ap (λ l. datagram query.head query.question (reply_opt query.edns) (udp_limit query.edns) l soa ∷ []) (g ∙ ap (λ o. list_for zone o query) f) ∙ ap (λ s. datagram query.head query.question (reply_opt query.edns) (udp_limit query.edns) (list_for zone changes query) s ∷ []) k)
 
 -- a question of another class than IN, and one that asks for no transfer, get the reply to a query

@@ -15,8 +15,8 @@ judged_update head asked update e =
     rw (no_query, is_update) refl
 
 -- a request for which there is no memory is read as an update
-pub reads-want : (msg : List ℕ) (told : Parsed) → IsWant msg told → reads msg ≡ update_of (header_of msg) (update_in (header_of msg) msg)
-reads-want msg told want =
+pub reads-want : (msg : List ℕ) (reported : Parsed) → IsWant msg reported → reads msg ≡ update_of (header_of msg) (update_in (header_of msg) msg)
+reads-want msg reported want =
     let least = want.whole in
     let whole : nat_lt (length msg) 12 ≡ false = grind (arith, nat_tests) in
     let asked = option_and_then (seen msg) (body_in msg) in

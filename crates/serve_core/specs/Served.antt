@@ -40,23 +40,23 @@ asks_update (Update update) = true
 asks_update (NoMemory head) = true
 
 -- a code, and a zone after it; it has 282 octets at most, so that it fits whatever the asker can take (RFC 1035, 4.2.1)
-abbrev pub told : Transport → Heading → Rcode → List Record → Got
-told transport heading code zone = record { reply = Some (fit (coded heading code) (limit_of transport None)); zone = zone }
+abbrev pub reported : Transport → Heading → Rcode → List Record → Got
+reported transport heading code zone = record { reply = Some (fit (coded heading code) (limit_of transport None)); zone = zone }
 
 -- an update by its code, with which the zone stays; else NOERROR and the zone that it makes (RFC 2136, 3)
 abbrev pub answered : Transport → Heading → List Record → Option (List Record) → Option Rcode → Got
-answered transport heading zone next (Some code) = told transport heading code zone
-answered transport heading zone next None = told transport heading NoError (unwrap_or next zone)
+answered transport heading zone next (Some code) = reported transport heading code zone
+answered transport heading zone next None = reported transport heading NoError (unwrap_or next zone)
 
 -- what comes of what a request says: an update from a peer that may update, or may not, is judged and taken; nothing else changes
 -- the zone (RFC 1034, 4.3.2; RFC 2136, 3). SERVFAIL where memory was wanted in reading has no OPT (own)
 abbrev pub got_for : Transport → Bool → List Record → Parsed → Got
 got_for transport may zone Silent = record { reply = None; zone = zone }
-got_for transport may zone (Fault head code) = told transport (header_alone head) code zone
-got_for transport may zone (BadOpt head question code dnssec_ok) = told transport (heading_of_bad head question dnssec_ok) code zone
+got_for transport may zone (Fault head code) = reported transport (header_alone head) code zone
+got_for transport may zone (BadOpt head question code dnssec_ok) = reported transport (heading_of_bad head question dnssec_ok) code zone
 got_for transport may zone (Query query) = record { reply = Some (fit (reply_to_peer zone (peer_over transport may) query) (limit_of transport query.edns)); zone = zone }
 got_for transport may zone (Update update) = answered transport (heading_of_update update) zone (act zone update) (code_of zone update may)
-got_for transport may zone (NoMemory head) = told transport (header_alone head) ServFail zone
+got_for transport may zone (NoMemory head) = reported transport (header_alone head) ServFail zone
 
 -- what a request says where memory is wanted to read it: what asks for an update is SERVFAIL, and all else needs no memory (own)
 abbrev pub without_memory : Parsed → Parsed
@@ -69,7 +69,7 @@ without_memory (NoMemory head) = NoMemory head
 
 -- what comes of what a request says where memory is wanted for what it makes: an update gets SERVFAIL, and all else makes nothing (own)
 abbrev pub got_unmade : Transport → Bool → List Record → Parsed → Got
-got_unmade transport may zone (Update update) = told transport (heading_of_update update) ServFail zone
+got_unmade transport may zone (Update update) = reported transport (heading_of_update update) ServFail zone
 got_unmade transport may zone said = got_for transport may zone said
 
 -- what comes of what a request says, wherever memory is wanted
@@ -114,9 +114,9 @@ pub record Serves (served : Responded) (transport : Transport) (may : Bool) (ver
 -- (RFC 2136, 3; own)
 abbrev pub IsToldAtOnce : List Record → Bool → Transport → Parsed → Option ℕ → List ℕ → Type 0
 IsToldAtOnce zone may transport Silent len out = Unit {0}
-IsToldAtOnce zone may transport (Fault head code) len out = StandsIn len (limit_of transport None) out (told transport (header_alone head) code zone).reply
-IsToldAtOnce zone may transport (BadOpt head question code dnssec_ok) len out = StandsIn len (limit_of transport None) out (told transport (heading_of_bad head question dnssec_ok) code zone).reply
+IsToldAtOnce zone may transport (Fault head code) len out = StandsIn len (limit_of transport None) out (reported transport (header_alone head) code zone).reply
+IsToldAtOnce zone may transport (BadOpt head question code dnssec_ok) len out = StandsIn len (limit_of transport None) out (reported transport (heading_of_bad head question dnssec_ok) code zone).reply
 IsToldAtOnce zone may transport (Query query) len out = Unit {0}
 IsToldAtOnce zone may transport (Update update) len out =
-    (code : Rcode) → verdict zone update may ≡ Some code → StandsIn len (limit_of transport None) out (told transport (heading_of_update update) code zone).reply
+    (code : Rcode) → verdict zone update may ≡ Some code → StandsIn len (limit_of transport None) out (reported transport (heading_of_update update) code zone).reply
 IsToldAtOnce zone may transport (NoMemory head) len out = Unit {0}

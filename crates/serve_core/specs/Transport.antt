@@ -6,7 +6,7 @@ use Rattle.dns_message.specs.declared.edns.Edns.{Edns}
 use Rattle.serve_core.specs.declared.transport.Transport.{Transport}
 use Rattle.serve_core.specs.declared.transport.Transport.TheVariants.{Udp, Tcp}
 
--- the most octets of a reply: over UDP by the request's OPT, or its lack; over TCP what the length in two octets in front of it can
+-- the most octets of a reply: over UDP by the request's OPT, or its lack; over TCP what the length in two octets before it can
 -- say (RFC 1035, 4.2.1 and 4.2.2; RFC 6891, 6.2.3 to 6.2.5)
 abbrev pub limit_of : Transport → Option Edns → ℕ
 limit_of Udp edns = udp_limit edns

@@ -186,7 +186,7 @@ pub(crate) fn write_refused(
     write_reply(&reply, transport.limit(query.edns), out)
 }
 
-/// Writes a code to a query that isn't answered: behind its header alone where it has no OPT, else with the question and an OPT
+/// Writes a code to a query that isn't answered: after its header alone where it has no OPT, else with the question and an OPT
 /// (RFC 1035, 4.1.1; RFC 6891, 6.1.1; own).
 pub(crate) fn write_unanswered(
     query: &Query,

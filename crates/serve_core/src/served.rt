@@ -88,11 +88,11 @@ fn respond_to_update(
     ensures changes { IfSome result.next (λ next. KnowsChanges version.now.zone next) }
 {
     let outcome = apply(alloc, version, update, may);
-    told(outcome, &Heading::of_update(update), transport, out)
+    reply_of(outcome, &Heading::of_update(update), transport, out)
 }
 
 /// The reply to an update by what becomes of it, and the version that it makes (RFC 2136, 3; own).
-fn told(outcome: Outcome, heading: &Heading, transport: Transport, out: &mut [u8]) -> Responded
+fn reply_of(outcome: Outcome, heading: &Heading, transport: Transport, out: &mut [u8]) -> Responded
     requires { room_of transport ≤ length out.old }
     ensures reply { StandsIn result.len (limit_of transport None) out.new (Some (fit (coded heading.now (code_told outcome)) (limit_of transport None))) }
     ensures next { result.next ≡ next_of outcome }

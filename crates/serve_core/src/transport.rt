@@ -15,7 +15,7 @@ pub const TCP_LIMIT: usize = MAX_LIMIT;
 pub enum Transport {
     /// A datagram each (RFC 1035, 4.2.1).
     Udp,
-    /// A connection, on which each message stands behind its length in two octets (RFC 1035, 4.2.2).
+    /// A connection, on which each message stands after its length in two octets (RFC 1035, 4.2.2).
     Tcp,
 }
 

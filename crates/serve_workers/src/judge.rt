@@ -22,27 +22,27 @@ pub struct UpdateConfig<S: UpdateStore> {
 
 /// What the update thread needs to judge updates.
 #[derive(Drop)]
-pub(crate) struct Judging<'a, S: UpdateStore> {
+pub(crate) struct UpdateContext<'a, S: UpdateStore> {
     /// The updates that wait.
     pub(crate) updates: &'a Updates,
     /// Brings the replies to the threads.
-    pub(crate) bringing: ReplyRoutes<'a>,
+    pub(crate) routes: ReplyRoutes<'a>,
     /// Where batches are stored before their updates get their replies.
     pub(crate) store: S,
 }
 
-impl<'a, S: UpdateStore> Judging<'a, S> {
+impl<'a, S: UpdateStore> UpdateContext<'a, S> {
     /// What is needed to judge the updates that the threads of these specs submit. An error where a socket can't be shared, or an allocation fails.
     pub(crate) fn new(
         alloc: Global,
         config: UpdateConfig<S>,
         specs: &[ThreadSpec<'_>],
         updates: &'a Updates,
-    ) -> io::Result<Judging<'a, S>> {
+    ) -> io::Result<UpdateContext<'a, S>> {
         let UpdateConfig { store, .. } = config;
-        Ok(Judging {
+        Ok(UpdateContext {
             updates,
-            bringing: ReplyRoutes::new(alloc, specs, updates)?,
+            routes: ReplyRoutes::new(alloc, specs, updates)?,
             store,
         })
     }
@@ -89,17 +89,17 @@ pub(crate) fn judge_for<
     alloc: Global,
     server: &'g Server<'s, Z, N>,
     shutdown: &'g Shutdown,
-    judging: Judging<'g, S>,
+    context: UpdateContext<'g, S>,
     reader: VersionReader<N>,
     right: PublishRight<N>,
     log: &'g L,
 ) -> Result<Judge<'g, 'g, RoutedPublisher<'g, 's, Z, N, L>, S>, VersionReader<N>> {
-    let Judging {
+    let UpdateContext {
         updates,
-        bringing,
+        routes,
         store,
-    } = judging;
-    let publisher = match ServerPublisher::new(rt, alloc, server, reader, right, log, bringing) {
+    } = context;
+    let publisher = match ServerPublisher::new(rt, alloc, server, reader, right, log, routes) {
         Ok(publisher) => publisher,
         Err(reader) => return Err(reader),
     };

@@ -78,7 +78,7 @@ impl<
 
     // A thread that fails ends the server.
     fn work<R: Wait>(&mut self, rt: &R) {
-        if self.shutdown.begin() {
+        if self.shutdown.thread_started() {
             self.log.tell(rt, Event::Serving);
         }
         let Some(reader) = self.reader.take() else {

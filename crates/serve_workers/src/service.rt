@@ -9,7 +9,7 @@ ghost use Rattle.serve_workers.specs.Numbers.{end_of, fault_by};
 
 use crate::ending::{end_cell, end_named};
 use crate::jobs::{fault_of, jobs_of};
-use crate::judge::{Judging, UpdateConfig, judge_for, reader_of};
+use crate::judge::{UpdateConfig, UpdateContext, judge_for, reader_of};
 use crate::server_thread::{ServerThread, put_readers, run_threads};
 use crate::thread_spec::ThreadSpec;
 use crate::threads::SocketJob;
@@ -80,14 +80,14 @@ fn updates_for<R: Wait>(
 }
 
 /// What is needed to judge the updates that the threads of these specs submit. Fails where a socket can't be shared, or an allocation fails.
-fn judging_for<'a, S: UpdateStore>(
+fn context_for<'a, S: UpdateStore>(
     alloc: Global,
     config: UpdateConfig<S>,
     specs: &[ThreadSpec<'_>],
     updates: &'a Updates,
-) -> Result<Judging<'a, S>, ServeFault> {
-    match Judging::new(alloc, config, specs, updates) {
-        Ok(judging) => Ok(judging),
+) -> Result<UpdateContext<'a, S>, ServeFault> {
+    match UpdateContext::new(alloc, config, specs, updates) {
+        Ok(context) => Ok(context),
         Err(fault) => Err(fault_of(&fault)),
     }
 }
@@ -121,8 +121,8 @@ pub fn serve_zone<
         Ok(updates) => updates,
         Err(fault) => return Err(fault),
     };
-    let judging = match judging_for(alloc, config, &specs, &updates) {
-        Ok(judging) => judging,
+    let context = match context_for(alloc, config, &specs, &updates) {
+        Ok(context) => context,
         Err(fault) => return Err(fault),
     };
     let jobs = match jobs_of(rt, alloc, specs, plan, &updates) {
@@ -136,7 +136,7 @@ pub fn serve_zone<
     };
     let ledgers = ServerLedgers::new();
     serve_with_readers::<R, Z, Brand, L, S>(
-        rt, alloc, parts, later, ledgers, jobs, plan, judging, log,
+        rt, alloc, parts, later, ledgers, jobs, plan, context, log,
     )
 }
 
@@ -156,7 +156,7 @@ fn serve_with_readers<
     ledgers: ServerLedgers,
     jobs: Vec<SocketJob<'_, R>>,
     plan: Plan<'_>,
-    judging: Judging<'_, S>,
+    context: UpdateContext<'_, S>,
     log: &L,
 ) -> Result<(), ServeFault>
     requires named { parts.cell ≡ N.cell }
@@ -189,7 +189,7 @@ fn serve_with_readers<
     let cell = NamedCell::of(cell);
     let publisher = NamedPublisher::of(publisher);
     let (served, publisher) = serve_with_engine::<R, Z, N, L, S>(
-        rt, alloc, &cell, publisher, own, reader, later, ledgers, &mut named, jobs, plan, judging,
+        rt, alloc, &cell, publisher, own, reader, later, ledgers, &mut named, jobs, plan, context,
         log,
     );
     end_named(rt, cell, publisher, named);
@@ -217,7 +217,7 @@ fn serve_with_engine<
     readers: &mut Vec<VersionReader<N>>,
     jobs: Vec<SocketJob<'_, R>>,
     plan: Plan<'_>,
-    judging: Judging<'_, S>,
+    context: UpdateContext<'_, S>,
     log: &L,
 ) -> (Result<(), ServeFault>, VersionPublisher<Z, N>)
     requires first { publisher.number ≡ 0 }
@@ -257,7 +257,7 @@ fn serve_with_engine<
         alloc,
         &server,
         plan.shutdown,
-        judging,
+        context,
         reader,
         right,
         readers,
@@ -282,7 +282,7 @@ fn serve_with_updates<
     alloc: Global,
     server: &Server<'_, Z, N>,
     shutdown: &Shutdown,
-    judging: Judging<'_, S>,
+    context: UpdateContext<'_, S>,
     reader: VersionReader<N>,
     right: PublishRight<N>,
     readers: &mut Vec<VersionReader<N>>,
@@ -294,8 +294,8 @@ fn serve_with_updates<
     ensures count { vec_len readers.new ≡ vec_len readers.old + 1 }
     ensures room { vec_capacity readers.new ≡ vec_capacity readers.old }
 {
-    let updates = judging.updates;
-    let judge = match judge_for(rt, alloc, server, shutdown, judging, reader, right, log) {
+    let updates = context.updates;
+    let judge = match judge_for(rt, alloc, server, shutdown, context, reader, right, log) {
         Ok(judge) => judge,
         Err(reader) => {
             readers.push_reserved(reader);

@@ -122,7 +122,7 @@ impl<'g, C: Clock> SocketJob<'g, C> {
         let transport = match self {
             SocketJob::Datagrams(_) => Transport::Udp,
             SocketJob::Connections(_) => Transport::Tcp,
-            SocketJob::Secondaries(_) => return Event::Untold { end },
+            SocketJob::Secondaries(_) => return Event::Unlogged { end },
         };
         Event::End {
             worker,

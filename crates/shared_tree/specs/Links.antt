@@ -49,7 +49,7 @@ AreFronted front entries = AllByRecursion (IsFronted front) entries
 abbrev pub IsRunFronted : {K V : Type 0} → (K → ℕ) → List (Entry K V) → Type 0
 IsRunFronted front entries = (0 < length entries) × AreFronted front entries
 
--- an entry is the first of pairs that stand behind others, and so parts the two; its number is its key's (own)
+-- an entry is the first of pairs that stand after others, and so parts the two; its number is its key's (own)
 abbrev pub IsParting : {K V : Type 0} → (K → ℕ) → Entry K V → List (K × V) → Type 0
 IsParting front entry behind = (first_pair behind ≡ Some entry.pair.value) × IsFronted front entry
 
@@ -151,7 +151,7 @@ IsHalved height count = (0 < height) × (count ≤ 8 * 2 ^ height) × (1 < heigh
 abbrev pub pair_of : {K V : Type 0} → Entry K V → K × V
 pair_of entry = entry.pair.value
 
--- the pairs that are left of nodes on the way down to a run, the highest node first: of each those on its right, behind those of
+-- the pairs that are left of nodes on the way down to a run, the highest node first: of each those on its right, after those of
 -- the nodes below it (own)
 abbrev pub pairs_on_way : {K V : Type 0} → List (Option (Bor (Node K V))) → List (K × V)
 pairs_on_way [] = []

@@ -17,7 +17,7 @@ abbrev pub IsLow : ℕ → ℕ → Type 0
 IsLow height size = (digits : ℕ) → size < 2 ^ digits → height ≤ 2 * digits
 
 module _ {K V : Type 0} (cmp : K → K → Ordering) where
-  -- the keys ascend: each is less than all behind it (own)
+  -- the keys ascend: each is less than all after it (own)
   abbrev pub IsAscending : List (K × V) → Type 0
   IsAscending [] = Unit {0}
   IsAscending (pair ∷ rest) = AllByRecursion (λ other. cmp pair.0 other.0 ≡ Less) rest × IsAscending rest

@@ -11,7 +11,7 @@ use std::alloc::AllocError;
 use std::sync::Arc;
 
 impl Maker {
-    /// A pair with the number that stands in front of its key. `NoMemory` where memory is refused.
+    /// A pair with the number that stands before its key. `NoMemory` where memory is refused.
     pub(crate) fn entry<K: Front + Drop, V: Drop>(
         &self,
         base: &Base<K>,
@@ -70,7 +70,7 @@ impl Maker {
         self.fork(left, parting, right)
     }
 
-    /// The last `count` pairs of a list, which it loses, with the numbers that stand in front of their keys. `NoMemory` where memory
+    /// The last `count` pairs of a list, which it loses, with the numbers that stand before their keys. `NoMemory` where memory
     /// is refused.
     fn last_entries<K: Front + Drop, V: Drop>(
         &self,

@@ -1,4 +1,4 @@
-//! The number that stands in front of a key.
+//! The number that stands before a key.
 ghost use Rattle.std.specs.Prelude.{◌≡◌, ◌<◌, ℕ, None, Some, IfOk};
 ghost use Rattle.std.specs.Cmp.{nat_cmp_is};
 ghost use Rattle.std.specs.declared.cmp.Ordering.TheVariants.{Less};
@@ -11,13 +11,13 @@ use std::alloc::{AllocError, Global};
 use std::marker::Model;
 use std::sync::Arc;
 
-/// A key in front of which a number stands. A tree keeps the numbers on the ways down, so that most often no key needs to be looked
+/// A key before which a number stands. A tree keeps the numbers on the ways down, so that most often no key needs to be looked
 /// at there. The number is told by what the keys begin with, as the owners of a zone do with its apex: `base` is a key that begins
 /// so. Where two numbers differ, their keys stand to each other as they do.
 pub trait Front: Ord {
     ghost front: { Self → Self → ℕ };
 
-    /// The number that stands in front of the key among those that begin as `base` does.
+    /// The number that stands before the key among those that begin as `base` does.
     fn front(&self, base: &Self) -> u64
         ensures { result ≡ front base.now self.now };
 
@@ -83,7 +83,7 @@ impl<K> Base<K> {
 }
 
 impl<K: Front> Base<K> {
-    /// The number that stands in front of a sought key: 0 where nothing is said.
+    /// The number that stands before a sought key: 0 where nothing is said.
     pub(crate) fn front_of<Q: Seek<K>>(&self, sought: &Q) -> u64
         ensures { result ≡ front_at K.front self.now (Q.key sought.now) }
     {

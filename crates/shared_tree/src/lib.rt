@@ -1,4 +1,4 @@
-//! A sorted map whose versions share what they have in common: a balanced tree, behind std's `Arc`, so that a change makes
+//! A sorted map whose versions share what they have in common: a balanced tree, after std's `Arc`, so that a change makes
 //! one way down anew and shares all that stands beside it. Its leaves are runs of 1 to 16 pairs; a node above them has no pair of
 //! its own, and keeps the first one on its right, which parts its sides. So the nodes of a large map are few, and a way down
 //! ends in pairs that lie side by side.

@@ -24,7 +24,7 @@ pub struct Around<'a, K, V> {
     pub behind: Option<&'a (K, V)>,
 }
 
-/// How a sought key, in front of which a number stands, stands to an entry's: where the numbers differ, as they do.
+/// How a sought key, before which a number stands, stands to an entry's: where the numbers differ, as they do.
 pub(crate) fn order_at<K: Front, V, Q: Seek<K>>(
     own: u64,
     _base: &Base<K>,
@@ -158,7 +158,7 @@ pub(crate) fn around_in<'a, K: Front, V, Q: Seek<K>>(
     }
 }
 
-/// The pair of a key in a run, or else the pairs next to it, where one stands behind the run.
+/// The pair of a key in a run, or else the pairs next to it, where one stands after the run.
 fn around_in_run<'a, K: Front, V, Q: Seek<K>>(
     own: u64,
     base: &Base<K>,
@@ -187,7 +187,7 @@ fn around_in_run<'a, K: Front, V, Q: Seek<K>>(
     }
 }
 
-/// The pair in front of a place of a run, where there is one.
+/// The pair before a place of a run, where there is one.
 fn pair_in_front<K, V>(run: &[Entry<K, V>], place: usize) -> Option<&(K, V)>
     ensures { place ≤ length run.now → option_copied result ≡ last_pair (take place (run_pairs run.now)) }
 {
@@ -195,7 +195,7 @@ fn pair_in_front<K, V>(run: &[Entry<K, V>], place: usize) -> Option<&(K, V)>
     pair_at_place(run, front)
 }
 
-/// The pair at a place of a run, or else the one that stands behind the run.
+/// The pair at a place of a run, or else the one that stands after the run.
 fn pair_or<'a, K, V>(
     run: &'a [Entry<K, V>],
     place: usize,
@@ -223,7 +223,7 @@ pub(crate) fn first_entry<K, V>(link: &Link<K, V>) -> Option<&Entry<K, V>>
     }
 }
 
-/// The first pair, which parts a link from what stands in front of it, with one owner more. `NoMemory` where the count of its
+/// The first pair, which parts a link from what stands before it, with one owner more. `NoMemory` where the count of its
 /// owners is full.
 pub(crate) fn share_first<K, V>(link: &Link<K, V>) -> Result<Entry<K, V>, NoMemory>
     ensures { (front : K → ℕ) → IsParted front link.now → IfOk result (λ entry. IsParting front entry (link_pairs link.now)) }

@@ -23,7 +23,7 @@ pub(crate) enum Link<K, V> {
     Fork(Arc<Node<K, V>>),
 }
 
-/// A pair, and the number that stands in front of its key, which most often tells how a sought key stands to it.
+/// A pair, and the number that stands before its key, which most often tells how a sought key stands to it.
 #[derive(Drop)]
 pub(crate) struct Entry<K, V> {
     pub(crate) front: u64,
@@ -95,7 +95,7 @@ pub(crate) fn share_entry<K, V>(entry: &Entry<K, V>) -> Result<Entry<K, V>, NoMe
     })
 }
 
-/// Puts an entry behind others. `NoMemory` where memory is refused.
+/// Puts an entry after others. `NoMemory` where memory is refused.
 #[tactic(auto, using(crate::proofs::LinkLemmas::run_append))]
 pub(crate) fn push_entry<K: Drop, V: Drop>(
     entries: &mut Vec<Entry<K, V>>,

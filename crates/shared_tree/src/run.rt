@@ -27,7 +27,7 @@ fn entries_below<K: Front + Drop, V: Drop>(
     Ok(below)
 }
 
-/// Puts the pairs of a run with greater keys behind others. `NoMemory` where memory is refused.
+/// Puts the pairs of a run with greater keys after others. `NoMemory` where memory is refused.
 fn push_above<K: Front + Drop, V: Drop>(
     entries: &mut Vec<Entry<K, V>>,
     run: &[Entry<K, V>],

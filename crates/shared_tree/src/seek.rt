@@ -13,7 +13,7 @@ pub trait Seek<K: Front> {
     fn cmp_key(&self, other: &K) -> Ordering
         ensures { result ≡ K.cmp (key self.now) other.now };
 
-    /// The number that stands in front of that key.
+    /// The number that stands before that key.
     fn key_front(&self, base: &K) -> u64
         ensures { result ≡ K.front base.now (key self.now) };
 }

@@ -118,7 +118,7 @@ fn take_lowest<'a, K, V>(way: &mut Way<'a, K, V>) -> Option<&'a Node<K, V>>
     lowest
 }
 
-/// The rest of a run, or the run behind it where nothing is left, with the way to it in place of the way to the one.
+/// The rest of a run, or the run after it where nothing is left, with the way to it in place of the way to the one.
 fn rest_or_next<'a, K, V>(way: &mut Way<'a, K, V>, rest: &'a [Entry<K, V>]) -> &'a [Entry<K, V>]
     requires { AreOnWay 0 way.old.items }
     ensures way { AreOnWay 0 way.new.items }
@@ -134,7 +134,7 @@ fn rest_or_next<'a, K, V>(way: &mut Way<'a, K, V>, rest: &'a [Entry<K, V>]) -> &
     }
 }
 
-/// Puts the way down from a link to its first run behind a way, and gives that run.
+/// Puts the way down from a link to its first run after a way, and gives that run.
 fn go_down<'a, K, V>(way: &mut Way<'a, K, V>, link: &'a Link<K, V>) -> &'a [Entry<K, V>]
     requires way { AreOnWay 0 way.old.items }
     requires formed { IsFormed link.now }
@@ -155,7 +155,7 @@ fn go_down<'a, K, V>(way: &mut Way<'a, K, V>, link: &'a Link<K, V>) -> &'a [Entr
     }
 }
 
-/// Puts the way down from a link to the first pair of a greater key behind a way, and gives that pair's run from it on.
+/// Puts the way down from a link to the first pair of a greater key after a way, and gives that pair's run from it on.
 fn go_above<'a, K: Front, V, Q: Seek<K>>(
     way: &mut Way<'a, K, V>,
     link: &'a Link<K, V>,
@@ -188,7 +188,7 @@ fn go_above<'a, K: Front, V, Q: Seek<K>>(
     }
 }
 
-/// A run behind the place of a key.
+/// A run after the place of a key.
 fn run_above<'a, K: Front, V, Q: Seek<K>>(
     own: u64,
     base: &Base<K>,

@@ -116,12 +116,12 @@ impl<T, C: Names<T>, N: Naming> NamedPublisher<T, C, N> {
     }
 
     /// The number of the version published last.
-    pub fn last(&self) -> u64
+    pub fn last_number(&self) -> u64
         ensures number { result ≡ self.now.number }
         ensures history { IsHistory C.begins C.follows self.now.published }
         ensures last { IsLastOf self.now.published (record { number = self.now.number; value = self.now.value }) }
     {
-        self.publisher.last()
+        self.publisher.last_number()
     }
 
     /// How many weak owners more it can give.

@@ -73,7 +73,7 @@ impl<T> Reader<T> {
 
 impl<T, C: Names<T>> Publisher<T, C> {
     /// The number of the version published last.
-    pub fn last(&self) -> u64
+    pub fn last_number(&self) -> u64
         ensures number { result ≡ self.now.number }
         ensures history { IsHistory C.begins C.follows self.now.published }
         ensures last { IsLastOf self.now.published (record { number = self.now.number; value = self.now.value }) }

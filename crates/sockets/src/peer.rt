@@ -16,17 +16,16 @@ pub struct TcpPeer {
     from: SocketAddr,
     faults: u64,
     /// What is known about the connection without a system call, after it is watched.
-    pub(crate) news: Option<ReadHint>,
+    pub(crate) hint: Option<ReadHint>,
 }
 
-// By hand: a derived drop is proved once more in each crate that lets such a value go.
 impl Drop for TcpPeer {
     fn drop(self) {
         let TcpPeer {
             inner: _,
             from: _,
             faults: _,
-            news: _,
+            hint: _,
         } = self;
     }
 }
@@ -64,14 +63,14 @@ impl TcpPeer {
             inner,
             from,
             faults: 0,
-            news: None,
+            hint: None,
         }
     }
 
     /// Whether it is known, without a system call, that a read would find nothing.
     fn is_empty(&self) -> bool {
-        match &self.news {
-            Some(news) => news.is_empty(),
+        match &self.hint {
+            Some(hint) => hint.is_empty(),
             None => false,
         }
     }
@@ -81,8 +80,8 @@ impl TcpPeer {
         if count == 0 || count >= room {
             return;
         }
-        if let Some(news) = &self.news {
-            news.note_empty();
+        if let Some(hint) = &self.hint {
+            hint.note_empty();
         }
     }
 

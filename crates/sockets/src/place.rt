@@ -13,7 +13,6 @@ pub struct TcpPlace {
     pub(crate) listener: TcpListener,
 }
 
-// By hand: a derived drop is proved once more in each crate that lets such a value go.
 impl Drop for TcpPlace {
     fn drop(self) {
         let TcpPlace { listener: _ } = self;

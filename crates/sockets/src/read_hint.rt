@@ -13,7 +13,6 @@ struct ReadState {
     is_closed: AtomicBool,
 }
 
-// By hand: a derived drop is proved once more in each crate that lets such a value go.
 impl Drop for ReadState {
     fn drop(self) {
         let ReadState {
@@ -25,44 +24,44 @@ impl Drop for ReadState {
 
 /// A reference to this state, held by the connection or by the watch.
 pub(crate) struct ReadHint {
-    told: Arc<ReadState, Global>,
+    state: Arc<ReadState, Global>,
 }
 
 impl Drop for ReadHint {
     fn drop(self) {
-        let ReadHint { told: _ } = self;
+        let ReadHint { state: _ } = self;
     }
 }
 
 impl ReadHint {
     /// Two references to the state of a connection about which nothing is known. Fails if there is no memory.
     pub(crate) fn pair(alloc: Global) -> Result<(ReadHint, ReadHint), AllocError> {
-        let told = ReadState {
+        let state = ReadState {
             is_empty: AtomicBool::new(false),
             is_closed: AtomicBool::new(false),
         };
-        let told = Arc::new(alloc, told).map_err(AllocError::from)?;
-        let same = Arc::try_clone(&told)?;
-        Ok((ReadHint { told }, ReadHint { told: same }))
+        let state = Arc::new(alloc, state).map_err(AllocError::from)?;
+        let same = Arc::try_clone(&state)?;
+        Ok((ReadHint { state }, ReadHint { state: same }))
     }
 
     /// Records that the connection was reported ready. `is_closed` says whether its peer has closed its side.
     pub(crate) fn tell(&self, is_closed: bool) {
         if is_closed {
-            self.told.is_closed.store(true, Ordering::SeqCst);
+            self.state.is_closed.store(true, Ordering::SeqCst);
         }
-        self.told.is_empty.store(false, Ordering::SeqCst);
+        self.state.is_empty.store(false, Ordering::SeqCst);
     }
 
     /// Records that a read has read all octets that had arrived, unless the peer has closed its side.
     pub(crate) fn note_empty(&self) {
-        if !self.told.is_closed.load(Ordering::SeqCst) {
-            self.told.is_empty.store(true, Ordering::SeqCst);
+        if !self.state.is_closed.load(Ordering::SeqCst) {
+            self.state.is_empty.store(true, Ordering::SeqCst);
         }
     }
 
     /// Whether it is known that a read would find nothing.
     pub(crate) fn is_empty(&self) -> bool {
-        self.told.is_empty.load(Ordering::SeqCst)
+        self.state.is_empty.load(Ordering::SeqCst)
     }
 }

@@ -17,7 +17,6 @@ pub struct ServiceManager {
     socket: OwnedFd,
 }
 
-// By hand: a derived drop is proved once more in each crate that lets such a value go.
 impl Drop for ServiceManager {
     fn drop(self) {
         let ServiceManager { socket: _ } = self;

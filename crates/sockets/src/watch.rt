@@ -26,10 +26,9 @@ pub struct Watch<'a, C> {
     now: u64,
     alloc: Global,
     /// For each key, the read hint of the connection that was last watched under that key.
-    news: Vec<Option<ReadHint>>,
+    hints: Vec<Option<ReadHint>>,
 }
 
-// By hand: a derived drop is proved once more in each crate that lets such a value go.
 impl<'a, C> Drop for Watch<'a, C> {
     fn drop(self) {
         let Watch {
@@ -38,7 +37,7 @@ impl<'a, C> Drop for Watch<'a, C> {
             clock: _,
             now: _,
             alloc: _,
-            news: _,
+            hints: _,
         } = self;
     }
 }
@@ -52,7 +51,7 @@ impl<'a, C: Clock> Watch<'a, C> {
             clock,
             now: 0,
             alloc,
-            news: Vec::new(alloc),
+            hints: Vec::new(alloc),
         })
     }
 
@@ -63,21 +62,21 @@ impl<'a, C: Clock> Watch<'a, C> {
         let Ok((ours, theirs)) = ReadHint::pair(self.alloc) else {
             return Err(NotWatched);
         };
-        if let Some(place) = self.news.get_mut(key) {
+        if let Some(place) = self.hints.get_mut(key) {
             *place = Some(ours);
-        } else if key > self.news.len() {
+        } else if key > self.hints.len() {
             return Ok(());
-        } else if self.news.push(Some(ours)).is_err() {
+        } else if self.hints.push(Some(ours)).is_err() {
             return Err(NotWatched);
         }
-        stream.news = Some(theirs);
+        stream.hint = Some(theirs);
         Ok(())
     }
 
     /// Records an event in its connection's read hint, if there is one.
     fn tell(&self, event: &Event) {
-        if let Some(Some(news)) = self.news.get(event.token().0) {
-            news.tell(event.is_read_closed() || event.is_error());
+        if let Some(Some(hint)) = self.hints.get(event.token().0) {
+            hint.tell(event.is_read_closed() || event.is_error());
         }
     }
 

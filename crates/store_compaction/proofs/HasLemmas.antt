@@ -48,7 +48,7 @@ module _ {F : Type 0} where
     text = text;
     batches = batches;
     k = k;
-    stands = at;
+    is_present = at;
     last = last;
   }
 
@@ -56,7 +56,7 @@ module _ {F : Type 0} where
   pub has_tended : (before after : CompactedState F) → IsTended before after → (zone : List Record) (published : List Version) (updates : List (List ℕ))
       → HasUpdates zone before published updates → HasUpdates zone after published updates
   has_tended before after tended zone published updates has =
-      let from = (tended.stands has.text has.batches (replay zone has.in_text) has.in_journal has.k has.stands).0 in
+      let from = (tended.is_present has.text has.batches (replay zone has.in_text) has.in_journal has.k has.is_present).0 in
       let parts : (has.in_text ++ take from.n has.in_journal) ++ drop from.n has.in_journal ≡ has.in_text ++ has.in_journal =
       append_assoc has.in_text (take from.n has.in_journal) (drop from.n has.in_journal) ∙ ap (λ (l : List Update). has.in_text ++ l) (take-append-drop from.n has.in_journal) in
       record {
@@ -67,8 +67,8 @@ module _ {F : Type 0} where
         text = from.text;
         batches = from.batches;
         k = from.k;
-        stands = subst (λ (z : List Record). IsAt from.text from.batches z (drop from.n has.in_journal) from.k after)
-            (sym (replay_both zone has.in_text (take from.n has.in_journal))) from.stands;
+        is_present = subst (λ (z : List Record). IsAt from.text from.batches z (drop from.n has.in_journal) from.k after)
+            (sym (replay_both zone has.in_text (take from.n has.in_journal))) from.is_present;
         last = subst (λ (t : TrailState). IsLast published (last_in t)) (sym tended.trail) has.last;
       }
 
@@ -83,7 +83,7 @@ module _ {F : Type 0} where
     text = has.text;
     batches = has.batches;
     k = has.k;
-    stands = kept.stands has.text has.batches (replay zone has.in_text) has.in_journal has.k has.stands;
+    is_present = kept.is_present has.text has.batches (replay zone has.in_text) has.in_journal has.k has.is_present;
     last = subst (λ (t : TrailState). IsLast published (last_in t)) (sym kept.trail) has.last;
   }
 
@@ -96,9 +96,9 @@ module _ {F : Type 0} where
       let same : first ≡ last_in old = last_once published first (last_in old) last has.last in
       let made : AreMadeBy (last_in old) versions octets = subst (λ (v : Version). AreMadeBy v versions octets) same written in
       let with : HasMore has.text has.batches (replay zone has.in_text) has.in_journal octets after =
-      stored.stands short made has.text has.batches (replay zone has.in_text) has.in_journal has.k has.stands in
-      let store = with.stands.end.store in
-      let ends = (stored.last has.stands.end.made short made).1 in
+      stored.is_present short made has.text has.batches (replay zone has.in_text) has.in_journal has.k has.is_present in
+      let store = with.is_present.end.store in
+      let ends = (stored.last has.is_present.end.made short made).1 in
       let parts : has.in_text ++ (has.in_journal ++ with.more) ≡ (has.in_text ++ has.in_journal) ++ with.more = sym (append_assoc has.in_text has.in_journal with.more) in
       let all : AreRead (updates_in has.batches ++ octets) (has.in_journal ++ with.more) =
       subst (λ (l : List (List ℕ)). AreRead l (has.in_journal ++ with.more)) with.all_are store.read in
@@ -107,12 +107,12 @@ module _ {F : Type 0} where
         in_journal = has.in_journal ++ with.more;
         are_read = subst (λ (l : List Update). AreRead (updates ++ octets) l) (sym parts)
             (read_both updates octets (has.in_text ++ has.in_journal) with.more has.are_read
-            (read_rest (updates_in has.batches) octets has.in_journal with.more has.stands.end.store.read all));
+            (read_rest (updates_in has.batches) octets has.in_journal with.more has.is_present.end.store.read all));
         each = changes_both zone has.in_text (has.in_journal ++ with.more) (changes_first zone has.in_text has.in_journal has.each) store.taken;
         text = has.text;
         batches = with.all;
         k = with.k;
-        stands = with.stands;
+        is_present = with.is_present;
         last = subst (λ (v : Version). IsLast (published ++ versions) v) (sym ends) (last_more published (last_in old) versions has.last);
       }
 

@@ -67,7 +67,7 @@ module _ {F : Type 0} where
     all = batches;
     more = [];
     k = k;
-    stands = subst (λ (us : List Update). IsAt text batches zone us k after) (sym (append-nil updates)) at;
+    is_present = subst (λ (us : List Update). IsAt text batches zone us k after) (sym (append-nil updates)) at;
     all_are = sym (append-nil (updates_in batches));
     on_disk = inl refl;
   }
@@ -108,7 +108,7 @@ module _ {F : Type 0} where
         all = all;
         more = more;
         k = m;
-        stands = record {
+        is_present = record {
           end = end;
           log = inl here;
           origin = λ other is. at.origin other (sym wanted ∙ is) ∙ ap (λ (h : Head). h.origin) (sym head);
@@ -130,17 +130,17 @@ module _ {F : Type 0} where
   pub tended_kept : (before middle after : CompactedState F) → IsTended before middle → IsKept middle after → IsTended before after
   tended_kept before middle after tended kept = record {
     trail = kept.trail ∙ tended.trail;
-    stands = λ text batches zone updates k at.
-        let from = (tended.stands text batches zone updates k at).0 in (
+    is_present = λ text batches zone updates k at.
+        let from = (tended.is_present text batches zone updates k at).0 in (
           record {
             n = from.n;
             within = from.within;
             text = from.text;
             batches = from.batches;
             k = from.k;
-            stands = kept.stands from.text from.batches (replay zone (take from.n updates)) (drop from.n updates) from.k from.stands;
+            is_present = kept.is_present from.text from.batches (replay zone (take from.n updates)) (drop from.n updates) from.k from.is_present;
           },
-          kept.origin ∙ (tended.stands text batches zone updates k at).1,
+          kept.origin ∙ (tended.is_present text batches zone updates k at).1,
         );
   }
 
@@ -148,11 +148,11 @@ module _ {F : Type 0} where
   pub tended_same : (state : CompactedState F) → IsTended state state
   tended_same state = record {
     trail = refl;
-    stands = λ text batches zone updates k at. (from_here written synced text batches zone updates k state.writer state.wanted at, refl);
+    is_present = λ text batches zone updates k at. (from_here written synced text batches zone updates k state.writer state.wanted at, refl);
   }
 
   pub kept_same : (state : CompactedState F) → IsKept state state
-  kept_same state = record { trail = refl; origin = refl; stands = λ text batches zone updates k at. at }
+  kept_same state = record { trail = refl; origin = refl; is_present = λ text batches zone updates k at. at }
 
   -- a log that is on the disk and isn't stuck holds its batches
   pub goes_on : (head : Head) (log : Log FileDisk F) (bodies : List (List ℕ)) → IsOnDisk written synced head log bodies → is_stuck log ≡ false → Holds written synced head log bodies
@@ -164,9 +164,9 @@ module _ {F : Type 0} where
       → (text : List ℕ) (batches : List (List (List ℕ))) (zone : List Record) (updates : List Update) (k : ℕ)
       → Stands written synced text batches zone updates k old (Some wanted)
       → StandsFrom written synced zone updates new None × ((head_of new).origin ≡ (head_of old).origin)
-  unplaced old new wanted same text batches zone updates k stands = (
+  unplaced old new wanted same text batches zone updates k is_present = (
     subst (λ (w : StoreWriter FileDisk F). StandsFrom written synced zone updates w None) (sym same)
-        (from_here written synced text batches zone updates k old None (stands_alone written synced text batches zone updates k old (Some wanted) stands)),
+        (from_here written synced text batches zone updates k old None (stands_alone written synced text batches zone updates k old (Some wanted) is_present)),
     ap (λ (w : StoreWriter FileDisk F). (head_of w).origin) same,
   )
 
@@ -176,15 +176,15 @@ module _ {F : Type 0} where
       → (text : List ℕ) (batches : List (List (List ℕ))) (zone : List Record) (updates : List Update) (k : ℕ)
       → Stands written synced text batches zone updates k old (Some wanted)
       → StandsFrom written synced zone updates new None × ((head_of new).origin ≡ (head_of old).origin)
-  placed_stands (Ok true) old new head wanted goes stops trail is text batches zone updates k stands =
-      stands_replaced written synced text is.1.0 batches zone updates k old new wanted head is.0 goes.0 stands is.1.1 goes.1 goes.2 goes.3 goes.4 trail
-  placed_stands (Ok false) old new head wanted goes stops trail is text batches zone updates k stands =
-      unplaced old new wanted goes.1 text batches zone updates k stands
-  placed_stands (Err (Before fault)) old new head wanted goes stops trail is text batches zone updates k stands =
-      unplaced old new wanted stops text batches zone updates k stands
-  placed_stands (Err (Unknown fault)) old new head wanted goes stops trail is text batches zone updates k stands = (
+  placed_stands (Ok true) old new head wanted goes stops trail is text batches zone updates k is_present =
+      stands_replaced written synced text is.1.0 batches zone updates k old new wanted head is.0 goes.0 is_present is.1.1 goes.1 goes.2 goes.3 goes.4 trail
+  placed_stands (Ok false) old new head wanted goes stops trail is text batches zone updates k is_present =
+      unplaced old new wanted goes.1 text batches zone updates k is_present
+  placed_stands (Err (Before fault)) old new head wanted goes stops trail is text batches zone updates k is_present =
+      unplaced old new wanted stops text batches zone updates k is_present
+  placed_stands (Err (Unknown fault)) old new head wanted goes stops trail is text batches zone updates k is_present = (
     from_here written synced text batches zone updates k new None
-        (stands_stopped written synced text batches zone updates k old new (Some wanted) stands trail stops.2 (λ h bodies on_disk. inr (stops.1 h bodies on_disk))),
+        (stands_stopped written synced text batches zone updates k old new (Some wanted) is_present trail stops.2 (λ h bodies on_disk. inr (stops.1 h bodies on_disk))),
     ap (λ (h : Head). h.origin) stops.2,
   )
 
@@ -193,13 +193,13 @@ module _ {F : Type 0} where
       → (text : List ℕ) (batches : List (List (List ℕ))) (zone : List Record) (updates : List Update) (k : ℕ)
       → Stands written synced text batches zone updates k writer old
       → StandsFrom written synced zone updates writer new × ((head_of writer).origin ≡ (head_of writer).origin)
-  taken_stands writer old new (inl same) text batches zone updates k stands = (
-    subst (λ (w : Option Wanted). StandsFrom written synced zone updates writer w) (sym same) (from_here written synced text batches zone updates k writer old stands),
+  taken_stands writer old new (inl same) text batches zone updates k is_present = (
+    subst (λ (w : Option Wanted). StandsFrom written synced zone updates writer w) (sym same) (from_here written synced text batches zone updates k writer old is_present),
     refl,
   )
-  taken_stands writer old new (inr none) text batches zone updates k stands = (
+  taken_stands writer old new (inr none) text batches zone updates k is_present = (
     subst (λ (w : Option Wanted). StandsFrom written synced zone updates writer w) (sym none)
-        (from_here written synced text batches zone updates k writer None (stands_alone written synced text batches zone updates k writer old stands)),
+        (from_here written synced text batches zone updates k writer None (stands_alone written synced text batches zone updates k writer old is_present)),
     refl,
   )
 
@@ -212,8 +212,8 @@ module _ {F : Type 0} where
       → (text : List ℕ) (batches : List (List (List ℕ))) (zone : List Record) (updates : List Update) (k : ℕ)
       → Stands written synced text batches zone updates k before old
       → StandsFrom written synced zone updates after new × ((head_of after).origin ≡ (head_of before).origin)
-  taken_placed before after old new head none is placed text batches zone updates k stands =
-      let found = placed is.0 is.2 text batches zone updates k (subst (λ (w : Option Wanted). Stands written synced text batches zone updates k before w) is.1 stands) in
+  taken_placed before after old new head none is placed text batches zone updates k is_present =
+      let found = placed is.0 is.2 text batches zone updates k (subst (λ (w : Option Wanted). Stands written synced text batches zone updates k before w) is.1 is_present) in
       (subst (λ (w : Option Wanted). StandsFrom written synced zone updates after w) (sym none) found.0, found.1)
 
   -- a compaction that is begun, or isn't
@@ -223,9 +223,9 @@ module _ {F : Type 0} where
       → (text : List ℕ) (batches : List (List (List ℕ))) (zone : List Record) (updates : List Update) (k : ℕ)
       → (IsEndOf text (head_of before) batches zone updates (trail_of before) k → IfSome (under_way_of after) (IsMarked k batches))
       → Stands written synced text batches zone updates k before old → Stands written synced text batches zone updates k after new
-  begun_stands before after old new next last which trail head log begins text batches zone updates k marked stands =
+  begun_stands before after old new next last which trail head log begins text batches zone updates k marked is_present =
       let here : Stands written synced text batches zone updates k after (Some (wanted_of next (head_of after))) =
-      stands_begun written synced text batches zone updates k last before after old next stands trail head log begins (marked stands.end) in
+      stands_begun written synced text batches zone updates k last before after old next is_present trail head log begins (marked is_present.end) in
       elim which [
         | inl same ↦ subst (λ (w : Option Wanted). Stands written synced text batches zone updates k after w) (sym same) here
         | inr none ↦ subst (λ (w : Option Wanted). Stands written synced text batches zone updates k after w) (sym none)
@@ -238,20 +238,20 @@ module _ {F : Type 0} where
       → ((text : List ℕ) (batches : List (List (List ℕ))) (zone : List Record) (updates : List Update) (k : ℕ) → Stands written synced text batches zone updates k old was
       → StandsFrom written synced zone updates new now × ((head_of new).origin ≡ (head_of old).origin))
       → IsTended before (record { writer = new; wanted = now })
-  tended_parts before old new was now is trail stands =
-      subst (λ (s : CompactedState F). IsTended s (record { writer = new; wanted = now })) is (record { trail = trail; stands = stands })
+  tended_parts before old new was now is trail is_present =
+      subst (λ (s : CompactedState F). IsTended s (record { writer = new; wanted = now })) is (record { trail = trail; is_present = is_present })
 
   -- where there is no update nothing is stored
   pub stored_none : (state : CompactedState F) (versions : List Version) (octets : List (List ℕ)) → length octets ≡ 0 → IsStored state state versions octets
   stored_none state [] [] none = record {
     origin = refl;
     last = λ trail short made. (trail, refl);
-    stands = λ short made text batches zone updates k at. more_none text batches zone updates k [] state refl at;
+    is_present = λ short made text batches zone updates k at. more_none text batches zone updates k [] state refl at;
   }
   stored_none state (version ∷ versions) [] none = record {
     origin = refl;
     last = λ trail short made. absurd made;
-    stands = λ short made. absurd made;
+    is_present = λ short made. absurd made;
   }
   stored_none state versions (one ∷ octets) none = absurd (omega (arith, none))
 
@@ -274,7 +274,7 @@ module _ {F : Type 0} where
   stored_some (one ∷ others) old new wanted on some stored found way marks head = record {
     origin = ap (λ (h : Head). h.origin) head;
     last = λ is short made. last_follows (trail_of old) (trail_of new) (versions_in (one ∷ others)) (updates_of (one ∷ others)) found.0 is found.1 found.2 made;
-    stands = λ short made text batches zone updates k at.
+    is_present = λ short made text batches zone updates k at.
         more_some text batches zone updates k one.octets.items (updates_of others) (record { writer = old; wanted = wanted }) (record { writer = new; wanted = wanted })
         (versions_in (one ∷ others)) found.0 at (goes_on (head_of old) (log_of old) (map batch_of batches) at.log on) found.1 made found.2 head refl way
         (λ m all was now. marks (omega arith) m all was now) stored;
@@ -304,7 +304,7 @@ module _ {F : Type 0} where
       subst (λ (s : CompactedState F). IsKept s (record { writer = new; wanted = wanted })) is (record {
         trail = trail;
         origin = ap (λ (h : Head). h.origin) head;
-        stands = λ text batches zone updates k at.
+        is_present = λ text batches zone updates k at.
             stands_still written synced text batches zone updates k old new wanted at trail head way (still_there (log_of old) (log_of new) on kept);
       })
 
@@ -320,8 +320,8 @@ on_err (Err fault) a b c follows = follows a b c
 -- what is told of a text, and what was wanted
 pub taken_told : {X E : Type 0} (f : X → Wanted) (old new : Option X) (writing : X) (result : Result Head E) → old ≡ Some writing → new ≡ None → IfOk result (IsWritten (f writing))
     → (option_map f new ≡ None) × IfOk result (λ head. (text : Wanted) × (option_map f old ≡ Some text) × IsWritten text head)
-taken_told f old new writing (Ok head) is none told = (ap (option_map f) none, (f writing, ap (option_map f) is, told))
-taken_told f old new writing (Err fault) is none told = (ap (option_map f) none, tt)
+taken_told f old new writing (Ok head) is none reported = (ap (option_map f) none, (f writing, ap (option_map f) is, reported))
+taken_told f old new writing (Err fault) is none reported = (ap (option_map f) none, tt)
 
 -- whether nothing is there
 pub none_there : {X : Type 0} (list same : List X) → same ≡ list → true ≡ (length same == 0) → length list ≡ 0

@@ -53,11 +53,11 @@ module _ {F : Type 0} where
       → (start.newest.last.zone ≡ later.newest.last.zone) × (start.newest.last.number ≡ from.n + later.newest.last.number)
   tended_started text batches zone updates k before after start later at from is is_later =
       compaction_started text from.text (head_of before.writer) (head_of after.writer) batches from.batches zone updates from.n start later at.end.store from.within
-      from.stands.end.store is is_later
+      from.is_present.end.store is is_later
 
   pub kept_recovered : (zone : List Record) (store : CompactedState F) (published : List Version) (updates : List (List ℕ)) (left : List ℕ) (start : Recovery)
       → (has : HasUpdates zone store published updates) → IsStarted has.text (synced (disk_of (log_of store.writer)) ++ left) start
       → (all : List Update) × (more : List Update) × AreRead updates all × EachChanges zone (all ++ more) × (start.newest.last.zone ≡ replay zone (all ++ more))
   kept_recovered zone store published updates left start has is =
-      let crash = (crash_has_last has.text has.batches (replay zone has.in_text) has.in_journal has.k store left start has.stands is).2 in
+      let crash = (crash_has_last has.text has.batches (replay zone has.in_text) has.in_journal has.k store left start has.is_present is).2 in
       has_recovered zone store published updates start.newest.last.zone has (crash.0, crash.1, crash.2)

@@ -36,15 +36,15 @@ module _ {F : Type 0} where
       let there : List ℕ = synced (disk_of (log_of store.writer)) in
       let head : Head = head_of store.writer in
       let frames : List ℕ = frames_of (salt_of head) 0 (map batch_of has.batches) in
-      let on_disk : there ≡ head_octets head ++ frames = disk_is head (log_of store.writer) (map batch_of has.batches) has.stands.log in
+      let on_disk : there ≡ head_octets head ++ frames = disk_is head (log_of store.writer) (map batch_of has.batches) has.is_present.log in
       record {
         head = head;
         behind = frames ++ begins.0;
         begins = record {
-          is_head = has.stands.end.store.is_head;
+          is_head = has.is_present.end.store.is_head;
           spelt = begins.1 ∙ (ap (λ (o : List ℕ). o ++ begins.0) on_disk ∙ append_assoc (head_octets head) frames begins.0);
         };
-        names = has.stands.end.store.same_text;
+        names = has.is_present.end.store.same_text;
         found = λ left start is. kept_recovered zone store published updates (begins.0 ++ left) start has
             (subst (λ (o : List ℕ). IsStarted has.text o start) (ap (λ (o : List ℕ). o ++ left) begins.1 ∙ append_assoc there begins.0 left) is);
       }
@@ -66,7 +66,7 @@ module _ {F : Type 0} where
       (λ has.
       let store : CompactedState F = record { writer = old; wanted = wanted } in
       let bodies : List (List ℕ) = map batch_of has.batches in
-      let holds : Holds written synced (head_of old) (log_of old) bodies = goes_on (head_of old) (log_of old) bodies has.stands.log on in
+      let holds : Holds written synced (head_of old) (log_of old) bodies = goes_on (head_of old) (log_of old) bodies has.is_present.log on in
       let only : LeavesOnly (history (disk_of (log_of old))) (history (disk_of (log_of new))) (synced (disk_of (log_of old))) =
       subst (λ (o : List ℕ). LeavesOnly (history (disk_of (log_of old))) (history (disk_of (log_of new))) o) (sym holds.is_synced) (crash (head_of old) bodies holds) in
       same_file has.text only.since only.made

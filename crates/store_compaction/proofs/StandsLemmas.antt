@@ -55,14 +55,14 @@ module _ {D F : Type 0} (written synced : D → List ℕ) where
   -- the store that stands is one from its first version on
   pub from_here : (text : List ℕ) (batches : List (List (List ℕ))) (zone : List Record) (updates : List Update) (k : ℕ) (writer : StoreWriter D F) (wanted : Option Wanted)
       → Stands written synced text batches zone updates k writer wanted → StandsFrom written synced zone updates writer wanted
-  from_here text batches zone updates k writer wanted stands = record { n = 0; within = omega arith; text = text; batches = batches; k = k; stands = stands }
+  from_here text batches zone updates k writer wanted is_present = record { n = 0; within = omega arith; text = text; batches = batches; k = k; is_present = is_present }
 
   -- so it does where no text is wanted any more
   pub stands_alone : (text : List ℕ) (batches : List (List (List ℕ))) (zone : List Record) (updates : List Update) (k : ℕ) (writer : StoreWriter D F) (wanted : Option Wanted)
       → Stands written synced text batches zone updates k writer wanted → Stands written synced text batches zone updates k writer None
-  stands_alone text batches zone updates k writer wanted stands = record {
-    end = stands.end;
-    log = stands.log;
+  stands_alone text batches zone updates k writer wanted is_present = record {
+    end = is_present.end;
+    log = is_present.log;
     origin = λ other is. absurd (none_some other is);
     next = λ compaction other way is number. absurd (none_some other is);
   }
@@ -72,9 +72,9 @@ module _ {D F : Type 0} (written synced : D → List ℕ) where
       → Stands written synced text batches zone updates k old wanted → trail_of new ≡ trail_of old → head_of new ≡ head_of old
       → ((head : Head) (bodies : List (List ℕ)) → IsOnDisk head (log_of old) bodies → IsOnDisk head (log_of new) bodies)
       → Stands written synced text batches zone updates k new None
-  stands_stopped text batches zone updates k old new wanted stands trail head still = record {
-    end = end_same text (head_of old) (head_of new) batches zone updates (trail_of old) (trail_of new) k head trail stands.end;
-    log = disk_same (head_of old) (head_of new) (log_of new) (log_of new) (map batch_of batches) head refl (still (head_of old) (map batch_of batches) stands.log);
+  stands_stopped text batches zone updates k old new wanted is_present trail head still = record {
+    end = end_same text (head_of old) (head_of new) batches zone updates (trail_of old) (trail_of new) k head trail is_present.end;
+    log = disk_same (head_of old) (head_of new) (log_of new) (log_of new) (map batch_of batches) head refl (still (head_of old) (map batch_of batches) is_present.log);
     origin = λ other is. absurd (none_some other is);
     next = λ compaction other way is number. absurd (none_some other is);
   }
@@ -84,11 +84,11 @@ module _ {D F : Type 0} (written synced : D → List ℕ) where
       → Stands written synced text batches zone updates k old wanted → trail_of new ≡ trail_of old → head_of new ≡ head_of old → under_way_of new ≡ under_way_of old
       → ((head : Head) (bodies : List (List ℕ)) → IsOnDisk head (log_of old) bodies → IsOnDisk head (log_of new) bodies)
       → Stands written synced text batches zone updates k new wanted
-  stands_still text batches zone updates k old new wanted stands trail head way still = record {
-    end = end_same text (head_of old) (head_of new) batches zone updates (trail_of old) (trail_of new) k head trail stands.end;
-    log = disk_same (head_of old) (head_of new) (log_of new) (log_of new) (map batch_of batches) head refl (still (head_of old) (map batch_of batches) stands.log);
-    origin = λ other is. stands.origin other is ∙ ap (λ (h : Head). h.origin) (sym head);
-    next = λ compaction other under is. stands.next compaction other (sym way ∙ under) is;
+  stands_still text batches zone updates k old new wanted is_present trail head way still = record {
+    end = end_same text (head_of old) (head_of new) batches zone updates (trail_of old) (trail_of new) k head trail is_present.end;
+    log = disk_same (head_of old) (head_of new) (log_of new) (log_of new) (map batch_of batches) head refl (still (head_of old) (map batch_of batches) is_present.log);
+    origin = λ other is. is_present.origin other is ∙ ap (λ (h : Head). h.origin) (sym head);
+    next = λ compaction other under is. is_present.next compaction other (sym way ∙ under) is;
   }
 
   -- a compaction that is begun: its text is that of the trail's oldest version
@@ -96,14 +96,14 @@ module _ {D F : Type 0} (written synced : D → List ℕ) where
       → Stands written synced text batches zone updates k old wanted → trail_of new ≡ trail_of old → head_of new ≡ head_of old → log_of new ≡ log_of old
       → Begins (trail_of old) last next (under_way_of new) → IfSome (under_way_of new) (IsMarked k batches)
       → Stands written synced text batches zone updates k new (Some (wanted_of next (head_of new)))
-  stands_begun text batches zone updates k last old new wanted next stands trail head log begins marked = record {
-    end = end_same text (head_of old) (head_of new) batches zone updates (trail_of old) (trail_of new) k head trail stands.end;
-    log = disk_same (head_of old) (head_of new) (log_of old) (log_of new) (map batch_of batches) head log stands.log;
+  stands_begun text batches zone updates k last old new wanted next is_present trail head log begins marked = record {
+    end = end_same text (head_of old) (head_of new) batches zone updates (trail_of old) (trail_of new) k head trail is_present.end;
+    log = disk_same (head_of old) (head_of new) (log_of old) (log_of new) (map batch_of batches) head log is_present.log;
     origin = λ other is. ap (λ (w : Wanted). w.origin) (sym (some_is (wanted_of next (head_of new)) other is));
     next = λ compaction other under is number. record {
       first = k;
       older = omega arith;
-      version = ap (λ (w : Wanted). w.next.version.zone) (sym (some_is (wanted_of next (head_of new)) other is)) ∙ (ap (λ (v : Version). v.zone) begins.version ∙ stands.end.oldest);
+      version = ap (λ (w : Wanted). w.next.version.zone) (sym (some_is (wanted_of next (head_of new)) other is)) ∙ (ap (λ (v : Version). v.zone) begins.version ∙ is_present.end.oldest);
       marked = subst (λ (way : Option Compaction). IfSome way (IsMarked k batches)) under marked;
     };
   }
@@ -115,29 +115,29 @@ module _ {D F : Type 0} (written synced : D → List ℕ) where
       → under_way_of old ≡ Some compaction → number_of compaction ≡ head.number → Holds written synced head (log_of new) (bodies_of compaction)
       → head_of new ≡ head → trail_of new ≡ trail_of old
       → StandsFrom written synced zone updates new None × ((head_of new).origin ≡ (head_of old).origin)
-  stands_replaced text written_text batches zone updates k old new wanted head random compaction stands begun way number holds head_is trail =
-      let next : IsNext batches zone updates k compaction wanted = stands.next compaction wanted way refl (number ∙ begun.numbered) in
+  stands_replaced text written_text batches zone updates k old new wanted head random compaction is_present begun way number holds head_is trail =
+      let next : IsNext batches zone updates k compaction wanted = is_present.next compaction wanted way refl (number ∙ begun.numbered) in
       let first : ℕ = next.first in
       let rest : List (List (List ℕ)) = next.marked.rest in
       let here : IsStore written_text head [] (replay zone (take first updates)) [] = subst (λ (z : List Record). IsStore written_text head [] z []) next.version begun.store in
       let parts : k ≡ first + (k - first) = omega (arith, next.older) in
       let end : IsEndOf text (head_of old) batches zone updates (trail_of old) (first + (k - first)) =
-      subst (λ (m : ℕ). IsEndOf text (head_of old) batches zone updates (trail_of old) m) parts stands.end in
+      subst (λ (m : ℕ). IsEndOf text (head_of old) batches zone updates (trail_of old) m) parts is_present.end in
       let left : IsEndOf written_text head rest (replay zone (take first updates)) (drop first updates) (trail_of old) (k - first) =
       end_left text written_text (head_of old) head batches rest zone updates (trail_of old) first (k - first) end here next.marked.behind in
       let bodies : Holds written synced head (log_of new) (map batch_of rest) = subst (λ (bs : List (List ℕ)). Holds written synced head (log_of new) bs) next.marked.bodies holds in (
         record {
           n = first;
-          within = omega (arith, next.older, stands.end.within);
+          within = omega (arith, next.older, is_present.end.within);
           text = written_text;
           batches = rest;
           k = k - first;
-          stands = record {
+          is_present = record {
             end = end_same written_text head (head_of new) rest (replay zone (take first updates)) (drop first updates) (trail_of old) (trail_of new) (k - first) head_is trail left;
             log = disk_same head (head_of new) (log_of new) (log_of new) (map batch_of rest) head_is refl (inl bodies);
             origin = λ other is. absurd (none_some other is);
             next = λ other_compaction other under is same. absurd (none_some other is);
           };
         },
-        ap (λ (h : Head). h.origin) head_is ∙ (begun.given ∙ stands.origin wanted refl),
+        ap (λ (h : Head). h.origin) head_is ∙ (begun.given ∙ is_present.origin wanted refl),
       )

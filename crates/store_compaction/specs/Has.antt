@@ -21,5 +21,5 @@ pub record HasUpdates {F : Type 0} (zone : List Record) (store : CompactedState 
   pub text : List ℕ
   pub batches : List (List (List ℕ))
   pub k : ℕ
-  pub stands : IsAt text batches (replay zone in_text) in_journal k store
+  pub is_present : IsAt text batches (replay zone in_text) in_journal k store
   pub last : IsLast published (last_in (trail_of store.writer))

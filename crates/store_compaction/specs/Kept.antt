@@ -29,14 +29,14 @@ module _ {F : Type 0} where
   -- between two batches the store stays the same, or one of the same versions replaces it
   pub record IsTended (before after : CompactedState F) : Type 0 where
     pub trail : trail_of after.writer ≡ trail_of before.writer
-    pub stands : (text : List ℕ) (batches : List (List (List ℕ))) (zone : List Record) (updates : List Update) (k : ℕ) → IsAt text batches zone updates k before
+    pub is_present : (text : List ℕ) (batches : List (List (List ℕ))) (zone : List Record) (updates : List Update) (k : ℕ) → IsAt text batches zone updates k before
         → StandsFrom written synced zone updates after.writer after.wanted × ((head_of after.writer).origin ≡ (head_of before.writer).origin)
 
   -- the store stays the same
   pub record IsKept (before after : CompactedState F) : Type 0 where
     pub trail : trail_of after.writer ≡ trail_of before.writer
     pub origin : (head_of after.writer).origin ≡ (head_of before.writer).origin
-    pub stands : (text : List ℕ) (batches : List (List (List ℕ))) (zone : List Record) (updates : List Update) (k : ℕ) → IsAt text batches zone updates k before
+    pub is_present : (text : List ℕ) (batches : List (List (List ℕ))) (zone : List Record) (updates : List Update) (k : ℕ) → IsAt text batches zone updates k before
         → IsAt text batches zone updates k after
 
   -- the store has more updates: those of one more batch, if there are any, which is on disk
@@ -44,7 +44,7 @@ module _ {F : Type 0} where
     pub all : List (List (List ℕ))
     pub more : List Update
     pub k : ℕ
-    pub stands : IsAt text all zone (updates ++ more) k after
+    pub is_present : IsAt text all zone (updates ++ more) k after
     pub all_are : updates_in all ≡ updates_in batches ++ octets
     pub on_disk : (length octets ≡ 0) ⊎ Holds written synced (head_of after.writer) (log_of after.writer) (map batch_of all)
 
@@ -53,6 +53,6 @@ module _ {F : Type 0} where
     pub origin : (head_of after.writer).origin ≡ (head_of before.writer).origin
     pub last : IsTrail (trail_of before.writer) → All IsShort octets → AreMadeBy (last_in (trail_of before.writer)) versions octets
         → IsTrail (trail_of after.writer) × (last_in (trail_of after.writer) ≡ newest_of (last_in (trail_of before.writer)) versions)
-    pub stands : All IsShort octets → AreMadeBy (last_in (trail_of before.writer)) versions octets
+    pub is_present : All IsShort octets → AreMadeBy (last_in (trail_of before.writer)) versions octets
         → (text : List ℕ) (batches : List (List (List ℕ))) (zone : List Record) (updates : List Update) (k : ℕ) → IsAt text batches zone updates k before
         → HasMore text batches zone updates octets after

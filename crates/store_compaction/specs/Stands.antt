@@ -37,4 +37,4 @@ module _ {D F : Type 0} (written synced : D → List ℕ) where
     pub text : List ℕ
     pub batches : List (List (List ℕ))
     pub k : ℕ
-    pub stands : Stands text batches (replay zone (take n updates)) (drop n updates) k writer wanted
+    pub is_present : Stands text batches (replay zone (take n updates)) (drop n updates) k writer wanted

@@ -9,7 +9,6 @@ pub(crate) struct Body {
     ghost short: { length octets.items < body_limit },
 }
 
-// By hand: a derived drop is proved once more in each crate that lets such a value go.
 impl Drop for Body {
     fn drop(self) {
         let Body { octets: _ } = self;

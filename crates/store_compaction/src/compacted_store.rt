@@ -1,5 +1,5 @@
 //! A store that is compacted while updates continue (RFC 2136, 3.5; own).
-use crate::event::Notes;
+use crate::event::CompactionLog;
 use crate::next_due::{begin_next, is_due};
 use crate::placed::{Placed, put_in_place};
 use crate::text_writer::TextWriter;
@@ -21,13 +21,13 @@ const MISPLACED: &str =
 pub struct CompactedStore<
     R: Files<File = File> + Alloc + Clone + Drop,
     T: TextWriter,
-    N: Notes + Drop,
+    N: CompactionLog + Drop,
 > {
     files: R,
     dir: String,
     writer: StoreWriter<FileDisk>,
     texts: T,
-    notes: N,
+    events: N,
     /// The journal size, in bytes, above which it is compacted.
     most: u64,
     /// The journal's size, in bytes, just after the last compaction.
@@ -36,8 +36,7 @@ pub struct CompactedStore<
     failed: bool,
 }
 
-// By hand: a derived drop is proved once more in each crate that lets such a value go.
-impl<R: Files<File = File> + Alloc + Clone + Drop, T: TextWriter, N: Notes + Drop> Drop
+impl<R: Files<File = File> + Alloc + Clone + Drop, T: TextWriter, N: CompactionLog + Drop> Drop
     for CompactedStore<R, T, N> {
     fn drop(self) {
         let CompactedStore {
@@ -45,7 +44,7 @@ impl<R: Files<File = File> + Alloc + Clone + Drop, T: TextWriter, N: Notes + Dro
             dir: _,
             writer: _,
             texts: _,
-            notes: _,
+            events: _,
             most: _,
             had: _,
             failed: _,
@@ -53,7 +52,7 @@ impl<R: Files<File = File> + Alloc + Clone + Drop, T: TextWriter, N: Notes + Dro
     }
 }
 
-impl<R: Files<File = File> + Alloc + Clone + Drop, T: TextWriter, N: Notes + Drop> Model
+impl<R: Files<File = File> + Alloc + Clone + Drop, T: TextWriter, N: CompactionLog + Drop> Model
     for CompactedStore<R, T, N> {
     ghost use Rattle.std.specs.declared.io.Error.{Error as IoError};
     ghost use Rattle.store_compaction.specs.Kept.{CompactedState};
@@ -63,11 +62,11 @@ impl<R: Files<File = File> + Alloc + Clone + Drop, T: TextWriter, N: Notes + Dro
     ghost view = { λ a. record { writer = a.writer; wanted = T.wanted a.texts } };
 }
 
-impl<R: Files<File = File> + Alloc + Clone + Drop, T: TextWriter, N: Notes + Drop> CompactedStore<
-    R,
-    T,
-    N,
-> {
+impl<
+    R: Files<File = File> + Alloc + Clone + Drop,
+    T: TextWriter,
+    N: CompactionLog + Drop,
+> CompactedStore<R, T, N> {
     ghost use Rattle.std.specs.Prelude.{◌≡◌};
     ghost use Rattle.store_compaction.specs.Writer.{log_of};
     ghost use Rattle.store_compaction.specs.Kept.{IsTended, IsKept};
@@ -79,7 +78,7 @@ impl<R: Files<File = File> + Alloc + Clone + Drop, T: TextWriter, N: Notes + Dro
         dir: String,
         writer: StoreWriter<FileDisk>,
         texts: T,
-        notes: N,
+        events: N,
         most: u64,
     ) -> CompactedStore<R, T, N>
         ensures { result ≡ record { writer = writer; wanted = T.wanted texts } }
@@ -89,7 +88,7 @@ impl<R: Files<File = File> + Alloc + Clone + Drop, T: TextWriter, N: Notes + Dro
             dir,
             writer,
             texts,
-            notes,
+            events,
             most,
             had: 0,
             failed: false,
@@ -121,7 +120,7 @@ impl<R: Files<File = File> + Alloc + Clone + Drop, T: TextWriter, N: Notes + Dro
             &self.dir,
             &mut self.writer,
             &mut self.texts,
-            &mut self.notes,
+            &mut self.events,
         );
         match placed {
             Placed::Nothing => {}
@@ -146,15 +145,18 @@ impl<R: Files<File = File> + Alloc + Clone + Drop, T: TextWriter, N: Notes + Dro
             alloc,
             &mut self.writer,
             &mut self.texts,
-            &mut self.notes,
+            &mut self.events,
             self.failed,
         );
         self.failed = !begun;
     }
 }
 
-impl<R: Files<File = File> + Alloc + Clone + Drop, T: TextWriter, N: Notes + Drop> UpdateStore
-    for CompactedStore<R, T, N> {
+impl<
+    R: Files<File = File> + Alloc + Clone + Drop,
+    T: TextWriter,
+    N: CompactionLog + Drop,
+> UpdateStore for CompactedStore<R, T, N> {
     ghost use Rattle.store_compaction.specs.Has.{HasUpdates};
     ghost use Rattle.store_compaction.specs.Crash.{Leaves};
 

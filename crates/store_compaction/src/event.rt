@@ -22,7 +22,7 @@ pub enum CompactionEvent {
 }
 
 /// Receives the events of compactions, for instance to log them.
-pub trait Notes {
+pub trait CompactionLog {
     /// Reports an event.
     fn note<R: Wait>(&mut self, rt: &R, event: CompactionEvent);
 }

@@ -36,7 +36,7 @@ mod writer;
 
 pub use compacted_store::CompactedStore;
 pub use compactor_laws::{tended_stores_have_the_same_start, what_is_accepted_is_recovered};
-pub use event::{CompactionEvent, Notes};
+pub use event::{CompactionEvent, CompactionLog};
 pub use files::{create_next_text, drop_old_texts, replace_with_next, write_next_text};
 pub use laws::{
     compactions_keep_the_choice, compactions_keep_the_versions, starts_have_their_trails,

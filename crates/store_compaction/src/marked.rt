@@ -10,7 +10,7 @@ use crate::body::Body;
 use crate::next::{NextJournal, NextText};
 use journal::{Head, write_frame, write_head};
 use std::alloc::{AllocError, Global};
-use store_recovery::begin_store;
+use store_recovery::create_store;
 
 /// The data kept for the journal of the next zone text while that text is written: the number of the text, and the batches after its version, with those appended meanwhile.
 pub struct Compaction {
@@ -18,7 +18,6 @@ pub struct Compaction {
     pub(crate) bodies: Vec<Body>,
 }
 
-// By hand: a derived drop is proved once more in each crate that lets such a value go.
 impl Drop for Compaction {
     fn drop(self) {
         let Compaction {
@@ -82,5 +81,5 @@ pub fn next_text(
     ensures { IfOk result (λ r. IsBegun next.now.version.zone next.now.number random before.now.origin (string_bytes r.0) r.1) }
 {
     let zone = next.version.get().zone();
-    begin_store(alloc, zone, next.number, random, before.origin)
+    create_store(alloc, zone, next.number, random, before.origin)
 }

@@ -10,7 +10,6 @@ pub struct NextText {
     pub number: u64,
 }
 
-// By hand: a derived drop is proved once more in each crate that lets such a value go.
 impl Drop for NextText {
     fn drop(self) {
         let NextText {

@@ -7,7 +7,7 @@ ghost use Rattle.journal.specs.Log.{is_stuck};
 ghost use Rattle.store_compaction.specs.Writer.{log_of, trail_of, head_of, under_way_of};
 ghost use Rattle.store_compaction.specs.Stands.{Stands};
 
-use crate::event::{CompactionEvent, Notes};
+use crate::event::{CompactionEvent, CompactionLog};
 use crate::text_writer::TextWriter;
 use crate::writer::StoreWriter;
 use std::alloc::Global;
@@ -25,33 +25,33 @@ pub(crate) fn is_due(writer: &StoreWriter<FileDisk>, most: u64, had: u64) -> boo
 }
 
 /// Starts the next zone text, at once or a few seconds later. Returns whether it is started. The store's journal stays the same.
-pub(crate) fn begin_next<W: Wait, T: TextWriter, N: Notes>(
+pub(crate) fn begin_next<W: Wait, T: TextWriter, N: CompactionLog>(
     rt: &W,
     alloc: Global,
     writer: &mut StoreWriter<FileDisk>,
     texts: &mut T,
-    notes: &mut N,
+    events: &mut N,
     later: bool,
 ) -> bool
     ensures trail { trail_of writer.new ≡ trail_of writer.old }
     ensures head { head_of writer.new ≡ head_of writer.old }
     ensures log { log_of writer.new ≡ log_of writer.old }
-    ensures stands { (text : List ℕ) (batches : List (List (List ℕ))) (zone : List Record) (updates : List Update) (k : ℕ)
+    ensures is_present { (text : List ℕ) (batches : List (List (List ℕ))) (zone : List Record) (updates : List Update) (k : ℕ)
         → Stands written synced text batches zone updates k writer.old (T.wanted texts.old)
         → Stands written synced text batches zone updates k writer.new (T.wanted texts.new) }
 {
     let Ok(Some(next)) = writer.begin_compaction(rt, alloc) else {
-        notes.note(rt, CompactionEvent::NotBegun);
+        events.note(rt, CompactionEvent::NotBegun);
         return false;
     };
     let number = next.number;
     match texts.write(rt, alloc, next, writer.head(), later) {
         Ok(()) => {
-            notes.note(rt, CompactionEvent::Begun(number));
+            events.note(rt, CompactionEvent::Begun(number));
             true
         }
         Err(fault) => {
-            notes.note(rt, CompactionEvent::NoText(fault));
+            events.note(rt, CompactionEvent::NoText(fault));
             false
         }
     }

@@ -8,7 +8,7 @@ ghost use Rattle.store_compaction.specs.Crash.{IsPlaced};
 ghost use Rattle.store_compaction.specs.Stands.{Stands, StandsFrom};
 ghost use Rattle.store_compaction.specs.TextWriter.{Wanted as Text, IsWritten};
 
-use crate::event::{CompactionEvent, Notes};
+use crate::event::{CompactionEvent, CompactionLog};
 use crate::files::{drop_old_texts, replace_with_next};
 use crate::text_writer::TextWriter;
 use crate::writer::StoreWriter;
@@ -34,7 +34,7 @@ pub(crate) fn put_in_place<
     W: Wait,
     R: Files<File = File> + Alloc + Clone + Drop,
     T: TextWriter,
-    N: Notes,
+    N: CompactionLog,
 >(
     rt: &W,
     files: &R,
@@ -42,60 +42,60 @@ pub(crate) fn put_in_place<
     dir: &str,
     writer: &mut StoreWriter<FileDisk>,
     texts: &mut T,
-    notes: &mut N,
+    events: &mut N,
 ) -> Placed
     ensures placed { IsPlaced writer.old writer.new }
     ensures trail { trail_of writer.new ≡ trail_of writer.old }
-    ensures stands { (text : List ℕ) (batches : List (List (List ℕ))) (zone : List Record) (updates : List Update) (k : ℕ)
+    ensures is_present { (text : List ℕ) (batches : List (List (List ℕ))) (zone : List Record) (updates : List Update) (k : ℕ)
         → Stands written synced text batches zone updates k writer.old (T.wanted texts.old)
         → StandsFrom written synced zone updates writer.new (T.wanted texts.new) × ((head_of writer.new).origin ≡ (head_of writer.old).origin) }
 {
     match texts.take(rt) {
         None => Placed::Nothing,
-        Some(Ok(head)) => replace(rt, files, alloc, dir, writer, notes, head),
+        Some(Ok(head)) => replace(rt, files, alloc, dir, writer, events, head),
         Some(Err(fault)) => {
-            notes.note(rt, CompactionEvent::NoText(fault));
+            events.note(rt, CompactionEvent::NoText(fault));
             Placed::Failed
         }
     }
 }
 
 /// Puts the journal in place that belongs to the zone text with this head, which is on disk.
-fn replace<W: Wait, R: Files<File = File> + Alloc + Clone + Drop, N: Notes>(
+fn replace<W: Wait, R: Files<File = File> + Alloc + Clone + Drop, N: CompactionLog>(
     rt: &W,
     files: &R,
     alloc: Global,
     dir: &str,
     writer: &mut StoreWriter<FileDisk>,
-    notes: &mut N,
+    events: &mut N,
     head: Head,
 ) -> Placed
     ensures placed { IsPlaced writer.old writer.new }
     ensures trail { trail_of writer.new ≡ trail_of writer.old }
-    ensures stands { (wanted : Text) → IsWritten wanted head → (text : List ℕ) (batches : List (List (List ℕ))) (zone : List Record) (updates : List Update) (k : ℕ)
+    ensures is_present { (wanted : Text) → IsWritten wanted head → (text : List ℕ) (batches : List (List (List ℕ))) (zone : List Record) (updates : List Update) (k : ℕ)
         → Stands written synced text batches zone updates k writer.old (Some wanted)
         → StandsFrom written synced zone updates writer.new None × ((head_of writer.new).origin ≡ (head_of writer.old).origin) }
 {
     let number = head.number;
     match replace_with_next(files, alloc, dir, writer, head) {
         Ok(false) => {
-            drop_text(rt, files, alloc, dir, writer.head(), notes, number);
+            drop_text(rt, files, alloc, dir, writer.head(), events, number);
             Placed::Nothing
         }
         Ok(true) => {
-            notes.note(rt, CompactionEvent::Replaced(number));
+            events.note(rt, CompactionEvent::Replaced(number));
             if let Err(fault) = drop_old_texts(files, dir, writer) {
-                notes.note(rt, CompactionEvent::NotRemoved(fault));
+                events.note(rt, CompactionEvent::NotRemoved(fault));
             }
             Placed::Done
         }
         Err(PairFault::Before(fault)) => {
-            notes.note(rt, CompactionEvent::NotReplaced(fault));
-            drop_text(rt, files, alloc, dir, writer.head(), notes, number);
+            events.note(rt, CompactionEvent::NotReplaced(fault));
+            drop_text(rt, files, alloc, dir, writer.head(), events, number);
             Placed::Failed
         }
         Err(PairFault::Unknown(fault)) => {
-            notes.note(rt, CompactionEvent::Unknown(fault));
+            events.note(rt, CompactionEvent::Unknown(fault));
             Placed::Failed
         }
     }
@@ -103,19 +103,19 @@ fn replace<W: Wait, R: Files<File = File> + Alloc + Clone + Drop, N: Notes>(
 
 /// Removes the text of a number that no journal names, nor ever will, since another text is started instead. The text of the store's journal, which has this head, is never
 /// removed.
-fn drop_text<W: Wait, R: Files, N: Notes>(
+fn drop_text<W: Wait, R: Files, N: CompactionLog>(
     rt: &W,
     files: &R,
     alloc: Global,
     dir: &str,
     head: &Head,
-    notes: &mut N,
+    events: &mut N,
     number: u64,
 ) {
     if number == head.number {
         return;
     }
     if let Err(fault) = remove_text(files, alloc, dir, number, head) {
-        notes.note(rt, CompactionEvent::NotRemoved(fault));
+        events.note(rt, CompactionEvent::NotRemoved(fault));
     }
 }

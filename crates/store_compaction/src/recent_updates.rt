@@ -27,7 +27,6 @@ pub struct RecentUpdates {
     keep: usize,
 }
 
-// By hand: a derived drop is proved once more in each crate that lets such a value go.
 impl Drop for RecentUpdates {
     fn drop(self) {
         let RecentUpdates {

@@ -33,6 +33,6 @@ pub trait TextWriter: Drop {
 
     /// The head for the text once it is on disk, or the fault if it could not be written. None while it is being written, or if no text is.
     fn take<R: Wait>(&mut self, rt: &R) -> Option<io::Result<Head>>
-        ensures told { MatchOption result (wanted self.new ≡ wanted self.old)
-            (λ told. (wanted self.new ≡ None) × IfOk told (λ head. (text : Wanted) × (wanted self.old ≡ Some text) × IsWritten text head)) };
+        ensures reported { MatchOption result (wanted self.new ≡ wanted self.old)
+            (λ reported. (wanted self.new ≡ None) × IfOk reported (λ head. (text : Wanted) × (wanted self.old ≡ Some text) × IsWritten text head)) };
 }

@@ -10,7 +10,6 @@ pub(crate) struct TextNumbers {
     ghost later: { head.number ≤ last },
 }
 
-// By hand: a derived drop is proved once more in each crate that lets such a value go.
 impl Drop for TextNumbers {
     fn drop(self) {
         let TextNumbers { head: _, last: _ } = self;

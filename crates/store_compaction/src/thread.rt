@@ -28,7 +28,7 @@ struct Given {
 }
 
 impl Promise<io::Result<Head>> for Given {
-    ghost kept_by = { λ given told. IfOk told (IsWritten (wanted_of given.next.value given.before.value)) };
+    ghost kept_by = { λ given reported. IfOk reported (IsWritten (wanted_of given.next.value given.before.value)) };
 }
 
 /// The data that a thread takes with it. It has no file name and cannot start a thread.
@@ -55,9 +55,9 @@ impl TextJob {
             random,
             over,
         } = self;
-        let told = write_next_text(alloc, file, &next, &before, random);
+        let reported = write_next_text(alloc, file, &next, &before, random);
         over.store(true, Ordering::SeqCst);
-        told
+        reported
     }
 }
 
@@ -122,7 +122,6 @@ pub struct ThreadTextWriter<R: Files<File = File> + RandomSource + Clock + Threa
     begun: Option<Duration>,
 }
 
-// By hand: a derived drop is proved once more in each crate that lets such a value go.
 impl<R: Files<File = File> + RandomSource + Clock + Threads + Drop> Drop for ThreadTextWriter<R> {
     fn drop(self) {
         let ThreadTextWriter {
@@ -204,11 +203,11 @@ impl<R: Files<File = File> + RandomSource + Clock + Threads + Drop> ThreadTextWr
         ensures { IfOk result (IsWritten (text_of (Begun writing))) }
     {
         let (alloc, number, before) = (writing.alloc, writing.number, writing.before);
-        let told = writing.handle.join(&self.rt);
-        if told.is_err() {
+        let reported = writing.handle.join(&self.rt);
+        if reported.is_err() {
             let _ = remove_text(&self.rt, alloc, &self.dir, number, &before);
         }
-        told
+        reported
     }
 }
 

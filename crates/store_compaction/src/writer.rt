@@ -17,7 +17,6 @@ pub struct StoreWriter<D: Disk> {
     under_way: Option<Compaction>,
 }
 
-// By hand: a derived drop is proved once more in each crate that lets such a value go.
 impl<D: Disk> Drop for StoreWriter<D> {
     fn drop(self) {
         let StoreWriter {

@@ -166,14 +166,14 @@ impl Disk for FileDisk {
     }
 
     fn cut(&mut self, len: u64) -> io::Result<()> {
-        let told = self.make_long(len);
-        match told {
+        let reported = self.make_long(len);
+        match reported {
             Ok(()) => {
                 self.end = len;
                 self.calls.note(&[CUT, len], &[]);
             }
             Err(_) => self.calls.note(&[NOT_CUT, len], &[]),
         }
-        told
+        reported
     }
 }

@@ -59,9 +59,9 @@ one_zone_of : (text : Result (List Record) FileFault) (zone other : List Record)
 one_zone_of text zone other one two = cc
 
 -- messages are replayed on a zone in one way
-replayed_once : (zone other : List Record) (messages told : List (List ℕ)) (one two : RecentVersions) → zone ≡ other → messages ≡ told → IsReplayed zone messages one → IsReplayed other told two
+replayed_once : (zone other : List Record) (messages reported : List (List ℕ)) (one two : RecentVersions) → zone ≡ other → messages ≡ reported → IsReplayed zone messages one → IsReplayed other reported two
     → (one.last ≡ two.last) × (one.older.items ≡ two.older.items)
-replayed_once zone other messages told one two same_zone same is also =
+replayed_once zone other messages reported one two same_zone same is also =
     let updates : is.updates ≡ also.updates = updates_once messages is.updates also.updates is.read (subst (λ (ms : List (List ℕ)). AreRead ms also.updates) (sym same) also.read) in
     let held : held_from (begun zone) is.updates ≡ held_from (begun other) also.updates =
     ap (λ (us : List Update). held_from (begun zone) us) updates ∙ ap (λ (z : List Record). held_from (begun z) also.updates) same_zone in

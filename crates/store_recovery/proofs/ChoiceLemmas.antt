@@ -126,25 +126,25 @@ module _ (begun : TextSum) (last : List Record) (origin : Name) (text : List ℕ
   -- a text that is a zone has no fault
   memory_alone : (zone : List Record) (fault : FileFault) → zone_of_text origin text ≡ Ok zone → IsChoiceFault begun origin text taken fault → fault ≡ no_memory
   memory_alone zone fault is (inl memory) = memory
-  memory_alone zone fault is (inr told) = absurd (zone_or_fault (zone_of_text origin text) zone fault is told.2)
+  memory_alone zone fault is (inr reported) = absurd (zone_or_fault (zone_of_text origin text) zone fault is reported.2)
 
   -- nor has the one that a store was begun from, and a store that is taken
   pub same_alone : (fault : FileFault) → IsText begun text → IsChoiceFault begun origin text taken fault → fault ≡ no_memory
   same_alone fault same (inl memory) = memory
-  same_alone fault same (inr told) = absurd (told.0 same)
+  same_alone fault same (inr reported) = absurd (reported.0 same)
 
   store_alone : (fault : FileFault) → taken ≡ Some TheStore → IsChoiceFault begun origin text taken fault → fault ≡ no_memory
   store_alone fault store (inl memory) = memory
-  store_alone fault store (inr told) = absurd (told.1 store)
+  store_alone fault store (inr reported) = absurd (reported.1 store)
 
   pub choice_apart : (choice : Choice) (fault : FileFault) → IsChoice begun last origin text taken choice → IsChoiceFault begun origin text taken fault → fault ≡ no_memory
-  choice_apart Same fault is told = same_alone fault is.0 told
-  choice_apart Store fault is told = store_alone fault is.1 told
-  choice_apart (Zone zone) fault is told = memory_alone zone fault is.2 told
-  choice_apart (StoreThoughOther serial) fault is told = let has = is.2 in memory_alone has.0 fault has.1 told
-  choice_apart (RefuseNewer serial) fault is told = let has = is.2 in memory_alone has.0 fault has.1 told
-  choice_apart (RefuseNotNewer serial) fault is told = let has = is.2 in memory_alone has.0 fault has.1 told
-  choice_apart (RefuseOtherApex apex) fault is told = memory_alone is.0 fault is.1 told
+  choice_apart Same fault is reported = same_alone fault is.0 reported
+  choice_apart Store fault is reported = store_alone fault is.1 reported
+  choice_apart (Zone zone) fault is reported = memory_alone zone fault is.2 reported
+  choice_apart (StoreThoughOther serial) fault is reported = let has = is.2 in memory_alone has.0 fault has.1 reported
+  choice_apart (RefuseNewer serial) fault is reported = let has = is.2 in memory_alone has.0 fault has.1 reported
+  choice_apart (RefuseNotNewer serial) fault is reported = let has = is.2 in memory_alone has.0 fault has.1 reported
+  choice_apart (RefuseOtherApex apex) fault is reported = memory_alone is.0 fault is.1 reported
 
   -- the text that a store was begun from
   pub served_alone : (choice : Choice) → IsText begun text → HasNoOtherApex last origin text → IsChoice begun last origin text taken choice → choice ≡ Same

@@ -124,13 +124,13 @@ none_stands number body e = cc
 -- a body of batches is one
 pub is_one : (batches : List (List (List ℕ))) (number : ℕ) (body : List ℕ) → All (All IsShort) batches → slice_get (map batch_of batches) number ≡ Some body
     → (updates : List (List ℕ)) × IsBatch body updates
-is_one [] number body short stands = absurd (none_stands number body stands)
-is_one (batch ∷ batches) zero body short stands = (batch, record { short = All-head (All IsShort) batch batches short; spelt = some_same body (batch_of batch) stands })
-is_one (batch ∷ batches) (suc number) body short stands = is_one batches number body (All-tail (All IsShort) batch batches short) stands
+is_one [] number body short is_present = absurd (none_stands number body is_present)
+is_one (batch ∷ batches) zero body short is_present = (batch, record { short = All-head (All IsShort) batch batches short; spelt = some_same body (batch_of batch) is_present })
+is_one (batch ∷ batches) (suc number) body short is_present = is_one batches number body (All-tail (All IsShort) batch batches short) is_present
 
 pub not_no_batch : (bodies : List (List ℕ)) (batches : List (List (List ℕ))) (number : ℕ) → All (All IsShort) batches → bodies ≡ map batch_of batches → IsNoBatch bodies number → ⊥
 not_no_batch bodies batches number short same none =
-    let batch = is_one batches number none.body short (ap (λ (bs : List (List ℕ)). slice_get bs number) (sym same) ∙ none.stands) in
+    let batch = is_one batches number none.body short (ap (λ (bs : List (List ℕ)). slice_get bs number) (sym same) ∙ none.is_present) in
     none.none batch.0 batch.1
 
 -- the updates of the first batches are the first of the updates

@@ -113,7 +113,7 @@ not_taken_at zone messages place d kept fault is within why = record {
   read = is.read;
   taken = is.taken;
   message = (get_or messages place d).now;
-  stands = slice_get-get_or (now_of messages) place d.now (omega (arith, within, lent_long messages)) ∙ ap Some (lent_at messages place d within);
+  is_present = slice_get-get_or (now_of messages) place d.now (omega (arith, within, lent_long messages)) ∙ ap Some (lent_at messages place d within);
   why = subst (λ (z : List Record). IsUpdateFault z (get_or messages place d).now fault) (replayed_zone zone (take place (now_of messages)) kept is) why;
 }
 
@@ -131,16 +131,16 @@ nothing_stands message place e = cc
 
 taken_at : (zone : List Record) (messages : List (List ℕ)) (updates : List Update) (place : ℕ) (message : List ℕ)
     → AreRead messages updates → EachChanges zone updates → slice_get messages place ≡ Some message → TakenAt (replay zone (take place updates)) message
-taken_at zone [] updates place message read taken stands = absurd (nothing_stands message place stands)
-taken_at zone (first ∷ messages) [] place message read taken stands = absurd read
-taken_at zone (first ∷ messages) (update ∷ updates) zero message read taken stands =
-    record { update = update; read = subst (λ (m : List ℕ). IsRead m update) (some_same first message stands) read.0; shows = record { taken = taken.0; changed = taken.1 } }
-taken_at zone (first ∷ messages) (update ∷ updates) (suc place) message read taken stands =
-    taken_at (unwrap_or (act zone update) zone) messages updates place message read.1 taken.2 stands
+taken_at zone [] updates place message read taken is_present = absurd (nothing_stands message place is_present)
+taken_at zone (first ∷ messages) [] place message read taken is_present = absurd read
+taken_at zone (first ∷ messages) (update ∷ updates) zero message read taken is_present =
+    record { update = update; read = subst (λ (m : List ℕ). IsRead m update) (some_same first message is_present) read.0; shows = record { taken = taken.0; changed = taken.1 } }
+taken_at zone (first ∷ messages) (update ∷ updates) (suc place) message read taken is_present =
+    taken_at (unwrap_or (act zone update) zone) messages updates place message read.1 taken.2 is_present
 
 -- an update that is taken and changes a zone gets no code
-no_code : (told : Option Rcode) (made : Option (List Record)) (zone : List Record) (code : Rcode) → told ≡ None → unwrap_or made zone ≢ zone
-    → option_or told (if is_some made then None else Some ServFail) ≡ Some code → ⊥
+no_code : (reported : Option Rcode) (made : Option (List Record)) (zone : List Record) (code : Rcode) → reported ≡ None → unwrap_or made zone ≢ zone
+    → option_or reported (if is_some made then None else Some ServFail) ≡ Some code → ⊥
 no_code None None zone code e changed is = changed refl
 no_code None (Some after) zone code e changed is = cc
 no_code (Some other) made zone code e changed is = cc
@@ -161,12 +161,12 @@ pub all_taken : (zone : List Record) (messages : List (List ℕ)) (updates : Lis
 all_taken zone messages updates place fault read taken other =
     let same : other.before ≡ take place updates = read_once (take place messages) other.before (take place updates) other.read (read_take place messages updates read) in
     let here : TakenAt (replay zone other.before) other.message =
-    subst (λ (before : List Update). TakenAt (replay zone before) other.message) (sym same) (taken_at zone messages updates place other.message read taken other.stands) in
+    subst (λ (before : List Update). TakenAt (replay zone before) other.message) (sym same) (taken_at zone messages updates place other.message read taken other.is_present) in
     not_faulty (replay zone other.before) other.message fault here other.why
 
 -- what is told of a version that is made, or isn't
 pub made_told : {X Y : Type 0} (made : Result X Y) (next : X) (P : X → Type 0) (Q : Y → Type 0) → made ≡ Ok next → MatchResult made P Q → P next
-made_told made next P Q e told = subst (λ m. MatchResult m P Q) e told
+made_told made next P Q e reported = subst (λ m. MatchResult m P Q) e reported
 
 pub fault_told : {X Y : Type 0} (made : Result X Y) (fault : Y) (P : X → Type 0) (Q : Y → Type 0) → made ≡ Err fault → MatchResult made P Q → Q fault
-fault_told made fault P Q e told = subst (λ m. MatchResult m P Q) e told
+fault_told made fault P Q e reported = subst (λ m. MatchResult m P Q) e reported

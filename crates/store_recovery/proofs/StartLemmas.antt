@@ -94,7 +94,7 @@ pub started_from : (text octets : List ℕ) (head : Head) (salt : List ℕ) (mes
     → salt ≡ salt_of head → IsRecovered text octets head messages number end torn → zone_of_text [] text ≡ Ok zone → zone_serial zone ≡ head.serial
     → IsReplayed zone messages kept → len ≡ length octets → ending ≡ ending_of torn end len
     → IsStarted text octets (record { head = head; salt = salt; number = number; end = end; ending = ending; newest = kept })
-started_from text octets head salt messages number end torn zone kept ending len is_salt found is_zone serial replayed is_len told = record {
+started_from text octets head salt messages number end torn zone kept ending len is_salt found is_zone serial replayed is_len reported = record {
   messages = messages;
   zone = zone;
   torn = torn;
@@ -102,6 +102,6 @@ started_from text octets head salt messages number end torn zone kept ending len
   is_zone = is_zone;
   serial = serial;
   replayed = replayed;
-  ending = subst (λ (e : Ending). IsEnding octets end e) (sym (told ∙ ap (λ (n : ℕ). ending_of torn end n) is_len)) (ending_is text octets head messages number end torn found);
+  ending = subst (λ (e : Ending). IsEnding octets end e) (sym (reported ∙ ap (λ (n : ℕ). ending_of torn end n) is_len)) (ending_is text octets head messages number end torn found);
   salt = is_salt;
 }

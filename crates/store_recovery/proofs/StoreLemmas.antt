@@ -37,13 +37,13 @@ no_zone : (text : Result (List Record) FileFault) (zone : List Record) (fault : 
 no_zone text zone fault one two = cc
 
 -- messages that are replayed on a zone, read as these updates
-replayed_as : (zone other : List Record) (messages told : List (List ℕ)) (updates : List Update) (kept : RecentVersions) → zone ≡ other → told ≡ messages → AreRead messages updates
-    → IsReplayed other told kept → (kept.last.zone ≡ replay zone updates) × (kept.last.number ≡ length updates)
-replayed_as zone other messages told updates kept same_zone same read is =
+replayed_as : (zone other : List Record) (messages reported : List (List ℕ)) (updates : List Update) (kept : RecentVersions) → zone ≡ other → reported ≡ messages → AreRead messages updates
+    → IsReplayed other reported kept → (kept.last.zone ≡ replay zone updates) × (kept.last.number ≡ length updates)
+replayed_as zone other messages reported updates kept same_zone same read is =
     let others : is.updates ≡ updates = read_once messages is.updates updates (subst (λ (ms : List (List ℕ)). AreRead ms is.updates) same is.read) read in
     let here : replay other is.updates ≡ replay zone updates =
     ap (λ (us : List Update). replay other us) others ∙ ap (λ (z : List Record). replay z updates) (sym same_zone) in
-    (replayed_zone other told kept is ∙ here, replayed_number other told kept is ∙ (ap length same ∙ sym (read_long messages updates read)))
+    (replayed_zone other reported kept is ∙ here, replayed_number other reported kept is ∙ (ap length same ∙ sym (read_long messages updates read)))
 
 -- a journal that nothing stands behind
 pub store_taken : (text : List ℕ) (head : Head) (batches : List (List (List ℕ))) (zone : List Record) (updates : List Update) (start : Recovery)
@@ -56,7 +56,7 @@ store_taken text head batches zone updates start store is =
 -- a fault of a start over messages that are taken is one of the journal, or want of memory
 faults_left : (text octets : List ℕ) (head : Head) (messages : List (List ℕ)) (zone : List Record) (updates : List Update) (fault : StartFault)
     → zone_of_text [] text ≡ Ok zone → zone_serial zone ≡ head.serial → AreRead messages updates → EachChanges zone updates
-    → ((other : Head) (told : List (List ℕ)) → IsSound text octets other told → (other ≡ head) × (told ≡ messages))
+    → ((other : Head) (reported : List (List ℕ)) → IsSound text octets other reported → (other ≡ head) × (reported ≡ messages))
     → IsStartFault text octets fault → (fault ≡ NoMemory) ⊎ ((why : Refused) × (fault ≡ Journal why) × IsRefused text octets why × (why ≢ Starved))
 faults_left text octets head messages zone updates (Journal why) is_zone serial read taken sound is = inr (why, refl, is.0, is.1)
 faults_left text octets head messages zone updates (Text fault) is_zone serial read taken sound is = absurd (no_zone (zone_of_text [] text) zone fault is_zone is.3)
@@ -77,8 +77,8 @@ pub store_accepted : (text : List ℕ) (head : Head) (batches : List (List (List
     → IsStore text head batches zone updates → IsStartFault text (journal_of head batches) fault → fault ≡ NoMemory
 store_accepted text head batches zone updates fault store is =
     by_left (faults_left text (journal_of head batches) head (updates_in batches) zone updates fault store.is_zone store.serial store.read store.taken
-    (λ other told sound.
-    let found = written_recovered text head other batches told sound.number sound.end sound.torn store.is_head store.fit store.short sound.recovered in
+    (λ other reported sound.
+    let found = written_recovered text head other batches reported sound.number sound.end sound.torn store.is_head store.fit store.short sound.recovered in
     (found.0, found.1)) is)
   where
     by_left : (fault ≡ NoMemory) ⊎ ((why : Refused) × (fault ≡ Journal why) × IsRefused text (journal_of head batches) why × (why ≢ Starved)) → fault ≡ NoMemory
@@ -152,10 +152,10 @@ cut_taken text head synced later zone updates n start store is =
     let found = cut_recovered text cut.rest head start.head batches is.messages start.number start.end is.torn store.is_head cut.fit
     (left_short synced later cut.left cut.gone store.short cut.parts) cut.no_more
     (subst (λ (o : List ℕ). IsRecovered text o start.head is.messages start.number start.end is.torn) cut.spelt is.recovered) in
-    let told = replayed_as zone is.zone (updates_in batches) is.messages (take left.k updates) start.newest
+    let reported = replayed_as zone is.zone (updates_in batches) is.messages (take left.k updates) start.newest
     (one_zone (zone_of_text [] text) zone is.zone store.is_zone is.is_zone) found.1 left.read is.replayed in
     let many : length (take left.k updates) ≡ left.k = omega (arith, length-take left.k updates, left.most) in
-    (left.k, left.least, left.most, told.0, told.1 ∙ many)
+    (left.k, left.least, left.most, reported.0, reported.1 ∙ many)
 
 -- a refusal of what is left of a journal is damage
 refused_left : (text left : List ℕ) (head : Head) (batches : List (List (List ℕ))) (why : Refused) → IsHead head → IsText head.text text → Fit 0 (map batch_of batches)
@@ -185,8 +185,8 @@ cut_accepted text head synced later zone updates n fault store is =
     let left = left_of text head synced later cut.left cut.gone zone updates store cut.parts in
     let short = left_short synced later cut.left cut.gone store.short cut.parts in
     let faults = faults_left text octets head (updates_in batches) zone (take left.k updates) fault store.is_zone store.serial left.read left.taken
-    (λ (other : Head) (told : List (List ℕ)) (sound : IsSound text octets other told).
-    cut_recovered text cut.rest head other batches told sound.number sound.end sound.torn store.is_head cut.fit short cut.no_more sound.recovered)
+    (λ (other : Head) (reported : List (List ℕ)) (sound : IsSound text octets other reported).
+    cut_recovered text cut.rest head other batches reported sound.number sound.end sound.torn store.is_head cut.fit short cut.no_more sound.recovered)
     (subst (λ (o : List ℕ). IsStartFault text o fault) cut.spelt is) in
     by_left cut.rest batches cut.fit short cut.no_more faults
   where

@@ -81,7 +81,7 @@ pub record IsNotTaken (zone : List Record) (messages : List (List ℕ)) (place :
   pub read : AreRead (take place messages) before
   pub taken : EachChanges zone before
   pub message : List ℕ
-  pub stands : slice_get messages place ≡ Some message
+  pub is_present : slice_get messages place ≡ Some message
   pub why : IsUpdateFault (replay zone before) message fault
 
 -- why messages aren't replayed on a zone

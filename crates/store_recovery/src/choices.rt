@@ -87,7 +87,7 @@ fn of_zones(last: &Zone, zone: Zone, same: bool, taken: Option<Take>) -> Choice
 /// Which is served where a text has this fault: the store, where the text is the one that it was created from, or the store is chosen; but nothing where there is no memory.
 fn without_zone(fault: FileFault, same: bool, taken: Option<Take>) -> Result<Choice, FileFault>
     ensures chosen { IfOk result (λ choice. (fault ≢ no_memory) × IsWithoutZone same taken choice) }
-    ensures fault { IfErr result (λ told. (told ≡ fault) × ((fault ≡ no_memory) ⊎ ((same ≡ false) × (taken ≢ Some TheStore)))) }
+    ensures fault { IfErr result (λ reported. (reported ≡ fault) × ((fault ≡ no_memory) ⊎ ((same ≡ false) × (taken ≢ Some TheStore)))) }
 {
     if fault.line == 0 && fault.cause == Cause::NoMemory {
         return Err(fault);

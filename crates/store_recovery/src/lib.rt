@@ -5,14 +5,14 @@
 //! ([`StartFault`]). What a crash may leave after the last batch is an [`Ending`]. [`start_of`] takes a journal that has been read. Where batches that were on the disk are damaged,
 //! [`recover_before`] gives what is before them. [`next_version`] is one step of the walk over a journal's updates.
 //!
-//! [`begin_store`] makes a store of a zone, with no update yet. Made of a version of a store, and with the batches after it, it is a store of the same versions
+//! [`create_store`] makes a store of a zone, with no update yet. Made of a version of a store, and with the batches after it, it is a store of the same versions
 //! ([`compacted_is_the_same`]), whichever step of a compaction is the last one that is on the disk ([`each_step_keeps_the_meaning`], [`what_a_folder_means_is_started`]). [`choose`] decides
 //! which is served at a start, the store or the zone text that the operator names.
 #![tactic(auto)]
 
 mod before;
-mod begin;
 mod choices;
+mod create;
 mod fault;
 mod laws;
 mod rebased;
@@ -22,8 +22,8 @@ mod start;
 mod store_laws;
 
 pub use before::recover_before;
-pub use begin::begin_store;
 pub use choices::{Choice, Take, choose};
+pub use create::create_store;
 pub use fault::{StartFault, UpdateFault};
 pub use laws::{
     damage_takes_nothing_in_front, each_cut_is_a_replay, what_is_accepted_is_recovered,

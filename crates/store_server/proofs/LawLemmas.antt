@@ -34,7 +34,7 @@ use Rattle.store_server.specs.Served.{HasIn, LeavesIn}
 pub resumed_has : (first : Version) (later : List Version) (writer : StoreWriter FileDisk IoError) → (writes : WritesOn first later writer)
     → HasUpdates writes.zone (record { writer = writer; wanted = None }) (first ∷ later) (updates_in writes.batches)
 resumed_has first later writer writes =
-    has_begun writes.text writes.batches writes.zone writes.updates writes.k (record { writer = writer; wanted = None }) (first ∷ later) writes.stands
+    has_begun writes.text writes.batches writes.zone writes.updates writes.k (record { writer = writer; wanted = None }) (first ∷ later) writes.is_present
     (subst (λ (v : Version). IsLast (first ∷ later) v) (sym writes.last) (last_more (first ∷ []) first later ([], refl)))
 
 module _ {L : Type 0} where

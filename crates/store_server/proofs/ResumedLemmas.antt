@@ -245,7 +245,7 @@ writes_on store keep steps writer given versions octets trail log head =
       zone = h.zone;
       updates = h.updates;
       k = h.k + move.n;
-      stands = record {
+      is_present = record {
         end = subst (λ (t : TrailState). IsEndOf h.text (head_of writer) h.batches h.zone h.updates t (h.k + move.n)) (sym trail)
             (subst (λ (one : Head). IsEndOf h.text one h.batches h.zone h.updates after (h.k + move.n)) (sym head) end);
         log = inl (subst (λ (l : Log FileDisk IoError). Holds written synced (head_of writer) l (map batch_of h.batches)) (sym log)

@@ -27,5 +27,5 @@ pub record WritesOn (first : Version) (later : List Version) (writer : StoreWrit
   pub zone : List Record
   pub updates : List Update
   pub k : ℕ
-  pub stands : Stands written synced text batches zone updates k writer None
+  pub is_present : Stands written synced text batches zone updates k writer None
   pub last : last_in (trail_of writer) ≡ newest_of first later

@@ -7,17 +7,17 @@
 //!
 //! [`resume_store`] gives the versions that a server begins with, and the store's writer, which has the same versions with the updates that made them. A [`ServerStore`] writes
 //! the updates of batches to a store, or nowhere, if none is configured. It logs to a [`StoreLog`] when updates cannot be written and why, and when they can be again, and
-//! [`StoreNotes`] the results of compactions: one line at each change, and none for each batch.
+//! [`LoggedCompactions`] the results of compactions: one line at each change, and none for each batch.
 //!
 //! Two functions that do nothing have the laws of updates from end to end as their contracts. The thread that judges updates (`update_batches`), the publisher that publishes and
 //! replies for it (`zone_server`) and the store to which it appends updates (`store_compaction`) know nothing of each other. These laws say what follows for them together, as
 //! `dnsd serve --store` runs them: [`served_updates_are_recovered`] and [`resumed_store_has_its_updates`].
 #![tactic(auto)]
 
-mod begin;
+mod create;
 mod event;
 mod laws;
-mod notes;
+mod logged_compactions;
 mod refusal;
 mod resume;
 mod resumed;
@@ -27,7 +27,7 @@ mod updates;
 
 pub use event::{StoreEvent, StoreLog};
 pub use laws::{resumed_store_has_its_updates, served_updates_are_recovered};
-pub use notes::StoreNotes;
+pub use logged_compactions::LoggedCompactions;
 pub use refusal::Refusal;
 pub use resume::{OpenStore, resume_pair};
 pub use resumed::resume_store;

@@ -6,7 +6,7 @@ ghost use Rattle.store_recovery.specs.Choice.{IsChoice};
 ghost use Rattle.store_server.specs.Started.{AreLastUpdates, GoesOn, IsBegunStore, IsOfFolder, IsOwnFault, IsNoText, IsKept, IsServed, IsServedOf, IsRefused};
 ghost use Rattle.store_files.specs.Store.{IsAsNoted};
 
-use crate::begin::{begin_first, begin_over};
+use crate::create::{create_first, create_over};
 use crate::refusal::Refusal;
 use crate::resume::{OpenStore, resume_pair};
 use crate::updates::start_with_updates;
@@ -94,7 +94,7 @@ fn start_opened<R: Files<File = File> + Alloc + Clone + Drop>(
         OpenedFolder::NoText(number) => Err(Refusal::NoText(number)),
         OpenedFolder::Empty(lock) => {
             let zone = read_zone(alloc, given.text, given.origin)?;
-            let store = begin_first(rt, alloc, dir, zone, random, given.text)?;
+            let store = create_first(rt, alloc, dir, zone, random, given.text)?;
             Ok(Started {
                 lock,
                 store,
@@ -216,7 +216,7 @@ fn take_text<R: Files<File = File>>(
 {
     let next = head.number.saturating_add(1);
     let kept = keep_pair(rt, alloc, dir, head.number, &pair.text, &pair.journal)?;
-    let store = begin_over(rt, alloc, dir, &kept, zone, next, random, given.text)?;
+    let store = create_over(rt, alloc, dir, &kept, zone, next, random, given.text)?;
     Ok(Started {
         lock,
         store,

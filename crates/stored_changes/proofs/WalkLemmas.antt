@@ -21,16 +21,16 @@ use Rattle.store_recovery.proofs.ReplayLemmas.{now_of}
 use Rattle.stored_changes.specs.StoredChanges.{change_of, after, changes_text, AreTold}
 
 -- messages are applied to a zone: the last version, and what is told of them
-pub record IsWalked (zone : List Record) (messages : List (List ℕ)) (last : Version) (told : List ℕ) : Type 0 where
+pub record IsWalked (zone : List Record) (messages : List (List ℕ)) (last : Version) (reported : List ℕ) : Type 0 where
   pub updates : List Update
   pub read : AreRead messages updates
   pub taken : EachChanges zone updates
   pub here : last.zone ≡ replay zone updates
   pub number : last.number ≡ length messages
-  pub lines : told ≡ changes_text zone updates
+  pub lines : reported ≡ changes_text zone updates
 
-pub none_walked : (zone : List Record) (last : Version) (told : List ℕ) → last ≡ record { number = 0; zone = zone; changes = None } → told ≡ [] → IsWalked zone [] last told
-none_walked zone last told is none = record {
+pub none_walked : (zone : List Record) (last : Version) (reported : List ℕ) → last ≡ record { number = 0; zone = zone; changes = None } → reported ≡ [] → IsWalked zone [] last reported
+none_walked zone last reported is none = record {
   updates = [];
   read = tt;
   taken = tt;
@@ -49,10 +49,10 @@ told_more zone (other ∷ updates) update =
     (change_of (replay (after zone other) updates) (after (replay (after zone other) updates) update)))
 
 -- one message more is applied
-pub more_walked : (zone : List Record) (messages : List (List ℕ)) (message : List ℕ) (last next : Version) (told now : List ℕ)
-    → IsWalked zone messages last told → IsMade last message next → now ≡ told ++ change_of last.zone next.zone
+pub more_walked : (zone : List Record) (messages : List (List ℕ)) (message : List ℕ) (last next : Version) (reported now : List ℕ)
+    → IsWalked zone messages last reported → IsMade last message next → now ≡ reported ++ change_of last.zone next.zone
     → IsWalked zone (messages ++ message ∷ []) next now
-more_walked zone messages message last next told now is made grown =
+more_walked zone messages message last next reported now is made grown =
     let before = replay zone is.updates in
     let gives : unwrap_or (act before made.update) before ≡ next.zone =
     ap (λ (z : List Record). unwrap_or (act z made.update) z) (sym is.here) ∙ ap (λ (o : Option (List Record)). unwrap_or o last.zone) made.makes.zone in
@@ -79,34 +79,34 @@ lent_more : (messages : List (Bor (List ℕ))) (place : ℕ) (d : Bor (List ℕ)
 lent_more messages place d within =
     take_more (now_of messages) place d.now (omega (arith, within, lent_long messages)) ∙ ap (λ (m : List ℕ). take place (now_of messages) ++ m ∷ []) (lent_at messages place d within)
 
-pub one_more_walked : (zone : List Record) (messages : List (Bor (List ℕ))) (place : ℕ) (d : Bor (List ℕ)) (last next : Version) (told now : List ℕ)
-    → IsWalked zone (take place (now_of messages)) last told → place < length messages → IsMade last (get_or messages place d).now next
-    → now ≡ told ++ change_of last.zone next.zone → IsWalked zone (take (place + 1) (now_of messages)) next now
-one_more_walked zone messages place d last next told now is within made grown =
+pub one_more_walked : (zone : List Record) (messages : List (Bor (List ℕ))) (place : ℕ) (d : Bor (List ℕ)) (last next : Version) (reported now : List ℕ)
+    → IsWalked zone (take place (now_of messages)) last reported → place < length messages → IsMade last (get_or messages place d).now next
+    → now ≡ reported ++ change_of last.zone next.zone → IsWalked zone (take (place + 1) (now_of messages)) next now
+one_more_walked zone messages place d last next reported now is within made grown =
     subst (λ (ms : List (List ℕ)). IsWalked zone ms next now) (sym (lent_more messages place d within))
-    (more_walked zone (take place (now_of messages)) (get_or messages place d).now last next told now is made grown)
+    (more_walked zone (take place (now_of messages)) (get_or messages place d).now last next reported now is made grown)
 
-pub walked_number : (zone : List Record) (messages : List (Bor (List ℕ))) (place : ℕ) (last : Version) (told : List ℕ) → IsWalked zone (take place (now_of messages)) last told → place ≤ length messages
+pub walked_number : (zone : List Record) (messages : List (Bor (List ℕ))) (place : ℕ) (last : Version) (reported : List ℕ) → IsWalked zone (take place (now_of messages)) last reported → place ≤ length messages
     → last.number ≡ place
-walked_number zone messages place last told is within = is.number ∙ omega (arith, length-take place (now_of messages), lent_long messages)
+walked_number zone messages place last reported is within = is.number ∙ omega (arith, length-take place (now_of messages), lent_long messages)
 
-pub all_walked : (zone : List Record) (messages : List (Bor (List ℕ))) (place : ℕ) (last : Version) (told : List ℕ) → IsWalked zone (take place (now_of messages)) last told → length messages ≤ place
-    → AreTold zone (now_of messages) told
-all_walked zone messages place last told is end =
-    let all : IsWalked zone (now_of messages) last told =
-    subst (λ (ms : List (List ℕ)). IsWalked zone ms last told) (take_all place (now_of messages) (omega (arith, end, lent_long messages))) is in
-    record { updates = all.updates; read = all.read; taken = all.taken; told = all.lines }
+pub all_walked : (zone : List Record) (messages : List (Bor (List ℕ))) (place : ℕ) (last : Version) (reported : List ℕ) → IsWalked zone (take place (now_of messages)) last reported → length messages ≤ place
+    → AreTold zone (now_of messages) reported
+all_walked zone messages place last reported is end =
+    let all : IsWalked zone (now_of messages) last reported =
+    subst (λ (ms : List (List ℕ)). IsWalked zone ms last reported) (take_all place (now_of messages) (omega (arith, end, lent_long messages))) is in
+    record { updates = all.updates; read = all.read; taken = all.taken; reported = all.lines }
 
 -- the message at a place isn't taken
-pub not_taken_at : (zone : List Record) (messages : List (Bor (List ℕ))) (place : ℕ) (d : Bor (List ℕ)) (last : Version) (told : List ℕ) (fault : UpdateFault)
-    → IsWalked zone (take place (now_of messages)) last told → place < length messages → IsUpdateFault last.zone (get_or messages place d).now fault
+pub not_taken_at : (zone : List Record) (messages : List (Bor (List ℕ))) (place : ℕ) (d : Bor (List ℕ)) (last : Version) (reported : List ℕ) (fault : UpdateFault)
+    → IsWalked zone (take place (now_of messages)) last reported → place < length messages → IsUpdateFault last.zone (get_or messages place d).now fault
     → IsNotTaken zone (now_of messages) place fault
-not_taken_at zone messages place d last told fault is within why = record {
+not_taken_at zone messages place d last reported fault is within why = record {
   before = is.updates;
   read = is.read;
   taken = is.taken;
   message = (get_or messages place d).now;
-  stands = slice_get-get_or (now_of messages) place d.now (omega (arith, within, lent_long messages)) ∙ ap Some (lent_at messages place d within);
+  is_present = slice_get-get_or (now_of messages) place d.now (omega (arith, within, lent_long messages)) ∙ ap Some (lent_at messages place d within);
   why = subst (λ (z : List Record). IsUpdateFault z (get_or messages place d).now fault) is.here why;
 }
 

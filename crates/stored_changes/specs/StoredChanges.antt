@@ -41,11 +41,11 @@ pub record AreTold (zone : List Record) (messages : List (List ℕ)) (text : Lis
   pub updates : List Update
   pub read : AreRead messages updates
   pub taken : EachChanges zone updates
-  pub told : text ≡ changes_text zone updates
+  pub reported : text ≡ changes_text zone updates
 
 -- the same of a zone text and its journal, as a start reads them
-pub record IsToldOf (text octets told : List ℕ) : Type 0 where
+pub record IsToldOf (text octets reported : List ℕ) : Type 0 where
   pub zone : List Record
   pub messages : List (List ℕ)
   pub pair : IsPair text octets zone messages
-  pub changes : AreTold zone messages told
+  pub changes : AreTold zone messages reported

@@ -21,7 +21,7 @@ use zone_tree::{Delta, Version, Zone, ZoneRead};
 ///
 /// The fault is that of a start from both.
 pub fn write_changes(alloc: Global, text: &[u8], journal: &[u8]) -> Result<String, StartFault>
-    ensures told { IfOk result (λ told. IsToldOf text.now journal.now (string_bytes told)) }
+    ensures reported { IfOk result (λ reported. IsToldOf text.now journal.now (string_bytes reported)) }
     ensures refused { IfErr result (λ fault. IsStartFault text.now journal.now fault) }
 {
     let found = recover(alloc, text, journal)?;
@@ -29,88 +29,88 @@ pub fn write_changes(alloc: Global, text: &[u8], journal: &[u8]) -> Result<Strin
     if zone.serial().0 != found.head.serial {
         return Err(StartFault::OtherSerial);
     }
-    let told = walk(alloc, zone, &found.updates)?;
-    Ok(told)
+    let reported = walk(alloc, zone, &found.updates)?;
+    Ok(reported)
 }
 
 /// What messages change of a zone, applied one after another.
 fn walk(alloc: Global, zone: Zone, messages: &[&[u8]]) -> Result<String, StartFault>
-    ensures told { IfOk result (λ told. AreTold zone (map (λ message. message.now) messages.now) (string_bytes told)) }
+    ensures reported { IfOk result (λ reported. AreTold zone (map (λ message. message.now) messages.now) (string_bytes reported)) }
     ensures refused { IfErr result (λ fault. IsReplayFault zone (map (λ message. message.now) messages.now) fault) }
 {
-    let mut told = String::new(alloc);
+    let mut reported = String::new(alloc);
     let mut last = Version::first(zone);
     for (place, message) in messages.iter().enumerate() {
         match next_version(alloc, &last, message)? {
             Ok(next) => {
-                put_version(&mut told, &last, &next)?;
+                put_version(&mut reported, &last, &next)?;
                 last = next;
             }
             Err(fault) => return Err(StartFault::Update(place as u64, fault)),
         }
     }
-    Ok(told)
+    Ok(reported)
 }
 
-/// Puts what a version changed of the one before it behind a text.
-fn put_version(told: &mut String, last: &Version, next: &Version) -> Result<(), AllocError>
+/// Puts what a version changed of the one before it after a text.
+fn put_version(reported: &mut String, last: &Version, next: &Version) -> Result<(), AllocError>
     requires { KnowsChanges last.now.zone next.now }
-    ensures { OnOk result (string_bytes told.new ≡ string_bytes told.old ++ change_of last.now.zone next.now.zone) }
+    ensures { OnOk result (string_bytes reported.new ≡ string_bytes reported.old ++ change_of last.now.zone next.now.zone) }
 {
     match next.delta() {
-        Some(delta) => put_change(told, last.zone(), delta, next.zone()),
+        Some(delta) => put_change(reported, last.zone(), delta, next.zone()),
         None => Ok(()),
     }
 }
 
-/// Puts what a zone changed of the one before it behind a text.
+/// Puts what a zone changed of the one before it after a text.
 fn put_change(
-    told: &mut String,
+    reported: &mut String,
     before: &Zone,
     delta: &Delta,
     after: &Zone,
 ) -> Result<(), AllocError>
     requires { AreChanges delta.now before.now after.now }
-    ensures { OnOk result (string_bytes told.new ≡ string_bytes told.old ++ change_of before.now after.now) }
+    ensures { OnOk result (string_bytes reported.new ≡ string_bytes reported.old ++ change_of before.now after.now) }
 {
     let (old_soa, soa) = (before.soa(), after.soa());
     let deleted = count_in(delta.deletions());
     let added = count_in(delta.additions());
-    put_head(told, before.serial(), after.serial(), deleted, added)?;
-    put_set(told, "- ", old_soa)?;
-    put_sets(told, "- ", delta.deletions())?;
-    put_set(told, "+ ", soa)?;
-    put_sets(told, "+ ", delta.additions())?;
+    put_head(reported, before.serial(), after.serial(), deleted, added)?;
+    put_set(reported, "- ", old_soa)?;
+    put_sets(reported, "- ", delta.deletions())?;
+    put_set(reported, "+ ", soa)?;
+    put_sets(reported, "+ ", delta.additions())?;
     Ok(())
 }
 
-/// Puts the first line of a change behind a text.
+/// Puts the first line of a change after a text.
 fn put_head(
-    told: &mut String,
+    reported: &mut String,
     from: Serial,
     to: Serial,
     deleted: usize,
     added: usize,
 ) -> Result<(), AllocError>
-    ensures { OnOk result (string_bytes told.new ≡ string_bytes told.old ++ head_line from.0 to.0 deleted added) }
+    ensures { OnOk result (string_bytes reported.new ≡ string_bytes reported.old ++ head_line from.0 to.0 deleted added) }
 {
-    put_serials(told, from.0, to.0)?;
-    put_counts(told, deleted, added)
+    put_serials(reported, from.0, to.0)?;
+    put_counts(reported, deleted, added)
 }
 
-/// Puts the serials before and after a change behind a text.
-fn put_serials(told: &mut String, from: u32, to: u32) -> Result<(), AllocError>
-    ensures { OnOk result (string_bytes told.new ≡ string_bytes told.old ++ serials_told from to) }
+/// Puts the serials before and after a change after a text.
+fn put_serials(reported: &mut String, from: u32, to: u32) -> Result<(), AllocError>
+    ensures { OnOk result (string_bytes reported.new ≡ string_bytes reported.old ++ serials_told from to) }
 {
-    write!(told, "serial {from} to {to}, ")
+    write!(reported, "serial {from} to {to}, ")
 }
 
-/// Puts how many records a change deleted and added, and a line's end, behind a text.
-fn put_counts(told: &mut String, deleted: usize, added: usize) -> Result<(), AllocError>
-    ensures { OnOk result (string_bytes told.new ≡ string_bytes told.old ++ counts_told deleted added) }
+/// Puts how many records a change deleted and added, and a line's end, after a text.
+fn put_counts(reported: &mut String, deleted: usize, added: usize) -> Result<(), AllocError>
+    ensures { OnOk result (string_bytes reported.new ≡ string_bytes reported.old ++ counts_told deleted added) }
 {
-    write!(told, "{deleted} deleted, {added} added")?;
-    told.push('\n')
+    write!(reported, "{deleted} deleted, {added} added")?;
+    reported.push('\n')
 }
 
 /// How many records sets have.

@@ -11,7 +11,7 @@ use Rattle.requests.specs.declared.stream_end.StreamEnd.TheVariants.{Clean, Torn
 use Rattle.tcp_connections.specs.Kept.{Kept, due, told_by}
 use Rattle.tcp_connections.specs.declared.step.Step.{Step}
 use Rattle.tcp_connections.specs.declared.step.Step.TheVariants.{More, Done, Full, Blocked, Later}
-use Rattle.tcp_connections.specs.Told.{Stays, Writes, EndsTold}
+use Rattle.tcp_connections.specs.StreamOctets.{Stays, Writes, EndsTold}
 use Rattle.tcp_connections.specs.Going.{IsHeldUp, Known, Goes, Keeps, PartlyTold, Ends, Stops}
 
 -- a connection of the same peer is held up
@@ -109,7 +109,7 @@ module _ {T : Type 0} (IsReply : Learned T → Learned T → List ℕ → List (
         now = ends.4;
       }
 
-  ends_known : (end : StreamEnd) (start seen : Learned T) (o : List ℕ × List ℕ) (told new : Option (List ℕ × List ℕ)) → Known IsReply start (Some o) seen told → EndsTold end told new → Ends IsReply end start o seen new
+  ends_known : (end : StreamEnd) (start seen : Learned T) (o : List ℕ × List ℕ) (reported new : Option (List ℕ × List ℕ)) → Known IsReply start (Some o) seen reported → EndsTold end reported new → Ends IsReply end start o seen new
   ends_known end start seen o None new known ends = absurd (let none : ⊥ = cc (known.1) in none)
   ends_known Clean start seen o (Some p) new known ends =
       let same : known.0 ≡ p = cc (known.1) in
@@ -123,9 +123,9 @@ module _ {T : Type 0} (IsReply : Learned T → Learned T → List ℕ → List (
   ends_known Spent start seen o (Some p) new known ends = partly start seen o p new known ends
   ends_known NoMemory start seen o (Some p) new known ends = partly start seen o p new known ends
 
-  ends_if : (end : StreamEnd) (start seen : Learned T) (old told new : Option (List ℕ × List ℕ)) → Known IsReply start old seen told → EndsTold end told new → IfSome old (λ o. Ends IsReply end start o seen new)
-  ends_if end start seen None told new known ends = tt
-  ends_if end start seen (Some o) told new known ends = ends_known end start seen o told new known ends
+  ends_if : (end : StreamEnd) (start seen : Learned T) (old reported new : Option (List ℕ × List ℕ)) → Known IsReply start old seen reported → EndsTold end reported new → IfSome old (λ o. Ends IsReply end start o seen new)
+  ends_if end start seen None reported new known ends = tt
+  ends_if end start seen (Some o) reported new known ends = ends_known end start seen o reported new known ends
 
   pub stops_told : (end : StreamEnd) (seen later : Learned T) (a b new : Option (List ℕ × List ℕ)) → Goes IsReply seen a later b → EndsTold end b new → Stops IsReply end seen a later new
   stops_told end seen later a b new goes ends = λ start old known. ends_if end start later old b new (goes start old known) ends

@@ -10,4 +10,4 @@ pub mod PlaceLemmas
 pub mod QueueLemmas
 pub mod SurveyLemmas
 pub mod SweepLemmas
-pub mod ToldLemmas
+pub mod StreamOctetLemmas

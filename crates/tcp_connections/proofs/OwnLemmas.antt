@@ -8,8 +8,8 @@ use Rattle.requests.proofs.TurnLemmas.{grows_more}
 use Rattle.requests.specs.declared.stream_end.StreamEnd.{StreamEnd}
 use Rattle.tcp_connections.specs.Going.{Keeps, Goes, Stops}
 use Rattle.tcp_connections.specs.Kept.{Kept, told_by}
-use Rattle.tcp_connections.specs.Told.{Stays, EndsTold}
-use Rattle.tcp_connections.proofs.ToldLemmas.{writes_itself, writes_more}
+use Rattle.tcp_connections.specs.StreamOctets.{Stays, EndsTold}
+use Rattle.tcp_connections.proofs.StreamOctetLemmas.{writes_itself, writes_more}
 use Rattle.tcp_connections.proofs.GoingLemmas.{goes_seen, goes_more, goes_stays, stops_more, stops_told}
 use Rattle.tcp_connections.proofs.BegunLemmas.{begun_more}
 use Rattle.tcp_connections.specs.Links.{Seen, told_of, HasGone, HasEnded, OwnServed}

@@ -21,7 +21,7 @@ module _ {T : Type 0} (IsReply : Learned T → Learned T → List ℕ → List (
 
   -- whatever has been answered still is, and maybe more, from any state in which it began
   abbrev pub Goes : Learned T → Option (List ℕ × List ℕ) → Learned T → Option (List ℕ × List ℕ) → Type 0
-  Goes seen told later new = (start : Learned T) (old : Option (List ℕ × List ℕ)) → Known start old seen told → Known start old later new
+  Goes seen reported later new = (start : Learned T) (old : Option (List ℕ × List ℕ)) → Known start old seen reported → Known start old later new
 
   -- the same of what a connection keeps, whatever its stream reports
   abbrev pub Keeps : Learned T → Kept → Learned T → Kept → Type 0
@@ -47,4 +47,4 @@ module _ {T : Type 0} (IsReply : Learned T → Learned T → List ℕ → List (
 
   -- a connection ends, from any state in which it began
   abbrev pub Stops : StreamEnd → Learned T → Option (List ℕ × List ℕ) → Learned T → Option (List ℕ × List ℕ) → Type 0
-  Stops end seen told later new = (start : Learned T) (old : Option (List ℕ × List ℕ)) → Known start old seen told → IfSome old (λ o. Ends end start o later new)
+  Stops end seen reported later new = (start : Learned T) (old : Option (List ℕ × List ℕ)) → Known start old seen reported → IfSome old (λ o. Ends end start o later new)

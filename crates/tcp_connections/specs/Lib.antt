@@ -8,4 +8,4 @@ pub mod Links
 pub mod Places
 pub mod Rate
 pub mod Survey
-pub mod Told
+pub mod StreamOctets

@@ -6,7 +6,7 @@ use Rattle.tcp_connections.specs.declared.group.PeerGroup.{PeerGroup}
 use Rattle.requests.specs.Served.{Learned, Grows}
 use Rattle.requests.specs.declared.stream_end.StreamEnd.{StreamEnd}
 use Rattle.tcp_connections.specs.Kept.{Kept, told_by, awaited}
-use Rattle.tcp_connections.specs.Told.{Writes}
+use Rattle.tcp_connections.specs.StreamOctets.{Writes}
 use Rattle.tcp_connections.specs.Going.{Goes, Stops, IsHeldUp}
 use Rattle.tcp_connections.specs.Deadlines.{IsBegun, is_over}
 use Rattle.tcp_connections.specs.Ends.{one_late, one_slow}

@@ -1,7 +1,7 @@
 //! Streams that report when they would block.
 ghost use Rattle.std.specs.Prelude.{◌≡◌, ℕ, ◌<◌, ◌≤◌, List, [], length, take, Option, IfOk, IfErr, OnOk, OnErr};
 ghost use Rattle.requests.specs.Octets.{Gives, Takes, IsAtEnd};
-ghost use Rattle.tcp_connections.specs.Told.{IsCounted};
+ghost use Rattle.tcp_connections.specs.StreamOctets.{IsCounted};
 ghost use Rattle.tcp_connections.specs.declared.blocking.Fault.{Fault as FaultOf};
 
 use requests::{Counted, DeviceFailed, Stream};

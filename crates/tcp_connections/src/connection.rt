@@ -4,7 +4,7 @@ ghost use Rattle.std.specs.Net.Socket.{socket_ip};
 ghost use Rattle.dns_message.specs.Message.{message_limit};
 ghost use Rattle.tcp_connections.specs.Asked.{EachGrows};
 ghost use Rattle.tcp_connections.specs.Kept.{told_by, nothing_kept};
-ghost use Rattle.tcp_connections.specs.Told.{Writes};
+ghost use Rattle.tcp_connections.specs.StreamOctets.{Writes};
 ghost use Rattle.tcp_connections.specs.Going.{Goes, Stops, IsHeldUp};
 ghost use Rattle.tcp_connections.specs.Group.{IsGroupOf};
 ghost use Rattle.tcp_connections.specs.Deadlines.{patience, is_late, is_over, begun_behind};
@@ -37,7 +37,6 @@ pub struct Connection<S: Drop, M: Messages> {
     pub(crate) window: Window,
 }
 
-// By hand: a derived drop is proved once more in each crate that lets such a value go.
 impl<S: Drop, M: Messages> Drop for Connection<S, M> {
     fn drop(self) {
         let Connection {

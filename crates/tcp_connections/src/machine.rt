@@ -29,7 +29,6 @@ pub struct ConnectionState<M: Messages> {
     taken: u64,
 }
 
-// By hand: a derived drop is proved once more in each crate that lets such a value go.
 impl<M: Messages> Drop for ConnectionState<M> {
     fn drop(self) {
         let ConnectionState {

@@ -16,7 +16,6 @@ pub(crate) struct Queue {
     at: usize,
 }
 
-// By hand: a derived drop is proved once more in each crate that lets such a value go.
 impl Drop for Queue {
     fn drop(self) {
         let Queue { octets: _, at: _ } = self;

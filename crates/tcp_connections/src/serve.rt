@@ -4,7 +4,7 @@ ghost use Rattle.dns_message.specs.Frame.{frame_in};
 ghost use Rattle.dns_message.specs.Message.{message_limit};
 ghost use Rattle.tcp_connections.specs.Asked.{EachGrows, Waits};
 ghost use Rattle.tcp_connections.specs.Kept.{IsWaiting, told_by};
-ghost use Rattle.tcp_connections.specs.Told.{Stays, Writes, EndsTold, EndCounted};
+ghost use Rattle.tcp_connections.specs.StreamOctets.{Stays, Writes, EndsTold, EndCounted};
 ghost use Rattle.tcp_connections.specs.Going.{Keeps, Goes, Stops, IsHeldUp};
 ghost use Rattle.tcp_connections.specs.declared.step.Step.{Step as StepOf};
 ghost use Rattle.requests.specs.declared.stream_end.StreamEnd.{StreamEnd as EndOf};

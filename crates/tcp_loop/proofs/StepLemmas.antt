@@ -51,8 +51,8 @@ module _ {S M : Type 0} (origin : S → SocketAddr) (octets : S → Option (List
   -- one begins
   pub moves_begun : (from : SocketAddr) (peer : Peer) (stream : S) (old new : Slab (Connection S M)) (key : ℕ) (connection : Connection S M) → get old key ≡ None → get new key ≡ Some connection → ((other : ℕ) → other ≢ key → get new other ≡ get old other)
       → connection.stream ≡ stream → connection.from ≡ from → from ≡ origin stream → connection.peer ≡ peer → IsPeer allowed Tcp from peer → connection.state ≡ nothing_kept → connection.begun ≡ now → IsGroupOf (socket_ip from) connection.group → connection.window ≡ record { since = now; taken = 0 } → Moves origin octets allowed now old new
-  moves_begun from peer stream old new key connection vacant put others is come told same is_peer kept begun group window =
-      let here : from ≡ origin connection.stream = told ∙ ap origin (sym is) in
+  moves_begun from peer stream old new key connection vacant put others is come reported same is_peer kept begun group window =
+      let here : from ≡ origin connection.stream = reported ∙ ap origin (sym is) in
       let began : HasBegun origin octets allowed now connection = record {
         from = come ∙ here;
         peer = subst (λ (p : Peer). IsPeer allowed Tcp (origin connection.stream) p) (sym same) (subst (λ (a : SocketAddr). IsPeer allowed Tcp a peer) here is_peer);
@@ -66,8 +66,8 @@ module _ {S M : Type 0} (origin : S → SocketAddr) (octets : S → Option (List
   -- one is put under the next key, or there is no memory for it
   pub moves_put : {E : Type 0} (result : Result ℕ E) (from : SocketAddr) (peer : Peer) (stream : S) (old new : Slab (Connection S M)) (connection : Connection S M) → IfOk result (λ key. get old key ≡ None) → IfOk result (λ key. Updates old new key (Some connection)) → OnErr result (new ≡ record old { capacity = new.capacity })
       → connection.stream ≡ stream → connection.from ≡ from → from ≡ origin stream → connection.peer ≡ peer → IsPeer allowed Tcp from peer → connection.state ≡ nothing_kept → connection.begun ≡ now → IsGroupOf (socket_ip from) connection.group → connection.window ≡ record { since = now; taken = 0 } → Moves origin octets allowed now old new
-  moves_put (Ok key) from peer stream old new connection vacant updates failed is come told same is_peer kept begun group window = moves_begun from peer stream old new key connection vacant updates.changed updates.others is come told same is_peer kept begun group window
-  moves_put (Err fault) from peer stream old new connection vacant updates failed is come told same is_peer kept begun group window = moves_wider old new new.capacity failed
+  moves_put (Ok key) from peer stream old new connection vacant updates failed is come reported same is_peer kept begun group window = moves_begun from peer stream old new key connection vacant updates.changed updates.others is come reported same is_peer kept begun group window
+  moves_put (Err fault) from peer stream old new connection vacant updates failed is come reported same is_peer kept begun group window = moves_wider old new new.capacity failed
 
   -- those that are over go, by limits that are the given ones or those where places are scarce
   pub sweeps_over : (limits used : Limits) (old new : Slab (Connection S M)) → (used ≡ limits) ⊎ (used ≡ scarce limits) → ((key : ℕ) → get new key ≡ kept_at used now (get old key)) → Sweeps origin octets limits now old new
@@ -116,9 +116,9 @@ module _ {S M : Type 0} (origin : S → SocketAddr) (octets : S → Option (List
     turned_none limits seen old new same = record { come = old; served = old; first = stay; own = serves_none seen seen old (each_itself seen); last = inl same }
 
     -- a turn, at the time that was told
-    pub turned_whole : (limits : Limits) (told : ℕ) (seen later : ℕ → Learned T) (old start come served new : Slab (Connection S M)) → now ≡ told → start ≡ old → Moves origin octets allowed now start come → Serves origin octets IsReply now seen come later served
-        → Sweeps origin octets limits now served new → HasTurned origin octets IsReply allowed limits told seen old later new
-    turned_whole limits told seen later old start come served new same still first own last =
+    pub turned_whole : (limits : Limits) (reported : ℕ) (seen later : ℕ → Learned T) (old start come served new : Slab (Connection S M)) → now ≡ reported → start ≡ old → Moves origin octets allowed now start come → Serves origin octets IsReply now seen come later served
+        → Sweeps origin octets limits now served new → HasTurned origin octets IsReply allowed limits reported seen old later new
+    turned_whole limits reported seen later old start come served new same still first own last =
         let moved : Moves origin octets allowed now old come = subst (λ (s : Slab (Connection S M)). Moves origin octets allowed now s come) still first in
         let made : HasTurned origin octets IsReply allowed limits now seen old later new = record { come = come; served = served; first = moved; own = own; last = last } in
         subst (λ (n : ℕ). HasTurned origin octets IsReply allowed limits n seen old later new) same made

@@ -8,8 +8,8 @@
 
 mod arrivals;
 mod readiness;
+mod run_queue;
 mod tally;
-mod waiting;
 mod worker;
 
 pub use arrivals::{Arrivals, Refusal, Remote};

@@ -10,8 +10,8 @@ ghost use Rattle.tcp_loop.specs.Steps.{scarce, nothing_counted, Moves, Sweeps, G
 
 use crate::arrivals::{Arrivals, Refusal, Remote};
 use crate::readiness::{NotWatched, Readiness};
+use crate::run_queue::RunQueue;
 use crate::tally::Tally;
-use crate::waiting::Waiting;
 use requests::Allowed;
 use serve_core::Transport;
 use slab::Slab;
@@ -51,9 +51,9 @@ pub struct EventLoop<S: Drop, M: Messages> {
     connections: Slab<Connection<S, M>>,
     /// How many may be open.
     places: usize,
-    waiting: Waiting,
+    run_queue: RunQueue,
     /// Keys that were reported ready, those that are served, and those that could go on.
-    told: Vec<usize>,
+    ready: Vec<usize>,
     served: Vec<usize>,
     next: Vec<usize>,
     /// For each listener, whether a connection may be waiting there.
@@ -66,14 +66,13 @@ pub struct EventLoop<S: Drop, M: Messages> {
     alloc: Global,
 }
 
-// By hand: a derived drop is proved once more in each crate that lets such a value go.
 impl<S: Drop, M: Messages> Drop for EventLoop<S, M> {
     fn drop(self) {
         let EventLoop {
             connections: _,
             places: _,
-            waiting: _,
-            told: _,
+            run_queue: _,
+            ready: _,
             served: _,
             next: _,
             may_come: _,
@@ -99,8 +98,8 @@ impl<S: Blocking + Remote + Drop, M: Messages> EventLoop<S, M> {
         Ok(EventLoop {
             connections: Slab::new(alloc),
             places,
-            waiting: Waiting::new(alloc, places)?,
-            told: Vec::new(alloc),
+            run_queue: RunQueue::new(alloc, places)?,
+            ready: Vec::new(alloc),
             served: Vec::with_capacity(alloc, places)?,
             next: Vec::with_capacity(alloc, places)?,
             may_come: vec![in alloc; true; arrivals]?,
@@ -120,7 +119,7 @@ impl<S: Blocking + Remote + Drop, M: Messages> EventLoop<S, M> {
 
     /// How long to wait at most: not at all if something could be done at once.
     fn patience(&self) -> u64 {
-        if !self.waiting.is_empty() {
+        if !self.run_queue.is_empty() {
             return 0;
         }
         if self.shut_until == 0 && self.may_come.iter().any(|may| *may) {
@@ -134,8 +133,8 @@ impl<S: Blocking + Remote + Drop, M: Messages> EventLoop<S, M> {
         ensures connections { self.new.connections ≡ self.old.connections }
         ensures places { self.new.places ≡ self.old.places }
     {
-        mark_told(&self.told, &mut self.may_come, &mut self.waiting);
-        self.told.clear();
+        mark_ready(&self.ready, &mut self.may_come, &mut self.run_queue);
+        self.ready.clear();
     }
 
     /// Whether there is a place for one more connection, of a peer of a group, if need be that of the connection that has gone longest
@@ -190,11 +189,11 @@ impl<S: Blocking + Remote + Drop, M: Messages> EventLoop<S, M> {
             return;
         };
         self.tally.begun = self.tally.begun.saturating_add(1);
-        self.waiting.put(key);
+        self.run_queue.put(key);
     }
 
     /// Gives a new connection a place, if there is one, and watches it.
-    fn begin<P: Readiness<S>>(&mut self, poll: &mut P, plan: Plan<'_>, stream: S, now: u64)
+    fn add_connection<P: Readiness<S>>(&mut self, poll: &mut P, plan: Plan<'_>, stream: S, now: u64)
         ensures moves { Moves S.origin S.octets plan.entry.allowed.addresses.now now self.old.connections self.new.connections }
         ensures time { P.time poll.new ≡ P.time poll.old }
         ensures places { self.new.places ≡ self.old.places }
@@ -226,7 +225,7 @@ impl<S: Blocking + Remote + Drop, M: Messages> EventLoop<S, M> {
     {
         match arrivals.take() {
             Ok(stream) => {
-                self.begin(poll, plan, stream, now);
+                self.add_connection(poll, plan, stream, now);
                 Ok(None)
             }
             Err(Refusal::Blocked) => Ok(Some(false)),
@@ -363,13 +362,13 @@ impl<S: Blocking + Remote + Drop, M: Messages> EventLoop<S, M> {
         ensures turned { HasTurned S.origin S.octets A.is_reply plan.entry.allowed.addresses.now plan.entry.limits (P.time poll.new) (A.seen handler.old) self.old.connections (A.seen handler.new) self.new.connections }
         ensures going { OnOk result (GoOn S.would_block A.is_later self.new.connections self.new.served.items self.new.next.items) }
     {
-        let Ok(now) = poll.wait(self.patience(), &mut self.told) else {
+        let Ok(now) = poll.wait(self.patience(), &mut self.ready) else {
             return Err(TurnEnd::Device);
         };
         self.mark();
         self.take_all(poll, plan, places, now)?;
         self.served.clear();
-        self.waiting.take(&mut self.served);
+        self.run_queue.take(&mut self.served);
         self.next.clear();
         let served = serve_ready(
             rt,
@@ -382,7 +381,7 @@ impl<S: Blocking + Remote + Drop, M: Messages> EventLoop<S, M> {
             room,
             out,
         );
-        self.waiting.put_after(&self.next);
+        self.run_queue.put_after(&self.next);
         match served {
             Ok(()) => {}
             Err(_) => return Err(TurnEnd::NoMemory),
@@ -393,11 +392,11 @@ impl<S: Blocking + Remote + Drop, M: Messages> EventLoop<S, M> {
 }
 
 /// Marks what was reported ready: listeners at which connections may be waiting, the first one under the greatest key, and connections.
-fn mark_told(told: &[usize], may_come: &mut Vec<bool>, waiting: &mut Waiting) {
-    for key in told {
+fn mark_ready(ready: &[usize], may_come: &mut Vec<bool>, run_queue: &mut RunQueue) {
+    for key in ready {
         match may_come.get_mut(usize::MAX - *key) {
             Some(may) => *may = true,
-            None => waiting.put(*key),
+            None => run_queue.put(*key),
         }
     }
 }

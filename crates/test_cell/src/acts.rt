@@ -1,6 +1,6 @@
 //! Scripts of what is done with owners of a cell's versions, by a table.
 use crate::counted::{Counted, Rising};
-use crate::named::Teller;
+use crate::named::CellWriter;
 use snapshot_cell::{NamedReader, NamedStrong, NamedWeak, Naming};
 use std::alloc::Global;
 
@@ -45,7 +45,7 @@ pub(crate) type Rounds = (u64, &'static [Row]);
 /// One who plays rows.
 #[derive(Drop)]
 pub(crate) struct Player<'a, N: Naming> {
-    teller: Teller<'a, N>,
+    writer: CellWriter<'a, N>,
     reader: NamedReader<Counted, N>,
     owners: Vec<Option<NamedStrong<'a, Counted, Rising, N>>>,
     weaks: Vec<Option<NamedWeak<'a, Counted, Rising, N>>>,
@@ -57,12 +57,12 @@ impl<'a, N: Naming> Player<'a, N> {
     /// One who has no owner. The numbers of the rows are counted from the last version on.
     pub(crate) fn new(
         alloc: Global,
-        teller: Teller<'a, N>,
+        writer: CellWriter<'a, N>,
         reader: NamedReader<Counted, N>,
     ) -> Player<'a, N> {
         Player {
-            first: teller.publisher.last(),
-            teller,
+            first: writer.publisher.last_number(),
+            writer,
             reader,
             owners: Vec::new(alloc),
             weaks: Vec::new(alloc),
@@ -71,8 +71,8 @@ impl<'a, N: Naming> Player<'a, N> {
     }
 
     /// Who publishes and the reader, when all owners are let go.
-    pub(crate) fn end(self) -> (Teller<'a, N>, NamedReader<Counted, N>) {
-        (self.teller, self.reader)
+    pub(crate) fn end(self) -> (CellWriter<'a, N>, NamedReader<Counted, N>) {
+        (self.writer, self.reader)
     }
 
     /// Keeps an owner: its number, where its value has it.
@@ -91,14 +91,14 @@ impl<'a, N: Naming> Player<'a, N> {
     }
 
     fn load(&mut self) -> Option<u64> {
-        let owner = self.teller.cell.load(&mut self.reader).ok()?;
+        let owner = self.writer.cell.load(&mut self.reader).ok()?;
         self.keep(owner)
     }
 
     fn newest_with_weak(&mut self) -> Option<u64> {
-        let teller = &mut self.teller;
-        let cell = teller.cell;
-        let both = cell.newest_with_weak(&mut teller.publisher, &mut self.reader);
+        let writer = &mut self.writer;
+        let cell = writer.cell;
+        let both = cell.newest_with_weak(&mut writer.publisher, &mut self.reader);
         let (owner, weak) = both.ok()?;
         if self.keep_weak(weak) != Some(owner.number()) {
             return None;
@@ -107,14 +107,14 @@ impl<'a, N: Naming> Player<'a, N> {
     }
 
     fn meet(&mut self) -> Option<u64> {
-        let teller = &mut self.teller;
-        let cell = teller.cell;
-        cell.meet(&mut teller.publisher, &mut self.reader);
-        Some(teller.publisher.last())
+        let writer = &mut self.writer;
+        let cell = writer.cell;
+        cell.meet(&mut writer.publisher, &mut self.reader);
+        Some(writer.publisher.last_number())
     }
 
     fn publish(&mut self) -> Option<u64> {
-        let old = self.teller.publish()?;
+        let old = self.writer.publish()?;
         self.keep(old)
     }
 
@@ -132,7 +132,7 @@ impl<'a, N: Naming> Player<'a, N> {
 
     fn weaken(&mut self, at: usize) -> Option<u64> {
         let owner = self.owners.get_mut(at)?.as_mut()?;
-        let weak = self.teller.downgrade(owner)?;
+        let weak = self.writer.downgrade(owner)?;
         self.keep_weak(weak)
     }
 
@@ -170,21 +170,21 @@ impl<'a, N: Naming> Player<'a, N> {
             Act::Release => self.release(at),
             Act::Fade => self.fade(at),
             Act::Grants => Some(self.reader.left()),
-            Act::Notes => Some(self.teller.publisher.left()),
+            Act::Notes => Some(self.writer.publisher.left()),
         }
     }
 
     /// Whether an act goes as a row says.
     fn is_played(&mut self, round: u64, row: Row) -> bool {
-        let (act, at, told, drops) = row;
-        let due = match told {
-            Some(SPENT) | None => told,
+        let (act, at, outcome, drops) = row;
+        let due = match outcome {
+            Some(SPENT) | None => outcome,
             Some(number) => Some(number.wrapping_add(self.first).wrapping_add(round)),
         };
-        let before = self.teller.tally.drops();
+        let before = self.writer.tally.drops();
         let given = self.act(act, at.wrapping_add(round as usize));
         self.acts = self.acts.wrapping_add(1);
-        given == due && self.teller.tally.drops().wrapping_sub(before) == drops
+        given == due && self.writer.tally.drops().wrapping_sub(before) == drops
     }
 
     /// Whether all rows are played so often.

@@ -2,7 +2,7 @@
 ghost use Rattle.std.specs.Prelude.{◌≡◌, ◌≤◌};
 ghost use Rattle.std.specs.List.{All};
 
-use crate::histories::{Any, Due, Step, Teller, begun};
+use crate::histories::{Any, Due, HistoryWriter, Step, cell_parts};
 use snapshot_cell::{NamedCell, NamedPublisher, NamedReader, Naming, Parts};
 use std::alloc::Global;
 use std::marker::Brand;
@@ -32,9 +32,9 @@ fn play_in<R: Abort, N: Naming>(rt: &R, alloc: Global, parts: Parts<u64, Any>, p
     let asks = NamedReader::of(readers.pop().expect(rt, "a reader"));
     let cell: NamedCell<u64, Any, N> = NamedCell::of(cell);
     let publisher = NamedPublisher::of(publisher);
-    let mut teller = Teller::new(alloc, &cell, publisher, loads, asks, play.size);
-    assert_eq!(rt; teller.first_wrong(play.steps), None);
-    let (publisher, readers) = teller.end(rt, alloc);
+    let mut writer = HistoryWriter::new(alloc, &cell, publisher, loads, asks, play.size);
+    assert_eq!(rt; writer.first_wrong(play.steps), None);
+    let (publisher, readers) = writer.end(rt, alloc);
     match cell.close(publisher, readers) {
         Ok(value) => assert_eq!(rt; value, play.last),
         Err(_) => panic!(rt; "an owner is out"),
@@ -44,7 +44,7 @@ fn play_in<R: Abort, N: Naming>(rt: &R, alloc: Global, parts: Parts<u64, Any>, p
 /// Plays steps in a cell of its own.
 fn played<R: Abort>(rt: &R, alloc: Global, play: Play) {
     assert!(rt; play.size <= 16);
-    let parts = begun(rt, alloc, play.grants);
+    let parts = cell_parts(rt, alloc, play.grants);
     play_in::<R, Brand>(rt, alloc, parts, play);
 }
 

@@ -1,7 +1,7 @@
 //! Those who are at one cell, on threads of their own for a while.
 use crate::counted::{Counted, Rising, Tally};
 use crate::jobs::{Back, Copier, Job, Raiser, run_all};
-use crate::named::Teller;
+use crate::named::CellWriter;
 use rtrb::RingBuffer;
 use snapshot_cell::{NamedReader, NamedStrong, NamedWeak, Naming};
 use std::alloc::Global;
@@ -28,7 +28,7 @@ pub(crate) struct Crew {
 /// A cell's publisher and its readers.
 #[derive(Drop)]
 pub(crate) struct Players<'a, N: Naming> {
-    pub(crate) teller: Teller<'a, N>,
+    pub(crate) writer: CellWriter<'a, N>,
     pub(crate) readers: Vec<NamedReader<Counted, N>>,
 }
 
@@ -41,14 +41,14 @@ pub(crate) fn shared<R: Abort>(rt: &R, tally: &Arc<Tally>) -> Arc<Tally> {
 fn job_of<'a, R: Abort, N: Naming>(
     rt: &R,
     alloc: Global,
-    teller: &mut Teller<'a, N>,
+    writer: &mut CellWriter<'a, N>,
     crew: Crew,
     reader: NamedReader<Counted, N>,
 ) -> Job<'a, N> {
-    let tally = shared(rt, &teller.tally);
-    if teller.rings.len() == crew.raisers {
+    let tally = shared(rt, &writer.tally);
+    if writer.rings.len() == crew.raisers {
         let copier = Copier {
-            cell: teller.cell,
+            cell: writer.cell,
             reader,
             tally,
             last: 0,
@@ -58,7 +58,7 @@ fn job_of<'a, R: Abort, N: Naming>(
     let (producer, ring) = RingBuffer::<NamedWeak<'a, Counted, Rising, N>>::new(alloc, ROOM)
         .ok()
         .expect(rt, "memory");
-    teller.rings.push(producer).ok().expect(rt, "memory");
+    writer.rings.push(producer).ok().expect(rt, "memory");
     let raiser = Raiser {
         reader,
         ring,
@@ -72,13 +72,13 @@ impl<'a, N: Naming> Players<'a, N> {
     fn last_owner<R: Abort>(&mut self, rt: &R) -> NamedStrong<'a, Counted, Rising, N> {
         let mut reader = self.readers.pop().expect(rt, "a reader");
         let owner = self
-            .teller
+            .writer
             .cell
             .load(&mut reader)
             .ok()
             .expect(rt, "an owner");
         self.readers.push(reader).ok().expect(rt, "memory");
-        let old = self.teller.publish().expect(rt, "a slot");
+        let old = self.writer.publish().expect(rt, "a slot");
         assert!(rt; old.release().buried() == None);
         owner
     }
@@ -87,18 +87,18 @@ impl<'a, N: Naming> Players<'a, N> {
     fn jobs<R: Abort>(mut self, rt: &R, alloc: Global, crew: Crew) -> Vec<Job<'a, N>> {
         let mut jobs = Vec::new(alloc);
         if crew.releases {
-            let job = Job::Release(self.last_owner(rt), shared(rt, &self.teller.tally));
+            let job = Job::Release(self.last_owner(rt), shared(rt, &self.writer.tally));
             jobs.push(job).ok().expect(rt, "memory");
         }
         let Players {
-            mut teller,
+            mut writer,
             readers,
         } = self;
         for reader in readers {
-            let job = job_of(rt, alloc, &mut teller, crew, reader);
+            let job = job_of(rt, alloc, &mut writer, crew, reader);
             jobs.push(job).ok().expect(rt, "memory");
         }
-        let job = Job::Publish(teller, crew.values);
+        let job = Job::Publish(writer, crew.values);
         jobs.push(job).ok().expect(rt, "memory");
         jobs
     }
@@ -111,16 +111,16 @@ fn gather<'a, R: Abort, N: Naming>(
     all: Vec<Option<Back<'a, N>>>,
 ) -> Players<'a, N> {
     let mut readers = Vec::new(alloc);
-    let mut told = None;
+    let mut last = None;
     for back in all {
         match back.expect(rt, "each played as it should") {
-            Back::Told(teller) => told = Some(teller),
+            Back::Writer(writer) => last = Some(writer),
             Back::Read(reader) => readers.push(reader).ok().expect(rt, "memory"),
             Back::Released => {}
         }
     }
     Players {
-        teller: told.expect(rt, "a publisher"),
+        writer: last.expect(rt, "a publisher"),
         readers,
     }
 }
@@ -136,7 +136,7 @@ pub(crate) fn play<'a, R: Abort + Threads + Sync, N: Naming + Send + Sync>(
     let ran = run_all(rt, players.jobs(rt, alloc, crew));
     let players = gather(rt, alloc, ran);
     let below = crew.values as usize;
-    let tally = &players.teller.tally;
+    let tally = &players.writer.tally;
     assert!(rt; tally.were_dropped_once(below) && tally.were_buried_once(below));
     players
 }

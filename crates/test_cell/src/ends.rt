@@ -1,6 +1,6 @@
 //! How a cell begins, and its end, also of one that is still in use: then all come back, and go on.
-use crate::begun::{Begun, Leak, Terms, new_cell};
 use crate::counted::Tally;
+use crate::counted_cell::{CountedCell, Leak, Terms, new_cell};
 use crate::crew::shared;
 use snapshot_cell::NewFault;
 use std::alloc::Global;
@@ -18,7 +18,7 @@ const TWO: Terms = Terms {
 #[test]
 fn first_value_comes_back(rt: HostRuntime) {
     for readers in [0, 2, 3, 64] {
-        Begun::of(&rt, rt.alloc(), Terms { readers, ..TWO }).ends(&rt);
+        CountedCell::of(&rt, rt.alloc(), Terms { readers, ..TWO }).ends(&rt);
     }
 }
 
@@ -26,45 +26,45 @@ fn first_value_comes_back(rt: HostRuntime) {
 // is loaded and published, and the value published last comes back.
 #[test]
 fn last_value_comes_back_refused_growth(rt: HostRuntime) {
-    let mut begun = Begun::of(&rt, rt.alloc(), TWO);
-    begun.load(&rt, rt.alloc(), Leak::Nothing);
-    begun.publish(&rt);
-    begun.load(&rt, rt.alloc(), Leak::Nothing);
+    let mut counted_cell = CountedCell::of(&rt, rt.alloc(), TWO);
+    counted_cell.load(&rt, rt.alloc(), Leak::Nothing);
+    counted_cell.publish(&rt);
+    counted_cell.load(&rt, rt.alloc(), Leak::Nothing);
     for _ in 0..5 {
-        begun.publish(&rt);
+        counted_cell.publish(&rt);
     }
-    begun.load(&rt, rt.alloc(), Leak::Nothing);
-    begun.ends(&rt);
+    counted_cell.load(&rt, rt.alloc(), Leak::Nothing);
+    counted_cell.ends(&rt);
 }
 
 // With a reader or two missing the cell goes on, also by the readers that were given back; with none missing it is ended.
 #[test]
 fn readers_are_missing(rt: HostRuntime) {
-    let mut begun = Begun::of(&rt, rt.alloc(), TWO);
-    begun.keep_back(&rt);
-    begun = begun.goes_on(&rt);
-    begun.load(&rt, rt.alloc(), Leak::Nothing);
-    begun.keep_back(&rt);
-    begun = begun.goes_on(&rt);
-    begun.give_back(&rt);
-    begun = begun.goes_on(&rt);
-    begun.load(&rt, rt.alloc(), Leak::Nothing);
-    begun.give_back(&rt);
-    begun.load(&rt, rt.alloc(), Leak::Nothing);
-    begun.ends(&rt);
+    let mut counted_cell = CountedCell::of(&rt, rt.alloc(), TWO);
+    counted_cell.keep_back(&rt);
+    counted_cell = counted_cell.goes_on(&rt);
+    counted_cell.load(&rt, rt.alloc(), Leak::Nothing);
+    counted_cell.keep_back(&rt);
+    counted_cell = counted_cell.goes_on(&rt);
+    counted_cell.give_back(&rt);
+    counted_cell = counted_cell.goes_on(&rt);
+    counted_cell.load(&rt, rt.alloc(), Leak::Nothing);
+    counted_cell.give_back(&rt);
+    counted_cell.load(&rt, rt.alloc(), Leak::Nothing);
+    counted_cell.ends(&rt);
 }
 
 /// While a version has an owner that is never let go, a weak one or not, the last version or one before it, the cell goes on with all readers, and
 /// so many values are dropped when two are published after it. An owner borrows its cell, so only one that is never let go is there then, and such
 /// a cell can't be ended: the test ends by a panic that says so.
 fn go_on_beside<R: Abort>(rt: &R, alloc: Global, leak: Leak, drops: u64) {
-    let mut begun = Begun::of(rt, alloc, TWO);
-    begun.load(rt, alloc, leak);
-    begun = begun.goes_on(rt);
-    begun.load(rt, alloc, Leak::Nothing);
-    begun = begun.goes_on(rt);
-    begun.load(rt, alloc, Leak::Nothing);
-    assert_eq!(rt; begun.tally.drops(), drops);
+    let mut counted_cell = CountedCell::of(rt, alloc, TWO);
+    counted_cell.load(rt, alloc, leak);
+    counted_cell = counted_cell.goes_on(rt);
+    counted_cell.load(rt, alloc, Leak::Nothing);
+    counted_cell = counted_cell.goes_on(rt);
+    counted_cell.load(rt, alloc, Leak::Nothing);
+    assert_eq!(rt; counted_cell.tally.drops(), drops);
     panic!(rt; "an owner is out")
 }
 
@@ -102,9 +102,9 @@ fn too_many_readers_refused_growth(rt: HostRuntime) {
 
 /// The grants that a reader has of a cell whose readers are to have so many.
 fn grants_of<R: Abort>(rt: &R, alloc: Global, grants: Option<u64>) -> u64 {
-    let begun = Begun::of(rt, alloc, Terms { grants, ..TWO });
-    let left = begun.readers.first().expect(rt, "a reader").left();
-    begun.ends(rt);
+    let counted_cell = CountedCell::of(rt, alloc, Terms { grants, ..TWO });
+    let left = counted_cell.readers.first().expect(rt, "a reader").left();
+    counted_cell.ends(rt);
     left
 }
 

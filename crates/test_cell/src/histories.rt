@@ -25,7 +25,7 @@ impl Names<u64> for Any {
 }
 
 /// A cell that begins with 0, with one reader to load and one to ask, which have so many grants each.
-pub(crate) fn begun<R: Abort>(rt: &R, alloc: Global, grants: u64) -> Parts<u64, Any>
+pub(crate) fn cell_parts<R: Abort>(rt: &R, alloc: Global, grants: u64) -> Parts<u64, Any>
     ensures publisher { result.publisher.cell ≡ result.cell }
     ensures readers { All (λ r. r.cell ≡ result.cell) result.readers.items }
 {
@@ -67,7 +67,7 @@ pub(crate) enum Step {
 
 /// Who publishes in a cell, tells a history, and asks it.
 #[derive(Drop)]
-pub(crate) struct Teller<'a, N: Naming> {
+pub(crate) struct HistoryWriter<'a, N: Naming> {
     cell: &'a NamedCell<u64, Any, N>,
     publisher: NamedPublisher<u64, Any, N>,
     loads: NamedReader<u64, N>,
@@ -88,8 +88,8 @@ fn are_of<N: Naming>(mut owners: Owners<'_, u64, Any, N>, values: &[u64]) -> boo
 }
 
 /// Whether what is told is what is due.
-fn is_due<N: Naming>(told: Chain<'_, u64, Any, N>, due: Due) -> bool {
-    match (told, due) {
+fn is_due<N: Naming>(outcome: Chain<'_, u64, Any, N>, due: Due) -> bool {
+    match (outcome, due) {
         (Chain::Whole(owners), Due::Whole(values)) => {
             owners.len() == values.len() && are_of(owners, values)
         }
@@ -99,7 +99,7 @@ fn is_due<N: Naming>(told: Chain<'_, u64, Any, N>, due: Due) -> bool {
     }
 }
 
-impl<'a, N: Naming> Teller<'a, N> {
+impl<'a, N: Naming> HistoryWriter<'a, N> {
     /// Who tells a history of so many entries at most, with a reader to load and one to ask.
     pub(crate) fn new(
         alloc: Global,
@@ -108,10 +108,10 @@ impl<'a, N: Naming> Teller<'a, N> {
         loads: NamedReader<u64, N>,
         asks: NamedReader<u64, N>,
         size: usize,
-    ) -> Teller<'a, N>
+    ) -> HistoryWriter<'a, N>
         requires { size ≤ 16 }
     {
-        Teller {
+        HistoryWriter {
             cell,
             publisher,
             loads,
@@ -123,7 +123,7 @@ impl<'a, N: Naming> Teller<'a, N> {
 
     /// Whether a number is published.
     fn publish(&mut self, value: u64) -> bool {
-        if self.publisher.last() == u64::MAX {
+        if self.publisher.last_number() == u64::MAX {
             return false;
         }
         self.cell.publish(&mut self.publisher, value).is_ok()

@@ -1,6 +1,6 @@
 //! What threads do with one cell, each of them a job.
 use crate::counted::{Counted, Rising, Tally};
-use crate::named::{TURNS, Teller};
+use crate::named::{CellWriter, TURNS};
 use rtrb::Consumer;
 use snapshot_cell::{NamedCell, NamedReader, NamedStrong, NamedWeak, Naming};
 use std::process::Abort;
@@ -29,7 +29,7 @@ pub(crate) struct Copier<'a, N: Naming> {
 #[derive(Drop)]
 pub(crate) enum Job<'a, N: Naming> {
     /// Publishes all values up to this one, and hands weak owners out.
-    Publish(Teller<'a, N>, u64),
+    Publish(CellWriter<'a, N>, u64),
     /// Raises so many weak owners.
     Raise(Raiser<'a, N>, u64),
     /// Loads and clones so often.
@@ -42,7 +42,7 @@ pub(crate) enum Job<'a, N: Naming> {
 #[derive(Drop)]
 pub(crate) enum Back<'a, N: Naming> {
     /// The publisher.
-    Told(Teller<'a, N>),
+    Writer(CellWriter<'a, N>),
     /// A reader.
     Read(NamedReader<Counted, N>),
     /// Nothing.
@@ -127,10 +127,10 @@ impl<'a, N: Naming> Job<'a, N> {
     /// What is given back, where all went as it should, and while the drop slept that is to sleep.
     fn run(self) -> Option<Back<'a, N>> {
         match self {
-            Job::Publish(mut teller, up_to) => {
-                teller.tally.wait();
-                let is_right = teller.run(up_to);
-                (teller.tally.call() && is_right).then_some(Back::Told(teller))
+            Job::Publish(mut writer, up_to) => {
+                writer.tally.wait();
+                let is_right = writer.run(up_to);
+                (writer.tally.call() && is_right).then_some(Back::Writer(writer))
             }
             Job::Raise(raiser, weaks) => raiser.finish(weaks),
             Job::Copy(mut copier, rounds) => {

@@ -8,11 +8,11 @@
 #[cfg(test)]
 mod acts;
 #[cfg(test)]
-mod begun;
-#[cfg(test)]
 mod chains;
 #[cfg(test)]
 mod counted;
+#[cfg(test)]
+mod counted_cell;
 #[cfg(test)]
 mod crew;
 #[cfg(test)]

@@ -2,8 +2,8 @@
 ghost use Rattle.std.specs.Prelude.{◌≡◌};
 ghost use Rattle.std.specs.List.{All};
 
-use crate::begun::{Begun, MOST, end_of};
 use crate::counted::{Counted, Rising, Tally};
+use crate::counted_cell::{CountedCell, MOST, end_of};
 use rtrb::{Producer, PushError};
 use snapshot_cell::{
     NamedCell, NamedPublisher, NamedReader, NamedStillOut, NamedStrong, NamedWeak, Naming, Reader,
@@ -22,7 +22,7 @@ pub(crate) struct Named<N: Naming> {
     pub(crate) publisher: NamedPublisher<Counted, Rising, N>,
     pub(crate) readers: Vec<NamedReader<Counted, N>>,
     pub(crate) tally: Arc<Tally>,
-    ghost told: { publisher.value.number ≡ publisher.number },
+    ghost numbered: { publisher.value.number ≡ publisher.number },
 }
 
 /// Readers of the cell of this name.
@@ -45,16 +45,16 @@ fn readers_named<R: Abort, N: Naming>(
 
 impl<N: Naming> Named<N> {
     /// The cell of this name.
-    pub(crate) fn of<R: Abort>(rt: &R, alloc: Global, begun: Begun) -> Named<N>
-        requires { begun.cell ≡ N.cell }
+    pub(crate) fn of<R: Abort>(rt: &R, alloc: Global, counted_cell: CountedCell) -> Named<N>
+        requires { counted_cell.cell ≡ N.cell }
     {
-        let Begun {
+        let CountedCell {
             cell,
             publisher,
             readers,
             missing: _,
             tally,
-        } = begun;
+        } = counted_cell;
         Named {
             cell: NamedCell::of(cell),
             publisher: NamedPublisher::of(publisher),
@@ -120,27 +120,27 @@ pub(crate) fn end<R: Abort, N: Naming>(
     readers: Vec<NamedReader<Counted, N>>,
     tally: &Tally,
 ) {
-    let last = publisher.last();
+    let last = publisher.last_number();
     match cell.close(publisher, readers) {
         Ok(value) => end_of(rt, value, last, tally),
         Err(_) => panic!(rt; "the cell is in use"),
     }
 }
 
-/// A publisher at its cell, with a ring to each of those who are handed weak owners, and the value that is due when none was published for want of a
+/// A publisher at its cell, with a ring to each of those who get weak owners, and the value that is due when none was published for want of a
 /// slot.
 #[derive(Drop)]
-pub(crate) struct Teller<'a, N: Naming> {
+pub(crate) struct CellWriter<'a, N: Naming> {
     pub(crate) cell: &'a NamedCell<Counted, Rising, N>,
     pub(crate) publisher: NamedPublisher<Counted, Rising, N>,
     pub(crate) tally: Arc<Tally>,
     pub(crate) due: Option<Counted>,
     pub(crate) rings: Vec<Producer<NamedWeak<'a, Counted, Rising, N>>>,
-    ghost told: { publisher.value.number ≡ publisher.number },
+    ghost numbered: { publisher.value.number ≡ publisher.number },
 }
 
 /// Whether the weak owner goes into the ring, when there is room.
-fn hand_over<'a, N: Naming>(
+fn push_weak<'a, N: Naming>(
     ring: &mut Producer<NamedWeak<'a, Counted, Rising, N>>,
     weak: NamedWeak<'a, Counted, Rising, N>,
 ) -> bool {
@@ -155,17 +155,17 @@ fn hand_over<'a, N: Naming>(
     false
 }
 
-impl<'a, N: Naming> Teller<'a, N> {
-    /// A publisher that hands no weak owners over yet.
+impl<'a, N: Naming> CellWriter<'a, N> {
+    /// A publisher that sends no weak owners yet.
     pub(crate) fn new(
         alloc: Global,
         cell: &'a NamedCell<Counted, Rising, N>,
         publisher: NamedPublisher<Counted, Rising, N>,
         tally: Arc<Tally>,
-    ) -> Teller<'a, N>
+    ) -> CellWriter<'a, N>
         requires { publisher.value.number ≡ publisher.number }
     {
-        Teller {
+        CellWriter {
             cell,
             publisher,
             tally,
@@ -181,7 +181,7 @@ impl<'a, N: Naming> Teller<'a, N> {
 
     /// One publication, of the value that is due: the old version's owner. None where there was no slot.
     pub(crate) fn publish(&mut self) -> Option<NamedStrong<'a, Counted, Rising, N>> {
-        let last = self.publisher.last();
+        let last = self.publisher.last_number();
         if last >= MOST {
             return None;
         }
@@ -213,13 +213,13 @@ impl<'a, N: Naming> Teller<'a, N> {
     }
 
     /// Whether a weak owner of an owner's version goes into the ring at this place.
-    fn hand_over_at(
+    fn push_weak_at(
         &mut self,
         place: usize,
         owner: &mut NamedStrong<'a, Counted, Rising, N>,
     ) -> bool {
         match (self.downgrade(owner), self.rings.get_mut(place)) {
-            (Some(weak), Some(ring)) => hand_over(ring, weak),
+            (Some(weak), Some(ring)) => push_weak(ring, weak),
             _ => false,
         }
     }
@@ -227,7 +227,7 @@ impl<'a, N: Naming> Teller<'a, N> {
     /// Whether a weak owner of an owner's version goes into each ring. Then the owner is let go.
     fn share(&mut self, mut owner: NamedStrong<'a, Counted, Rising, N>) -> bool {
         for place in 0..self.rings.len() {
-            if !self.hand_over_at(place, &mut owner) {
+            if !self.push_weak_at(place, &mut owner) {
                 return false;
             }
         }
@@ -239,7 +239,7 @@ impl<'a, N: Naming> Teller<'a, N> {
     /// goes on with the same value.
     pub(crate) fn run(&mut self, up_to: u64) -> bool {
         for _ in 0..TURNS {
-            if self.publisher.last() >= up_to {
+            if self.publisher.last_number() >= up_to {
                 return true;
             }
             match self.publish() {

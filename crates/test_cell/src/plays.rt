@@ -2,9 +2,9 @@
 ghost use Rattle.std.specs.Prelude.{◌≡◌};
 
 use crate::acts::{Act, Player, Rounds, SPENT};
-use crate::begun::{Begun, Terms};
+use crate::counted_cell::{CountedCell, Terms};
 use crate::crew::{Crew, Players, play, shared};
-use crate::named::{Named, Teller, end};
+use crate::named::{CellWriter, Named, end};
 use snapshot_cell::Naming;
 use std::alloc::Global;
 use std::marker::Brand;
@@ -28,17 +28,17 @@ fn play_on<'a, R: Abort + Threads + Sync, N: Naming + Send + Sync>(
     what: Play,
 ) -> Players<'a, N> {
     let Players {
-        teller,
+        writer,
         mut readers,
     } = match what.crew {
         Some(crew) => play(rt, alloc, players, crew),
         None => players,
     };
-    let mut player = Player::new(alloc, teller, readers.pop().expect(rt, "a reader"));
+    let mut player = Player::new(alloc, writer, readers.pop().expect(rt, "a reader"));
     assert_eq!(rt; player.first_wrong(what.script), None);
-    let (teller, reader) = player.end();
+    let (writer, reader) = player.end();
     readers.push(reader).ok().expect(rt, "memory");
-    Players { teller, readers }
+    Players { writer, readers }
 }
 
 /// Plays in a cell, whose end is refused first, since a reader is missing or an owner is out. It is ended then; while an owner is out it can't be, and
@@ -46,20 +46,20 @@ fn play_on<'a, R: Abort + Threads + Sync, N: Naming + Send + Sync>(
 fn play_in<R: Abort + Threads + Sync, N: Naming + Send + Sync>(
     rt: &R,
     alloc: Global,
-    begun: Begun,
+    counted_cell: CountedCell,
     what: Play,
 )
-    requires { begun.cell ≡ N.cell }
+    requires { counted_cell.cell ≡ N.cell }
 {
     let Named {
         cell,
         publisher,
         readers,
         tally,
-    } = Named::<N>::of(rt, alloc, begun).in_use(rt, alloc, what.leaks);
-    let teller = Teller::new(alloc, &cell, publisher, shared(rt, &tally));
-    let Players { teller, readers } = play_on(rt, alloc, Players { teller, readers }, what);
-    let publisher = teller.into_publisher();
+    } = Named::<N>::of(rt, alloc, counted_cell).in_use(rt, alloc, what.leaks);
+    let writer = CellWriter::new(alloc, &cell, publisher, shared(rt, &tally));
+    let Players { writer, readers } = play_on(rt, alloc, Players { writer, readers }, what);
+    let publisher = writer.into_publisher();
     if what.leaks {
         panic!(rt; "an owner is out");
     }
@@ -68,8 +68,8 @@ fn play_in<R: Abort + Threads + Sync, N: Naming + Send + Sync>(
 
 /// Plays in a cell of its own.
 fn played<R: Abort + Threads + Sync>(rt: &R, alloc: Global, what: Play) {
-    let begun = Begun::of(rt, alloc, what.terms);
-    play_in::<R, Brand>(rt, alloc, begun, what);
+    let counted_cell = CountedCell::of(rt, alloc, what.terms);
+    play_in::<R, Brand>(rt, alloc, counted_cell, what);
 }
 
 /// A cell of two readers, of few versions, and nothing that is done with it.

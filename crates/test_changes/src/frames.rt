@@ -1,10 +1,10 @@
 //! Frames over TCP (RFC 1035, 4.2.2).
 use dns_message::{put_frame, take_frame};
 
-/// A message, and the octets behind its frame.
+/// A message, and the octets after its frame.
 type Taken = (&'static [u8], &'static [u8]);
 
-/// Octets, the message of their first frame, and the octets behind it (RFC 1035, 4.2.2).
+/// Octets, the message of their first frame, and the octets after it (RFC 1035, 4.2.2).
 const FRAMES: [(&[u8], Option<Taken>); 8] = [
     (b"", None),
     (b"\x00", None),
@@ -48,7 +48,7 @@ fn wrongly_put() -> Option<(&'static [u8], usize)> {
     None
 }
 
-/// Whether 65,536 octets of 7 are refused as a message, and taken without the first, and what is behind the frame stays.
+/// Whether 65,536 octets of 7 are refused as a message, and taken without the first, and what is after the frame stays.
 fn longest_alone_fits(message: &[u8], out: &mut [u8]) -> bool {
     if put_frame(message, out).is_some() || !out.starts_with(b"\0\0\0") {
         return false;

@@ -39,12 +39,12 @@ const NOT_PERMITTED: [(&[RawRow], &[RawRow], u8); 4] = [
 fn codes(alloc: Global, version: &Version, asked: &Update) -> Option<(u8, u8)>
     requires { version.now.number + 1 < 2 ^ 64 }
 {
-    let Outcome::Refused(told) = apply(alloc, version, asked, false) else {
+    let Outcome::Refused(outcome) = apply(alloc, version, asked, false) else {
         return None;
     };
     match verdict(version.zone(), asked, false) {
         Ok(()) => None,
-        Err(code) => Some((told.number(), code.number())),
+        Err(code) => Some((outcome.number(), code.number())),
     }
 }
 
@@ -84,9 +84,9 @@ fn is_second(version: &Version) -> bool {
     let Some(delta) = version.delta() else {
         return false;
     };
-    let told = (version.number(), version.serial().0);
+    let outcome = (version.number(), version.serial().0);
     let changed = (delta.deletions().len(), delta.additions().len());
-    told == (1, 2) && changed == (1, 1) && has_one(version, "web", RType::A, 60, &[192, 0, 2, 3])
+    outcome == (1, 2) && changed == (1, 1) && has_one(version, "web", RType::A, 60, &[192, 0, 2, 3])
 }
 
 /// An address in place of another.

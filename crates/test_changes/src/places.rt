@@ -37,7 +37,7 @@ const SECOND: [RawRow; 2] = [
     ("c", RType::A, Class::IN, 3600, &[192, 0, 2, 8]),
 ];
 
-/// The version behind one.
+/// The version after one.
 fn next_of(alloc: Global, version: &Version, updates: &[RawRow]) -> Option<Version> {
     if version.number() > 9 {
         return None;
@@ -74,7 +74,7 @@ fn is_same(one: Option<LentRecord<'_>>, other: Option<LentRecord<'_>>) -> bool {
     }
 }
 
-/// Whether the list at a place is that at another behind so many records.
+/// Whether the list at a place is that at another after so many records.
 fn goes_on<C: ChainView>(zone: &Zone, chain: &C, place: &Place, start: &Place, sent: u16) -> bool {
     let mut whole = records_at(zone, chain, start);
     for _ in 0..sent {
@@ -101,7 +101,7 @@ fn count_at<C: ChainView>(zone: &Zone, chain: &C, place: &Place) -> u16 {
     count
 }
 
-/// Whether a list goes on from each of its places, told at once and told step by step, behind one record and behind three.
+/// Whether a list goes on from each of its places, told at once and told step by step, after one record and after three.
 fn goes_on_everywhere<C: ChainView>(zone: &Zone, chain: &C, start: &Place) -> bool {
     let mut by_one = start.behind(zone, chain, 0);
     let mut by_three = start.behind(zone, chain, 0);

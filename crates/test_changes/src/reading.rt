@@ -29,8 +29,11 @@ const UPDATES: [Row; 2] = [
 fn are(records: &RawRecords, rows: &[Row]) -> bool {
     let records = records.as_slice();
     for (record, (owner, fields, octets)) in records.iter().zip(rows) {
-        let told = (record.rtype.0, record.class.0, record.ttl);
-        if record.owner.wire() != *owner || told != *fields || record.octets.as_slice() != *octets {
+        let outcome = (record.rtype.0, record.class.0, record.ttl);
+        if record.owner.wire() != *owner
+            || outcome != *fields
+            || record.octets.as_slice() != *octets
+        {
             return false;
         }
     }

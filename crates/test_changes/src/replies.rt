@@ -37,7 +37,7 @@ fn referral(servers: &RRset, host: &RRset, out: &mut [u8]) -> usize
     write_reply(&reply, MIN_LIMIT, out)
 }
 
-/// That reply's octets: without a question the first name is at 12; the name of the NS data, at 28, is the owner behind it (RFC 1035,
+/// That reply's octets: without a question the first name is at 12; the name of the NS data, at 28, is the owner after it (RFC 1035,
 /// 4.1.4).
 const REFERRAL: &[u8] = b"\xfe\xdc\x90\x03\x00\x00\x00\x00\x00\x01\x00\x01\
     \x04test\x00\x00\x02\x00\x01\x00\x00\x0e\x10\x00\x05\x02ns\xc0\x0c\

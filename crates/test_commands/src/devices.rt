@@ -1,5 +1,5 @@
 //! Devices that fail.
-use crate::made::{Device, Kind, ZONE, tell, text_of};
+use crate::made::{Device, Kind, ZONE, run_over, text_of};
 use std::alloc::Global;
 
 /// A command, what stands after the zone, and what is written for it: a query and its reply, and the same in a script.
@@ -34,11 +34,11 @@ fn status_of(
         .get(..case.2.len().saturating_sub(missing))?;
     let output = Device::new(alloc, part.len(), flushes);
     let errors = Device::new(alloc, 1000, true);
-    let told = tell(alloc, case.0, text.as_str().as_bytes(), output, errors)?;
-    if told.written.as_slice() != part || told.errors.is_empty() != (told.status == 0) {
+    let result = run_over(alloc, case.0, text.as_str().as_bytes(), output, errors)?;
+    if result.written.as_slice() != part || result.errors.is_empty() != (result.status == 0) {
         return None;
     }
-    Some(told.status)
+    Some(result.status)
 }
 
 #[test]
@@ -54,20 +54,20 @@ fn devices(rt: HostRuntime) {
 const NOTHING: &[u8] = b"line 0: M11 Apex\nthe zone has no SOA, or no NS at the owner of its SOA\n";
 
 /// The status of a refusal where the device of errors has so much room; None where some of it is left.
-fn status_untold(alloc: Global, room: usize) -> Option<u8> {
+fn status_unreported(alloc: Global, room: usize) -> Option<u8> {
     let output = Device::new(alloc, 0, true);
     let errors = Device::new(alloc, room, true);
-    let told = tell(alloc, Kind::Steps, b"%\n", output, errors)?;
-    if Some(told.errors.as_slice()) != NOTHING.get(..room) {
+    let result = run_over(alloc, Kind::Steps, b"%\n", output, errors)?;
+    if Some(result.errors.as_slice()) != NOTHING.get(..room) {
         return None;
     }
-    Some(told.status)
+    Some(result.status)
 }
 
 // A refusal that can't be told is a device's fault.
 #[test]
-fn untold_refusal(rt: HostRuntime) {
+fn unreported_refusal(rt: HostRuntime) {
     for (room, want) in [(71, 1), (70, 3), (17, 3), (16, 3), (0, 3)] {
-        assert_eq!(rt; status_untold(rt.alloc(), room), Some(want));
+        assert_eq!(rt; status_unreported(rt.alloc(), room), Some(want));
     }
 }

@@ -111,7 +111,7 @@ pub(crate) struct CommandResult {
 }
 
 /// What a command of a kind over a text tells two devices; None where the test has no memory.
-pub(crate) fn tell(
+pub(crate) fn run_over(
     alloc: Global,
     kind: Kind,
     text: &[u8],

@@ -1,6 +1,6 @@
 //! Runs where memory is refused: with one request refused, whichever it is, the run says so, and the other of two is as ever;
 //! with two in a row refused, one of three.
-use crate::made::{CommandResult, Device, Kind, Parts, ZONE, tell, text_of};
+use crate::made::{CommandResult, Device, Kind, Parts, ZONE, run_over, text_of};
 use dns_name::Name;
 use master_file::{read_zone, write_zone};
 use std::alloc::Global;
@@ -34,17 +34,17 @@ const FAULTY: Case = Case {
 };
 
 /// Whether a run had no memory, said so, and wrote a part of what it writes at most, or all that it writes without an update.
-fn is_starved(told: &CommandResult, writes: &str, without: Option<&str>) -> bool {
-    let errors = told.errors.as_slice();
-    let says = told.status == 3
+fn is_starved(ended: &CommandResult, writes: &str, without: Option<&str>) -> bool {
+    let errors = ended.errors.as_slice();
+    let says = ended.status == 3
         || errors.starts_with(b"line 0: M14 NoMemory\n")
         || errors.starts_with(b"V1 NoMemory\n")
         || errors.starts_with(b"X4 NoMemory\n");
     if says {
-        return writes.as_bytes().starts_with(&told.written);
+        return writes.as_bytes().starts_with(&ended.written);
     }
     match without {
-        Some(text) => told.status == 0 && told.written.as_slice() == text.as_bytes(),
+        Some(text) => ended.status == 0 && ended.written.as_slice() == text.as_bytes(),
         None => false,
     }
 }
@@ -55,15 +55,15 @@ fn run(alloc: Global, case: &Case) -> Option<bool> {
     let writes = case.writes.unwrap_or(text.as_str());
     let output = Device::new(alloc, usize::MAX, true);
     let errors = Device::new(alloc, usize::MAX, true);
-    let told = tell(alloc, case.kind, text.as_str().as_bytes(), output, errors)?;
+    let result = run_over(alloc, case.kind, text.as_str().as_bytes(), output, errors)?;
     let is_refused = !case.says.is_empty();
-    if told.status == u8::from(is_refused)
-        && told.errors.as_slice().starts_with(case.says.as_bytes())
-        && told.written.as_slice() == writes.as_bytes()
+    if result.status == u8::from(is_refused)
+        && result.errors.as_slice().starts_with(case.says.as_bytes())
+        && result.written.as_slice() == writes.as_bytes()
     {
         return Some(true);
     }
-    if is_starved(&told, writes, case.without) {
+    if is_starved(&result, writes, case.without) {
         return None;
     }
     Some(false)

@@ -25,10 +25,10 @@ fn causes(alloc: Global) -> [Option<Cause>; 6] {
 
 #[test]
 fn words_of_no_text(rt: HostRuntime) {
-    let told = causes(rt.alloc());
+    let outcome = causes(rt.alloc());
     let bad = Some(Cause::BadData);
     let (count, unknown) = (Some(Cause::Number), Some(Cause::UnknownType));
-    assert!(rt; told == [bad, bad, bad, bad, count, unknown]);
+    assert!(rt; outcome == [bad, bad, bad, bad, count, unknown]);
     assert!(rt; !is_number(Word::Plain(b"")));
 }
 
@@ -67,9 +67,9 @@ fn words(alloc: Global) -> Result<String, AllocError> {
 
 #[test]
 fn words_of_faults(rt: HostRuntime) -> Result<(), AllocError> {
-    let told = words(rt.alloc())?;
+    let outcome = words(rt.alloc())?;
     assert_eq!(rt;
-        told.as_str(),
+        outcome.as_str(),
         "line 14: M14 NoMemory, V1 NoMemory, line 18446744073709551615: bad, true"
     );
     assert!(rt; [DONE, REFUSED, FAILED] == [0, 1, 3]);

@@ -43,7 +43,7 @@ fn words(alloc: Global) -> Result<String, AllocError> {
 
 #[test]
 fn words_of_faults(rt: HostRuntime) -> Result<(), AllocError> {
-    let told = words(rt.alloc())?;
-    assert_eq!(rt; told.as_str(), "A1 BadLength, A2 TooLong, A3 NoMemory");
+    let outcome = words(rt.alloc())?;
+    assert_eq!(rt; outcome.as_str(), "A1 BadLength, A2 TooLong, A3 NoMemory");
     Ok(())
 }

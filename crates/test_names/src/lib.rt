@@ -11,6 +11,6 @@ mod order;
 #[cfg(test)]
 mod parts;
 #[cfg(test)]
-mod sets;
+mod readings;
 #[cfg(test)]
-mod told;
+mod sets;

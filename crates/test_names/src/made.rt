@@ -27,6 +27,6 @@ pub(crate) fn read(alloc: Global, rtype: RType, octets: &[u8]) -> Result<RData, 
 {
     match RData::from_wire(alloc, rtype, octets) {
         Err(DataFault::NoMemory) => RData::from_wire(alloc, rtype, octets),
-        told => told,
+        outcome => outcome,
     }
 }

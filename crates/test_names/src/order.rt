@@ -44,7 +44,7 @@ fn is_ascending(alloc: Global, first: &[u8], second: &[u8]) -> Option<bool> {
     Some(orders == [Ordering::Less; 5] && kept != next && is_kept(&next, &after))
 }
 
-/// The first of the names that doesn't come after the one in front of it.
+/// The first of the names that doesn't come after the one before it.
 fn out_of_order(alloc: Global) -> Option<&'static [u8]> {
     let mut last = ASCENDING[0];
     for text in &ASCENDING[1..] {

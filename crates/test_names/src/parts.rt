@@ -9,11 +9,11 @@ fn has_parts(alloc: Global) -> Option<bool> {
     let own = name(b"www.example.");
     let parent = own.parent()?;
     let wild = parent.with_asterisk()?;
-    let told = format!(in alloc; "{} {parent:?} {wild:?}", own.labels().count()).ok()?;
-    Some(told.as_str() == "2 example. *.example.")
+    let outcome = format!(in alloc; "{} {parent:?} {wild:?}", own.labels().count()).ok()?;
+    Some(outcome.as_str() == "2 example. *.example.")
 }
 
-/// The numbers in front of `host1.example` and `host12.example` as of names below `example`: eight octets each, the highest first.
+/// The numbers before `host1.example` and `host12.example` as of names below `example`: eight octets each, the highest first.
 fn fronts(alloc: Global) -> Option<[u64; 2]> {
     let base = stored(alloc, &name(b"example"))?;
     let mut room = SoughtRoom::new();
@@ -38,7 +38,7 @@ fn lends(alloc: Global) -> Option<[bool; 4]> {
 #[test]
 fn parts_and_names_that_are_lent(rt: HostRuntime) {
     assert!(rt; has_parts(rt.alloc()) == Some(true));
-    // `host1`, its closing octet and two zeros behind the end; `host12`, its closing octet and one.
+    // `host1`, its closing octet and two zeros after the end; `host12`, its closing octet and one.
     assert_eq!(rt;
         fronts(rt.alloc()),
         Some([0x686f_7374_3100_0000, 0x686f_7374_3132_0000])

@@ -24,16 +24,16 @@ fn put(alloc: Global, set: &mut RRset, low: u8) -> Option<Result<bool, SetFault>
     Some(set.insert(data))
 }
 
-/// How many addresses a set of one has behind nine more, of which each is tried again where there was no memory, and the set was as
+/// How many addresses a set of one has after nine more, of which each is tried again where there was no memory, and the set was as
 /// before; None where one isn't taken.
 fn len_with_nine(alloc: Global) -> Option<usize> {
     let mut set = set_of(alloc, [10, 0, 0, 0])?;
     for low in 1..10u8 {
-        let mut told = put(alloc, &mut set, low);
-        if told == Some(Err(SetFault::NoMemory)) && set.data().len() == usize::from(low) {
-            told = put(alloc, &mut set, low);
+        let mut outcome = put(alloc, &mut set, low);
+        if outcome == Some(Err(SetFault::NoMemory)) && set.data().len() == usize::from(low) {
+            outcome = put(alloc, &mut set, low);
         }
-        if told != Some(Ok(true)) {
+        if outcome != Some(Ok(true)) {
             return None;
         }
     }

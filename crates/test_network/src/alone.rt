@@ -44,8 +44,8 @@ fn listeners_of_both_families_have_one_port(rt: HostRuntime) -> Result<(), Fail>
 /// The flags with which a descriptor of this process is open, as the system tells them (proc(5)).
 fn flags_of(rt: &HostRuntime, number: RawFd) -> Result<u32, Fail> {
     let path = format!(in rt.alloc(); "/proc/self/fdinfo/{number}")?;
-    let told = fs::read_to_string(rt, path.as_str())?;
-    let mut words = told.split_ascii_whitespace();
+    let outcome = fs::read_to_string(rt, path.as_str())?;
+    let mut words = outcome.split_ascii_whitespace();
     let _ = words.find(|word| *word == "flags:");
     let flags = words.next().ok_or("no flags are told")?;
     Ok(u32::from_str_radix(flags, 8)?)

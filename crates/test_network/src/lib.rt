@@ -9,11 +9,15 @@ mod alone;
 #[cfg(test)]
 mod echo;
 #[cfg(test)]
+mod event_loop;
+#[cfg(test)]
 mod linked;
 #[cfg(test)]
 mod made;
 #[cfg(test)]
 mod memory;
+#[cfg(test)]
+mod notify_timing;
 #[cfg(test)]
 mod octets;
 #[cfg(test)]
@@ -34,7 +38,3 @@ mod running;
 mod shared;
 #[cfg(test)]
 mod streams;
-#[cfg(test)]
-mod turning;
-#[cfg(test)]
-mod turns;

@@ -1,7 +1,7 @@
 //! Connections that are served under their keys, at times that the test gives.
 
 use crate::echo::{Both, Echo};
-use crate::pieces::{After, Pieces, Tape, address, room_of, written};
+use crate::pieces::{After, Output, Pieces, address, room_of, written};
 use crate::running::SECOND;
 use serve_core::{Peer, Transport};
 use slab::Slab;
@@ -17,7 +17,7 @@ pub(crate) struct Served {
     alloc: Global,
     pub(crate) links: Slab<Connection<Pieces, Both>>,
     /// What is written on each of the connections that were added, in their order.
-    pub(crate) tapes: Vec<Tape>,
+    pub(crate) outputs: Vec<Output>,
     pub(crate) ends: Ends,
     echo: Echo,
     /// The keys of connections that could continue after the last share.
@@ -32,7 +32,7 @@ impl Served {
         Ok(Served {
             alloc,
             links: Slab::new(alloc),
-            tapes: Vec::new(alloc),
+            outputs: Vec::new(alloc),
             ends: Ends::default(),
             echo: Echo::new(u32::MAX),
             next: Vec::new(alloc),
@@ -55,7 +55,7 @@ impl Served {
         now: u64,
     ) -> Result<(), AllocError> {
         let peer = Peer::over(Transport::Tcp, may);
-        self.tapes.push(Rc::clone(&stream.tape)?)?;
+        self.outputs.push(Rc::clone(&stream.output)?)?;
         let _key = self.links.insert(Connection::new(
             stream,
             self.alloc,
@@ -363,7 +363,7 @@ fn each_connection_has_the_rights_of_its_peer(rt: HostRuntime) -> Result<(), Fai
     assert_eq!(rt; [ends.clean, ends.device, ends.total()], [1, 1, 2]);
     // The replies under keys 0, 1 and 4.
     let replies = [0, 1, 1, 0, 1, 1, 0, 1, 0, 0, 1, 0, 0, 1, 1, 0, 1, 1];
-    let gone = written(rt.alloc(), &served.tapes)?;
+    let gone = written(rt.alloc(), &served.outputs)?;
     assert_eq!(rt; gone.as_slice(), replies.as_slice());
     Ok(())
 }

@@ -7,7 +7,7 @@ use zone_tree::{Version, Zone};
 /// The names of a zone: its apex, its server and its mailbox.
 pub(crate) const NAMES: [&str; 3] = ["example.test.", "ns1.example.test.", "admin.example.test."];
 
-/// The data of an SOA behind its serial: refresh, retry, expire and minimum (RFC 1035, 3.3.13).
+/// The data of an SOA after its serial: refresh, retry, expire and minimum (RFC 1035, 3.3.13).
 const TIMES: [u8; 16] = [
     0, 0, 0x1c, 0x20, 0, 0, 3, 0x84, 0, 0x12, 0x75, 0, 0, 0, 1, 0x2c,
 ];

@@ -75,7 +75,7 @@ fn are_served<R: Wait>(rt: &R, alloc: Global) -> Result<bool, AllocError> {
     }
     let open = served.links.len();
     let ends = served.ends;
-    let gone = written(alloc, &served.tapes)?;
+    let gone = written(alloc, &served.outputs)?;
     let is_written = gone == repeated(alloc, &replies(alloc)?, open)?;
     let is_counted = (open == 3 && ends.no_memory == 0) || (open == 2 && ends.no_memory == 1);
     Ok(is_written && is_counted && ends.total() == ends.no_memory)
@@ -104,11 +104,11 @@ fn are_turned_to<R: Wait>(rt: &R, alloc: Global) -> Result<bool, AllocError> {
     if worker.turn(rt, 100).is_err() {
         return Err(AllocError);
     }
-    let tapes = worker.tapes();
-    let open = open_of(tapes);
+    let outputs = worker.outputs();
+    let open = open_of(outputs);
     let tally = worker.turns.tally();
     let wanting = tally.no_room.saturating_add(tally.ends.no_memory);
-    let gone = written(alloc, tapes)?;
+    let gone = written(alloc, outputs)?;
     let is_written = gone == repeated(alloc, &replies(alloc)?, open)?;
     let is_counted = (open == 4 && wanting == 0) || (open == 3 && wanting == 1);
     Ok(is_written && is_counted && tally.begun.saturating_add(tally.no_room) == 4)

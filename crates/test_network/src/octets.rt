@@ -44,7 +44,7 @@ fn is_written(
 #[test]
 fn octets(rt: HostRuntime) {
     for (names, id, front, count) in ROWS {
-        let told = is_written(rt.alloc(), &names, id, front, count);
-        assert!(rt; told == Some(true), "of {count}");
+        let outcome = is_written(rt.alloc(), &names, id, front, count);
+        assert!(rt; outcome == Some(true), "of {count}");
     }
 }

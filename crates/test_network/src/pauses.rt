@@ -96,7 +96,7 @@ impl<'a, C: Clock> Connected<'a, C> {
 
 /// The number of sockets that a wait reports once `count` clients have sent an octet, the number that the next one reports, which may take
 /// `most` nanoseconds, and the number that one after it reports; and, after each of the last two, the number of pauses so far.
-fn told<C: Clock>(
+fn outcome<C: Clock>(
     connected: &mut Connected<'_, Counting<'_, C>>,
     count: usize,
     most: u64,
@@ -128,7 +128,7 @@ fn no_wait_begins_with_a_pause(rt: HostRuntime) -> Result<(), Fail> {
     for (count, most) in rows {
         let wanted = [count, 0, 0, 0, 0];
         assert_eq!(rt;
-            told(&mut connected, count, most)?,
+            outcome(&mut connected, count, most)?,
             wanted,
             "after {count} of them"
         );

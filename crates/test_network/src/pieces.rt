@@ -22,7 +22,7 @@ pub(crate) enum After {
 }
 
 /// The octets that were written on a stream, which the stream shares with the test until it is closed.
-pub(crate) type Tape = Rc<RefCell<Vec<u8>>>;
+pub(crate) type Output = Rc<RefCell<Vec<u8>>>;
 
 /// A stream that reads and writes some octets at a time, and, if it may block, would block before each piece.
 #[derive(Drop)]
@@ -42,7 +42,7 @@ pub(crate) struct Pieces {
     /// The number of octets that it takes before it fails.
     pub(crate) room: usize,
     pub(crate) faults: u64,
-    pub(crate) tape: Tape,
+    pub(crate) output: Output,
 }
 
 /// An address in 192.0.2.0/24.
@@ -66,56 +66,56 @@ pub(crate) fn repeated(alloc: Global, octets: &[u8], times: usize) -> Result<Vec
     Ok(all)
 }
 
-/// Whether the stream of a tape is open.
-fn is_open(tape: &Tape) -> bool {
-    Rc::strong_count(tape) > 1
+/// Whether the stream of an output is open.
+fn is_open(output: &Output) -> bool {
+    Rc::strong_count(output) > 1
 }
 
-/// How many of the streams of these tapes are open.
-pub(crate) fn open_of(tapes: &[Tape]) -> usize {
-    tapes.iter().filter(|tape| is_open(tape)).count()
+/// How many of the streams of these outputs are open.
+pub(crate) fn open_of(outputs: &[Output]) -> usize {
+    outputs.iter().filter(|output| is_open(output)).count()
 }
 
-/// How many octets are on a tape.
-fn len_of(tape: &Tape) -> usize {
-    match tape.try_borrow() {
+/// How many octets are on an output.
+fn len_of(output: &Output) -> usize {
+    match output.try_borrow() {
         Ok(octets) => octets.len(),
         Err(_) => 0,
     }
 }
 
-/// Appends octets to a tape. False if there is no memory for them.
-fn put_on(tape: &Tape, octets: &[u8]) -> bool {
-    match tape.try_borrow_mut() {
+/// Appends octets to an output. False if there is no memory for them.
+fn put_on(output: &Output, octets: &[u8]) -> bool {
+    match output.try_borrow_mut() {
         Ok(mut all) => all.extend_from_slice(octets).is_ok(),
         Err(_) => false,
     }
 }
 
-/// Appends the octets on a tape to others.
-fn put_all(tape: &Tape, all: &mut Vec<u8>) -> Result<(), AllocError> {
-    match tape.try_borrow() {
+/// Appends the octets on an output to others.
+fn put_all(output: &Output, all: &mut Vec<u8>) -> Result<(), AllocError> {
+    match output.try_borrow() {
         Ok(octets) => all.extend_from_slice(&octets),
         Err(_) => Err(AllocError),
     }
 }
 
-/// The octets that were written on the streams of these tapes that are open, in the order of the tapes.
-pub(crate) fn written(alloc: Global, tapes: &[Tape]) -> Result<Vec<u8>, AllocError> {
+/// The octets that were written on the streams of these outputs that are open, in the order of the outputs.
+pub(crate) fn written(alloc: Global, outputs: &[Output]) -> Result<Vec<u8>, AllocError> {
     let mut all = Vec::new(alloc);
-    for tape in tapes {
-        if is_open(tape) {
-            put_all(tape, &mut all)?;
+    for output in outputs {
+        if is_open(output) {
+            put_all(output, &mut all)?;
         }
     }
     Ok(all)
 }
 
-/// An empty tape, with memory for a thousand octets.
-fn tape_of(alloc: Global) -> Result<Tape, AllocError> {
+/// An empty output, with memory for a thousand octets.
+fn new_output(alloc: Global) -> Result<Output, AllocError> {
     let octets = Vec::with_capacity(alloc, 1_000)?;
     match Rc::new(alloc, RefCell::new(octets)) {
-        Ok(tape) => Ok(tape),
+        Ok(output) => Ok(output),
         Err(_) => Err(AllocError),
     }
 }
@@ -147,14 +147,14 @@ impl Pieces {
             after: After::Nothing,
             room: usize::MAX,
             faults: 0,
-            tape: tape_of(alloc)?,
+            output: new_output(alloc)?,
         })
     }
 
     /// The octets that were written.
     pub(crate) fn written(&self, alloc: Global) -> Result<Vec<u8>, AllocError> {
         let mut all = Vec::new(alloc);
-        put_all(&self.tape, &mut all)?;
+        put_all(&self.output, &mut all)?;
         Ok(all)
     }
 
@@ -226,9 +226,9 @@ impl Blocking for Pieces {
         let Some(size) = self.next_size() else {
             return Err(Fault::Blocked);
         };
-        let most = size.min(up_to_cut(self.cuts.1, len_of(&self.tape)));
+        let most = size.min(up_to_cut(self.cuts.1, len_of(&self.output)));
         let count = most.min(self.room.min(buf.len()));
-        if count == 0 || !put_on(&self.tape, &buf[..count]) {
+        if count == 0 || !put_on(&self.output, &buf[..count]) {
             return Err(self.fail());
         }
         self.room = self.room.saturating_sub(count);

@@ -1,7 +1,7 @@
 //! Simulated polls and listeners.
 ghost use Rattle.std.specs.Prelude.{◌≡◌, IfOk};
 
-use crate::pieces::{After, Pieces, Tape, address};
+use crate::pieces::{After, Output, Pieces, address};
 use std::alloc::{AllocError, Global};
 use std::cell::Cell;
 use std::rc::Rc;
@@ -21,7 +21,7 @@ pub(crate) struct Poll {
     /// By how much its time advances in a wait, at most.
     pub(crate) step: u64,
     pub(crate) now: u64,
-    pub(crate) told: Vec<usize>,
+    pub(crate) outcome: Vec<usize>,
 }
 
 impl Poll {
@@ -34,7 +34,7 @@ impl Poll {
             waits: u32::MAX,
             step: 1,
             now: 0,
-            told: Vec::new(alloc),
+            outcome: Vec::new(alloc),
         }
     }
 
@@ -44,8 +44,8 @@ impl Poll {
             keys.push(key)?;
             keys.push(usize::MAX - key)?;
         }
-        keys.extend_from_slice(&self.told)?;
-        self.told.clear();
+        keys.extend_from_slice(&self.outcome)?;
+        self.outcome.clear();
         Ok(())
     }
 
@@ -65,8 +65,8 @@ impl Poll {
     fn put(&mut self, key: usize) -> Result<(), NotWatched>
         ensures { self.new.now ≡ self.old.now }
     {
-        let told = key.saturating_add(self.beside);
-        if !self.watches || self.told.push(told).is_err() {
+        let outcome = key.saturating_add(self.beside);
+        if !self.watches || self.outcome.push(outcome).is_err() {
             return Err(NotWatched);
         }
         Ok(())
@@ -130,7 +130,7 @@ pub(crate) struct Comers<'a> {
     /// The result once all of them have arrived.
     pub(crate) last: Refusal,
     /// What is written on each of those that have arrived, in their order.
-    pub(crate) tapes: Vec<Tape>,
+    pub(crate) outputs: Vec<Output>,
 }
 
 impl<'a> Comers<'a> {
@@ -148,7 +148,7 @@ impl<'a> Comers<'a> {
             no_room: 0,
             is_odd: false,
             last: Refusal::Blocked,
-            tapes: Vec::new(alloc),
+            outputs: Vec::new(alloc),
         }
     }
 }
@@ -177,10 +177,10 @@ impl<'a> Arrivals for Comers<'a> {
         let Ok(stream) = Pieces::new(self.alloc, octets, self.times) else {
             return Err(Refusal::Room);
         };
-        let Ok(tape) = Rc::clone(&stream.tape) else {
+        let Ok(output) = Rc::clone(&stream.output) else {
             return Err(Refusal::Room);
         };
-        if self.tapes.push(tape).is_err() {
+        if self.outputs.push(output).is_err() {
             return Err(Refusal::Room);
         }
         Ok(Pieces {

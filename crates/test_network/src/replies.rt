@@ -89,7 +89,7 @@ fn answers(alloc: Global, text: &str) -> Option<bool> {
 
 #[test]
 fn replies(rt: HostRuntime) {
-    for (told, text, want) in REPLIES {
-        assert!(rt; answers(rt.alloc(), text) == Some(want), "{told}");
+    for (outcome, text, want) in REPLIES {
+        assert!(rt; answers(rt.alloc(), text) == Some(want), "{outcome}");
     }
 }

@@ -1,7 +1,7 @@
 //! A worker with the state that its turns need.
 
 use crate::echo::{Both, Echo};
-use crate::pieces::{Tape, room_of};
+use crate::pieces::{Output, room_of};
 use crate::polls::Comers;
 use requests::Allowed;
 use std::alloc::{AllocError, Global};
@@ -117,9 +117,9 @@ impl<S: Blocking + Remote + Drop, P: Readiness<S> + Drop, L: Arrivals<Stream = S
 
 impl<S: Drop, P> Running<S, P, Comers<'_>> {
     /// What is written on each of the connections that have arrived, in their order.
-    pub(crate) fn tapes(&self) -> &[Tape] {
+    pub(crate) fn outputs(&self) -> &[Output] {
         match self.places.first() {
-            Some(comers) => &comers.tapes,
+            Some(comers) => &comers.outputs,
             None => &[],
         }
     }

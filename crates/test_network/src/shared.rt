@@ -71,7 +71,7 @@ fn two_listeners_at_a_port_each_get_some_connections(rt: HostRuntime) -> Result<
 }
 
 #[test]
-fn another_first_is_told_that_the_port_is_in_use(rt: HostRuntime) -> Result<(), Fail> {
+fn port_in_use_by_another_first_is_reported(rt: HostRuntime) -> Result<(), Fail> {
     let socket = bind_datagrams(&rt, any_port(), Turn::First)?;
     let fault = bind_datagrams(&rt, socket.local_addr()?, Turn::First)
         .err()

@@ -65,8 +65,8 @@ pub(crate) fn expect(
     line: &'static str,
 ) -> Result<(), Fail> {
     let start = found_in(files, dir)?;
-    let told = line_of(files.alloc(), &start)?;
-    check(told.as_str() == line, line)?;
+    let outcome = line_of(files.alloc(), &start)?;
+    check(outcome.as_str() == line, line)?;
     check(has_published(files.alloc(), &start, published)?, line)
 }
 

@@ -4,7 +4,7 @@ use journal::{Head, TextSum, put_update, write_frame, write_head};
 use master_file::read_zone;
 use std::alloc::Global;
 use std::test::Fail;
-use store_recovery::begin_store;
+use store_recovery::create_store;
 
 /// An update that adds an A record of 192.0.2.1 at a.example, built with Python (RFC 2136, 2).
 pub(crate) const ADD_A: &str =
@@ -37,7 +37,7 @@ pub(crate) fn head_of(alloc: Global, zone: &str) -> Result<Head, Fail> {
         return Err(Fail::from("no zone"));
     };
     let origin = TextSum::of(b"as it was given");
-    let (text, head) = begin_store(alloc, &read, 3, [9; 16], origin)?;
+    let (text, head) = create_store(alloc, &read, 3, [9; 16], origin)?;
     if text.as_str() == zone {
         return Ok(head);
     }

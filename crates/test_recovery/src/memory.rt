@@ -4,7 +4,7 @@ use journal::TextSum;
 use master_file::{Cause, FileFault, read_zone};
 use std::alloc::Global;
 use std::test::Fail;
-use store_recovery::{Choice, Take, begin_store, choose};
+use store_recovery::{Choice, Take, choose, create_store};
 use zone_tree::Zone;
 
 /// A zone text, with serial 11.
@@ -32,7 +32,7 @@ fn choice_of(alloc: Global, begun: &[u8], taken: Option<Take>) -> Result<Choice,
 
 /// Whether a store of a zone is created as it is with ample memory. None if memory allocation fails.
 fn is_begun(alloc: Global, zone: Zone) -> Option<bool> {
-    let (text, head) = begin_store(alloc, &zone, 2, [7; 16], TextSum::of(GIVEN)).ok()?;
+    let (text, head) = create_store(alloc, &zone, 2, [7; 16], TextSum::of(GIVEN)).ok()?;
     Some(text.as_bytes() == GIVEN && head.text.is_of(GIVEN) && head.serial == 11)
 }
 
@@ -65,7 +65,7 @@ fn begun_and_chosen(alloc: Global) -> Option<bool> {
 // If memory allocation fails, exactly this is reported.
 #[test]
 fn memory_is_refused(rt: HostRuntime) -> Result<(), Fail> {
-    let told = begun_and_chosen(rt.alloc());
-    assert!(rt; told != Some(false));
+    let outcome = begun_and_chosen(rt.alloc());
+    assert!(rt; outcome != Some(false));
     Ok(())
 }

@@ -1,6 +1,6 @@
 //! A store whose text is written slowly, while batches are appended.
 use crate::found::{expect, is_writing};
-use crate::texts::{Store, begin_store};
+use crate::texts::{Store, create_store};
 use crate::updates::check;
 use std::fs;
 use std::sync::Wait;
@@ -30,7 +30,7 @@ fn send<R: Wait>(
 // each of its updates: the second one makes it longer than 400.
 #[test]
 fn updates_go_on_while_a_text_is_written(rt: HostRuntime) -> Result<(), Fail> {
-    let mut store = begin_store(&rt, DIR, 3)?;
+    let mut store = create_store(&rt, DIR, 3)?;
     for (numbers, line, writes) in [
         ((1, 4), "text 0, batches 1, serials 7 to 10", false),
         ((4, 5), "text 0, batches 2, serials 7 to 11", true),

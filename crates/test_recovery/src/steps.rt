@@ -1,6 +1,6 @@
 //! The steps of compactions, in order.
 use crate::found::{expect, is_there};
-use crate::updates::{WrittenStore, begin, check, send};
+use crate::updates::{WrittenStore, check, new_store, send};
 use journal::Head;
 use std::alloc::Global;
 use std::fs;
@@ -124,7 +124,7 @@ fn compact_again<R: Wait>(
 // and no other file of the compactions.
 #[test]
 fn each_step_keeps_the_versions(rt: HostRuntime) -> Result<(), Fail> {
-    let mut store = begin(&rt, DIR)?;
+    let mut store = new_store(&rt, DIR)?;
     compact_first(&rt, &rt, &mut store)?;
     compact_again(&rt, &rt, &mut store)?;
     for (name, stays) in [

@@ -1,6 +1,6 @@
 //! A store that is compacted between two batches, when it is tended.
 use crate::found::{expect, is_there, is_writing};
-use crate::texts::{Store, begin_store};
+use crate::texts::{Store, create_store};
 use crate::updates::check;
 use std::fs;
 use std::sync::Wait;
@@ -86,7 +86,7 @@ fn move_away<R: Wait>(rt: &R, files: &HostRuntime, store: &mut Store) -> Result<
 
 #[test]
 fn a_store_is_tended(rt: HostRuntime) -> Result<(), Fail> {
-    let mut store = begin_store(&rt, DIR, 0)?;
+    let mut store = create_store(&rt, DIR, 0)?;
     begin_texts(&rt, &rt, &mut store)?;
     fail_to_lay(&rt, &rt, &mut store)?;
     move_away(&rt, &rt, &mut store)?;

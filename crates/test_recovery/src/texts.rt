@@ -3,14 +3,15 @@ ghost use Rattle.std.specs.Prelude.{option_map, IfOk};
 ghost use Rattle.store_compaction.specs.TextWriter.{wanted_of, IsWritten};
 
 use crate::published::Published;
-use crate::updates::{WrittenStore, begin, updates_of};
+use crate::updates::{WrittenStore, new_store, updates_of};
 use journal::Head;
 use std::alloc::Global;
 use std::io;
 use std::sync::Wait;
 use std::test::Fail;
 use store_compaction::{
-    CompactedStore, CompactionEvent, NextText, Notes, TextWriter, create_next_text, write_next_text,
+    CompactedStore, CompactionEvent, CompactionLog, NextText, TextWriter, create_next_text,
+    write_next_text,
 };
 use store_files::NewText;
 use update_batches::UpdateStore;
@@ -92,16 +93,16 @@ impl TextWriter for TextsWhenAsked {
 
 /// Ignores compaction events.
 #[derive(Drop)]
-pub(crate) struct NoNotes;
+pub(crate) struct NoCompactionLog;
 
-impl Notes for NoNotes {
+impl CompactionLog for NoCompactionLog {
     fn note<R: Wait>(&mut self, _rt: &R, _event: CompactionEvent) {}
 }
 
 /// A store that is compacted when its journal has more than 400 octets, and the versions that it is to have.
 #[derive(Drop)]
 pub(crate) struct Store {
-    compacted: CompactedStore<HostRuntime, TextsWhenAsked, NoNotes>,
+    compacted: CompactedStore<HostRuntime, TextsWhenAsked, NoCompactionLog>,
     pub(crate) published: Published,
 }
 
@@ -129,8 +130,12 @@ impl Store {
 }
 
 /// A new store in a directory. Each of its texts gives no result so many times.
-pub(crate) fn begin_store(files: &HostRuntime, dir: &'static str, slow: u8) -> Result<Store, Fail> {
-    let WrittenStore { writer, published } = begin(files, dir)?;
+pub(crate) fn create_store(
+    files: &HostRuntime,
+    dir: &'static str,
+    slow: u8,
+) -> Result<Store, Fail> {
+    let WrittenStore { writer, published } = new_store(files, dir)?;
     let texts = TextsWhenAsked {
         files: *files,
         dir,
@@ -139,7 +144,7 @@ pub(crate) fn begin_store(files: &HostRuntime, dir: &'static str, slow: u8) -> R
         slow,
     };
     let path = format!(in files.alloc(); "{dir}")?;
-    let compacted = CompactedStore::new(*files, path, writer, texts, NoNotes, 400);
+    let compacted = CompactedStore::new(*files, path, writer, texts, NoCompactionLog, 400);
     Ok(Store {
         compacted,
         published,

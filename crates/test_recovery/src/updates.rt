@@ -15,7 +15,7 @@ use std::sync::Wait;
 use std::test::Fail;
 use store_compaction::{RecentUpdates, StoreWriter};
 use store_files::{FileDisk, write_pair};
-use store_recovery::begin_store;
+use store_recovery::create_store;
 use update_batches::{MOST, QueuedUpdate, ReplyTo, UpdateRequest, VersionUpdate, judge_batch};
 use zone_tree::Version;
 
@@ -49,7 +49,7 @@ fn begin_writer(rt: &HostRuntime, dir: &str) -> Result<StoreWriter<FileDisk>, Fa
     let alloc = rt.alloc();
     let first = first_version(alloc)?;
     let origin = TextSum::of(ZONE.as_bytes());
-    let (text, head) = begin_store(alloc, first.get().zone(), 0, [7; 16], origin)?;
+    let (text, head) = create_store(alloc, first.get().zone(), 0, [7; 16], origin)?;
     let (octets, salt) = write_head(alloc, &head)?;
     let disk = write_pair(rt, alloc, dir, 0, text.as_bytes(), &octets)?;
     let log = Log::resume(disk, &salt, 0, octets.len() as u64)?;
@@ -58,7 +58,7 @@ fn begin_writer(rt: &HostRuntime, dir: &str) -> Result<StoreWriter<FileDisk>, Fa
 }
 
 /// A new store in a directory of its own.
-pub(crate) fn begin(rt: &HostRuntime, dir: &str) -> Result<WrittenStore, Fail> {
+pub(crate) fn new_store(rt: &HostRuntime, dir: &str) -> Result<WrittenStore, Fail> {
     let _ = fs::remove_dir_all(rt, dir);
     fs::create_dir(rt, dir)?;
     let published = Published {

@@ -58,20 +58,20 @@ fn newest_versions(rt: HostRuntime) -> Result<(), Fail> {
 /// A version of the tests. `changed`: its changes to the one before, as the SOA before, the records that it deleted, an empty line, and the
 /// records that it added. `zone`: its zone. `after`: the batches after it; of the batch within which it is made, the rest.
 #[derive(Drop)]
-struct Place {
+struct VersionCase {
     changed: &'static str,
     zone: &'static str,
     after: &'static [&'static [&'static str]],
 }
 
 /// The versions of five updates in three batches.
-const PLACES: [Place; 6] = [
-    Place {
+const VERSION_CASES: [VersionCase; 6] = [
+    VersionCase {
         changed: "",
         zone: ZONE,
         after: &[&[ADD_A], &[ADD_B, ADD_MORE, DELETE_B], &[DELETE_A]],
     },
-    Place {
+    VersionCase {
         changed: "example. 3600 IN SOA ns.example. host.example. 7 1 1 1 1
 
 a.example. 300 IN A 192.0.2.1
@@ -82,7 +82,7 @@ a.example. 300 IN A 192.0.2.1
 ",
         after: &[&[ADD_B, ADD_MORE, DELETE_B], &[DELETE_A]],
     },
-    Place {
+    VersionCase {
         changed: "example. 3600 IN SOA ns.example. host.example. 8 1 1 1 1
 
 b.example. 300 IN A 192.0.2.2
@@ -94,7 +94,7 @@ b.example. 300 IN A 192.0.2.2
 ",
         after: &[&[ADD_MORE, DELETE_B], &[DELETE_A]],
     },
-    Place {
+    VersionCase {
         changed: "example. 3600 IN SOA ns.example. host.example. 9 1 1 1 1
 
 a.example. 300 IN A 192.0.2.3
@@ -107,7 +107,7 @@ b.example. 300 IN A 192.0.2.2
 ",
         after: &[&[DELETE_B], &[DELETE_A]],
     },
-    Place {
+    VersionCase {
         changed: "example. 3600 IN SOA ns.example. host.example. 10 1 1 1 1
 b.example. 300 IN A 192.0.2.2
 
@@ -119,7 +119,7 @@ a.example. 300 IN A 192.0.2.3
 ",
         after: &[&[DELETE_A]],
     },
-    Place {
+    VersionCase {
         changed: "example. 3600 IN SOA ns.example. host.example. 11 1 1 1 1
 a.example. 300 IN A 192.0.2.1
 a.example. 300 IN A 192.0.2.3
@@ -161,7 +161,7 @@ fn versions_of(alloc: Global, start: &Recovery) -> Result<String, AllocError> {
 /// The versions of the tests from `first` on, as text. The first of them has the number 0 and no changes.
 fn versions_from(alloc: Global, first: usize) -> Result<String, AllocError> {
     let mut text = String::new(alloc);
-    for (number, place) in PLACES.iter().skip(first).enumerate() {
+    for (number, place) in VERSION_CASES.iter().skip(first).enumerate() {
         text.push_str(format!(in alloc; "version {number}\n")?.as_str())?;
         if number > 0 {
             text.push_str(place.changed)?;
@@ -176,7 +176,7 @@ fn versions_from(alloc: Global, first: usize) -> Result<String, AllocError> {
 #[test]
 fn each_place(rt: HostRuntime) -> Result<(), Fail> {
     let alloc: Global = rt.alloc();
-    for (first, place) in PLACES.iter().enumerate() {
+    for (first, place) in VERSION_CASES.iter().enumerate() {
         let start = start_of(alloc, place.zone, place.after)?;
         assert_eq!(rt;
             versions_of(alloc, &start)?,

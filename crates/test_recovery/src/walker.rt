@@ -1,7 +1,7 @@
 //! A store whose compactions come in any order, and whose files cannot always be written.
 use crate::found::{found_in, has_published};
 use crate::random::Random;
-use crate::updates::{WrittenStore, begin, check, send};
+use crate::updates::{WrittenStore, check, new_store, send};
 use journal::Head;
 use std::fs;
 use std::sync::Wait;
@@ -44,9 +44,9 @@ pub(crate) struct Walker {
 
 impl Walker {
     /// A new store.
-    pub(crate) fn begin(files: &HostRuntime, seed: u64) -> Result<Walker, Fail> {
+    pub(crate) fn new(files: &HostRuntime, seed: u64) -> Result<Walker, Fail> {
         Ok(Walker {
-            store: begin(files, DIR)?,
+            store: new_store(files, DIR)?,
             random: Random(seed),
             next: 1,
             kept: 0,
@@ -144,8 +144,8 @@ impl Walker {
         let next = self.begin_text(rt, files)?;
         let path = format!(in files.alloc(); "{DIR}/zone-{}", next.number)?;
         fs::create_dir(files, path.as_str())?;
-        let told = create_next_text(files, files.alloc(), DIR, &next);
-        check(told.is_err(), "a folder is written")?;
+        let outcome = create_next_text(files, files.alloc(), DIR, &next);
+        check(outcome.is_err(), "a folder is written")?;
         fs::remove_dir(files, path.as_str())?;
         Ok(())
     }
@@ -165,9 +165,9 @@ impl Walker {
         let head = self.written(rt, files)?;
         let _ = fs::remove_file(files, NEW_JOURNAL);
         fs::create_dir(files, NEW_JOURNAL)?;
-        let told = replace_with_next(files, files.alloc(), DIR, &mut self.store.writer, head);
+        let outcome = replace_with_next(files, files.alloc(), DIR, &mut self.store.writer, head);
         fs::remove_dir(files, NEW_JOURNAL)?;
-        check(matches!(told, Err(PairFault::Before(_))), "it is laid")
+        check(matches!(outcome, Err(PairFault::Before(_))), "it is laid")
     }
 
     /// The same, where the journal cannot be renamed: it is unknown which of the two journals a start finds, but it is one of them.
@@ -178,9 +178,12 @@ impl Walker {
         self.stuck = true;
         fs::rename(files, JOURNAL, ASIDE)?;
         fs::create_dir(files, JOURNAL)?;
-        let told = replace_with_next(files, files.alloc(), DIR, &mut self.store.writer, head);
+        let outcome = replace_with_next(files, files.alloc(), DIR, &mut self.store.writer, head);
         fs::remove_dir(files, JOURNAL)?;
-        check(matches!(told, Err(PairFault::Unknown(_))), "it is renamed")?;
+        check(
+            matches!(outcome, Err(PairFault::Unknown(_))),
+            "it is renamed",
+        )?;
         self.find_either(files)
     }
 

@@ -7,7 +7,7 @@ use std::test::Fail;
 // least twice.
 #[test]
 fn any_order_keeps_the_versions(rt: HostRuntime) -> Result<(), Fail> {
-    let mut walker = Walker::begin(&rt, 400)?;
+    let mut walker = Walker::new(&rt, 400)?;
     for _ in 0..40 {
         walker.step(&rt, &rt)?;
         walker.expect_all(&rt)?;

@@ -116,7 +116,7 @@ fn by_places<R: Wait, Z: FirstZone, N: ServerName>(
     readers: &mut Vec<VersionReader<N>>,
     peer: Peer,
 ) -> Option<MemoryStream> {
-    let tape = MemoryStream::new(alloc, octets_of(alloc, REQUESTS)?, ROOM, 1_000).ok()?;
+    let stream = MemoryStream::new(alloc, octets_of(alloc, REQUESTS)?, ROOM, 1_000).ok()?;
     let log = Kept::new(alloc);
     let mut replies = ConnectionHandler::new(
         alloc,
@@ -128,17 +128,17 @@ fn by_places<R: Wait, Z: FirstZone, N: ServerName>(
     );
     let mut room = [0u8; 4_096];
     let mut out = [0u8; 65_535];
-    let (_end, tape) = answer_stream(
+    let (_end, stream) = answer_stream(
         rt,
         alloc,
         &mut replies,
-        tape,
+        stream,
         &OpenGate,
         &mut room,
         &mut out,
     );
     readers.push(replies.into_reader()).ok()?;
-    Some(tape)
+    Some(stream)
 }
 
 /// Whether a connection writes the messages that are made all at once, and these are longer than two zones.
@@ -174,22 +174,24 @@ impl Play for BothWays {
     ) -> Played<Z, N> {
         let Some(reader) = readers.pop() else {
             return Played {
-                told: None,
+                outcome: None,
                 publisher,
                 readers,
             };
         };
-        let (told, publisher, reader) = match server_of(alloc, cell, publisher, reader, ledgers) {
+        let (outcome, publisher, reader) = match server_of(
+            alloc, cell, publisher, reader, ledgers,
+        ) {
             Ok(server) => {
-                let told = is_same(rt, alloc, &server, &mut readers);
+                let outcome = is_same(rt, alloc, &server, &mut readers);
                 let (publisher, reader) = server.finish();
-                (told, publisher, reader)
+                (outcome, publisher, reader)
             }
             Err(refused) => (None, refused.publisher, refused.reader),
         };
         let _ = readers.push(reader);
         Played {
-            told,
+            outcome,
             publisher,
             readers,
         }
@@ -198,9 +200,9 @@ impl Play for BothWays {
 
 #[test]
 fn a_transfer_goes_on_from_its_places(rt: HostRuntime) {
-    let told = match big_zone(rt.alloc()) {
+    let outcome = match big_zone(rt.alloc()) {
         Some(zone) => is_played(&rt, rt.alloc(), zone, &BothWays),
         None => None,
     };
-    assert_eq!(rt; told, Some(true));
+    assert_eq!(rt; outcome, Some(true));
 }

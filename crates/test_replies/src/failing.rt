@@ -1,6 +1,6 @@
 //! Streams that end or fail at each position in two requests and their replies, frames too short for a header, and streams whose reader has no
 //! grants left (RFC 1035, 4.1.1 and 4.2.2).
-use crate::served::{Course, first_wrong, told};
+use crate::served::{Course, first_wrong, outcome};
 use crate::streams::{ALL, Row, TRANSFER};
 use dns_engine::KEPT;
 use memory_devices::MemoryStream;
@@ -104,8 +104,8 @@ fn a_stream_that_fails_has_what_it_took(rt: HostRuntime) {
 // A write to a stream with room for one octet takes one octet. Each further write takes none and is counted as a failure.
 #[test]
 fn a_write_of_nothing_is_counted(rt: HostRuntime) -> Result<(), Fail> {
-    let tape = MemoryStream::new(rt.alloc(), Vec::new(rt.alloc()), 1, 9)?;
-    let mut stream = Counted::new(tape);
+    let memory = MemoryStream::new(rt.alloc(), Vec::new(rt.alloc()), 1, 9)?;
+    let mut stream = Counted::new(memory);
     let first = (stream.write(b"ab").unwrap_or(0), stream.faults);
     let second = (stream.write(b"b").is_err(), stream.faults);
     let third = (stream.write(b"b").is_err(), stream.faults);
@@ -154,7 +154,7 @@ const CHANGES: Row = Row {
 0000000200001c2000000384001275000000012cc00c0006000100000e100018c02ac0300000000100001c2000000384001275000000012cc00c\
 0006000100000e100018c02ac0300000000200001c2000000384001275000000012c036e6577c00c0001000100000e100004c000024dc00c0006\
 000100000e100018c02ac0300000000200001c2000000384001275000000012c",
-    told: "update from 192.0.2.7:4711: NOERROR, serial 1 to 2;",
+    outcome: "update from 192.0.2.7:4711: NOERROR, serial 1 to 2;",
     ..TRANSFER
 };
 
@@ -189,7 +189,7 @@ const UPDATES: Row = Row {
 000c4321a8000000000000000000\
 004c123485000001000100000000076578616d706c6504746573740000060001c00c0006000100000e100022036e7331c00c0561646d696ec00c\
 0000000300001c2000000384001275000000012c",
-    told: "\
+    outcome: "\
 update from 192.0.2.7:4711: NOERROR, serial 1 to 2;\
 update from 192.0.2.7:4711: NOERROR, serial 2 to 3;\
 update from 192.0.2.7:4711: SERVFAIL;\
@@ -215,7 +215,7 @@ const BY_GRANTS: &[(u64, Row, Option<bool>)] = &[
 #[test]
 fn no_grant_ends_a_stream(rt: HostRuntime) {
     for (grants, row, right) in BY_GRANTS {
-        let got = told(&rt, rt.alloc(), *grants, KEPT, &Course::Stream(*row));
+        let got = outcome(&rt, rt.alloc(), *grants, KEPT, &Course::Stream(*row));
         assert_eq!(rt; got, *right, "{grants} and {}", row.input);
     }
 }

@@ -1,5 +1,5 @@
 //! Replies to IXFR: incremental while the versions are there, and full once one of them has gone (RFC 1995, 4; own).
-use crate::served::{Course, told};
+use crate::served::{Course, outcome};
 use crate::streams::{self, ALL, Row, TRANSFER};
 use dns_engine::{FirstZone, VersionReader};
 use std::alloc::Global;
@@ -11,7 +11,7 @@ const FIRST_UPDATE: Row = Row {
     input: "\
 0032432128000001000000010000076578616d706c6504746573740000060001036e6577c00c0001000100000e100004c000024d",
     written: "000c4321a8000000000000000000",
-    told: "update from 192.0.2.7:4711: NOERROR, serial 1 to 2;",
+    outcome: "update from 192.0.2.7:4711: NOERROR, serial 1 to 2;",
     ..TRANSFER
 };
 
@@ -23,7 +23,7 @@ const WHILE_OWNED: Row = Row {
 0040123400000001000000010000076578616d706c6504746573740000fb0001c00c0006000100000000001600000000000100000000000000000000000000000000",
     written: "\
 000c4321a80000000000000000000124123484000001000800000000076578616d706c6504746573740000fb0001c00c0006000100000e100022036e7331c00c0561646d696ec00c0000000300001c2000000384001275000000012cc00c0006000100000e100018c02ac0300000000100001c2000000384001275000000012cc00c0006000100000e100018c02ac0300000000200001c2000000384001275000000012c036e6577c00c0001000100000e100004c000024dc00c0006000100000e100018c02ac0300000000200001c2000000384001275000000012cc00c0006000100000e100018c02ac0300000000300001c2000000384001275000000012cc0940001000100000e100004c000024ec00c0006000100000e100018c02ac0300000000300001c2000000384001275000000012c",
-    told: "update from 192.0.2.7:4711: NOERROR, serial 2 to 3;",
+    outcome: "update from 192.0.2.7:4711: NOERROR, serial 2 to 3;",
     ..TRANSFER
 };
 
@@ -41,7 +41,7 @@ c02a0001000100000e100004c0000201\
 03776562c00c0001000100000e100004c000020a\
 03777777c00c0005000100000e100002c08e\
 c00c0006000100000e100018c02ac0300000000300001c2000000384001275000000012c",
-    told: "",
+    outcome: "",
     ..TRANSFER
 };
 
@@ -64,9 +64,9 @@ pub(crate) fn go<R: Wait, Z: FirstZone, N: ServerName>(
 
 // The transfer is incremental while the versions are there, whatever owns them, and full once one of them has gone (RFC 1995, 4).
 #[test]
-fn a_version_is_told_as_long_as_it_is_there(rt: HostRuntime) {
+fn a_version_is_sent_as_long_as_it_is_there(rt: HostRuntime) {
     assert_eq!(rt;
-        told(&rt, rt.alloc(), ALL, 0, &Course::OwnedAWhile),
+        outcome(&rt, rt.alloc(), ALL, 0, &Course::OwnedAWhile),
         Some(true)
     );
 }

@@ -8,6 +8,8 @@
 #[cfg(test)]
 mod big;
 #[cfg(test)]
+mod datagrams;
+#[cfg(test)]
 mod failing;
 #[cfg(test)]
 mod gone_versions;
@@ -27,5 +29,3 @@ mod slots;
 mod streams;
 #[cfg(test)]
 mod submitted;
-#[cfg(test)]
-mod trays;

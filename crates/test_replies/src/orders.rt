@@ -1,7 +1,7 @@
 //! The order in which a gate is entered, a request is answered and the gate is left.
-use crate::served::{Course, told};
+use crate::datagrams::{self, TWO_UPDATES};
+use crate::served::{Course, outcome};
 use crate::streams::{self, ALL, TRANSFER};
-use crate::trays::{self, TWO_UPDATES};
 use dns_engine::{FirstZone, VersionReader};
 use requests::Gate;
 use std::alloc::Global;
@@ -60,7 +60,7 @@ pub(crate) fn go<R: Wait, Z: FirstZone, N: ServerName>(
         digits: AtomicU64::new(0),
     };
     let _ = streams::serve(rt, alloc, server, readers, &ON_A_STREAM, &calls, &calls)?;
-    let _ = trays::serve(rt, alloc, server, readers, &TWO_UPDATES, &calls, &calls)?;
+    let _ = datagrams::serve(rt, alloc, server, readers, &TWO_UPDATES, &calls, &calls)?;
     Some(calls.digits.load(Ordering::SeqCst) == 123_123_123_123)
 }
 
@@ -68,7 +68,7 @@ pub(crate) fn go<R: Wait, Z: FirstZone, N: ServerName>(
 #[test]
 fn the_gate_is_entered_before_the_answer(rt: HostRuntime) {
     assert_eq!(rt;
-        told(&rt, rt.alloc(), ALL, 0, &Course::FourUpdates),
+        outcome(&rt, rt.alloc(), ALL, 0, &Course::FourUpdates),
         Some(true)
     );
 }

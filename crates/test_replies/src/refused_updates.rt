@@ -1,6 +1,6 @@
 //! Updates and queries when memory allocation fails: the version published last stays, queries are answered from it, and the same update, sent
 //! again, makes the next version.
-use crate::served::{Course, told};
+use crate::served::{Course, outcome};
 use crate::slots::update_of;
 use crate::streams::ALL;
 use dns_engine::{FirstZone, VersionChain, VersionReader};
@@ -96,10 +96,10 @@ pub(crate) fn update_anew<R: Wait, Z: FirstZone, N: ServerName>(
 }
 
 /// Whether a course goes as expected. It is run again if memory allocation fails.
-fn told_anew<R: Wait>(rt: &R, alloc: Global, course: &Course) -> Option<bool> {
-    match told(rt, alloc, ALL, 2, course) {
-        Some(told) => Some(told),
-        None => told(rt, alloc, ALL, 2, course),
+fn answered_anew<R: Wait>(rt: &R, alloc: Global, course: &Course) -> Option<bool> {
+    match outcome(rt, alloc, ALL, 2, course) {
+        Some(outcome) => Some(outcome),
+        None => outcome(rt, alloc, ALL, 2, course),
     }
 }
 
@@ -107,17 +107,23 @@ fn told_anew<R: Wait>(rt: &R, alloc: Global, course: &Course) -> Option<bool> {
 // the next version.
 #[test]
 fn refused_growth(rt: HostRuntime) {
-    assert_eq!(rt; told_anew(&rt, rt.alloc(), &Course::UpdateAnew), Some(true));
+    assert_eq!(rt;
+        answered_anew(&rt, rt.alloc(), &Course::UpdateAnew),
+        Some(true)
+    );
 }
 
 // If any one allocation fails, queries are answered as before: they allocate nothing.
 #[test]
 fn answers_at_once_where_memory_is_refused(rt: HostRuntime) {
-    assert_eq!(rt; told_anew(&rt, rt.alloc(), &Course::TwoQueries), Some(true));
+    assert_eq!(rt;
+        answered_anew(&rt, rt.alloc(), &Course::TwoQueries),
+        Some(true)
+    );
 }
 
 // The same if all allocations fail from some point on: once a zone is in its cell, its queries are answered.
 #[test]
 fn answers_at_once_where_memory_is_refused_ever_after(rt: HostRuntime) {
-    assert!(rt; told(&rt, rt.alloc(), ALL, 2, &Course::TwoQueries) != Some(false));
+    assert!(rt; outcome(&rt, rt.alloc(), ALL, 2, &Course::TwoQueries) != Some(false));
 }

@@ -56,7 +56,7 @@ const TAKEN: Row = Row {
     written: "\
 000c4321a8000000000000000000000c4321a8000000000000000000000c4321a8000000000000000000000c4321a8000000000000000000000c4321a8000000000000000000\
 000c4321a8000000000000000000000c4321a8000000000000000000000c4321a8000000000000000000000c4321a8000000000000000000000c4321a8000000000000000000",
-    told: "\
+    outcome: "\
 update from 192.0.2.7:4711: NOERROR, serial 1 to 2;\
 update from 192.0.2.7:4711: NOERROR, serial 2 to 3;\
 update from 192.0.2.7:4711: NOERROR, serial 3 to 4;\
@@ -103,8 +103,8 @@ fn written<R: Wait, Z: FirstZone, N: ServerName>(
     server: &Server<'_, Z, N>,
     readers: &mut Vec<VersionReader<N>>,
 ) -> Option<Vec<u8>> {
-    let (_end, tape) = streams::serve(rt, alloc, server, readers, &CHANGES, &NoLog, &OpenGate)?;
-    tape.written().to_vec(alloc).ok()
+    let (_end, stream) = streams::serve(rt, alloc, server, readers, &CHANGES, &NoLog, &OpenGate)?;
+    stream.written().to_vec(alloc).ok()
 }
 
 /// The response codes of updates.
@@ -251,7 +251,7 @@ fn written_after<R: Wait + Abort>(rt: &R, alloc: Global, journal: &[u8], updates
 // serial 3, the SOAs that start and end the reply, and three records for each of eight versions; 4190 octets for all clients. A client that is
 // nine versions behind gets a full transfer from the next server: two SOAs, NS, the address of its host, and ten addresses at `new`.
 #[test]
-fn what_changed_is_told_after_a_restart(rt: HostRuntime) {
+fn what_changed_is_sent_after_a_restart(rt: HostRuntime) {
     let alloc = rt.alloc();
     let none = journal_of(alloc, &[HEAD]).expect(&rt, "memory");
     let all = journal_of(alloc, &[HEAD, LEAD, UPDATES, SUM]).expect(&rt, "memory");

@@ -1,5 +1,5 @@
 //! Tests over a running server, whose cell starts with the zone of five RRsets.
-use crate::{gone_versions, orders, refused_updates, slots, streams, trays};
+use crate::{datagrams, gone_versions, orders, refused_updates, slots, streams};
 use dns_engine::{FirstZone, KEPT, VersionCell, VersionPublisher, VersionReader};
 use memory_devices::{Play, Played, is_played_by, zone};
 use std::alloc::Global;
@@ -12,7 +12,7 @@ pub(crate) enum Course {
     /// The stream of a row.
     Stream(streams::Row),
     /// The datagrams of a row.
-    Datagrams(trays::Row),
+    Datagrams(datagrams::Row),
     /// The tests of `gone_versions`, `orders` and `slots`.
     OwnedAWhile,
     FourUpdates,
@@ -33,7 +33,7 @@ impl Course {
     ) -> Option<bool> {
         match self {
             Course::Stream(row) => streams::go(rt, alloc, server, readers, row),
-            Course::Datagrams(row) => trays::go(rt, alloc, server, readers, row),
+            Course::Datagrams(row) => datagrams::go(rt, alloc, server, readers, row),
             Course::OwnedAWhile => gone_versions::go(rt, alloc, server, readers),
             Course::FourUpdates => orders::go(rt, alloc, server, readers),
             Course::AllSlots => slots::go(rt, alloc, server, readers),
@@ -62,24 +62,24 @@ impl Play for Served {
     ) -> Played<Z, N> {
         let Some(reader) = readers.pop() else {
             return Played {
-                told: None,
+                outcome: None,
                 publisher,
                 readers,
             };
         };
-        let (told, publisher, reader) = match Server::new(
+        let (outcome, publisher, reader) = match Server::new(
             alloc, cell, publisher, reader, self.keep, ledgers,
         ) {
             Ok(server) => {
-                let told = self.course.go(rt, alloc, &server, &mut readers);
+                let outcome = self.course.go(rt, alloc, &server, &mut readers);
                 let (publisher, reader) = server.finish();
-                (told, publisher, reader)
+                (outcome, publisher, reader)
             }
             Err(refused) => (None, refused.publisher, refused.reader),
         };
         let _ = readers.push(reader);
         Played {
-            told,
+            outcome,
             publisher,
             readers,
         }
@@ -88,7 +88,7 @@ impl Play for Served {
 
 /// Whether a test passes over a server that keeps `keep` versions besides the last, where each reader has `grants` grants. None if memory
 /// allocation fails or there is no server.
-pub(crate) fn told<R: Wait>(
+pub(crate) fn outcome<R: Wait>(
     rt: &R,
     alloc: Global,
     grants: u64,
@@ -113,7 +113,7 @@ pub(crate) fn first_wrong<R: Wait>(
 ) -> Option<usize> {
     let mut at = 0usize;
     for course in courses {
-        if told(rt, alloc, grants, KEPT, course) != Some(true) {
+        if outcome(rt, alloc, grants, KEPT, course) != Some(true) {
             return Some(at);
         }
         at = at.wrapping_add(1);

@@ -70,13 +70,13 @@ fn ends(rt: HostRuntime) -> Result<(), Fail> {
             "secondary 192.0.2.7:53 answers NOTIFY again",
         ),
         (
-            Event::Untold {
+            Event::Unlogged {
                 end: JobEnd::Done(3),
             },
             "notify thread exited: 3 NOTIFYs sent",
         ),
         (
-            Event::Untold { end: JobEnd::Spent },
+            Event::Unlogged { end: JobEnd::Spent },
             "notify thread exited: no version could be loaded",
         ),
     ];

@@ -1,5 +1,5 @@
 //! Slots that are used up: the replies to updates then, and that the published versions stay.
-use crate::served::{Course, told};
+use crate::served::{Course, outcome};
 use crate::streams::ALL;
 use dns_engine::{FirstZone, VersionOwner, VersionReader};
 use dns_message::{Parsed, Update, parse};
@@ -75,12 +75,12 @@ pub(crate) fn go<R: Wait, Z: FirstZone, N: ServerName>(
 ) -> Option<bool> {
     let mut reader = readers.pop()?;
     let held = hold_all(rt, alloc, server, &mut reader);
-    let told = match held {
+    let outcome = match held {
         Some(owners) => goes_on(rt, alloc, server, &mut reader, owners),
         None => None,
     };
     let _ = readers.push(reader);
-    told
+    outcome
 }
 
 /// The replies to one more update, while all versions have owners and after each release. Returns whether they are as expected.
@@ -106,7 +106,7 @@ fn goes_on<R: Wait, Z: FirstZone, N: ServerName>(
 #[test]
 fn no_slot_until_a_version_is_let_go(rt: HostRuntime) {
     assert_eq!(rt;
-        told(&rt, rt.alloc(), ALL, 0, &Course::AllSlots),
+        outcome(&rt, rt.alloc(), ALL, 0, &Course::AllSlots),
         Some(true)
     );
 }

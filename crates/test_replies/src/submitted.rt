@@ -126,22 +126,24 @@ impl Play for Submitting {
     ) -> Played<Z, N> {
         let Some(reader) = readers.pop() else {
             return Played {
-                told: None,
+                outcome: None,
                 publisher,
                 readers,
             };
         };
-        let (told, publisher, reader) = match server_of(alloc, cell, publisher, reader, ledgers) {
+        let (outcome, publisher, reader) = match server_of(
+            alloc, cell, publisher, reader, ledgers,
+        ) {
             Ok(server) => {
-                let told = is_submitted(rt, alloc, &server, &mut readers);
+                let outcome = is_submitted(rt, alloc, &server, &mut readers);
                 let (publisher, reader) = server.finish();
-                (told, publisher, reader)
+                (outcome, publisher, reader)
             }
             Err(refused) => (None, refused.publisher, refused.reader),
         };
         let _ = readers.push(reader);
         Played {
-            told,
+            outcome,
             publisher,
             readers,
         }

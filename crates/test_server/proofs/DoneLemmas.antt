@@ -31,7 +31,7 @@ servfail_done first published version latest replayed done code none least = rec
   replayed = replayed;
   least = least;
   here = record { before = latest.before; newer = []; history = latest.history; place = latest.ends ∙ sym (append-nil (latest.before ++ version ∷ [])); number = latest.number };
-  told = inr code;
+  reported = inr code;
   own = subst (λ (o : Option Serials). AreOwn version done.asked.update done.code o) (sym none) (λ same. not_done (sym code ∙ same));
 }
 

@@ -136,8 +136,8 @@ fn has_both<R: Wait, Z: FirstZone, N: ServerName>(
     reader: &mut VersionReader<N>,
 ) -> bool {
     state.meet(reader);
-    let told = state.chain(Serial(7), 2, reader);
-    let Ok(chain) = VersionChain::of(rt, told) else {
+    let outcome = state.chain(Serial(7), 2, reader);
+    let Ok(chain) = VersionChain::of(rt, outcome) else {
         return false;
     };
     let serial_at = |at: usize| chain.version(at).map(|version| version.serial().0);
@@ -191,10 +191,10 @@ impl Play for InOrder {
         readers: Vec<VersionReader<N>>,
         ledgers: ServerLedgers,
     ) -> Played<Z, N> {
-        match TestState::begin(alloc, cell, publisher, readers, ledgers) {
+        match TestState::make(alloc, cell, publisher, readers, ledgers) {
             Ok((mut test, mut right, mut reader)) => {
-                let told = self.run(rt, alloc, &mut test.state, &mut right, &mut reader);
-                test.end(reader, told)
+                let outcome = self.run(rt, alloc, &mut test.state, &mut right, &mut reader);
+                test.end(reader, outcome)
             }
             Err(played) => played,
         }

@@ -40,10 +40,10 @@ impl Play for Tickets {
         readers: Vec<VersionReader<N>>,
         ledgers: ServerLedgers,
     ) -> Played<Z, N> {
-        match TestState::begin(alloc, cell, publisher, readers, ledgers) {
+        match TestState::make(alloc, cell, publisher, readers, ledgers) {
             Ok((mut test, _right, reader)) => {
-                let told = self.run(alloc, &mut test.state);
-                test.end(reader, told)
+                let outcome = self.run(alloc, &mut test.state);
+                test.end(reader, outcome)
             }
             Err(played) => played,
         }

@@ -40,10 +40,10 @@ impl Play for NoRoom {
         readers: Vec<VersionReader<N>>,
         ledgers: ServerLedgers,
     ) -> Played<Z, N> {
-        match TestState::begin(alloc, cell, publisher, readers, ledgers) {
+        match TestState::make(alloc, cell, publisher, readers, ledgers) {
             Ok((mut test, mut right, mut reader)) => {
-                let told = self.run(rt, alloc, &mut test.state, &mut right, &mut reader);
-                test.end(reader, told)
+                let outcome = self.run(rt, alloc, &mut test.state, &mut right, &mut reader);
+                test.end(reader, outcome)
             }
             Err(played) => played,
         }
@@ -100,10 +100,10 @@ impl Play for OneByOne {
         readers: Vec<VersionReader<N>>,
         ledgers: ServerLedgers,
     ) -> Played<Z, N> {
-        match TestState::begin(alloc, cell, publisher, readers, ledgers) {
+        match TestState::make(alloc, cell, publisher, readers, ledgers) {
             Ok((mut test, right, mut reader)) => {
-                let told = self.run(rt, alloc, &mut test.state, right, &mut reader);
-                test.end(reader, told)
+                let outcome = self.run(rt, alloc, &mut test.state, right, &mut reader);
+                test.end(reader, outcome)
             }
             Err(played) => played,
         }

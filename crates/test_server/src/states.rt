@@ -28,7 +28,7 @@ pub(crate) type NewState<'a, Z, N> = (TestState<'a, Z, N>, PublishRight<N>, Vers
 impl<'a, Z: FirstZone, N: ServerName> TestState<'a, Z, N> {
     /// Makes the server state of a cell, with the right to publish in it, and one more reader. Where there is no server state, the test's
     /// result is None, with the publisher and the readers.
-    pub fn begin(
+    pub fn make(
         alloc: Global,
         cell: &'a VersionCell<Z, N>,
         publisher: VersionPublisher<Z, N>,
@@ -60,13 +60,13 @@ impl<'a, Z: FirstZone, N: ServerName> TestState<'a, Z, N> {
     }
 
     /// The result of a test, with the publisher and all readers.
-    pub fn end(self, reader: VersionReader<N>, told: Option<bool>) -> Played<Z, N> {
+    pub fn end(self, reader: VersionReader<N>, outcome: Option<bool>) -> Played<Z, N> {
         let TestState { state, mut readers } = self;
         let (publisher, own) = state.into_engine().finish();
         let _ = readers.push(reader);
         let _ = readers.push(own);
         Played {
-            told,
+            outcome,
             publisher,
             readers,
         }
@@ -79,7 +79,7 @@ fn not_played<Z: FirstZone, N: ServerName>(
     readers: Vec<VersionReader<N>>,
 ) -> Played<Z, N> {
     Played {
-        told: None,
+        outcome: None,
         publisher,
         readers,
     }

@@ -69,7 +69,7 @@ fn fates_of(alloc: Global, random: &mut Random) -> Result<Vec<u8>, AllocError> {
 /// it.
 #[derive(Drop)]
 struct Sent {
-    told: Vec<u8>,
+    outcome: Vec<u8>,
     refused: Vec<u8>,
 }
 
@@ -97,7 +97,7 @@ fn append(
     }
     match log.append(alloc, &batch) {
         Ok(()) => {
-            sent.told.extend_from_slice(&batch)?;
+            sent.outcome.extend_from_slice(&batch)?;
             sent.refused.clear();
         }
         Err(LogFault::Disk(_)) => sent.refused = batch,
@@ -122,9 +122,10 @@ fn crashed(
 /// Whether these are the updates that were reported to be on the disk, and after them none, or the whole batch that the disk refused last.
 fn is_sent(alloc: Global, found: &Recovered<'_>, sent: &Sent) -> Result<bool, AllocError> {
     let updates = batch_of(alloc, &found.updates)?;
-    Ok(match updates.split_at_checked(sent.told.len()) {
-        Some((told, rest)) => {
-            told == sent.told.as_slice() && (rest.is_empty() || rest == sent.refused.as_slice())
+    Ok(match updates.split_at_checked(sent.outcome.len()) {
+        Some((outcome, rest)) => {
+            outcome == sent.outcome.as_slice()
+                && (rest.is_empty() || rest == sent.refused.as_slice())
         }
         None => false,
     })
@@ -139,7 +140,7 @@ fn crashes_once(alloc: Global, seed: u64) -> Result<bool, AllocError> {
         return Ok(true);
     };
     let mut sent = Sent {
-        told: Vec::new(alloc),
+        outcome: Vec::new(alloc),
         refused: Vec::new(alloc),
     };
     let image = crashed(alloc, &mut random, &mut log, &mut sent)?;
@@ -159,7 +160,7 @@ fn goes_on(
     found: &Recovered<'_>,
 ) -> Result<bool, AllocError> {
     let mut sent = Sent {
-        told: batch_of(alloc, &found.updates)?,
+        outcome: batch_of(alloc, &found.updates)?,
         refused: Vec::new(alloc),
     };
     let disk = MemoryDisk::of(alloc, image)?;

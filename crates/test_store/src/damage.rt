@@ -1,6 +1,6 @@
 //! Journals with flipped bits, journals that are cut short, and journals whose frames are out of place.
 use crate::journals::{
-    BATCHES, END, FIRST, Found, HEAD, LAST, bad_head, journal_of, recovers, told,
+    BATCHES, END, FIRST, Found, HEAD, LAST, bad_head, journal_of, outcome, recovers,
 };
 use journal::{HeadFault, Refused};
 use std::alloc::{AllocError, Global};
@@ -29,7 +29,7 @@ fn first_wrong_turn(alloc: Global, octets: &mut [u8]) -> Option<usize> {
     for at in 0..END {
         for bits in [1, 2, 4, 8, 16, 32, 64, 128, 255] {
             turn(octets, at, bits);
-            if told(alloc, octets) != of_turned(at) {
+            if outcome(alloc, octets) != of_turned(at) {
                 return Some(at);
             }
             turn(octets, at, bits);
@@ -60,7 +60,7 @@ fn of_cut(len: usize) -> Result<Found, Refused> {
 /// The first length of the journal for which the result is another one.
 fn first_wrong_cut(alloc: Global, octets: &[u8]) -> Option<usize> {
     for len in 0..=octets.len() {
-        if told(alloc, &octets[..len]) != of_cut(len) {
+        if outcome(alloc, &octets[..len]) != of_cut(len) {
             return Some(len);
         }
     }
@@ -101,7 +101,7 @@ fn told_of(alloc: Global, parts: &[&[u8]]) -> Result<Found, Refused> {
     for part in parts {
         octets.extend_from_slice(part)?;
     }
-    told(alloc, &octets)
+    outcome(alloc, &octets)
 }
 
 /// The index of the first case with another result. Zeros after the last batch are no damage, and other octets after it are torn. A batch that

@@ -1,5 +1,5 @@
 //! The content of a head and of frames, as built by another program, whose sums are those of sha256sum.
-use crate::journals::{BATCHES, END, bad_head, journal_of, recovers, salt, told};
+use crate::journals::{BATCHES, END, bad_head, journal_of, outcome, recovers, salt};
 use journal::{
     HeadFault, Refused, put_update, read_all, read_frame, read_head, recover, write_frame,
 };
@@ -53,7 +53,7 @@ fn as_by_hand(rt: HostRuntime) -> Result<(), Fail> {
     let octets = journal_of(rt.alloc(), &BATCHES)?;
     assert_eq!(rt; octets.as_slice(), hand.as_slice());
     assert_eq!(rt; numbers_in(&hand), Some([3, 7, 57, 15]));
-    assert_eq!(rt; told(rt.alloc(), &hand), recovers(3, END, false));
+    assert_eq!(rt; outcome(rt.alloc(), &hand), recovers(3, END, false));
     Ok(())
 }
 
@@ -100,9 +100,9 @@ fn refused_by_name(rt: HostRuntime) -> Result<(), AllocError> {
     let other = recover(rt.alloc(), b"other", &octets);
     assert!(rt; matches!(&other, Err(Refused::OtherText)));
     let refused = [
-        told(rt.alloc(), &octets),
-        told(rt.alloc(), &[0; 200]),
-        told(rt.alloc(), b"dnsd journal, 2\n"),
+        outcome(rt.alloc(), &octets),
+        outcome(rt.alloc(), &[0; 200]),
+        outcome(rt.alloc(), b"dnsd journal, 2\n"),
     ];
     let wanted = [
         Err(Refused::NoBatch(3)),
@@ -117,7 +117,7 @@ fn refused_by_name(rt: HostRuntime) -> Result<(), AllocError> {
 #[test]
 fn memory_is_refused(rt: HostRuntime) {
     if let Ok(octets) = journal_of(rt.alloc(), &BATCHES) {
-        let told = told(rt.alloc(), &octets);
-        assert!(rt; told == recovers(3, END, false) || told == Err(Refused::NoMemory));
+        let outcome = outcome(rt.alloc(), &octets);
+        assert!(rt; outcome == recovers(3, END, false) || outcome == Err(Refused::NoMemory));
     }
 }

@@ -9,7 +9,7 @@ use store_files::open_store;
 struct Case {
     files: &'static [(&'static str, &'static [u8])],
     opened: &'static [u8],
-    told: &'static [u8],
+    outcome: &'static [u8],
 }
 
 /// Directories without a journal, also with the files of a pair that a crash interrupted, and with texts whose journal is lost; and one whose
@@ -18,27 +18,27 @@ const CASES: [Case; 5] = [
     Case {
         files: &[],
         opened: b"empty",
-        told: b"not there",
+        outcome: b"not there",
     },
     Case {
         files: &[("journal.new", b"half")],
         opened: b"empty",
-        told: b"not there",
+        outcome: b"not there",
     },
     Case {
         files: &[("zone-0", b"half of a text"), ("journal.new", b"half")],
         opened: b"no journal 0",
-        told: b"not there",
+        outcome: b"not there",
     },
     Case {
         files: &[("zone-9", b"a text"), ("zone-10", b"a text")],
         opened: b"no other journal",
-        told: b"not there",
+        outcome: b"not there",
     },
     Case {
         files: &[("zone-0", b"a text"), ("journal", b"no head")],
         opened: b"no head",
-        told: b"no head",
+        outcome: b"no head",
     },
 ];
 
@@ -59,8 +59,8 @@ fn what_is_found(rt: HostRuntime) -> Result<(), Fail> {
     let dir = "test_store_found";
     for (at, case) in CASES.iter().enumerate() {
         lay(&rt, dir, case.files)?;
-        let (told, opened) = (read(&rt, dir)?, found(&rt, dir)?);
-        let right = told.as_slice() == case.told && opened.as_slice() == case.opened;
+        let (outcome, opened) = (read(&rt, dir)?, found(&rt, dir)?);
+        let right = outcome.as_slice() == case.outcome && opened.as_slice() == case.opened;
         assert!(rt; right, "folder {at}");
     }
     put_pair(&rt, dir, 3, b"a text")?;
@@ -78,17 +78,17 @@ fn one_holds_a_store(rt: HostRuntime) -> Result<(), Fail> {
     let dir = "test_store_held";
     make_folder(&rt, dir)?;
     let first = open_store(&rt, rt.alloc(), dir)?;
-    let mut told = found(&rt, dir)?;
+    let mut outcome = found(&rt, dir)?;
     put_pair(&rt, dir, 0, b"a text")?;
-    told.extend_from_slice(&found(&rt, dir)?)?;
-    told.extend_from_slice(&read(&rt, dir)?)?;
+    outcome.extend_from_slice(&found(&rt, dir)?)?;
+    outcome.extend_from_slice(&read(&rt, dir)?)?;
     drop(first);
-    told.extend_from_slice(&found(&rt, dir)?)?;
+    outcome.extend_from_slice(&found(&rt, dir)?)?;
     let pair = pair_of(rt.alloc(), 0, b"a text")?;
     let mut right = b"lockedlocked".to_vec(rt.alloc())?;
     right.extend_from_slice(&pair)?;
     right.extend_from_slice(&pair)?;
-    assert_eq!(rt; told, right);
+    assert_eq!(rt; outcome, right);
     fs::remove_dir_all(&rt, dir)?;
     Ok(())
 }

@@ -124,7 +124,7 @@ pub(crate) fn recovers(number: u64, end: usize, torn: bool) -> Result<Found, Ref
 }
 
 /// The result of a start from octets.
-pub(crate) fn told(alloc: Global, octets: &[u8]) -> Result<Found, Refused> {
+pub(crate) fn outcome(alloc: Global, octets: &[u8]) -> Result<Found, Refused> {
     let found = recovered(alloc, octets)?;
     Ok(Found {
         batches: batches_in(&found.updates),

@@ -14,7 +14,7 @@ fn leave_half(rt: &HostRuntime, dir: &str, number: u64) -> Result<(), Fail> {
 }
 
 /// Creates the first store of a directory, with a text. Returns its zone text followed by its journal, as they are found.
-fn begin_first(rt: &HostRuntime, dir: &str, text: &[u8]) -> Result<Vec<u8>, Fail> {
+fn create_first(rt: &HostRuntime, dir: &str, text: &[u8]) -> Result<Vec<u8>, Fail> {
     let (journal, _) = begun(rt.alloc(), 0, text)?;
     match begin_pair(rt, rt.alloc(), dir, text, &journal) {
         Ok(_) => Ok(found(rt, dir)?),
@@ -36,7 +36,7 @@ fn a_first_pair_is_begun(rt: HostRuntime) -> Result<(), Fail> {
         }
         assert_eq!(rt; found(&rt, dir)?.as_slice(), b"empty".as_slice());
         assert_eq!(rt;
-            begin_first(&rt, dir, b"first")?,
+            create_first(&rt, dir, b"first")?,
             pair_of(rt.alloc(), 0, b"first")?
         );
         assert!(rt; !fs::exists(&rt, "test_store_first/journal.new")?);
@@ -52,7 +52,7 @@ fn a_first_pair_is_begun(rt: HostRuntime) -> Result<(), Fail> {
 fn pairs_are_found(rt: HostRuntime) -> Result<(), Fail> {
     let dir = "test_store_pairs";
     make_folder(&rt, dir)?;
-    let mut before = begin_first(&rt, dir, b"first")?;
+    let mut before = create_first(&rt, dir, b"first")?;
     for (number, text) in [(1, b"second".as_slice()), (2, b"")] {
         leave_half(&rt, dir, number)?;
         let is_before = found(&rt, dir)? == before;
@@ -67,8 +67,8 @@ fn pairs_are_found(rt: HostRuntime) -> Result<(), Fail> {
     assert!(rt; !fs::exists(&rt, "test_store_pairs/journal.new")?);
     fs::create_dir(&rt, "test_store_pairs/zone-3")?;
     let (journal, _) = begun(rt.alloc(), 3, b"fourth")?;
-    let told = write_pair(&rt, rt.alloc(), dir, 3, b"fourth", &journal);
-    assert!(rt; matches!(told, Err(PairFault::Before(_))) && found(&rt, dir)? == before);
+    let outcome = write_pair(&rt, rt.alloc(), dir, 3, b"fourth", &journal);
+    assert!(rt; matches!(outcome, Err(PairFault::Before(_))) && found(&rt, dir)? == before);
     fs::remove_dir_all(&rt, dir)?;
     Ok(())
 }
@@ -80,18 +80,18 @@ fn journals_are_in_place(rt: HostRuntime) -> Result<(), Fail> {
     let dir = "test_store_place";
     make_folder(&rt, dir)?;
     let journal = put_pair(&rt, dir, 1, b"a text")?;
-    let mut told = Vec::new(rt.alloc());
-    told.push(is_in_place(&rt, rt.alloc(), dir, &journal)?)?;
+    let mut outcome = Vec::new(rt.alloc());
+    outcome.push(is_in_place(&rt, rt.alloc(), dir, &journal)?)?;
     fs::rename(&rt, "test_store_place/journal", "test_store_place/moved")?;
-    told.push(is_in_place(&rt, rt.alloc(), dir, &journal)?)?;
+    outcome.push(is_in_place(&rt, rt.alloc(), dir, &journal)?)?;
     fs::copy(&rt, "test_store_place/moved", "test_store_place/journal")?;
-    told.push(is_in_place(&rt, rt.alloc(), dir, &journal)?)?;
+    outcome.push(is_in_place(&rt, rt.alloc(), dir, &journal)?)?;
     fs::rename(&rt, "test_store_place/moved", "test_store_place/journal")?;
-    told.push(is_in_place(&rt, rt.alloc(), dir, &journal)?)?;
+    outcome.push(is_in_place(&rt, rt.alloc(), dir, &journal)?)?;
     fs::remove_dir_all(&rt, dir)?;
-    told.push(is_in_place(&rt, rt.alloc(), dir, &journal)?)?;
+    outcome.push(is_in_place(&rt, rt.alloc(), dir, &journal)?)?;
     assert_eq!(rt;
-        told.as_slice(),
+        outcome.as_slice(),
         [true, false, false, true, false].as_slice()
     );
     Ok(())

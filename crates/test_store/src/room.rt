@@ -32,22 +32,22 @@ fn batches_stand_in_room(rt: HostRuntime) -> Result<(), Fail> {
     let alloc = rt.alloc();
     let dir = "test_store_room";
     let (mut log, salt) = begun_log(&rt, dir)?;
-    let mut told = Vec::new(alloc);
+    let mut outcome = Vec::new(alloc);
     for len in [9, 11, 65_000, 600] {
         append(alloc, &mut log, &vec![in alloc; b'x'; len]?)?;
         let (_, journal) = read_store(&rt, alloc, dir)?;
-        told.push(batches_and_zeros(alloc, &salt, &journal)?)?;
+        outcome.push(batches_and_zeros(alloc, &salt, &journal)?)?;
     }
     drop(log);
     let OpenedFolder::Found(_, pair) = open_store(&rt, alloc, dir)? else {
         return Err(Fail::from("no pair is found"));
     };
-    told.push(batches_and_zeros(alloc, &salt, &pair.journal)?)?;
+    outcome.push(batches_and_zeros(alloc, &salt, &pair.journal)?)?;
     // The head and four frames, each with 54 octets more than its update.
     let mut next = Log::resume(pair.disk, &salt, 4, 156 + 4 * 54 + 65_620)?;
     for _ in 0..2 {
         let journal = fs::read(&rt, "test_store_room/journal")?;
-        told.push(batches_and_zeros(alloc, &salt, &journal)?)?;
+        outcome.push(batches_and_zeros(alloc, &salt, &journal)?)?;
         append(alloc, &mut next, b"an update")?;
     }
     let right = [
@@ -59,7 +59,7 @@ fn batches_stand_in_room(rt: HostRuntime) -> Result<(), Fail> {
         (4, 0),
         (5, 65_536),
     ];
-    assert_eq!(rt; told.as_slice(), right.as_slice());
+    assert_eq!(rt; outcome.as_slice(), right.as_slice());
     fs::remove_dir_all(&rt, dir)?;
     Ok(())
 }
@@ -152,15 +152,15 @@ fn a_store_is_read_beside_an_append(rt: HostRuntime) -> Result<(), Fail> {
         salt,
         number: AtomicU64::new(1),
     };
-    let mut told = Vec::new(alloc);
+    let mut outcome = Vec::new(alloc);
     for _ in 0..3 {
         let (text, journal) = read_store(&beside, alloc, dir)?;
         if text.as_slice() == b"a text".as_slice() {
-            told.push(batches_and_zeros(alloc, &salt, &journal)?)?;
+            outcome.push(batches_and_zeros(alloc, &salt, &journal)?)?;
         }
     }
     assert_eq!(rt;
-        told.as_slice(),
+        outcome.as_slice(),
         [(1, 65_536), (2, 65_473), (3, 65_410)].as_slice()
     );
     fs::remove_dir_all(&rt, dir)?;

@@ -1,5 +1,7 @@
 //! Logs that stop, and continue with another journal.
-use crate::journals::{BATCHES, END, FIRST, batch_of, empty_log, journal_of, recovers, salt, told};
+use crate::journals::{
+    BATCHES, END, FIRST, batch_of, empty_log, journal_of, outcome, recovers, salt,
+};
 use journal::{Log, LogFault};
 use memory_devices::MemoryDisk;
 use std::alloc::{AllocError, Global};
@@ -29,7 +31,7 @@ fn stopped(rt: HostRuntime) -> Result<(), Fail> {
     let is_stuck = matches!(log.append(alloc, b""), Err(LogFault::Stuck));
     assert_eq!(rt; [first, log.is_stuck(), is_stuck], [true; 3]);
     let image = log.disk().crashed(alloc, b"")?;
-    assert_eq!(rt; told(alloc, &image), recovers(1, FIRST, false));
+    assert_eq!(rt; outcome(alloc, &image), recovers(1, FIRST, false));
     Ok(())
 }
 
@@ -48,6 +50,6 @@ fn switched(rt: HostRuntime) -> Result<(), Fail> {
     let image = log.disk().crashed(alloc, b"")?;
     let whole = journal_of(alloc, &BATCHES)?;
     assert_eq!(rt; image.as_slice(), whole.as_slice());
-    assert_eq!(rt; told(alloc, &image), recovers(3, END, false));
+    assert_eq!(rt; outcome(alloc, &image), recovers(3, END, false));
     Ok(())
 }

@@ -16,7 +16,7 @@ use std::time::{Clock, Duration};
 const UPDATE: &[u8] =
     b"\x28\x00\x00\x01\x00\x00\x00\x01\x00\x00\x07example\x04test\x00\x00\x06\x00\x01\x04host\xc0\x0c\x00\x01\x00\x01\x00\x00\x00\x3c\x00\x04\xc0\x00\x02\x07";
 
-const TOLD: &[u8] = b"\xa8\x00\x00\x00\x00\x00\x00\x00\x00\x00";
+const ANSWERED: &[u8] = b"\xa8\x00\x00\x00\x00\x00\x00\x00\x00\x00";
 
 /// The query for that address, and its reply (RFC 1035, 4.1).
 const HOST_QUERY: &[u8] =
@@ -72,7 +72,7 @@ const LATER: Exchange = Exchange {
 const ADDS: Exchange = Exchange {
     id: 7,
     message: UPDATE,
-    reply: TOLD,
+    reply: ANSWERED,
 };
 
 const ADDED: Exchange = Exchange {
@@ -215,7 +215,7 @@ fn has_replies<S: Read>(alloc: Global, client: &mut S, stream: &[Exchange]) -> i
 
 /// Whether the first requests of a case are answered, and then the others, which are sent in any case. The case is given by its index, which
 /// can be moved into a thread.
-fn are_told(alloc: Global, client: &UdpSocket, at: usize) -> bool {
+fn are_answered(alloc: Global, client: &UdpSocket, at: usize) -> bool {
     let Some(case) = CASES.get(at) else {
         return false;
     };
@@ -261,9 +261,9 @@ fn is_answered<R: Net + Threads + Wait + Clock + Sync>(
     let client = client_of(rt, &own.0)?;
     ask(alloc, &client, case.datagrams[0])?;
     let connection = connection_of(rt, alloc, &own.1, case.stream)?;
-    let asking = thread::spawn(rt, move || are_told(alloc, &client, at))?;
+    let asking = thread::spawn(rt, move || are_answered(alloc, &client, at))?;
     let is_served = is_served(rt, alloc, case, own)?;
-    let are_told = asking.join(rt);
+    let are_answered = asking.join(rt);
     let has_replies = match connection {
         Some(client) => {
             let mut client = client;
@@ -271,7 +271,7 @@ fn is_answered<R: Net + Threads + Wait + Clock + Sync>(
         }
         None => true,
     };
-    Ok(is_served && are_told && has_replies)
+    Ok(is_served && are_answered && has_replies)
 }
 
 #[test]

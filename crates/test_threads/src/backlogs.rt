@@ -1,12 +1,12 @@
 //! Lines that wait, and those that find no room.
-use log_lines::{Backlog, Told};
+use log_lines::{Backlog, NextLine};
 use std::alloc::Global;
 use std::test::Fail;
 
 /// Whether this is told: how many lines were lost, and a line.
-fn is_told(told: Option<Told<u8>>, lost: u64, line: Option<u8>) -> bool {
-    match told {
-        Some(told) => told.lost == lost && told.line == line,
+fn is_next(next: Option<NextLine<u8>>, lost: u64, line: Option<u8>) -> bool {
+    match next {
+        Some(next) => next.lost == lost && next.line == line,
         None => false,
     }
 }
@@ -20,10 +20,10 @@ fn lines_in_order(rt: HostRuntime) -> Result<(), Fail> {
     backlog.add(7);
     backlog.add(8);
     assert!(rt; !backlog.is_empty());
-    assert!(rt; is_told(backlog.take(), 0, Some(7)));
+    assert!(rt; is_next(backlog.take(), 0, Some(7)));
     backlog.add(9);
-    assert!(rt; is_told(backlog.take(), 0, Some(8)));
-    assert!(rt; is_told(backlog.take(), 0, Some(9)));
+    assert!(rt; is_next(backlog.take(), 0, Some(8)));
+    assert!(rt; is_next(backlog.take(), 0, Some(9)));
     assert!(rt; backlog.is_empty() && backlog.take().is_none());
     Ok(())
 }
@@ -36,12 +36,12 @@ fn lost_lines_are_counted(rt: HostRuntime) -> Result<(), Fail> {
     for line in 0u8..5 {
         backlog.add(line);
     }
-    assert!(rt; is_told(backlog.take(), 0, Some(0)));
+    assert!(rt; is_next(backlog.take(), 0, Some(0)));
     backlog.add(5);
     backlog.add(6);
-    assert!(rt; is_told(backlog.take(), 0, Some(1)));
-    assert!(rt; is_told(backlog.take(), 3, Some(5)));
-    assert!(rt; !backlog.is_empty() && is_told(backlog.take(), 1, None));
+    assert!(rt; is_next(backlog.take(), 0, Some(1)));
+    assert!(rt; is_next(backlog.take(), 3, Some(5)));
+    assert!(rt; !backlog.is_empty() && is_next(backlog.take(), 1, None));
     assert!(rt; backlog.is_empty() && backlog.take().is_none());
     Ok(())
 }

@@ -157,7 +157,7 @@ pub(crate) fn served<R: Net + Threads + Wait + Clock + Sync>(
         return None;
     };
     let later = Vec::new(alloc);
-    let handing = UpdateConfig {
+    let config = UpdateConfig {
         most: Most {
             items: 8,
             octets: 1 << 20,
@@ -168,7 +168,7 @@ pub(crate) fn served<R: Net + Threads + Wait + Clock + Sync>(
         sum: AtomicU64::new(0),
     };
     let end = serve_zone::<R, Brand, Summed, Nowhere>(
-        rt, alloc, first, later, duties, plan, handing, &log,
+        rt, alloc, first, later, duties, plan, config, &log,
     );
     Some(reason_of(end).saturating_add(log.sum.load(Ordering::SeqCst)))
 }

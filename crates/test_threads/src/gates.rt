@@ -80,8 +80,8 @@ struct BothJob<'g, 's, Z: FirstZone, N: ServerName> {
     gate: &'g HoldingGate,
     server: &'g Server<'s, Z, N>,
     reader: Option<VersionReader<N>>,
-    tape: Option<MemoryStream>,
-    tray: Option<MemoryDatagrams>,
+    stream: Option<MemoryStream>,
+    datagrams: Option<MemoryDatagrams>,
 }
 
 impl<'g, 's, Z: FirstZone + Send + Sync, N: ServerName + Send + Sync> Job
@@ -97,18 +97,18 @@ impl<'g, 's, Z: FirstZone + Send + Sync, N: ServerName + Send + Sync> Job
         let Some(reader) = self.reader.take() else {
             return;
         };
-        let Some(tape) = self.tape.take() else {
+        let Some(stream) = self.stream.take() else {
             return;
         };
-        let Some(tray) = self.tray.take() else {
+        let Some(datagrams) = self.datagrams.take() else {
             return;
         };
         let mut request = [0u8; 65_535];
         let mut reply = [0u8; 65_535];
-        let (_end, tray) = answer_datagrams(
+        let (_end, datagrams) = answer_datagrams(
             rt,
             handler,
-            tray,
+            datagrams,
             Allowed::new(&[]),
             1,
             gate,
@@ -128,32 +128,32 @@ impl<'g, 's, Z: FirstZone + Send + Sync, N: ServerName + Send + Sync> Job
         let entrance = Entrance { gate };
         let mut room = [0u8; 4_096];
         let mut out = [0u8; 65_535];
-        let (_end, tape) = answer_stream(
+        let (_end, stream) = answer_stream(
             rt,
             self.alloc,
             &mut replies,
-            tape,
+            stream,
             &entrance,
             &mut room,
             &mut out,
         );
         gate.leave();
         self.reader = Some(replies.into_reader());
-        self.tape = Some(tape);
-        self.tray = Some(tray);
+        self.stream = Some(stream);
+        self.datagrams = Some(datagrams);
     }
 }
 
 impl<Z: FirstZone, N: ServerName> BothJob<'_, '_, Z, N> {
     /// Whether the one datagram sent, which must go to the client that sent the request, and the stream have exactly the message of a frame.
     fn has(&self, frame: &[u8]) -> bool {
-        let (Some(tray), Some(tape)) = (&self.tray, &self.tape) else {
+        let (Some(datagrams), Some(stream)) = (&self.datagrams, &self.stream) else {
             return false;
         };
-        let [datagram] = tray.sent() else {
+        let [datagram] = datagrams.sent() else {
             return false;
         };
-        tape.written() == frame
+        stream.written() == frame
             && Some(datagram.octets()) == frame.get(2..)
             && datagram.address() == asker(4711)
     }
@@ -181,8 +181,8 @@ fn pairs_of<'g, 's, Z: FirstZone, N: ServerName>(
     let mut pairs = Vec::new(alloc);
     for number in 1..3u16 {
         let frame = frame_of(alloc, number, QUERY).ok()?;
-        let tray = Some(datagrams_of(alloc, &frame)?);
-        let tape = Some(MemoryStream::new(alloc, frame, ROOM, 1).ok()?);
+        let datagrams = Some(datagrams_of(alloc, &frame)?);
+        let stream = Some(MemoryStream::new(alloc, frame, ROOM, 1).ok()?);
         let reader = readers.pop();
         let job = BothJob {
             number,
@@ -190,8 +190,8 @@ fn pairs_of<'g, 's, Z: FirstZone, N: ServerName>(
             gate,
             server,
             reader,
-            tape,
-            tray,
+            stream,
+            datagrams,
         };
         pairs.push((readers.pop()?, job)).ok()?;
     }

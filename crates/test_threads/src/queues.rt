@@ -1,5 +1,5 @@
 //! A queue whose sink takes nothing for as long as a test says.
-use log_lines::{LogQueue, Sink, Told};
+use log_lines::{LogQueue, NextLine, Sink};
 use std::alloc::Global;
 use std::sync::{Mutex, Wait};
 use std::test::Fail;
@@ -16,7 +16,7 @@ const ADDED: u64 = 100;
 const LOOKS: u64 = 10_000_000;
 
 /// What a sink has taken, in its order.
-type Taken = Vec<Told<u64>>;
+type Taken = Vec<NextLine<u64>>;
 
 /// A sink that takes a line only while nobody holds `taken`.
 #[derive(Drop)]
@@ -25,8 +25,8 @@ struct GatedSink<'a> {
 }
 
 impl Sink<u64> for GatedSink<'_> {
-    fn put<R: Wait>(&mut self, rt: &R, told: Told<u64>) {
-        let _ = self.taken.lock(rt).push(told);
+    fn put<R: Wait>(&mut self, rt: &R, one: NextLine<u64>) {
+        let _ = self.taken.lock(rt).push(one);
     }
 
     fn idle(&mut self) -> Option<Duration> {
@@ -47,12 +47,12 @@ fn add_while_held<R: Wait + Clock>(rt: &R, queue: &LogQueue<u64>, taken: &Mutex<
 }
 
 /// How many lines were taken, where each line that was added was taken or is counted as lost at the place where it would stand.
-fn lines_taken(taken: &[Told<u64>]) -> Option<usize> {
+fn lines_taken(taken: &[NextLine<u64>]) -> Option<usize> {
     let mut next = 0u64;
     let mut lines = 0usize;
-    for told in taken {
-        next = next.saturating_add(told.lost);
-        let Some(line) = told.line else {
+    for one in taken {
+        next = next.saturating_add(one.lost);
+        let Some(line) = one.line else {
             continue;
         };
         if line != next {

@@ -149,7 +149,7 @@ struct Putting<'a> {
     peer: Peer,
     asker: usize,
     asked: u32,
-    told: &'a WakeList,
+    wake_list: &'a WakeList,
     tells: bool,
 }
 
@@ -181,7 +181,7 @@ impl Handler<Transfer> for Putting<'_> {
     ) -> Result<Reply<Transfer>, StreamEnd> {
         self.asked = self.asked.saturating_add(1);
         if self.tells && self.asked == 1 {
-            self.told.tell(rt, self.asker);
+            self.wake_list.tell(rt, self.asker);
         }
         Ok(Reply::Later)
     }
@@ -316,10 +316,10 @@ fn heard<'a>(
     job: ConnectionsJob<'a, Comer, Poll, Comers, Steps>,
     alloc: Global,
     case: &Case,
-    told: &'a WakeList,
+    wake_list: &'a WakeList,
 ) -> ConnectionsJob<'a, Comer, Poll, Comers, Steps> {
     if case.hears {
-        job.hearing(alloc, told)
+        job.hearing(alloc, wake_list)
     } else {
         job
     }
@@ -328,8 +328,8 @@ fn heard<'a>(
 /// The state that the job of a case shares with others.
 #[derive(Drop)]
 struct Shared {
-    told: WakeList,
-    muster: Shutdown,
+    wake_list: WakeList,
+    shutdown: Shutdown,
     progress: WorkLimit,
     clock: Steps,
 }
@@ -337,8 +337,8 @@ struct Shared {
 /// The state that the job of a case shares with others. None if memory allocation fails.
 fn shared_for(alloc: Global, case: &Case) -> Option<Shared> {
     Some(Shared {
-        told: WakeList::new(alloc, 8).ok()?,
-        muster: Shutdown::new(1),
+        wake_list: WakeList::new(alloc, 8).ok()?,
+        shutdown: Shutdown::new(1),
         progress: WorkLimit::new(case.most),
         clock: Steps {
             read: AtomicU64::new(2),
@@ -374,11 +374,11 @@ fn job_of<'a>(
         places_of(alloc, case.comers)?,
         EventLoop::new(alloc, 8, 1).ok()?,
         plan,
-        StopFlag::new(&shared.muster, &shared.progress),
+        StopFlag::new(&shared.shutdown, &shared.progress),
         &shared.clock,
         Scratch::new(alloc).ok()?,
     );
-    Some(heard(job, alloc, case, &shared.told))
+    Some(heard(job, alloc, case, &shared.wake_list))
 }
 
 /// Whether the job of a case ends as expected, with the expected log lines and number of requests. None if memory allocation fails.
@@ -400,7 +400,7 @@ fn is_done_with<'a, R: Wait>(
         peer: Peer::over(Transport::Tcp, false),
         asker: 0,
         asked: 0,
-        told: &shared.told,
+        wake_list: &shared.wake_list,
         tells: case.tells,
     };
     let end = job.serve(rt, &mut putting, &log);

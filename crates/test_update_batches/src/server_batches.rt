@@ -207,14 +207,14 @@ impl Play for Run {
         let later = Vec::new(alloc);
         match Server::resume(alloc, cell, publisher, own, KEPT, later, ledgers) {
             Ok((server, right)) => {
-                let (told, reader) = self.run(rt, alloc, &server, reader, right);
+                let (outcome, reader) = self.run(rt, alloc, &server, reader, right);
                 if let Some(reader) = reader {
                     let _ = readers.push(reader);
                 }
                 let (publisher, own) = server.finish();
                 let _ = readers.push(own);
                 Played {
-                    told,
+                    outcome,
                     publisher,
                     readers,
                 }

@@ -17,7 +17,7 @@ pub(crate) fn not_played<Z: FirstZone, N: Naming>(
     readers: Vec<VersionReader<N>>,
 ) -> Played<Z, N> {
     Played {
-        told: None,
+        outcome: None,
         publisher,
         readers,
     }

@@ -23,7 +23,7 @@ fn beside(set: &RRset, owner: &Name, rtype: RType) -> Ordering
         .then(set.rtype().cmp(&rtype))
 }
 
-/// Copies of the sets that come before an owner and a type, behind others.
+/// Copies of the sets that come before an owner and a type, after others.
 fn put_before(
     alloc: Global,
     to: &mut Vec<RRset>,
@@ -41,7 +41,7 @@ fn put_before(
     Ok(())
 }
 
-/// Copies of the sets that come behind an owner and a type, behind others.
+/// Copies of the sets that come after an owner and a type, after others.
 fn put_after(
     alloc: Global,
     to: &mut Vec<RRset>,
@@ -213,7 +213,7 @@ put sub TXT, remove x.sub TXT, remove a A: @ NS, @ SOA, a TXT, sub TXT\n\
 put a CNAME, remove a A, remove a TXT: @ NS, @ SOA, a CNAME, x.sub TXT\n\
 put sub SOA, remove @ SOA, put sub NS, remove @ NS, remove a A, remove a TXT: sub NS, sub SOA, x.sub TXT\n";
 
-/// Whether the steps of a row make a zone of the rows behind them; None where memory is refused.
+/// Whether the steps of a row make a zone of the rows after them; None where memory is refused.
 fn is_made(alloc: Global, row: &str) -> Option<bool> {
     let (steps, want) = row.split_once(": ")?;
     let held = changes_of(alloc, HELD)?;

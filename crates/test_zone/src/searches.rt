@@ -7,7 +7,7 @@ use std::alloc::Global;
 use std::cell::Cell;
 use zone_tree::{Near, Walk, Zone, ZoneRead};
 
-/// Sets in front of the exchanges of `mail`, and behind them: an empty non-terminal `b`, a wildcard below `dyn`, zone cuts, one below the other, and
+/// Sets before the exchanges of `mail`, and after them: an empty non-terminal `b`, a wildcard below `dyn`, zone cuts, one below the other, and
 /// an alias of `web`.
 const FRONT: &str = "@ NS, @ SOA, a.b TXT, *.dyn A, x.e.dyn A";
 

@@ -57,7 +57,7 @@ fn number_of(pair: Option<&(u32, u32)>) -> Option<u32> {
     }
 }
 
-/// Whether each number of a tree of so many is found, with the greater ones above it, and behind the last there is none.
+/// Whether each number of a tree of so many is found, with the greater ones above it, and after the last there is none.
 fn each_is_found(tree: &Numbers, count: u32) -> bool {
     for number in 0..count {
         let above = tree.walk_above(&number);
@@ -103,7 +103,7 @@ fn versions_of(alloc: Global, count: u32) -> Option<Vec<Numbers>> {
     Some(versions)
 }
 
-/// How many versions in front have as many numbers as there are in front of them.
+/// How many versions in front have as many numbers as there are before them.
 fn count_up(versions: &[Numbers]) -> u32 {
     let mut count = 0u32;
     for version in versions {
@@ -161,7 +161,7 @@ fn of_three(alloc: Global) -> Option<Numbers> {
     Some(tree)
 }
 
-/// Numbers, and of 2, 4 and 6 the number itself, or else the one before it, and the next one behind it.
+/// Numbers, and of 2, 4 and 6 the number itself, or else the one before it, and the next one after it.
 const AROUND: [(u32, Option<u32>, Option<u32>, Option<u32>); 8] = [
     (0, None, None, Some(2)),
     (1, None, None, Some(2)),
@@ -223,11 +223,11 @@ fn goes_on(alloc: Global) -> Option<bool> {
 // With one request for memory refused, whichever it is, each call is made anew, and the tree before it is as it was.
 #[test]
 fn goes_on_where_memory_is_refused(rt: HostRuntime) {
-    let told = match goes_on(rt.alloc()) {
-        Some(told) => Some(told),
+    let outcome = match goes_on(rt.alloc()) {
+        Some(outcome) => Some(outcome),
         None => goes_on(rt.alloc()),
     };
-    assert_eq!(rt; told, Some(true));
+    assert_eq!(rt; outcome, Some(true));
 }
 
 fn goes_between_threads<T: Send + Sync>() {}

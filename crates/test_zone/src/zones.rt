@@ -32,7 +32,7 @@ fn has_from(zone: &Zone, owner: &str, rtype: RType, rows: &str) -> Option<bool> 
     gives(zone.walk_from(&name(owner)?, rtype), rows)
 }
 
-// RFC 4034, 6.1: by owner, then type; from one that isn't there on what stands behind it.
+// RFC 4034, 6.1: by owner, then type; from one that isn't there on what stands after it.
 #[test]
 fn walks_from(rt: HostRuntime) {
     let zone = zone_anew(rt.alloc(), SETS).expect(&rt, "a zone");

@@ -60,9 +60,9 @@ tells_by head list left m octets later parts e short =
     let rest : octets_of (packed_later head left) ≡ later = ap rest_of e in
     let long : length (reply_octets m) ≡ length octets = ap length same in
     let few : length m.answer < 2 ^ 16 = omega (arith, (sections_fill m).answer, long, short) in
-    let told : number_at octets 6 ≡ length m.answer = ap (λ o. number_at o 6) (sym same) ∙ answer_told m few in
+    let reported : number_at octets 6 ≡ length m.answer = ap (λ o. number_at o 6) (sym same) ∙ answer_told m few in
     let whole : 12 ≤ length (reply_octets m) = omega arith in
-    let behind : drop (number_at octets 6) list ≡ left = ap (λ n. drop n list) told ∙ ap (drop (length m.answer)) (sym parts) ∙ drop-append_seam m.answer left in
+    let behind : drop (number_at octets 6) list ≡ left = ap (λ n. drop n list) reported ∙ ap (drop (length m.answer)) (sym parts) ∙ drop-append_seam m.answer left in
     record {
       header = omega (arith, whole, long);
       left = sym rest ∙ ap (λ l. octets_of (packed_later head l)) (sym behind);

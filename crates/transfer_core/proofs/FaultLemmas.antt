@@ -34,13 +34,13 @@ module _ (apex : Name) (first : Record) (fault : TransferFault) where
       by_step : ((next : Reading) → steps_through apex first next list ≡ Err fault → HasFirstFault apex first next list fault) → (r : Record) → entered sent ≡ Some r → (o : Result Reading TransferFault) → step apex first reading.stage reading.records r ≡ o → HasFirstFault apex first reading (sent ∷ list) fault
       by_step again r m (Ok next) n = behind reading next sent r list m n (again next (sym (read_first reading next sent r list m n) ∙ e))
       by_step again r m (Err other) n =
-          let told : steps_through apex first reading (sent ∷ list) ≡ Err other = rw (m, steps_through, n) refl in
+          let reported : steps_through apex first reading (sent ∷ list) ≡ Err other = rw (m, steps_through, n) refl in
           let same : other ≡ fault = cc in
           refused_first reading sent list (rw (m, fault_of, n) (ap (λ f. Some f) same))
 
       by : ((next : Reading) → steps_through apex first next list ≡ Err fault → HasFirstFault apex first next list fault) → (o : Option Record) → entered sent ≡ o → HasFirstFault apex first reading (sent ∷ list) fault
       by again None m =
-          let told : steps_through apex first reading (sent ∷ list) ≡ Err Broken = rw (m, steps_through) refl in
+          let reported : steps_through apex first reading (sent ∷ list) ≡ Err Broken = rw (m, steps_through) refl in
           let same : Broken ≡ fault = cc in
           refused_first reading sent list (rw (m, fault_of) (ap (λ f. Some f) same))
       by again (Some r) m = by_step again r m (step apex first reading.stage reading.records r) refl
@@ -53,12 +53,12 @@ module _ (apex : Name) (first : Record) (fault : TransferFault) where
       by_step : ((after : Reading) → steps_through apex first after front ≡ Ok next → steps_through apex first after (front ++ list) ≡ steps_through apex first next list) → (r : Record) → entered sent ≡ Some r → (o : Result Reading TransferFault) → step apex first reading.stage reading.records r ≡ o → steps_through apex first reading (sent ∷ front ++ list) ≡ steps_through apex first next list
       by_step again r m (Ok after) n = read_first reading after sent r (front ++ list) m n ∙ again after (sym (read_first reading after sent r front m n) ∙ e)
       by_step again r m (Err other) n =
-          let told : steps_through apex first reading (sent ∷ front) ≡ Err other = rw (m, steps_through, n) refl in
+          let reported : steps_through apex first reading (sent ∷ front) ≡ Err other = rw (m, steps_through, n) refl in
           absurd (cc)
 
       by : ((after : Reading) → steps_through apex first after front ≡ Ok next → steps_through apex first after (front ++ list) ≡ steps_through apex first next list) → (o : Option Record) → entered sent ≡ o → steps_through apex first reading (sent ∷ front ++ list) ≡ steps_through apex first next list
       by again None m =
-          let told : steps_through apex first reading (sent ∷ front) ≡ Err Broken = rw (m, steps_through) refl in
+          let reported : steps_through apex first reading (sent ∷ front) ≡ Err Broken = rw (m, steps_through) refl in
           absurd (cc)
       by again (Some r) m = by_step again r m (step apex first reading.stage reading.records r) refl
 
@@ -81,11 +81,11 @@ module _ (apex : Name) (first : Record) (fault : TransferFault) where
           rw (m, steps_through) (ap (λ f. Err f) same)
       by (Some r) m = by_step r m (step apex first reading.stage reading.records r) refl
 
-  told : (reading : Reading) (list : List RawRecord) → HasFirstFault apex first reading list fault → steps_through apex first reading list ≡ Err fault
-  told reading list h =
+  reported : (reading : Reading) (list : List RawRecord) → HasFirstFault apex first reading list fault → steps_through apex first reading list ≡ Err fault
+  reported reading list h =
       ap (λ l. steps_through apex first reading l) h.parts
       ∙ through reading h.behind_front h.front (h.sent ∷ h.back) h.reads
       ∙ told_first h.behind_front h.sent h.back h.refuses
 
 pub first_fault : (apex : Name) (first : Record) (reading : Reading) (list : List RawRecord) (fault : TransferFault) → (steps_through apex first reading list ≡ Err fault) ↔ HasFirstFault apex first reading list fault
-first_fault apex first reading list fault = (refused apex first fault reading list, told apex first fault reading list)
+first_fault apex first reading list fault = (refused apex first fault reading list, reported apex first fault reading list)

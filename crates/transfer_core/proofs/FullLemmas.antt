@@ -55,9 +55,9 @@ module _ (zone next : List Record) (is : IsZone next) (apexes : apex_of next ≡
   reads (r ∷ rs) e some =
       let those = subst (AreOf next is_soa false) e beside in
       let first : step (apex_of next) s opened zone r ≡ Ok (at gathering (filter (λ z. is_soa z || is_same_record r z) next)) =
-      rw (those.plain.0) (subst (λ head. held (apex_of next) gathering r (joined r head) ≡ Ok (at gathering (filter (λ z. is_soa z || is_same_record r z) next))) (soa next is).1 (gathers next is s is_soa r those.inside.0 those.plain.0 those.told.0)) in
+      rw (those.plain.0) (subst (λ head. held (apex_of next) gathering r (joined r head) ≡ Ok (at gathering (filter (λ z. is_soa z || is_same_record r z) next))) (soa next is).1 (gathers next is s is_soa r those.inside.0 those.plain.0 those.reported.0)) in
       let entry : step (apex_of next) s gathering (filter is_soa next) r ≡ Ok (at gathering (filter (λ z. is_soa z || is_same_record r z) next)) =
-      rw (those.plain.0) (gathers next is s is_soa r those.inside.0 those.plain.0 those.told.0) in
+      rw (those.plain.0) (gathers next is s is_soa r those.inside.0 those.plain.0 those.reported.0) in
       let r_lawful = each_in IsLawful next r (each_lawful next is) those.inside.0 in
       goes (apex_of next) s opened zone r (at gathering (filter (λ z. is_soa z || is_same_record r z) next)) (map as_sent (rs ++ s ∷ [])) r_lawful first
       ∙ sym (goes (apex_of next) s gathering (filter is_soa next) r (at gathering (filter (λ z. is_soa z || is_same_record r z) next)) (map as_sent (rs ++ s ∷ [])) r_lawful entry)

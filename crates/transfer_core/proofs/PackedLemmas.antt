@@ -108,11 +108,11 @@ copied_some (Some x) some = refl
 -- what was written with the question and the OPT beside it, and what is left without one
 pub packs : (head : Head) (question asked later : Option Question) (opt beside kept : Option Opt) (limit : ℕ) (list left : List Record) (octets : List ℕ) → limit ≡ max_message → asked ≡ question → beside ≡ opt_beside asked opt → later ≡ None → IsOpen question list → BeginsSmall list → octets ≡ reply_octets (answers head asked beside (filled head asked beside limit [] list).0) → left ≡ (filled head asked beside limit [] list).1
     → octets_of (packed_from head question opt list) ≡ octets ∷ octets_of (packed_from head later kept left)
-packs head question asked later opt beside kept limit list left octets size same stands none more small written rest =
-    let own : beside ≡ opt_beside question opt = stands ∙ ap (λ (q : Option Question). opt_beside q opt) same in
-    let told = written ∙ ap (λ (o : Option Opt). reply_octets (answers head asked o (filled head asked o limit [] list).0)) own ∙ ap (λ (q : Option Question). reply_octets (answers head q (opt_beside question opt) (filled head q (opt_beside question opt) limit [] list).0)) same ∙ ap (λ (n : ℕ). reply_octets (answers head question (opt_beside question opt) (filled head question (opt_beside question opt) n [] list).0)) size in
+packs head question asked later opt beside kept limit list left octets size same is_present none more small written rest =
+    let own : beside ≡ opt_beside question opt = is_present ∙ ap (λ (q : Option Question). opt_beside q opt) same in
+    let reported = written ∙ ap (λ (o : Option Opt). reply_octets (answers head asked o (filled head asked o limit [] list).0)) own ∙ ap (λ (q : Option Question). reply_octets (answers head q (opt_beside question opt) (filled head q (opt_beside question opt) limit [] list).0)) same ∙ ap (λ (n : ℕ). reply_octets (answers head question (opt_beside question opt) (filled head question (opt_beside question opt) n [] list).0)) size in
     let others = rest ∙ ap (λ (o : Option Opt). (filled head asked o limit [] list).1) own ∙ ap (λ (q : Option Question). (filled head q (opt_beside question opt) limit [] list).1) same ∙ ap (λ (n : ℕ). (filled head question (opt_beside question opt) n [] list).1) size in
-    next_octets head question opt kept list left octets more small told others
+    next_octets head question opt kept list left octets more small reported others
     ∙ ap (λ (q : Option Question). octets ∷ octets_of (packed_from head q kept left)) (sym none)
 
 -- the one message over UDP was written, and none is left

@@ -14,7 +14,7 @@ use Rattle.zone_tree.specs.Version.{Version, Changes}
 use Rattle.zone_tree.proofs.WalkLemmas.{records_of_sets, sets_from_whole}
 use Rattle.zone_tree.proofs.ZoneLemmas.{sets_whole}
 use Rattle.zone_tree.proofs.FromLemmas.{from_root}
-use Rattle.transfer_core.specs.Chain.{told_step, told_steps, told}
+use Rattle.transfer_core.specs.Chain.{told_step, told_steps, reported}
 use Rattle.transfer_core.specs.Lists.{full, beside_soa}
 use Rattle.transfer_core.specs.Places.{zone_left, sets_of_part, step_left, steps_from}
 use Rattle.transfer_core.specs.declared.place.Part.{Part}
@@ -135,7 +135,7 @@ steps_begin [] = refl
 steps_begin (v ∷ vs) = ap (λ l. l ++ told_steps vs) (step_begins (soa_of v.zone) v.changes)
 
 -- the list of what changed behind its first record is that from the first set of the first version's difference sequence on
-pub told_begins : (count more : ℕ) (soa : List Record) (versions : List Version) → length soa ≡ 1 → count ≡ more + 1 → drop count (told soa versions) ≡ drop more (steps_from Old 0 (drop 0 versions) ++ soa)
+pub told_begins : (count more : ℕ) (soa : List Record) (versions : List Version) → length soa ≡ 1 → count ≡ more + 1 → drop count (reported soa versions) ≡ drop more (steps_from Old 0 (drop 0 versions) ++ soa)
 told_begins count more soa versions one is =
     pass_one count more soa (told_steps versions ++ soa) one is
     ∙ ap (λ l. drop more (l ++ soa)) (sym (steps_begin versions))

@@ -74,10 +74,10 @@ module _ (zone : List Record) (is : IsZone zone) where
 
   -- the records of a part of the zone's, none an SOA
   pub part : (q : Record → Bool) (p : Record → Bool) (b : Bool) → ((r : Record) → q r ≡ true → is_soa r ≡ false) → ((r : Record) → q r ≡ true → p r ≡ b) → AreOf zone p b (filter q zone)
-  part q p b plain told = record {
+  part q p b plain reported = record {
     inside = each_from_in (λ r. IsIn r zone) (filter q zone) (λ r k. (in_kept q zone r k).0);
     plain = each_from_in (λ r. is_soa r ≡ false) (filter q zone) (λ r k. plain r (in_kept q zone r k).1);
-    told = each_from_in (λ r. p r ≡ b) (filter q zone) (λ r k. told r (in_kept q zone r k).1);
+    reported = each_from_in (λ r. p r ≡ b) (filter q zone) (λ r k. reported r (in_kept q zone r k).1);
     rising = Rises-filter q IsBefore zone (rises zone is);
   }
 
@@ -96,7 +96,7 @@ module _ (zone : List Record) (is : IsZone zone) (next : List Record) (also : Is
   left r e = let parts = both (not (r.rtype == type_SOA)) (not (is_among next r)) e in (is_not (r.rtype == type_SOA) parts.0, is_not (is_among next r) parts.1)
 
   pub left_part : (p : Record → Bool) (b : Bool) → ((r : Record) → is_soa r ≡ false → is_among next r ≡ false → p r ≡ b) → AreOf zone p b (left_out zone next)
-  left_part p b told = part zone is (λ r. not (r.rtype == type_SOA) && not (is_among next r)) p b (λ r e. (left r e).0) (λ r e. let parts = left r e in told r parts.0 parts.1)
+  left_part p b reported = part zone is (λ r. not (r.rtype == type_SOA) && not (is_among next r)) p b (λ r e. (left r e).0) (λ r e. let parts = left r e in reported r parts.0 parts.1)
 
   -- what is held where the deletions were read
   remains : (x : Record) → IsIn x zone → without_read (λ r. not (r.rtype == type_SOA)) (left_out zone next) x ≡ (not (is_soa x) && is_among next x)

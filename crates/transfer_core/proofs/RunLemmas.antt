@@ -36,7 +36,7 @@ without_read p (r ∷ rs) = without_read (λ z. p z && not (is_same_record r z))
 pub record AreOf (zone : List Record) (p : Record → Bool) (b : Bool) (rs : List Record) : Type 0 where
   pub inside : AllByRecursion (λ r. IsIn r zone) rs
   pub plain : AllByRecursion (λ r. is_soa r ≡ false) rs
-  pub told : AllByRecursion (λ r. p r ≡ b) rs
+  pub reported : AllByRecursion (λ r. p r ≡ b) rs
   pub rising : Rises IsBefore rs
 
 module _ (zone : List Record) (is : IsZone zone) (first : Record) where
@@ -52,10 +52,10 @@ module _ (zone : List Record) (is : IsZone zone) (first : Record) where
   told_off p r (s ∷ rs) h k = (rw (k.0, not_same_behind r s h.0) refl, told_off p r rs h.1 k.1)
 
   rest_on : (p : Record → Bool) (r : Record) (rs : List Record) → AreOf zone p false (r ∷ rs) → AreOf zone (λ z. p z || is_same_record r z) false rs
-  rest_on p r rs h = record { inside = h.inside.1; plain = h.plain.1; told = told_on p r rs h.rising.0 h.told.1; rising = h.rising.1 }
+  rest_on p r rs h = record { inside = h.inside.1; plain = h.plain.1; reported = told_on p r rs h.rising.0 h.reported.1; rising = h.rising.1 }
 
   rest_off : (p : Record → Bool) (r : Record) (rs : List Record) → AreOf zone p true (r ∷ rs) → AreOf zone (λ z. p z && not (is_same_record r z)) true rs
-  rest_off p r rs h = record { inside = h.inside.1; plain = h.plain.1; told = told_off p r rs h.rising.0 h.told.1; rising = h.rising.1 }
+  rest_off p r rs h = record { inside = h.inside.1; plain = h.plain.1; reported = told_off p r rs h.rising.0 h.reported.1; rising = h.rising.1 }
 
   -- one record of a full list, an addition, a deletion
   pub gathers : (p : Record → Bool) (r : Record) → IsIn r zone → is_soa r ≡ false → p r ≡ false
@@ -80,19 +80,19 @@ module _ (zone : List Record) (is : IsZone zone) (first : Record) where
       → steps_through (apex_of zone) first (at gathering (filter p zone)) (map as_sent (rs ++ more)) ≡ steps_through (apex_of zone) first (at gathering (filter (with_read p rs) zone)) (map as_sent more)
   run_gathers p [] more h = refl
   run_gathers p (r ∷ rs) more h =
-      goes (apex_of zone) first gathering (filter p zone) r (at gathering (filter (λ z. p z || is_same_record r z) zone)) (map as_sent (rs ++ more)) (lawful r h.inside.0) (step_gathers p r h.inside.0 h.plain.0 h.told.0)
+      goes (apex_of zone) first gathering (filter p zone) r (at gathering (filter (λ z. p z || is_same_record r z) zone)) (map as_sent (rs ++ more)) (lawful r h.inside.0) (step_gathers p r h.inside.0 h.plain.0 h.reported.0)
       ∙ run_gathers (λ z. p z || is_same_record r z) rs more (rest_on p r rs h)
 
   pub run_adds : (p : Record → Bool) (rs more : List Record) → AreOf zone p false rs
       → steps_through (apex_of zone) first (at adding (filter p zone)) (map as_sent (rs ++ more)) ≡ steps_through (apex_of zone) first (at adding (filter (with_read p rs) zone)) (map as_sent more)
   run_adds p [] more h = refl
   run_adds p (r ∷ rs) more h =
-      goes (apex_of zone) first adding (filter p zone) r (at adding (filter (λ z. p z || is_same_record r z) zone)) (map as_sent (rs ++ more)) (lawful r h.inside.0) (step_adds p r h.inside.0 h.plain.0 h.told.0)
+      goes (apex_of zone) first adding (filter p zone) r (at adding (filter (λ z. p z || is_same_record r z) zone)) (map as_sent (rs ++ more)) (lawful r h.inside.0) (step_adds p r h.inside.0 h.plain.0 h.reported.0)
       ∙ run_adds (λ z. p z || is_same_record r z) rs more (rest_on p r rs h)
 
   pub run_deletes : (p : Record → Bool) (rs more : List Record) → AreOf zone p true rs
       → steps_through (apex_of zone) first (at deleting (filter p zone)) (map as_sent (rs ++ more)) ≡ steps_through (apex_of zone) first (at deleting (filter (without_read p rs) zone)) (map as_sent more)
   run_deletes p [] more h = refl
   run_deletes p (r ∷ rs) more h =
-      goes (apex_of zone) first deleting (filter p zone) r (at deleting (filter (λ z. p z && not (is_same_record r z)) zone)) (map as_sent (rs ++ more)) (lawful r h.inside.0) (step_deletes p r h.inside.0 h.plain.0 h.told.0)
+      goes (apex_of zone) first deleting (filter p zone) r (at deleting (filter (λ z. p z && not (is_same_record r z)) zone)) (map as_sent (rs ++ more)) (lawful r h.inside.0) (step_deletes p r h.inside.0 h.plain.0 h.reported.0)
       ∙ run_deletes (λ z. p z && not (is_same_record r z)) rs more (rest_off p r rs h)

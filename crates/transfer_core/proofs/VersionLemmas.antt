@@ -7,7 +7,7 @@ use Rattle.dns_rdata.specs.Record.{Record}
 use Rattle.zone_tree.specs.Zone.{soa_of}
 use Rattle.zone_tree.specs.Change.{left_out}
 use Rattle.zone_tree.specs.Version.{Version, Changes, AreChanges}
-use Rattle.transfer_core.specs.Chain.{zones_of, AreBehind, LeadTo, told_step, told_steps, told}
+use Rattle.transfer_core.specs.Chain.{zones_of, AreBehind, LeadTo, told_step, told_steps, reported}
 use Rattle.transfer_core.specs.Lists.{steps, newest, incremental, as_sent, AreVersions}
 use Rattle.transfer_core.specs.Take.{take}
 use Rattle.transfer_core.proofs.ChainLemmas.{incremental_taken}
@@ -32,14 +32,14 @@ steps_told zone (v ∷ vs) h =
     ∙ ap (λ l. (soa_of zone ++ left_out zone v.zone ++ soa_of v.zone ++ left_out v.zone zone) ++ l) (steps_told v.zone vs h.1)
 
 -- the list that they tell is the incremental one
-pub list_told : (zone : List Record) (versions : List Version) (served : List Record) → AreBehind zone versions → newest zone (zones_of versions) ≡ served → told (soa_of served) versions ≡ incremental zone (zones_of versions)
+pub list_told : (zone : List Record) (versions : List Version) (served : List Record) → AreBehind zone versions → newest zone (zones_of versions) ≡ served → reported (soa_of served) versions ≡ incremental zone (zones_of versions)
 list_told zone versions served behind last =
-    ap (λ s. told (soa_of s) versions) (sym last)
+    ap (λ s. reported (soa_of s) versions) (sym last)
     ∙ ap (λ l. soa_of (newest zone (zones_of versions)) ++ (l ++ soa_of (newest zone (zones_of versions)))) (steps_told zone versions behind)
     ∙ sym (append_assoc (soa_of (newest zone (zones_of versions))) (steps zone (zones_of versions)) (soa_of (newest zone (zones_of versions))))
 
 -- a list begun with the served SOA, which it closes
-pub begun : (rest soa : List Record) (left versions : List Version) (served : List Record) → rest ≡ soa → soa ≡ soa_of served → left ≡ versions → rest ++ (told_steps left ++ soa) ≡ told (soa_of served) versions
+pub begun : (rest soa : List Record) (left versions : List Version) (served : List Record) → rest ≡ soa → soa ≡ soa_of served → left ≡ versions → rest ++ (told_steps left ++ soa) ≡ reported (soa_of served) versions
 begun rest soa left versions served e f g = rw (e, f, g) refl
 
 -- and it is taken to the served zone

@@ -182,9 +182,9 @@ told_found size serial all upto older o within kept e =
     ap (λ p. told_changes (is_some p) (soa_of (newest [] (zones_of (take upto all)))) (unwrap_or p [])) e ∙ told_kept size serial all upto older within kept
 
 -- a list has what stands at a place in it
-stands : {A : Type 0} (xs : List A) (at : ℕ) → at < length xs → (x : A) × (slice_get xs at ≡ Some x)
-stands [] at h = absurd (omega arith)
-stands (x ∷ xs) at h = (get_or (x ∷ xs) at x, slice_get-get_or (x ∷ xs) at x h)
+is_present : {A : Type 0} (xs : List A) (at : ℕ) → at < length xs → (x : A) × (slice_get xs at ≡ Some x)
+is_present [] at h = absurd (omega arith)
+is_present (x ∷ xs) at h = (get_or (x ∷ xs) at x, slice_get-get_or (x ∷ xs) at x h)
 
 or_shift : {A : Type 0} (o : Option A) (x : A) (p : Option A) → option_or (option_or o (Some x)) p ≡ option_or o (Some x)
 or_shift None x p = refl
@@ -195,7 +195,7 @@ module _ (size serial : ℕ) (all xs ys : List Version) (split : xs ++ ys ≡ al
     (looked : (v : Version) → slice_get all at ≡ Some v → b ≡ is_held_before size serial (zones_of (drop at all)) (serial_before v.changes)) where
   here : (v : Version) × (slice_get (xs ++ ys) at ≡ Some v) × (drop at xs ≡ v ∷ drop (at + 1) xs)
   here =
-      let p = stands xs at within in
+      let p = is_present xs at within in
       let e : get_or (xs ++ ys) at p.0 ≡ p.0 = get_or-append xs ys p.0 at within ∙ get_or_from_slice_get xs at p.0 p.0 p.1 in
       let whole : at < length (xs ++ ys) = let k = length-append xs ys in omega (arith, k, within) in
       (p.0, slice_get-get_or (xs ++ ys) at p.0 whole ∙ ap Some e, drop_here xs at p.0 (sym p.1))

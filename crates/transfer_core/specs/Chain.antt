@@ -1,4 +1,4 @@
--- Versions behind the one that an asker holds, and what they tell of what changed since then (RFC 1995, 4).
+-- Versions after the one that an asker holds, and what they tell of what changed since then (RFC 1995, 4).
 use Rattle.std.specs.Prelude.{◌≡◌, ◌≢◌, Bool, true, false, List, [], ◌∷◌, ◌++◌, map, Option, Some, None, unwrap_or}
 use Rattle.std.specs.List.{flat_map}
 use Rattle.dns_rdata.specs.Record.{Record}
@@ -11,7 +11,7 @@ use Rattle.transfer_core.specs.Lists.{newest}
 abbrev pub zones_of : List Version → List (List Record)
 zones_of versions = map (λ v. v.zone) versions
 
--- versions one behind the other, from a zone: each knows what it changed of the one before it
+-- versions one after the other, from a zone: each knows what it changed of the one before it
 abbrev pub AreBehind : List Record → List Version → Type 0
 AreBehind zone [] = Unit {0}
 AreBehind zone (v ∷ vs) = KnowsChanges zone v × AreBehind v.zone vs
@@ -29,17 +29,17 @@ abbrev pub told_step : List Record → Option Changes → List Record
 told_step soa None = soa
 told_step soa (Some c) = (c.old_soa ++ c.deletions) ++ (soa ++ c.additions)
 
--- the steps of versions, one behind the other
+-- the steps of versions, one after the other
 abbrev pub told_steps : List Version → List Record
 told_steps versions = flat_map (λ v. told_step (soa_of v.zone) v.changes) versions
 
 -- the list of what changed, by what versions know: the served SOA, the steps, the served SOA (RFC 1995, 4)
-abbrev pub told : List Record → List Version → List Record
-told soa versions = soa ++ (told_steps versions ++ soa)
+abbrev pub reported : List Record → List Version → List Record
+reported soa versions = soa ++ (told_steps versions ++ soa)
 
 -- what changed, where each version after the one that the asker holds is there
 abbrev pub told_changes : Bool → List Record → List Version → Option (List Record)
-told_changes true soa versions = Some (told soa versions)
+told_changes true soa versions = Some (reported soa versions)
 told_changes false soa versions = None
 
 -- the records of such a list that are left: of sets, of the half of a step that comes then, of versions, of the set that closes the

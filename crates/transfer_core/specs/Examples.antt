@@ -124,6 +124,6 @@ of_class class r = record (as_sent r) { class = class }
 abbrev pub with_octets : List ℕ → Record → RawRecord
 with_octets octets r = record (as_sent r) { octets = octets }
 
--- a text of 4,096 octets, one string of 255 behind another, and of so many more, which are empty strings
+-- a text of 4,096 octets, one string of 255 after another, and of so many more, which are empty strings
 abbrev pub long_text : ℕ → Record
 long_text more = hour_record (below (codes "t")) type_TXT (replicate 4096 255 ++ replicate more 0)

@@ -5,7 +5,7 @@ pub mod Packed
 pub mod Places
 pub mod Take
 pub mod Examples
-pub mod Told
+pub mod Words
 pub use Rattle.zone_tree.specs.Zone
 pub use Rattle.dns_name.specs.Name
 pub use Rattle.dns_rdata.specs.Numbers

@@ -20,7 +20,7 @@ full zone = soa_of zone ++ beside_soa zone ++ soa_of zone
 abbrev pub records_left : List (List Record) → Option (List Record) → List Record
 records_left sets closing = beside_soa (records_in sets) ++ unwrap_or closing []
 
--- the steps from a zone to each of those behind it: the old SOA, the deletions, the next SOA, the additions (RFC 1995, 4)
+-- the steps from a zone to each of those after it: the old SOA, the deletions, the next SOA, the additions (RFC 1995, 4)
 abbrev pub steps : List Record → List (List Record) → List Record
 steps zone [] = []
 steps zone (next ∷ zones) = soa_of zone ++ left_out zone next ++ soa_of next ++ left_out next zone ++ steps next zones
@@ -30,7 +30,7 @@ abbrev pub newest : List Record → List (List Record) → List Record
 newest zone [] = zone
 newest zone (next ∷ zones) = newest next zones
 
--- what changed from a zone through those behind it: the newest SOA, the steps, the newest SOA (RFC 1995, 4)
+-- what changed from a zone through those after it: the newest SOA, the steps, the newest SOA (RFC 1995, 4)
 abbrev pub incremental : List Record → List (List Record) → List Record
 incremental zone zones = soa_of (newest zone zones) ++ steps zone zones ++ soa_of (newest zone zones)
 

@@ -6,7 +6,7 @@ use Rattle.zone_tree.specs.Zone.{soa_of}
 use Rattle.zone_tree.specs.From.{records_from}
 use Rattle.zone_tree.specs.Sets.{records_in, sets_in}
 use Rattle.zone_tree.specs.Version.{Version, Changes}
-use Rattle.transfer_core.specs.Chain.{told_steps, told}
+use Rattle.transfer_core.specs.Chain.{told_steps, reported}
 use Rattle.transfer_core.specs.Lists.{full, beside_soa}
 use Rattle.transfer_core.specs.declared.place.Part.{Part}
 use Rattle.transfer_core.specs.declared.place.Part.TheVariants.{Old, New}
@@ -25,12 +25,12 @@ sets_of_part Old soa (Some c) = c.old_soa ∷ sets_in c.deletions
 sets_of_part New soa None = []
 sets_of_part New soa (Some c) = soa ∷ sets_in c.additions
 
--- a difference sequence behind so many sets of a part
+-- a difference sequence after so many sets of a part
 abbrev pub step_left : Part → ℕ → List Record → Option Changes → List Record
 step_left Old sent soa changes = records_in (drop sent (sets_of_part Old soa changes)) ++ records_in (sets_of_part New soa changes)
 step_left New sent soa changes = records_in (drop sent (sets_of_part New soa changes))
 
--- the difference sequences of versions, the first one's behind so many sets of a part
+-- the difference sequences of versions, the first one's after so many sets of a part
 abbrev pub steps_from : Part → ℕ → List Version → List Record
 steps_from part sent [] = []
 steps_from part sent (v ∷ vs) = step_left part sent (soa_of v.zone) v.changes ++ told_steps vs
@@ -41,7 +41,7 @@ steps_from part sent (v ∷ vs) = step_left part sent (soa_of v.zone) v.changes 
 abbrev pub left_at : List Record → List Version → Place → List Record
 left_at zone versions ZoneStart = full zone
 left_at zone versions (InZone at) = drop at.sent (zone_left zone at.owner at.rtype.0)
-left_at zone versions ChangesStart = told (soa_of zone) versions
+left_at zone versions ChangesStart = reported (soa_of zone) versions
 left_at zone versions (InChanges at) = drop at.step.sent (steps_from at.step.part at.step.set (drop at.version versions) ++ soa_of zone)
 left_at zone versions LastSoa = soa_of zone
 left_at zone versions End = []

@@ -1,4 +1,4 @@
--- What a holder of a zone holds behind a list of records that a transfer sent: a zone, or the fault of the first record that has one
+-- What a holder of a zone holds after a list of records that a transfer sent: a zone, or the fault of the first record that has one
 -- (RFC 1995, 4; RFC 5936, 2.2).
 use Rattle.std.specs.Prelude.{◌≡◌, ◌++◌, Bool, ◌&&◌, not, ◌==◌, nat_le, List, [], ◌∷◌, length, filter, if◌then◌else◌, Option, Some, None, Result, Ok, Err}
 use Rattle.std.specs.Option.{option_map}
@@ -51,15 +51,15 @@ removed r records = filter (λ s. not (is_same_record r s)) records
 
 -- where a holder stands in a list
 pub data Stage : Type 0 where
-  -- behind the first SOA
+  -- after the first SOA
   opened : Stage
   -- among the records of a full list
   gathering : Stage
-  -- behind an old SOA: records go
+  -- after an old SOA: records go
   deleting : Stage
-  -- behind a next SOA: records come
+  -- after a next SOA: records come
   adding : Stage
-  -- behind the SOA that closes the list
+  -- after the SOA that closes the list
   closed : Stage
 
 -- how far a holder has read: where it stands, and the records that it holds there
@@ -83,7 +83,7 @@ closing records = Ok (record { stage = closed; records = records })
 abbrev pub old_soa : Name → List Record → Record → Result Reading TransferFault
 old_soa apex records r = if serial_of r.rdata == zone_serial records then held apex deleting r (beside_soa records) else Err WrongBase
 
--- what one record makes of what is held, by the list's first SOA and where the holder stands. Behind the first SOA, an SOA makes the list
+-- what one record makes of what is held, by the list's first SOA and where the holder stands. After the first SOA, an SOA makes the list
 -- incremental, any other record a full one (RFC 1995, 4)
 abbrev pub step : Name → Record → Stage → List Record → Record → Result Reading TransferFault
 step apex first opened records r =
@@ -154,7 +154,7 @@ ended apex gathering records = Err Broken
 ended apex deleting records = Err Broken
 ended apex adding records = Err Broken
 
--- what is held behind a list that an SOA opens. An SOA alone says that the zone has its serial (RFC 1995, 2)
+-- what is held after a list that an SOA opens. An SOA alone says that the zone has its serial (RFC 1995, 2)
 abbrev pub behind_first : List Record → Record → List RawRecord → Result (List Record) TransferFault
 behind_first zone first [] =
     if not (serial_of first.rdata == zone_serial zone) then Err WrongBase
@@ -167,8 +167,8 @@ behind_first zone first (sent ∷ list) =
       | Ok reading ↦ ended (apex_of zone) reading.stage reading.records
     ]
 
--- what a holder of a zone holds behind a list of records: the records of a zone, or the fault of the first record that has one, at one
--- record `Broken` before `WrongBase` before `NotInZone`. That a list isn't closed, or that the records are no zone, is told behind its
+-- what a holder of a zone holds after a list of records: the records of a zone, or the fault of the first record that has one, at one
+-- record `Broken` before `WrongBase` before `NotInZone`. That a list isn't closed, or that the records are no zone, is told after its
 -- last record (RFC 1995, 4; RFC 5936, 2.2; own)
 abbrev pub take : List Record → List RawRecord → Result (List Record) TransferFault
 take zone [] = Err Broken

@@ -1,4 +1,4 @@
--- Which versions a server tells the changes of (RFC 1995, 5; own): the window, and what in it is behind the version that an asker
+-- Which versions a server tells the changes of (RFC 1995, 5; own): the window, and what in it is after the version that an asker
 -- holds. Zones stand in the order of their versions, oldest first.
 use Rattle.std.specs.Prelude.{◌≡◌, ◌⊎◌, ℕ, ◌<◌, ◌+◌, ◌^◌, Bool, true, false, ◌&&◌, ◌==◌, nat_lt, List, [], ◌∷◌, ◌++◌, length, take, drop, map, Option, Some, None, if◌then◌else◌}
 use Rattle.std.specs.Option.{option_or, option_and_then}
@@ -30,13 +30,13 @@ abbrev pub serials_of : List (List Record) → List ℕ
 serials_of zones = map zone_serial zones
 
 -- the window of a served version: of the zones up to it those in the longest run up to the newest that fits; the newer ones stand
--- behind it
+-- after it
 abbrev pub window : ℕ → List (List Record) → List (List Record) → List (List Record)
 window size newer [] = []
 window size newer (zone ∷ zones) =
     if fits size (serials_of ((zone ∷ zones) ++ newer)) then zone ∷ zones else window size newer zones
 
--- a run of zones is the longest that fits, with newer ones behind it: it is at the end of the zones, it fits where it isn't empty, and
+-- a run of zones is the longest that fits, with newer ones after it: it is at the end of the zones, it fits where it isn't empty, and
 -- none that begins earlier does
 pub record IsLongestRun (size : ℕ) (newer zones run : List (List Record)) : Type 0 where
   pub older : List (List Record)
@@ -44,28 +44,28 @@ pub record IsLongestRun (size : ℕ) (newer zones run : List (List Record)) : Ty
   pub fit : (run ≡ []) ⊎ (fits size (serials_of (run ++ newer)) ≡ true)
   pub longest : (front rest : List (List Record)) (zone : List Record) → older ≡ front ++ zone ∷ rest → fits size (serials_of (((zone ∷ rest) ++ run) ++ newer)) ≡ false
 
--- a zone and those behind it, of which there is one at least, where it has a serial
+-- a zone and those after it, of which there is one at least, where it has a serial
 abbrev pub held_here : ℕ → List Record → List (List Record) → Option (List Record × List (List Record))
 held_here serial zone [] = None
 held_here serial zone (next ∷ zones) = if zone_serial zone == serial then Some (zone, next ∷ zones) else None
 
--- the zone of a serial and those behind it up to the last
+-- the zone of a serial and those after it up to the last
 abbrev pub held : ℕ → List (List Record) → Option (List Record × List (List Record))
 held serial [] = None
 held serial (zone ∷ zones) = option_or (held serial zones) (held_here serial zone zones)
 
--- what changed since a zone up to the last of those behind it, where at least so many are kept; else it isn't told
+-- what changed since a zone up to the last of those after it, where at least so many are kept; else it isn't told
 abbrev pub changes_from : ℕ → Option (List Record × List (List Record)) → Option (List Record)
 changes_from kept None = None
 changes_from kept (Some from) = if nat_lt kept (length from.1) then None else Some (incremental from.0 from.1)
 
 -- what changed since the zone of a serial up to a served one, by the size of the window, the zones that are newer, how many of those up
 -- to the served one are kept, the serial, and the zones up to the served one: none where the serial isn't in the window, or a zone
--- behind it isn't kept (RFC 1995, 4; own)
+-- after it isn't kept (RFC 1995, 4; own)
 abbrev pub changes_since : ℕ → List (List Record) → ℕ → ℕ → List (List Record) → Option (List Record)
 changes_since size newer kept serial zones = changes_from kept (held serial (window size newer zones))
 
--- the versions that are kept of a zone, behind older ones that aren't: each knows what it changed of the one before it, and the very
+-- the versions that are kept of a zone, after older ones that aren't: each knows what it changed of the one before it, and the very
 -- first of no change
 abbrev pub AreKept : List (List Record) → List Version → Type 0
 AreKept [] [] = Unit {0}
@@ -84,7 +84,7 @@ is_held_before size serial zones None = false
 is_held_before size serial zones (Some before) = before == serial && fits size (before ∷ serials_of zones)
 
 -- the versions after the one of a serial in a window, of those that are kept up to a served one, by what they know; the newer ones
--- stand behind it
+-- stand after it
 abbrev pub kept_since : ℕ → List Version → ℕ → List Version → Option (List Version)
 kept_since size newer serial [] = None
 kept_since size newer serial (v ∷ vs) =

@@ -4,7 +4,7 @@ ghost use Rattle.std.specs.Prelude.{◌≡◌, ◌+◌, ◌^◌, ◌<◌, ◌++�
 ghost use Rattle.std.specs.Option.{option_copied};
 ghost use Rattle.dns_rdata.specs.Record.{Record};
 ghost use Rattle.zone_tree.specs.Zone.{soa_of};
-ghost use Rattle.transfer_core.specs.Chain.{zones_of, LeadTo, told_step, told};
+ghost use Rattle.transfer_core.specs.Chain.{zones_of, LeadTo, told_step, reported};
 ghost use Rattle.transfer_core.specs.Lists.{incremental, as_sent, AreVersions};
 ghost use Rattle.transfer_core.specs.Places.{sets_of_part, step_left, steps_from};
 ghost use Rattle.transfer_core.specs.Take.{take};
@@ -143,7 +143,7 @@ impl<'a, C: ChainView> Drop for ChangesList<'a, C> {
 /// sequences, its SOA again (RFC 1995, 4). It takes no memory. A holder of the zone from which the chain leads to the one that
 /// is served holds that one when it has taken the list.
 pub fn steps<'a, Z: ZoneRead, C: ChainView>(served: &'a Z, chain: &'a C) -> ChangesList<'a, C>
-    ensures told { result ≡ told (soa_of (Z.records served.now)) (C.versions chain.now) }
+    ensures reported { result ≡ reported (soa_of (Z.records served.now)) (C.versions chain.now) }
     ensures list { (zone : List Record) → LeadTo zone (C.versions chain.now) (Z.records served.now) → result ≡ incremental zone (zones_of (C.versions chain.now)) }
     ensures taken { (zone : List Record) → LeadTo zone (C.versions chain.now) (Z.records served.now) → AreVersions zone (zones_of (C.versions chain.now)) → take zone (map as_sent result) ≡ Ok (Z.records served.now) }
 {
@@ -176,8 +176,8 @@ impl<'a, C: ChainView> Iterator for ChangesList<'a, C> {
     }
 }
 
-/// A part of a difference sequence behind so many of its sets, of which its SOA is the first: that SOA, where it is left, and the sets
-/// behind it that are left.
+/// A part of a difference sequence after so many of its sets, of which its SOA is the first: that SOA, where it is left, and the sets
+/// after it that are left.
 fn part_behind<'a>(soa: &'a RRset, sets: &'a [RRset], sent: usize) -> (SetRecords<'a>, &'a [RRset])
     ensures { result.0 ++ records_in result.1.now ≡ records_in (drop sent (soa.now ∷ sets.now)) }
 {
@@ -197,7 +197,7 @@ fn part_left(version: &Version, part: Part, sent: usize) -> (SetRecords<'_>, &[R
     }
 }
 
-/// The part behind a part of a version's difference sequence; None where there is none.
+/// The part after a part of a version's difference sequence; None where there is none.
 fn part_after(version: &Version, part: Part) -> Option<Half<'_>>
     ensures { (sent : ℕ) → records_in (drop sent (sets_of_part part (soa_of version.now.zone) version.now.changes)) ++ unwrap_or result [] ≡ step_left part sent (soa_of version.now.zone) version.now.changes }
 {
@@ -210,7 +210,7 @@ fn part_after(version: &Version, part: Part) -> Option<Half<'_>>
     }
 }
 
-/// The list of what changed behind all versions: the SOA that is served (RFC 1995, 4).
+/// The list of what changed after all versions: the SOA that is served (RFC 1995, 4).
 fn closing_list<'a, C: ChainView>(served: &'a Zone, chain: &'a C) -> ChangesList<'a, C>
     ensures { result ≡ soa_of served.now }
 {
@@ -254,7 +254,7 @@ fn begun_list<'a, C: ChainView>(
 }
 
 /// The list of what changed from a set of a part of a version's difference sequence on: what is left of that, the difference sequences of
-/// the versions behind it, the SOA that is served (RFC 1995, 4). It takes no memory.
+/// the versions after it, the SOA that is served (RFC 1995, 4). It takes no memory.
 pub(crate) fn changes_from<'a, C: ChainView>(
     served: &'a Zone,
     chain: &'a C,

@@ -1,7 +1,7 @@
 //! Why a transfer isn't taken.
 ghost use Rattle.std.specs.Prelude.{◌≡◌, Some};
 ghost use Rattle.transfer_core.specs.declared.fault.TransferFault.TheVariants.{NoMemory as no_memory};
-ghost use Rattle.transfer_core.specs.Told.{fault_words};
+ghost use Rattle.transfer_core.specs.Words.{fault_words};
 
 use std::alloc::AllocError;
 use std::error::Error;
@@ -12,7 +12,7 @@ use std::fmt;
 #[derive(Clone, Copy, Debug, PartialEq, Eq)]
 pub enum TransferFault {
     /// It isn't such a list: a record of another class, of a metatype, or of data without its type's form; no SOA
-    /// first, none that closes the list or another one, records behind it.
+    /// first, none that closes the list or another one, records after it.
     Broken,
     /// It begins at another zone: an old SOA has another serial than the zone, a deletion isn't there, an addition is
     /// there, or an SOA alone has another serial.

@@ -6,7 +6,7 @@ ghost use Rattle.std.specs.Option.{option_map, option_and_then};
 ghost use Rattle.dns_rdata.specs.Record.{Record};
 ghost use Rattle.zone_tree.specs.Version.{Version as Numbered};
 ghost use Rattle.zone_tree.specs.Zone.{soa_of};
-ghost use Rattle.transfer_core.specs.Chain.{zones_of, told, told_changes};
+ghost use Rattle.transfer_core.specs.Chain.{zones_of, reported, told_changes};
 ghost use Rattle.transfer_core.specs.Lists.{newest};
 ghost use Rattle.transfer_core.specs.Window.{span, fits, serials_of, AreKept, serial_before, is_held_before, kept_since, kept_for, changes_since};
 
@@ -91,8 +91,8 @@ pub fn chain_since<'a, K: VersionList>(
     requires { reach.upto ≤ length (K.versions kept.now) }
     ensures whole { result.whole ≡ is_some (kept_for reach.window reach.upto (K.versions kept.now) held) }
     ensures versions { ⟦<KeptChain<'a, K> as VersionList>⟧.versions result ≡ unwrap_or (kept_for reach.window reach.upto (K.versions kept.now) held) [] }
-    ensures told { (soa : List Record) → told_changes result.whole soa (⟦<KeptChain<'a, K> as VersionList>⟧.versions result)
-        ≡ option_map (told soa) (kept_for reach.window reach.upto (K.versions kept.now) held) }
+    ensures reported { (soa : List Record) → told_changes result.whole soa (⟦<KeptChain<'a, K> as VersionList>⟧.versions result)
+        ≡ option_map (reported soa) (kept_for reach.window reach.upto (K.versions kept.now) held) }
     ensures changes { (older : List (List Record)) → AreKept older (K.versions kept.now)
         → told_changes result.whole (soa_of (newest [] (zones_of (take reach.upto (K.versions kept.now))))) (⟦<KeptChain<'a, K> as VersionList>⟧.versions result)
         ≡ option_and_then (λ serial. changes_since reach.window (zones_of (drop reach.upto (K.versions kept.now))) reach.upto serial.0 (older ++ zones_of (take reach.upto (K.versions kept.now)))) held }

@@ -20,7 +20,7 @@ pub fn incremental_lists_are_taken()
 {}
 
 /// The records of a list are refused exactly where one of them has a fault, with the fault of the first that has one;
-/// what comes behind it is never looked at (RFC 1995, 4).
-pub fn first_faults_are_told()
+/// what comes after it is never looked at (RFC 1995, 4).
+pub fn first_faults_are_reported()
     ensures { (apex : Name) (first : Record) (reading : Reading) (list : List RawRecord) (fault : TransferFault) → (steps_through apex first reading list ≡ Err fault) ↔ HasFirstFault apex first reading list fault }
 {}

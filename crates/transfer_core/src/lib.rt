@@ -1,5 +1,5 @@
 //! Transfers of a zone: the lists of records by which it is sent, in whole (RFC 5936) or as what changed since an older
-//! version (RFC 1995), and what a holder of a zone holds behind such a list.
+//! version (RFC 1995), and what a holder of a zone holds after such a list.
 //!
 //! Contracts see a zone as the list of its records. `full` and `incremental` are the lists, `take` is what they make of
 //! what is held, or the fault of the first record that has one. Laws and worked examples tell of them.
@@ -27,7 +27,7 @@ pub use examples::{
 };
 pub use fault::TransferFault;
 pub use kept::{KEPT, KeptChain, Reach, WINDOW, chain_since, sizes_of_what_is_kept};
-pub use laws::{first_faults_are_told, full_lists_are_taken, incremental_lists_are_taken};
+pub use laws::{first_faults_are_reported, full_lists_are_taken, incremental_lists_are_taken};
 pub use list::{FullList, LentRecord, SetRecords, full};
 pub use packed::{messages_are_the_list, messages_tell_their_records};
 pub use packer::{MAX_MESSAGE, Packer, TransferRecords, write_message};

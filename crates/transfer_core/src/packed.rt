@@ -9,7 +9,7 @@ ghost use Rattle.dns_message.specs.declared.query.Question.{Question};
 ghost use Rattle.transfer_core.specs.Packed.{packed_from, packed_later, octets_of};
 
 /// The answer sections of the messages are the list, record by record: none is left out, and none is there twice. All
-/// messages have the same header, and those behind the first have no question and no OPT (RFC 5936, 2.2; RFC 6891, 6.1.1; own).
+/// messages have the same header, and those after the first have no question and no OPT (RFC 5936, 2.2; RFC 6891, 6.1.1; own).
 pub fn messages_are_the_list()
     ensures records { (head : Head) (question : Option Question) (opt : Option Opt) (list : List Record) → flat_map (λ (m : Message). m.answer) (packed_from head question opt list) ≡ list }
     ensures headers { (head : Head) (question : Option Question) (opt : Option Opt) (list : List Record) → All (λ (m : Message). m.head ≡ head) (packed_from head question opt list) }
@@ -17,7 +17,7 @@ pub fn messages_are_the_list()
     ensures opts { (head : Head) (question : Option Question) (opt : Option Opt) (list : List Record) → All (λ (m : Message). m.opt ≡ None) (drop 1 (packed_from head question opt list)) }
 {}
 
-/// The header of each message tells how many of the records it has: those behind so many are left to the messages behind it (RFC 1035,
+/// The header of each message tells how many of the records it has: those after so many are left to the messages after it (RFC 1035,
 /// 4.1.1; RFC 5936, 2.2).
 pub fn messages_tell_their_records()
     ensures header { (head : Head) (question : Option Question) (opt : Option Opt) (list : List Record) (octets : List ℕ) (later : List (List ℕ))

@@ -233,7 +233,7 @@ fn opt_beside(question: Option<&Question>, opt: Option<Opt>) -> Option<Opt>
 }
 
 /// Writes the first message of records over TCP to the front of `out`, with a question that is still to be sent and the OPT beside it, or
-/// without one: how many octets it has, and how many of the records; they are behind these then. None where neither a question nor
+/// without one: how many octets it has, and how many of the records; they are after these then. None where neither a question nor
 /// a record is left (RFC 5936, 2.2; RFC 6891, 6.1.1; own).
 fn write_first<C: ChainView>(
     head: Head,
@@ -260,7 +260,7 @@ fn write_first<C: ChainView>(
 
 /// Writes the first message of a list over TCP to the front of `out`: with the question, where that is still to be sent, and the OPT
 /// of the reply beside it, or none. The name is the one asked. Gives how many octets it has, and how many of the list's records; None
-/// where neither a question nor a record is left. What is behind the first [`MAX_MESSAGE`] octets stays (RFC 5936, 2.2; RFC 1995, 4;
+/// where neither a question nor a record is left. What is after the first [`MAX_MESSAGE`] octets stays (RFC 5936, 2.2; RFC 1995, 4;
 /// RFC 6891, 6.1.1; own). It takes no memory.
 pub fn write_message<'a, C: ChainView>(
     head: Head,
@@ -364,7 +364,7 @@ impl<'a, C: ChainView> Packer<'a, C> {
         }
     }
 
-    /// Writes the next message to the front of `out`, and gives how many octets it has; None at the end. What is behind the
+    /// Writes the next message to the front of `out`, and gives how many octets it has; None at the end. What is after the
     /// first [`MAX_MESSAGE`] octets stays, and at the end all of it (RFC 5936, 2.2).
     pub fn next_message(&mut self, out: &mut [u8]) -> Option<usize>
         requires { MAX_MESSAGE ≤ length out.old }

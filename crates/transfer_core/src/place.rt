@@ -3,7 +3,7 @@ ghost use Rattle.std.specs.Prelude.{◌≡◌, ◌≤◌, List, length, drop};
 ghost use Rattle.zone_tree.specs.Version.{Version};
 ghost use Rattle.zone_tree.specs.Zone.{soa_of};
 ghost use Rattle.dns_rdata.specs.Record.{Record};
-ghost use Rattle.transfer_core.specs.Chain.{told};
+ghost use Rattle.transfer_core.specs.Chain.{reported};
 ghost use Rattle.transfer_core.specs.Lists.{full, beside_soa};
 ghost use Rattle.transfer_core.specs.Places.{zone_left, left_at};
 
@@ -42,7 +42,7 @@ pub struct ChangesPlace {
     pub(crate) step: StepPlace,
 }
 
-/// A place in the list of a zone in whole, behind the SOA that opens it (RFC 5936, 2.2).
+/// A place in the list of a zone in whole, after the SOA that opens it (RFC 5936, 2.2).
 #[derive(Drop)]
 pub struct ZonePlace {
     /// The owner of the set that is begun.
@@ -71,8 +71,8 @@ pub enum Place {
 }
 
 impl Place {
-    /// The place behind so many more records of the list of a zone, or of what changed up to it through the versions of a chain. It
-    /// takes no memory, and no more steps than these records have sets, behind a search for the owner.
+    /// The place after so many more records of the list of a zone, or of what changed up to it through the versions of a chain. It
+    /// takes no memory, and no more steps than these records have sets, after a search for the owner.
     pub fn behind<C: ChainView>(&self, zone: &Zone, chain: &C, count: u16) -> Place
         ensures { left_at zone.now (C.versions chain.now) result ≡ drop count (left_at zone.now (C.versions chain.now) self.now) }
     {
@@ -82,7 +82,7 @@ impl Place {
                 let passed = sum(at.sent, count);
                 in_zone(zone, &at.owner, at.rtype, passed)
             }
-            Place::ChangesStart => in_told(zone, chain, count),
+            Place::ChangesStart => in_list(zone, chain, count),
             Place::InChanges(at) => {
                 let sent = sum(at.step.sent, count);
                 in_changes(zone, chain, at.version, at.step.part, at.step.set, sent)
@@ -100,7 +100,7 @@ fn sum(sent: u16, count: u16) -> usize
     usize::from(sent) + usize::from(count)
 }
 
-/// The place behind so many records of the list of a zone in whole.
+/// The place after so many records of the list of a zone in whole.
 fn in_full(zone: &Zone, count: u16) -> Place
     ensures { (versions : List Version) → left_at zone.now versions result ≡ drop count (full zone.now) }
 {
@@ -113,9 +113,9 @@ fn in_full(zone: &Zone, count: u16) -> Place
     in_zone(zone, &Name::root(), RType(0), more)
 }
 
-/// The place behind so many records of the list of what changed.
-fn in_told<C: ChainView>(zone: &Zone, chain: &C, count: u16) -> Place
-    ensures { left_at zone.now (C.versions chain.now) result ≡ drop count (told (soa_of zone.now) (C.versions chain.now)) }
+/// The place after so many records of the list of what changed.
+fn in_list<C: ChainView>(zone: &Zone, chain: &C, count: u16) -> Place
+    ensures { left_at zone.now (C.versions chain.now) result ≡ drop count (reported (soa_of zone.now) (C.versions chain.now)) }
 {
     if count == 0 {
         return Place::ChangesStart;
@@ -126,7 +126,7 @@ fn in_told<C: ChainView>(zone: &Zone, chain: &C, count: u16) -> Place
     in_changes(zone, chain, 0, Part::Old, 0, more)
 }
 
-/// The place behind so many records of the list of a zone in whole from an owner and a type on.
+/// The place after so many records of the list of a zone in whole from an owner and a type on.
 fn in_zone(zone: &Zone, owner: &Name, rtype: RType, sent: usize) -> Place
     ensures { (versions : List Version) → left_at zone.now versions result ≡ drop sent (zone_left zone.now owner.now rtype.0) }
 {
@@ -146,7 +146,7 @@ fn in_zone(zone: &Zone, owner: &Name, rtype: RType, sent: usize) -> Place
     at_close(zone, left)
 }
 
-/// The place behind so many records of a list of which the SOA is left.
+/// The place after so many records of a list of which the SOA is left.
 pub(crate) fn at_close(zone: &Zone, sent: usize) -> Place
     ensures { (versions : List Version) → left_at zone.now versions result ≡ drop sent (soa_of zone.now) }
 {

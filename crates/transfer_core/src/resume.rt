@@ -41,7 +41,7 @@ pub fn records_at<'a, C: ChainView>(
     }
 }
 
-/// A list behind so many of its records.
+/// A list after so many of its records.
 fn behind<'a, C: ChainView>(list: TransferRecords<'a, C>, count: u16) -> TransferRecords<'a, C>
     ensures { listed result ≡ drop count (listed list.entry) }
 {

@@ -26,7 +26,7 @@ pub(crate) fn part_of(version: &Version, part: Part) -> Option<(&RRset, &[RRset]
     }
 }
 
-/// The set at a place of a part: the SOA, which is set 0, or one of those behind it.
+/// The set at a place of a part: the SOA, which is set 0, or one of those after it.
 fn set_at<'a>(soa: &'a RRset, sets: &'a [RRset], at: usize) -> &'a RRset
     requires { at ≤ length sets.now }
     ensures { (d : List Record) → slice_index_or (soa.now ∷ sets.now) at d ≡ result.now }
@@ -37,7 +37,7 @@ fn set_at<'a>(soa: &'a RRset, sets: &'a [RRset], at: usize) -> &'a RRset
     &sets[at - 1]
 }
 
-/// Where so many records lead from a set of a part on: the set and how many of its records are passed; else how many are to be passed behind
+/// Where so many records lead from a set of a part on: the set and how many of its records are passed; else how many are to be passed after
 /// the part.
 fn pass_sets(soa: &RRset, sets: &[RRset], from: usize, sent: usize) -> Result<(usize, u16), usize>
     ensures inside { IfOk result (λ at. (rest : List Record) → drop at.1 (records_in (drop at.0 (soa.now ∷ sets.now)) ++ rest) ≡ drop sent (records_in (drop from (soa.now ∷ sets.now)) ++ rest)) }
@@ -63,7 +63,7 @@ fn count_of(set: &RRset) -> usize
 }
 
 /// Where so many records lead from a set of a part of a version's difference sequence on: a place in that part; else how many are to be passed
-/// behind it.
+/// after it.
 fn pass_part(version: &Version, part: Part, from: usize, sent: usize) -> Result<StepPlace, usize>
     ensures part { IfOk result (λ at. at.part ≡ part) }
     ensures inside { IfOk result (λ at. (rest : List Record) → drop at.sent (records_in (drop at.set (sets_of_part part (soa_of version.now.zone) version.now.changes)) ++ rest) ≡ drop sent (records_in (drop from (sets_of_part part (soa_of version.now.zone) version.now.changes)) ++ rest)) }
@@ -79,7 +79,7 @@ fn pass_part(version: &Version, part: Part, from: usize, sent: usize) -> Result<
 }
 
 /// Where so many records lead from a set of the first part of a version's difference sequence on: a place in either part; else how many
-/// are to be passed behind both.
+/// are to be passed after both.
 fn pass_both(version: &Version, from: usize, sent: usize) -> Result<StepPlace, usize>
     ensures inside { IfOk result (λ at. (rest : List Record) → drop at.sent (step_left at.part at.set (soa_of version.now.zone) version.now.changes ++ rest) ≡ drop sent (step_left Part.Old from (soa_of version.now.zone) version.now.changes ++ rest)) }
     ensures behind { IfErr result (λ left. (rest : List Record) → drop left rest ≡ drop sent (step_left Part.Old from (soa_of version.now.zone) version.now.changes ++ rest)) }
@@ -112,7 +112,7 @@ pub(crate) fn version_at<C: ChainView>(chain: &C, at: usize) -> &Version
     }
 }
 
-/// The place behind so many records of the list of what changed from a set of a version's difference sequence on.
+/// The place after so many records of the list of what changed from a set of a version's difference sequence on.
 pub(crate) fn in_changes<C: ChainView>(
     zone: &Zone,
     chain: &C,

@@ -20,7 +20,7 @@ use Rattle.transfer_core.proofs.RecordLemmas.{IsIn, both, is_not, each_in, each_
 use Rattle.transfer_core.proofs.ReadLemmas.{one_of}
 use Rattle.transfer_core.proofs.ZoneLemmas.{each_lawful, passes}
 use Rattle.transfer_in.specs.Held.{SetKey}
-use Rattle.transfer_in.specs.Standing.{AreHeld}
+use Rattle.transfer_in.specs.ListState.{AreHeld}
 use Rattle.transfer_in.proofs.HoldingLemmas.{keyed}
 use Rattle.transfer_in.proofs.GroupLemmas.{ZoneParts, zone_parts}
 

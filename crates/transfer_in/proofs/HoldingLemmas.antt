@@ -204,14 +204,14 @@ module _ (old new : BTreeMap SetKey ℕ) (r : Record) (key : SetKey) (key_is : k
 
       by : (b : Bool) → is_eq (key_cmp key q) ≡ b → size_in new q ≡ length (rrset_of after q.owner q.rtype)
       by true f =
-          let told : size_in new q ≡ size = ap (λ o. unwrap_or o 0) (updates q) ∙ ap (λ b. unwrap_or (cond b (Some size) (get key_cmp old q)) 0) f in
+          let reported : size_in new q ≡ size = ap (λ o. unwrap_or o 0) (updates q) ∙ ap (λ b. unwrap_or (cond b (Some size) (get key_cmp old q)) 0) f in
           let there : length (rrset_of after q.owner q.rtype) ≡ length (rrset_of viewed q.owner q.rtype) + 1 = counted ∙ ap (λ b. length (rrset_of viewed q.owner q.rtype) + cond b 1 0) f in
           let same = of_key q viewed f in
-          omega (arith, told, there, same, counts, more)
+          omega (arith, reported, there, same, counts, more)
       by false f =
-          let told : size_in new q ≡ size_in old q = ap (λ o. unwrap_or o 0) (updates q) ∙ ap (λ b. unwrap_or (cond b (Some size) (get key_cmp old q)) 0) f in
+          let reported : size_in new q ≡ size_in old q = ap (λ o. unwrap_or o 0) (updates q) ∙ ap (λ b. unwrap_or (cond b (Some size) (get key_cmp old q)) 0) f in
           let there : length (rrset_of after q.owner q.rtype) ≡ length (rrset_of viewed q.owner q.rtype) + 0 = counted ∙ ap (λ b. length (rrset_of viewed q.owner q.rtype) + cond b 1 0) f in
-          omega (arith, told, there, own)
+          omega (arith, reported, there, own)
 
   pub sizes_out : (zs viewed after : List Record) (count : ℕ) → AreSizes old zs → zs ≡ viewed → is_among viewed r ≡ true → after ≡ remove_key (λ z. is_eq (held_cmp r z)) zs → count ≡ length (rrset_of viewed key.owner key.rtype) → size ≡ count - 1 → AreSizes new after
   sizes_out zs viewed after count sizes is there e counts less q = by (is_eq (key_cmp key q)) refl
@@ -227,16 +227,16 @@ module _ (old new : BTreeMap SetKey ℕ) (r : Record) (key : SetKey) (key_is : k
 
       by : (b : Bool) → is_eq (key_cmp key q) ≡ b → size_in new q ≡ length (rrset_of after q.owner q.rtype)
       by true f =
-          let told : size_in new q ≡ size = ap (λ o. unwrap_or o 0) (updates q) ∙ ap (λ b. unwrap_or (cond b (Some size) (get key_cmp old q)) 0) f in
+          let reported : size_in new q ≡ size = ap (λ o. unwrap_or o 0) (updates q) ∙ ap (λ b. unwrap_or (cond b (Some size) (get key_cmp old q)) 0) f in
           let left : length (rrset_of after q.owner q.rtype) + 1 ≡ length (rrset_of viewed q.owner q.rtype) = ap (λ b. length (rrset_of after q.owner q.rtype) + cond b 1 0) (sym f) ∙ counted in
           let same = of_key q viewed f in
-          omega (arith, told, left, same, counts, less)
+          omega (arith, reported, left, same, counts, less)
       by false f =
-          let told : size_in new q ≡ size_in old q = ap (λ o. unwrap_or o 0) (updates q) ∙ ap (λ b. unwrap_or (cond b (Some size) (get key_cmp old q)) 0) f in
+          let reported : size_in new q ≡ size_in old q = ap (λ o. unwrap_or o 0) (updates q) ∙ ap (λ b. unwrap_or (cond b (Some size) (get key_cmp old q)) 0) f in
           let left : length (rrset_of after q.owner q.rtype) + 0 ≡ length (rrset_of viewed q.owner q.rtype) = ap (λ b. length (rrset_of after q.owner q.rtype) + cond b 1 0) (sym f) ∙ counted in
-          omega (arith, told, left, own)
+          omega (arith, reported, left, own)
 
 -- and so many records the record's own set has
 pub size_at : (sizes : BTreeMap SetKey ℕ) (r : Record) (key : SetKey) (size : ℕ) (after records : List Record) → AreSizes sizes after → get key_cmp sizes key ≡ Some size → key ≡ record { owner = r.owner; rtype = r.rtype } → after ≡ records → size ≡ length (rrset_of records r.owner r.rtype)
-size_at sizes r key size after records are told key_is is =
-    ap (λ o. unwrap_or o 0) (sym told) ∙ are key ∙ (λ i. length (rrset_of (is i) (key_is i).owner (key_is i).rtype))
+size_at sizes r key size after records are reported key_is is =
+    ap (λ o. unwrap_or o 0) (sym reported) ∙ are key ∙ (λ i. length (rrset_of (is i) (key_is i).owner (key_is i).rtype))

@@ -14,7 +14,7 @@ use Rattle.zone_tree.proofs.Rising.{each_weaker, each_filter}
 use Rattle.transfer_core.specs.declared.fault.TransferFault.{TransferFault}
 use Rattle.transfer_core.specs.declared.fault.TransferFault.TheVariants.{NotInZone}
 use Rattle.transfer_core.specs.Take.{Stage, Reading, held, held_cmp, is_among, inserted}
-use Rattle.transfer_in.specs.Standing.{AreHeld}
+use Rattle.transfer_in.specs.ListState.{AreHeld}
 use Rattle.transfer_in.specs.Held.{held_total}
 use Rattle.transfer_core.proofs.RecordLemmas.{both}
 use Rattle.transfer_in.proofs.HoldingLemmas.{same_tied, counted_in, no_more, alike_sets}

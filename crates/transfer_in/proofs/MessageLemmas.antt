@@ -7,7 +7,7 @@ use Rattle.dns_rdata.specs.Raw.{RawRecord}
 use Rattle.transfer_core.specs.declared.fault.TransferFault.{TransferFault}
 use Rattle.transfer_core.specs.declared.fault.TransferFault.TheVariants.{NoMemory}
 use Rattle.transfer_in.specs.declared.taking.Progress.{Progress}
-use Rattle.transfer_in.specs.Standing.{Tells}
+use Rattle.transfer_in.specs.ListState.{Tells}
 use Rattle.transfer_in.specs.Taking.{unreadable, records_of_message, records_of_messages, behind, IsRead, IsRefused}
 use Rattle.transfer_in.proofs.TakingLemmas.{IsRead-more}
 
@@ -54,11 +54,11 @@ module _ (zone : List Record) (a b : Progress) (xs : List (Vec ℕ)) (i : ℕ) w
   read_all all h = ap (behind zone a) (sym (append-nil (records_of xs)) ∙ ap (λ (l : List (Vec ℕ)). records_of l ++ []) (sym (take_all i xs all))) ∙ h.reads []
 
 -- what is told of the end, of all
-pub told_zone : (all end told : Result (List Record) TransferFault) → all ≡ end → Tells end (λ next. next) told → IfOk told (λ next. all ≡ Ok next)
+pub told_zone : (all end reported : Result (List Record) TransferFault) → all ≡ end → Tells end (λ next. next) reported → IfOk reported (λ next. all ≡ Ok next)
 told_zone all end (Ok next) e h = e ∙ h
 told_zone all end (Err fault) e h = tt
 
-pub told_fault : (all end told : Result (List Record) TransferFault) → all ≡ end → Tells end (λ next. next) told → IfErr told (λ fault. (fault ≡ NoMemory) ⊎ (all ≡ Err fault))
+pub told_fault : (all end reported : Result (List Record) TransferFault) → all ≡ end → Tells end (λ next. next) reported → IfErr reported (λ fault. (fault ≡ NoMemory) ⊎ (all ≡ Err fault))
 told_fault all end (Ok next) e h = tt
 told_fault all end (Err fault) e (inl f) = inl f
 told_fault all end (Err fault) e (inr f) = inr (e ∙ f)

@@ -3,7 +3,7 @@ use Rattle.std.proofs.Common.{◌≡◌, ℕ, zero, suc, ◌+◌, ◌*◌, ◌�
 use Rattle.std.proofs.lemmas.Bool.Decides.{Decides-eqb}
 use Rattle.std.proofs.lemmas.List.{length-append}
 use Rattle.dns_name.specs.Name.{wire_of, name_in}
-use Rattle.dns_name.proofs.LawLemmas.{name_in-stands}
+use Rattle.dns_name.proofs.LawLemmas.{name_in-is_present}
 use Rattle.dns_rdata.specs.Layout.{layout_of}
 use Rattle.dns_rdata.specs.Data.{names_then, data_of}
 use Rattle.dns_rdata.proofs.NameLemmas.{map_some, and_then_some, cond_some}
@@ -17,9 +17,9 @@ names_short (suc names) back octets own e =
     let name = and_then_some _ (name_in octets) own e in
     let rest = map_some _ (names_then names back (drop (length (wire_of name.0)) octets)) own name.2 in
     let more = names_short names back (drop (length (wire_of name.0)) octets) rest.0 rest.1 in
-    let stands = name_in-stands octets name.0 name.1 in
-    let short : length (wire_of name.0) ≤ 255 = stands.0.short in
-    let sum : length octets ≡ length (wire_of name.0) + length (drop (length (wire_of name.0)) octets) = (λ i. length (stands.1 i)) ∙ length-append (wire_of name.0) (drop (length (wire_of name.0)) octets) in
+    let is_present = name_in-is_present octets name.0 name.1 in
+    let short : length (wire_of name.0) ≤ 255 = is_present.0.short in
+    let sum : length octets ≡ length (wire_of name.0) + length (drop (length (wire_of name.0)) octets) = (λ i. length (is_present.1 i)) ∙ length-append (wire_of name.0) (drop (length (wire_of name.0)) octets) in
     omega (arith, more, short, sum)
 
 pub soa_short : (octets : List ℕ) → data_of 6 octets ≡ Some octets → length octets ≤ 4096

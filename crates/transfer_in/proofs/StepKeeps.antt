@@ -15,11 +15,11 @@ use Rattle.zone_tree.specs.Version.{zone_serial}
 use Rattle.zone_tree.proofs.Rising.{Rises, each_weaker}
 use Rattle.zone_tree.proofs.SetLemmas.{less}
 use Rattle.transfer_core.specs.declared.fault.TransferFault.TheVariants.{Broken, WrongBase}
-use Rattle.transfer_in.specs.declared.reading.Stage.{Stage as Standing}
+use Rattle.transfer_in.specs.declared.reading.Stage.{Stage as ListStage}
 use Rattle.transfer_in.specs.declared.reading.Stage.TheVariants.{Gathering, Deleting, Adding, Closed}
 use Rattle.transfer_core.specs.Lists.{beside_soa}
 use Rattle.transfer_core.specs.Take.{Stage, opened, gathering, deleting, adding, closed, Reading, held, held_cmp, closing, old_soa, step, is_soa, is_among, inserted, removed, joined}
-use Rattle.transfer_in.specs.Standing.{AreHeld, HasSoa, stage_of}
+use Rattle.transfer_in.specs.ListState.{AreHeld, HasSoa, stage_of}
 use Rattle.transfer_in.proofs.HoldingLemmas.{no_more}
 use Rattle.transfer_core.proofs.SoaLemmas.{soa_not_among}
 use Rattle.transfer_in.proofs.KeepLemmas.{given, held_within_limits, inserted_held, filter_held}
@@ -82,7 +82,7 @@ module _ (apex : Name) (records : List Record) (h : AreHeld apex records) (r : R
         by false c true f g = absurd (cc)
         by false c false f g = put_keeps adding f g
 
-    pub step_keeps : (stage : Standing) → HasSoa stage records → step apex first (stage_of stage) records r ≡ Ok next → AreHeld apex next.records
+    pub step_keeps : (stage : ListStage) → HasSoa stage records → step apex first (stage_of stage) records r ≡ Ok next → AreHeld apex next.records
     step_keeps Gathering s e = gather_keeps e
     step_keeps Deleting s e = delete_keeps s e
     step_keeps (Adding soa) s e = add_keeps e

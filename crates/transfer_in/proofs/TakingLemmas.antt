@@ -10,7 +10,7 @@ use Rattle.transfer_core.specs.declared.fault.TransferFault.TheVariants.{Broken,
 use Rattle.transfer_in.specs.declared.taking.Progress.{Progress}
 use Rattle.transfer_in.specs.declared.taking.Progress.TheVariants.{Nothing, Opened, Under}
 use Rattle.transfer_core.specs.Take.{opened, Reading, entered, is_soa, step, steps_through, ended, behind_first}
-use Rattle.transfer_in.specs.Standing.{Within, reading_of, stage_of}
+use Rattle.transfer_in.specs.ListState.{Within, reading_of, stage_of}
 use Rattle.transfer_in.specs.Taking.{behind, IsRead, IsRefused}
 
 -- what behind a list's records is told, by what they made

@@ -7,7 +7,7 @@ use Rattle.dns_rdata.specs.Record.{Record}
 use Rattle.zone_tree.specs.Sets.{set_cmp}
 use Rattle.transfer_core.specs.Take.{held_cmp}
 
--- a record comes behind all others
+-- a record comes after all others
 abbrev pub IsBehindAll : Record → List Record → Type 0
 IsBehindAll r records = AllByRecursion (λ s. held_cmp s r ≡ Less) records
 

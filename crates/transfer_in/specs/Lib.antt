@@ -1,7 +1,7 @@
 pub mod Grouped
 pub mod Held
 pub mod Sendable
-pub mod Standing
+pub mod ListState
 pub mod Taking
 pub use Rattle.zone_tree.specs.Zone
 pub use Rattle.dns_name.specs.Name

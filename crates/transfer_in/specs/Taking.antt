@@ -11,7 +11,7 @@ use Rattle.transfer_core.specs.declared.fault.TransferFault.TheVariants.{NoMemor
 use Rattle.transfer_in.specs.declared.taking.Progress.{Progress}
 use Rattle.transfer_in.specs.declared.taking.Progress.TheVariants.{Nothing, Opened, Under}
 use Rattle.transfer_core.specs.Take.{is_soa, steps_through, ended, behind_first, take}
-use Rattle.transfer_in.specs.Standing.{reading_of, AreHeld}
+use Rattle.transfer_in.specs.ListState.{reading_of, AreHeld}
 
 -- a record that can't be read, which no list has
 abbrev pub unreadable : RawRecord
@@ -42,14 +42,14 @@ IsKept apex Nothing = Unit {0}
 IsKept apex (Opened first) = (is_soa first ≡ true) × IsLawful first
 IsKept apex (Under within) = AreHeld apex within.records
 
--- so many more records were read, and those behind them make what all made
+-- so many more records were read, and those after them make what all made
 pub record IsRead (zone : List Record) (before after : Progress) (sent : List RawRecord) : Type 0 where
   pub reads : (list : List RawRecord) → behind zone before (sent ++ list) ≡ behind zone after list
 
--- or one of them has a fault, whatever comes behind them
+-- or one of them has a fault, whatever comes after them
 pub record IsRefused (zone : List Record) (before : Progress) (sent : List RawRecord) (fault : TransferFault) : Type 0 where
   pub refuses : (list : List RawRecord) → behind zone before (sent ++ list) ≡ Err fault
 
 -- what is told of records: that they were read, that a growth was refused, or the fault of one of them
 abbrev pub TellsRead : List Record → Progress → List RawRecord → Result Progress TransferFault → Type 0
-TellsRead zone before sent told = MatchResult told (λ after. IsRead zone before after sent) (λ fault. (fault ≡ NoMemory) ⊎ IsRefused zone before sent fault)
+TellsRead zone before sent reported = MatchResult reported (λ after. IsRead zone before after sent) (λ fault. (fault ≡ NoMemory) ⊎ IsRefused zone before sent fault)

@@ -1,9 +1,9 @@
-//! What is held behind the last record, as a zone (RFC 1995, 4; RFC 5936, 2.2).
+//! What is held after the last record, as a zone (RFC 1995, 4; RFC 5936, 2.2).
 ghost use Rattle.std.specs.Prelude.{◌≡◌, ◌⊎◌, true, false, IfOk, IfErr};
 ghost use Rattle.dns_name.specs.Name.{fold_name};
 ghost use Rattle.zone_tree.specs.Zone.{IsZone};
 ghost use Rattle.transfer_core.specs.Take.{is_zone};
-ghost use Rattle.transfer_in.specs.Standing.{AreHeld};
+ghost use Rattle.transfer_in.specs.ListState.{AreHeld};
 
 use crate::grouped::sets_of;
 use crate::holding::Holding;

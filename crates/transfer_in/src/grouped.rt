@@ -12,7 +12,7 @@ ghost use Rattle.dns_rdata.specs.Record.{Record, owner_of, rtype_of, ttl_of};
 ghost use Rattle.zone_tree.specs.Zone.{rrset_of, share_ttl};
 ghost use Rattle.zone_tree.specs.Sets.{records_in};
 ghost use Rattle.transfer_core.specs.Take.{is_zone};
-ghost use Rattle.transfer_in.specs.Standing.{AreHeld};
+ghost use Rattle.transfer_in.specs.ListState.{AreHeld};
 ghost use Rattle.transfer_in.specs.Grouped.{IsBehindAll, AreInOrder};
 
 use crate::held::HeldRecord;
@@ -21,7 +21,7 @@ use dns_name::Name;
 use dns_rdata::{RData, RRset, SetFault};
 use std::alloc::{AllocError, Global};
 
-/// A set with one more record, whose data comes behind that of all others. An `Err` only where a growth was refused.
+/// A set with one more record, whose data comes after that of all others. An `Err` only where a growth was refused.
 fn with_last(mut set: RRset, rdata: RData) -> Result<RRset, AllocError>
     requires typed { rdata.rtype ≡ rtype_of set }
     requires room { length set < max_set }
@@ -35,8 +35,8 @@ fn with_last(mut set: RRset, rdata: RData) -> Result<RRset, AllocError>
     }
 }
 
-/// Puts a record that comes behind all others into the last of the sets where that is of its owner and type, and else
-/// behind them. Whether it has the TTL of its set. An `Err` only where a growth was refused.
+/// Puts a record that comes after all others into the last of the sets where that is of its owner and type, and else
+/// after them. Whether it has the TTL of its set. An `Err` only where a growth was refused.
 fn put(alloc: Global, sets: &mut Vec<RRset>, held: HeldRecord) -> Result<bool, AllocError>
     requires behind { IsBehindAll held (records_in sets.old.items) }
     requires rising { AreInOrder sets.old.items }
@@ -60,7 +60,7 @@ fn put(alloc: Global, sets: &mut Vec<RRset>, held: HeldRecord) -> Result<bool, A
     Ok(true)
 }
 
-/// Puts the set of a record alone behind all others. An `Err` only where a growth was refused.
+/// Puts the set of a record alone after all others. An `Err` only where a growth was refused.
 fn put_alone(alloc: Global, sets: &mut Vec<RRset>, held: HeldRecord) -> Result<(), AllocError>
     requires { length held.rdata ≤ max_data }
     ensures { OnOk result (sets.new.items ≡ sets.old.items ++ (held ∷ []) ∷ []) }
@@ -69,7 +69,7 @@ fn put_alone(alloc: Global, sets: &mut Vec<RRset>, held: HeldRecord) -> Result<(
     Ok(())
 }
 
-/// Puts a record that comes behind all others into its set, the last one, where it has that one's TTL. Whether it has. An `Err`
+/// Puts a record that comes after all others into its set, the last one, where it has that one's TTL. Whether it has. An `Err`
 /// only where a growth was refused.
 fn put_in(
     alloc: Global,

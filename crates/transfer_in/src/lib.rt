@@ -2,7 +2,7 @@
 //!
 //! Contracts see a zone as the list of its records and messages as the lists of their octets. [`apply`] gives what the list
 //! of their records makes of the zone that is held (`take`), or the fault of the first record that has one. It goes record by
-//! record and keeps no list; what is held behind the last one is put into sets and judged as any zone is. The lists
+//! record and keeps no list; what is held after the last one is put into sets and judged as any zone is. The lists
 //! themselves, and the laws of `take`, are those of `transfer_core`; the laws here take the octets of a whole transfer back.
 #![tactic(auto)]
 

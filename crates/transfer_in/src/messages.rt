@@ -9,7 +9,7 @@ use std::alloc::Global;
 use transfer_core::TransferFault;
 use zone_tree::Zone;
 
-/// What a holder of a zone holds behind the messages of a transfer: the zone that was sent in whole (RFC 5936, 2.2), or the
+/// What a holder of a zone holds after the messages of a transfer: the zone that was sent in whole (RFC 5936, 2.2), or the
 /// one that the changes make of its own (RFC 1995, 4). The zone that is held stays as it is.
 ///
 /// Their answer sections' records are one list, whose first record that has a fault is told; a message that can't be read,

@@ -10,7 +10,7 @@ ghost use Rattle.zone_tree.specs.Version.{zone_serial};
 ghost use Rattle.zone_tree.specs.Zone.{IsZone, soa_of, apex_of};
 ghost use Rattle.transfer_core.specs.Lists.{beside_soa};
 ghost use Rattle.transfer_core.specs.Take.{Stage as Stands, opened, gathering, deleting, adding, closed, held, old_soa, step, is_soa, is_among, inserted, removed, joined, closing, ended};
-ghost use Rattle.transfer_in.specs.Standing.{Tells, AreHeld, HasSoa, reading_of, stage_of, standing_of};
+ghost use Rattle.transfer_in.specs.ListState.{Tells, AreHeld, HasSoa, reading_of, stage_of, list_state_of};
 
 use crate::ended::zone_of;
 use crate::held::HeldRecord;
@@ -27,43 +27,43 @@ use zone_tree::{MAX_RECORDS, Zone, ZoneRead};
 pub(crate) enum Stage {
     /// Among the records of a full list.
     Gathering,
-    /// Behind an old SOA: records go.
+    /// After an old SOA: records go.
     Deleting,
-    /// Behind a next SOA, which is this: records come.
+    /// After a next SOA, which is this: records come.
     Adding(HeldRecord),
-    /// Behind the SOA that closes the list.
+    /// After the SOA that closes the list.
     Closed,
 }
 
 /// Where a holder stands, and what it holds there.
 #[derive(Drop)]
-pub(crate) struct Standing {
+pub(crate) struct ListState {
     stage: Stage,
     records: Holding,
 }
 
-/// What is held within a list, behind its second record.
+/// What is held within a list, after its second record.
 #[derive(Drop)]
 pub(crate) struct Reading {
     first: HeldRecord,
-    standing: Standing,
+    state: ListState,
 }
 
 impl Model for Reading {
-    ghost use Rattle.transfer_in.specs.Standing.{Within, HasSoa};
+    ghost use Rattle.transfer_in.specs.ListState.{Within, HasSoa};
 
     ghost Value = { Within };
 
-    ghost view = { λ a. record { first = a.first; stage = a.standing.stage; records = a.standing.records } };
+    ghost view = { λ a. record { first = a.first; stage = a.state.stage; records = a.state.records } };
 
-    ghost invariant = { λ a. HasSoa a.standing.stage a.standing.records };
+    ghost invariant = { λ a. HasSoa a.state.stage a.state.records };
 }
 
 /// That records are within the limits, where the record that was read is in the zone and no longer than a record may be, and
 /// its set then has so many.
 fn check_limits(fits: bool, records: Holding, size: usize) -> Result<Holding, TransferFault>
     ensures same { IfOk result (λ next. next ≡ records) }
-    ensures told { Tells (if fits && nat_le size max_set && nat_le (length records) max_records then Ok records else Err TransferFault.NotInZone) (λ next. next) result }
+    ensures reported { Tells (if fits && nat_le size max_set && nat_le (length records) max_records then Ok records else Err TransferFault.NotInZone) (λ next. next) result }
     ensures no_memory { IfErr result (λ fault. fault ≡ TransferFault.NotInZone) }
 {
     if fits && size <= MAX_SET && records.len() <= MAX_RECORDS {
@@ -80,7 +80,7 @@ fn check_held(
     records: Holding,
 ) -> Result<Holding, TransferFault>
     ensures same { IfOk result (λ next. next ≡ records) }
-    ensures told { (stage : Stands) → Tells (held apex.now stage one.now records) (λ next. record { stage = stage; records = next }) result }
+    ensures reported { (stage : Stands) → Tells (held apex.now stage one.now records) (λ next. record { stage = stage; records = next }) result }
 {
     let size = records.size_of(&one.key(alloc)?);
     check_limits(one.fits(apex), records, size)
@@ -95,7 +95,7 @@ fn put(
 ) -> Result<Holding, TransferFault>
     requires { is_among records one ≡ false }
     ensures same { IfOk result (λ next. next ≡ inserted one records) }
-    ensures told { (stage : Stands) → Tells (held apex.now stage one (inserted one records)) (λ next. record { stage = stage; records = next }) result }
+    ensures reported { (stage : Stands) → Tells (held apex.now stage one (inserted one records)) (λ next. record { stage = stage; records = next }) result }
 {
     let fits = one.fits(apex);
     let (records, size) = records.with(alloc, one)?;
@@ -126,7 +126,7 @@ fn take_out(
 ) -> Result<Holding, TransferFault>
     requires { is_among records one.now ≡ true }
     ensures same { IfOk result (λ next. next ≡ removed one.now records) }
-    ensures told { (stage : Stands) → Tells (held apex.now stage one.now (removed one.now records)) (λ next. record { stage = stage; records = next }) result }
+    ensures reported { (stage : Stands) → Tells (held apex.now stage one.now (removed one.now records)) (λ next. record { stage = stage; records = next }) result }
 {
     let (records, size) = records.without(alloc, one)?;
     check_limits(one.fits(apex), records, size)
@@ -139,21 +139,21 @@ fn gather(
     first: &HeldRecord,
     records: Holding,
     one: HeldRecord,
-) -> Result<Standing, TransferFault>
-    ensures told { Tells (step apex.now first.now gathering records one) standing_of result }
+) -> Result<ListState, TransferFault>
+    ensures reported { Tells (step apex.now first.now gathering records one) list_state_of result }
     ensures soa { IfOk result (λ next. HasSoa next.stage next.records) }
     ensures broken { is_soa one ≡ true → is_same_record first.now one ≡ false → result ≡ Err TransferFault.Broken }
 {
     if !one.is_soa() {
         let records = join(alloc, apex, records, one)?;
         let stage = Stage::Gathering;
-        return Ok(Standing { stage, records });
+        return Ok(ListState { stage, records });
     }
     if !first.is_same(&one) {
         return Err(TransferFault::Broken);
     }
     let stage = Stage::Closed;
-    Ok(Standing { stage, records })
+    Ok(ListState { stage, records })
 }
 
 /// What a record makes of records of which some go: an SOA ends the deletions.
@@ -162,9 +162,9 @@ fn delete(
     apex: &Name,
     records: Holding,
     one: HeldRecord,
-) -> Result<Standing, TransferFault>
+) -> Result<ListState, TransferFault>
     requires { soa_of records ≡ [] }
-    ensures told { (first : Record) → Tells (step apex.now first deleting records one) standing_of result }
+    ensures reported { (first : Record) → Tells (step apex.now first deleting records one) list_state_of result }
     ensures soa { IfOk result (λ next. HasSoa next.stage next.records) }
     ensures wrong_base { is_soa one ≡ false → is_among records one ≡ false → result ≡ Err TransferFault.WrongBase }
 {
@@ -176,7 +176,7 @@ fn delete(
     }
     let records = take_out(alloc, apex, records, &one)?;
     let stage = Stage::Deleting;
-    Ok(Standing { stage, records })
+    Ok(ListState { stage, records })
 }
 
 /// What the next SOA of a step makes of the records that its deletions left (RFC 1995, 4).
@@ -185,19 +185,19 @@ fn end_deletions(
     apex: &Name,
     records: Holding,
     one: HeldRecord,
-) -> Result<Standing, TransferFault>
+) -> Result<ListState, TransferFault>
     requires left { soa_of records ≡ [] }
     requires next { is_soa one ≡ true }
-    ensures told { Tells (held apex.now adding one (inserted one records)) standing_of result }
+    ensures reported { Tells (held apex.now adding one (inserted one records)) list_state_of result }
     ensures soa { IfOk result (λ next. HasSoa next.stage next.records) }
 {
     let soa = one.copy(alloc)?;
     let records = put(alloc, apex, records, one)?;
     let stage = Stage::Adding(soa);
-    Ok(Standing { stage, records })
+    Ok(ListState { stage, records })
 }
 
-/// What a record makes of records to which some come, behind this SOA: the first SOA again closes the list, another one
+/// What a record makes of records to which some come, after this SOA: the first SOA again closes the list, another one
 /// begins a step.
 fn add(
     alloc: Global,
@@ -206,9 +206,9 @@ fn add(
     soa: HeldRecord,
     records: Holding,
     one: HeldRecord,
-) -> Result<Standing, TransferFault>
+) -> Result<ListState, TransferFault>
     requires { soa_of records ≡ soa ∷ [] }
-    ensures told { Tells (step apex.now first.now adding records one) standing_of result }
+    ensures reported { Tells (step apex.now first.now adding records one) list_state_of result }
     ensures soa { IfOk result (λ next. HasSoa next.stage next.records) }
 {
     if !one.is_soa() {
@@ -220,17 +220,17 @@ fn add(
     close(records, &one)
 }
 
-/// What a record that isn't an SOA makes of records to which it comes, behind this SOA.
+/// What a record that isn't an SOA makes of records to which it comes, after this SOA.
 fn add_one(
     alloc: Global,
     apex: &Name,
     soa: HeldRecord,
     records: Holding,
     one: HeldRecord,
-) -> Result<Standing, TransferFault>
+) -> Result<ListState, TransferFault>
     requires soa { soa_of records ≡ soa ∷ [] }
     requires plain { is_soa one ≡ false }
-    ensures told { (first : Record) → Tells (step apex.now first adding records one) standing_of result }
+    ensures reported { (first : Record) → Tells (step apex.now first adding records one) list_state_of result }
     ensures soa { IfOk result (λ next. HasSoa next.stage next.records) }
     ensures wrong_base { is_among records one ≡ true → result ≡ Err TransferFault.WrongBase }
 {
@@ -239,12 +239,12 @@ fn add_one(
     }
     let records = put(alloc, apex, records, one)?;
     let stage = Stage::Adding(soa);
-    Ok(Standing { stage, records })
+    Ok(ListState { stage, records })
 }
 
 /// What the first SOA again makes of records to which some came (RFC 1995, 4).
-fn close(records: Holding, one: &HeldRecord) -> Result<Standing, TransferFault>
-    ensures told { Tells (if is_among records one.now then closing records else Err TransferFault.Broken) standing_of result }
+fn close(records: Holding, one: &HeldRecord) -> Result<ListState, TransferFault>
+    ensures reported { Tells (if is_among records one.now then closing records else Err TransferFault.Broken) list_state_of result }
     ensures soa { IfOk result (λ next. HasSoa next.stage next.records) }
     ensures no_memory { IfErr result (λ fault. fault ≡ TransferFault.Broken) }
 {
@@ -252,7 +252,7 @@ fn close(records: Holding, one: &HeldRecord) -> Result<Standing, TransferFault>
         return Err(TransferFault::Broken);
     }
     let stage = Stage::Closed;
-    Ok(Standing { stage, records })
+    Ok(ListState { stage, records })
 }
 
 /// What an old SOA makes of records with the SOA of the step before it, which it takes out (RFC 1995, 4).
@@ -262,10 +262,10 @@ fn begin_step(
     soa: &HeldRecord,
     records: Holding,
     one: &HeldRecord,
-) -> Result<Standing, TransferFault>
+) -> Result<ListState, TransferFault>
     requires soa { soa_of records ≡ soa.now ∷ [] }
     requires old { is_soa one.now ≡ true }
-    ensures told { Tells (old_soa apex.now records one.now) standing_of result }
+    ensures reported { Tells (old_soa apex.now records one.now) list_state_of result }
     ensures soa { IfOk result (λ next. HasSoa next.stage next.records) }
     ensures wrong_base { (serial_of one.now.rdata == zone_serial records) ≡ false → result ≡ Err TransferFault.WrongBase }
 {
@@ -275,7 +275,7 @@ fn begin_step(
     let left = without_soa(alloc, soa, records)?;
     let records = check_held(alloc, apex, one, left)?;
     let stage = Stage::Deleting;
-    Ok(Standing { stage, records })
+    Ok(ListState { stage, records })
 }
 
 /// The records beside their one SOA, which is this.
@@ -311,15 +311,15 @@ fn alone(alloc: Global, one: &HeldRecord) -> Result<Holding, AllocError>
     Ok(records)
 }
 
-/// What the second record of a list makes of a zone, behind this SOA: an SOA makes it an incremental list, another record a full
+/// What the second record of a list makes of a zone, after this SOA: an SOA makes it an incremental list, another record a full
 /// one (RFC 1995, 4).
 fn begin_list(
     alloc: Global,
     zone: &Zone,
     first: &HeldRecord,
     one: HeldRecord,
-) -> Result<Standing, TransferFault>
-    ensures told { Tells (step (apex_of zone.now) first.now opened zone.now one) standing_of result }
+) -> Result<ListState, TransferFault>
+    ensures reported { Tells (step (apex_of zone.now) first.now opened zone.now one) list_state_of result }
     ensures soa { IfOk result (λ next. HasSoa next.stage next.records) }
 {
     if !one.is_soa() {
@@ -337,21 +337,21 @@ fn begin_full(
     zone: &Zone,
     first: &HeldRecord,
     one: HeldRecord,
-) -> Result<Standing, TransferFault>
+) -> Result<ListState, TransferFault>
     requires { is_soa one ≡ false }
-    ensures told { Tells (step (apex_of zone.now) first.now opened zone.now one) standing_of result }
+    ensures reported { Tells (step (apex_of zone.now) first.now opened zone.now one) list_state_of result }
     ensures soa { IfOk result (λ next. HasSoa next.stage next.records) }
 {
     let alone = alone(alloc, first)?;
     let records = join(alloc, zone.apex(), alone, one)?;
     let stage = Stage::Gathering;
-    Ok(Standing { stage, records })
+    Ok(ListState { stage, records })
 }
 
 /// What the old SOA of the first step makes of a zone, out of which its SOA goes (RFC 1995, 4).
-fn begin_changes(alloc: Global, zone: &Zone, one: &HeldRecord) -> Result<Standing, TransferFault>
+fn begin_changes(alloc: Global, zone: &Zone, one: &HeldRecord) -> Result<ListState, TransferFault>
     requires { is_soa one.now ≡ true }
-    ensures told { Tells (old_soa (apex_of zone.now) zone.now one.now) standing_of result }
+    ensures reported { Tells (old_soa (apex_of zone.now) zone.now one.now) list_state_of result }
     ensures soa { IfOk result (λ next. HasSoa next.stage next.records) }
     ensures wrong_base { (serial_of one.now.rdata == zone_serial zone.now) ≡ false → result ≡ Err TransferFault.WrongBase }
 {
@@ -361,7 +361,7 @@ fn begin_changes(alloc: Global, zone: &Zone, one: &HeldRecord) -> Result<Standin
     let left = beside_soa(alloc, zone)?;
     let records = check_held(alloc, zone.apex(), one, left)?;
     let stage = Stage::Deleting;
-    Ok(Standing { stage, records })
+    Ok(ListState { stage, records })
 }
 
 /// What a further record makes of records that are held, where a holder stands so.
@@ -369,14 +369,14 @@ fn go_on(
     alloc: Global,
     apex: &Name,
     first: &HeldRecord,
-    standing: Standing,
+    state: ListState,
     one: HeldRecord,
-) -> Result<Standing, TransferFault>
-    requires { HasSoa standing.stage standing.records }
-    ensures told { Tells (step apex.now first.now (stage_of standing.stage) standing.records one) standing_of result }
+) -> Result<ListState, TransferFault>
+    requires { HasSoa state.stage state.records }
+    ensures reported { Tells (step apex.now first.now (stage_of state.stage) state.records one) list_state_of result }
     ensures soa { IfOk result (λ next. HasSoa next.stage next.records) }
 {
-    let Standing { stage, records } = standing;
+    let ListState { stage, records } = state;
     match stage {
         Stage::Gathering => gather(alloc, apex, first, records, one),
         Stage::Deleting => delete(alloc, apex, records, one),
@@ -386,19 +386,19 @@ fn go_on(
 }
 
 impl Reading {
-    /// What the second record of a list makes of a zone, behind the SOA that opens the list: an SOA makes it an incremental
+    /// What the second record of a list makes of a zone, after the SOA that opens the list: an SOA makes it an incremental
     /// list, another record a full one (RFC 1995, 4).
-    pub(crate) fn begin(
+    pub(crate) fn from_second(
         alloc: Global,
         zone: &Zone,
         first: HeldRecord,
         one: HeldRecord,
     ) -> Result<Reading, TransferFault>
-        ensures told { Tells (step (apex_of zone.now) first opened zone.now one) reading_of result }
+        ensures reported { Tells (step (apex_of zone.now) first opened zone.now one) reading_of result }
         ensures first { IfOk result (λ next. next.first ≡ first) }
     {
-        let standing = begin_list(alloc, zone, &first, one)?;
-        Ok(Reading { first, standing })
+        let state = begin_list(alloc, zone, &first, one)?;
+        Ok(Reading { first, state })
     }
 
     /// What a further record makes of what is held, in a zone of this apex.
@@ -408,12 +408,12 @@ impl Reading {
         apex: &Name,
         one: HeldRecord,
     ) -> Result<Reading, TransferFault>
-        ensures told { Tells (step apex.now self.first (stage_of self.stage) self.records one) reading_of result }
+        ensures reported { Tells (step apex.now self.first (stage_of self.stage) self.records one) reading_of result }
         ensures first { IfOk result (λ next. next.first ≡ self.first) }
     {
-        let Reading { first, standing } = self;
-        let standing = go_on(alloc, apex, &first, standing, one)?;
-        Ok(Reading { first, standing })
+        let Reading { first, state } = self;
+        let state = go_on(alloc, apex, &first, state, one)?;
+        Ok(Reading { first, state })
     }
 
     /// What is held where no record is left, as the zone of an apex, which is in lower case: `Broken` where the list isn't
@@ -421,11 +421,11 @@ impl Reading {
     pub(crate) fn end(self, alloc: Global, apex: &Name) -> Result<Zone, TransferFault>
         requires held { AreHeld apex.now self.records }
         requires folded { apex.now ≡ fold_name apex.now }
-        ensures told { Tells (ended apex.now (stage_of self.stage) self.records) (λ next. next) result }
+        ensures reported { Tells (ended apex.now (stage_of self.stage) self.records) (λ next. next) result }
         ensures lawful { IfOk result IsZone }
         ensures unclosed { (stage_of self.stage ≡ closed → ⊥) → result ≡ Err TransferFault.Broken }
     {
-        let Standing { stage, records } = self.standing;
+        let ListState { stage, records } = self.state;
         match stage {
             Stage::Closed => zone_of(alloc, apex, records),
             Stage::Gathering | Stage::Deleting | Stage::Adding(_) => Err(TransferFault::Broken),

@@ -3,7 +3,7 @@ ghost use Rattle.std.specs.Prelude.{◌≡◌, ◌≢◌, ◌⊎◌, ◌∷◌, 
 ghost use Rattle.dns_rdata.specs.Record.{IsLawful};
 ghost use Rattle.zone_tree.specs.Zone.{IsZone, apex_of};
 ghost use Rattle.transfer_core.specs.Take.{entered, is_soa, behind_first};
-ghost use Rattle.transfer_in.specs.Standing.{Tells};
+ghost use Rattle.transfer_in.specs.ListState.{Tells};
 ghost use Rattle.transfer_in.specs.Taking.{TellsRead, IsKept, behind, unreadable, records_of_message};
 
 use crate::ended::same_zone;
@@ -23,7 +23,7 @@ pub(crate) enum Progress {
     Nothing,
     /// The SOA that opens the list was.
     Opened(HeldRecord),
-    /// Others were, behind it.
+    /// Others were, after it.
     Under(Reading),
 }
 
@@ -43,12 +43,12 @@ impl Progress {
     /// What one more record makes of what was read.
     fn read(self, alloc: Global, zone: &Zone, sent: &RawRecord) -> Result<Progress, TransferFault>
         requires { IsKept (apex_of zone.now) self }
-        ensures told { TellsRead zone.now self (sent.now ∷ []) result }
+        ensures reported { TellsRead zone.now self (sent.now ∷ []) result }
         ensures kept { IfOk result (IsKept (apex_of zone.now)) }
     {
         match self {
             Progress::Nothing => open(alloc, zone, sent),
-            Progress::Opened(first) => begin(alloc, zone, first, sent),
+            Progress::Opened(first) => read_second(alloc, zone, first, sent),
             Progress::Under(reading) => go_on(alloc, zone, reading, sent),
         }
     }
@@ -61,7 +61,7 @@ impl Progress {
         records: &[RawRecord],
     ) -> Result<Progress, TransferFault>
         requires { IsKept (apex_of zone.now) self }
-        ensures told { TellsRead zone.now self records.now result }
+        ensures reported { TellsRead zone.now self records.now result }
         ensures kept { IfOk result (IsKept (apex_of zone.now)) }
         ensures none { records.now ≡ [] → result ≡ Ok self }
     {
@@ -80,7 +80,7 @@ impl Progress {
         message: &[u8],
     ) -> Result<Progress, TransferFault>
         requires { IsKept (apex_of zone.now) self }
-        ensures told { TellsRead zone.now self (records_of_message message.now) result }
+        ensures reported { TellsRead zone.now self (records_of_message message.now) result }
         ensures kept { IfOk result (IsKept (apex_of zone.now)) }
         ensures none { records_of_message message.now ≡ [] → result ≡ Ok self }
     {
@@ -91,7 +91,7 @@ impl Progress {
     /// What was read makes of a zone where no record is left: the zone after the list.
     pub(crate) fn end(self, alloc: Global, zone: &Zone) -> Result<Zone, TransferFault>
         requires { IsKept (apex_of zone.now) self }
-        ensures told { Tells (behind zone.now self []) (λ next. next) result }
+        ensures reported { Tells (behind zone.now self []) (λ next. next) result }
         ensures lawful { IfOk result IsZone }
         ensures nothing { self ≡ Progress.Nothing → result ≡ Err TransferFault.Broken }
     {
@@ -108,7 +108,7 @@ impl Progress {
 /// What an SOA alone makes of a zone, which stays as it is where it has that serial (RFC 1995, 2).
 fn end_at_first(alloc: Global, zone: &Zone, first: &HeldRecord) -> Result<Zone, TransferFault>
     requires { is_soa first.now ≡ true }
-    ensures told { Tells (behind_first zone.now first.now []) (λ next. next) result }
+    ensures reported { Tells (behind_first zone.now first.now []) (λ next. next) result }
     ensures lawful { IfOk result IsZone }
 {
     if first.serial() != zone.serial() {
@@ -122,7 +122,7 @@ fn end_at_first(alloc: Global, zone: &Zone, first: &HeldRecord) -> Result<Zone, 
 
 /// The first record of a list, which is an SOA (RFC 5936, 2.2; RFC 1995, 4).
 fn open(alloc: Global, zone: &Zone, sent: &RawRecord) -> Result<Progress, TransferFault>
-    ensures told { TellsRead zone.now Progress.Nothing (sent.now ∷ []) result }
+    ensures reported { TellsRead zone.now Progress.Nothing (sent.now ∷ []) result }
     ensures kept { IfOk result (IsKept (apex_of zone.now)) }
 {
     let first = enter(alloc, sent)?;
@@ -133,14 +133,14 @@ fn open(alloc: Global, zone: &Zone, sent: &RawRecord) -> Result<Progress, Transf
 }
 
 /// The second record of a list.
-fn begin(
+fn read_second(
     alloc: Global,
     zone: &Zone,
     first: HeldRecord,
     sent: &RawRecord,
 ) -> Result<Progress, TransferFault>
     requires { IsKept (apex_of zone.now) (Progress.Opened first) }
-    ensures told { TellsRead zone.now (Progress.Opened first) (sent.now ∷ []) result }
+    ensures reported { TellsRead zone.now (Progress.Opened first) (sent.now ∷ []) result }
     ensures kept { IfOk result (IsKept (apex_of zone.now)) }
 {
     // That the records are a zone is known of them from here on.
@@ -149,7 +149,7 @@ fn begin(
         return Err(TransferFault::NotInZone);
     }
     let one = enter(alloc, sent)?;
-    let reading = Reading::begin(alloc, zone, first, one)?;
+    let reading = Reading::from_second(alloc, zone, first, one)?;
     Ok(Progress::Under(reading))
 }
 
@@ -161,7 +161,7 @@ fn go_on(
     sent: &RawRecord,
 ) -> Result<Progress, TransferFault>
     requires { IsKept (apex_of zone.now) (Progress.Under reading) }
-    ensures told { TellsRead zone.now (Progress.Under reading) (sent.now ∷ []) result }
+    ensures reported { TellsRead zone.now (Progress.Under reading) (sent.now ∷ []) result }
     ensures kept { IfOk result (IsKept (apex_of zone.now)) }
 {
     let one = enter(alloc, sent)?;

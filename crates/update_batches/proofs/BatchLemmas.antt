@@ -10,7 +10,7 @@ use Rattle.update_batches.specs.declared.queued_update.QueuedUpdate.{QueuedUpdat
 use Rattle.update_batches.specs.declared.update_request.UpdateRequest.{UpdateRequest}
 use Rattle.update_batches.specs.declared.version_update.VersionUpdate.{VersionUpdate}
 use Rattle.update_batches.specs.UpdateRequest.{passes, tells, makes, octets_of, serial_in}
-use Rattle.update_batches.specs.Batch.{newest_of, versions_in, updates_of, IsBatch, Judged, nothing, told, starved, changed}
+use Rattle.update_batches.specs.Batch.{newest_of, versions_in, updates_of, IsBatch, Judged, nothing, reported, starved, changed}
 
 -- what holds of three values holds of the same ones
 pub same_three : {A B C : Type 0} (P : A → B → C → Type 0) (a other : A) (b known : B) (c allowed : C) → a ≡ other → b ≡ known → c ≡ allowed → P a b c → P other known allowed
@@ -66,7 +66,7 @@ module _ (first : Version) (room : ℕ) where
   pub judged_long : {requests : List QueuedUpdate} {verdicts : List Verdict} {made : List Version} {updates : List (List ℕ)} → Judged first requests verdicts made updates
       → length verdicts ≡ length requests
   judged_long nothing = refl
-  judged_long (told {requests} {verdicts} {made} one code judged is) = length_push verdicts (told_verdict (serial_in (newest_of first made)) code) ∙ (ap (λ (n : ℕ). n + 1) (judged_long judged) ∙ sym (length_push requests one))
+  judged_long (reported {requests} {verdicts} {made} one code judged is) = length_push verdicts (told_verdict (serial_in (newest_of first made)) code) ∙ (ap (λ (n : ℕ). n + 1) (judged_long judged) ∙ sym (length_push requests one))
   judged_long (starved {requests} {verdicts} one judged is) = length_push verdicts failed ∙ (ap (λ (n : ℕ). n + 1) (judged_long judged) ∙ sym (length_push requests one))
   judged_long (changed {requests} {verdicts} {made} one next judged lets is) = length_push verdicts (made_verdict (serial_in (newest_of first made)) (serial_in next)) ∙ (ap (λ (n : ℕ). n + 1) (judged_long judged) ∙ sym (length_push requests one))
 
@@ -74,7 +74,7 @@ module _ (first : Version) (room : ℕ) where
   pub judged_made : {requests : List QueuedUpdate} {verdicts : List Verdict} {made : List Version} {updates : List (List ℕ)} → Judged first requests verdicts made updates
       → AreMade first made
   judged_made nothing = tt
-  judged_made (told one code judged is) = judged_made judged
+  judged_made (reported one code judged is) = judged_made judged
   judged_made (starved one judged is) = judged_made judged
   judged_made (changed {requests} {verdicts} {made} one next judged lets is) = made_push first made one.request next (judged_made judged) is
 
@@ -91,7 +91,7 @@ module _ (first : Version) (room : ℕ) where
       → IsBatch first (requests ++ one ∷ []) (verdicts ++ verdict ∷ []) updates room
   told_more requests verdicts updates one code verdict so_far is same =
       subst (λ (v : Verdict). IsBatch first (requests ++ one ∷ []) (verdicts ++ v ∷ []) updates room) (sym same)
-      (record { judged = told one code so_far.judged is; few = so_far.few })
+      (record { judged = reported one code so_far.judged is; few = so_far.few })
 
   pub starved_more : (requests : List QueuedUpdate) (verdicts : List Verdict) (updates all : List VersionUpdate) (one : QueuedUpdate) (verdict : Verdict)
       → IsBatch first requests verdicts updates room → passes (newest_of first (versions_in updates)) one.request → verdict ≡ failed → all ≡ updates

@@ -10,7 +10,7 @@ use Rattle.update_batches.specs.Verdict.{told_verdict, made_verdict, failed}
 use Rattle.update_batches.specs.declared.queued_update.QueuedUpdate.{QueuedUpdate}
 use Rattle.update_batches.specs.declared.version_update.VersionUpdate.{VersionUpdate}
 use Rattle.update_batches.specs.UpdateRequest.{serial_in}
-use Rattle.update_batches.specs.Batch.{newest_of, versions_in, IsBatch, Judged, nothing, told, starved, changed}
+use Rattle.update_batches.specs.Batch.{newest_of, versions_in, IsBatch, Judged, nothing, reported, starved, changed}
 use Rattle.update_batches.proofs.BatchLemmas.{judged_long}
 use Rattle.update_batches.specs.Done.{first_verdict, IsDone, AreDone}
 
@@ -36,7 +36,7 @@ done_grows published more begun one verdict (inl is) = inl (record {
   late = is.late;
   code = is.code;
   tells_it = is.tells_it;
-  told = is.told;
+  reported = is.reported;
 })
 done_grows published more begun one verdict (inr (inl is)) = inr (inl (record {
   version = is.version;
@@ -47,7 +47,7 @@ done_grows published more begun one verdict (inr (inl is)) = inr (inl (record {
   late = is.late;
   lets = is.lets;
   makes_it = is.makes_it;
-  told = is.told;
+  reported = is.reported;
 }))
 done_grows published more begun one verdict (inr (inr is)) = inr (inr is)
 
@@ -78,10 +78,10 @@ module _ (published : List Version) (first : Version) (last : IsLast published f
   judged_done : {asked : List QueuedUpdate} {verdicts : List Verdict} {made : List Version} {updates : List (List ℕ)} → Judged first asked verdicts made updates
       → AreDone (published ++ made) (length published) verdicts asked
   judged_done nothing = tt
-  judged_done (told {requests} {verdicts} {made} one code judged is) =
+  judged_done (reported {requests} {verdicts} {made} one code judged is) =
       let at = newest_place published first made last in
       done_push (published ++ made) (length published) verdicts requests one (told_verdict (serial_in (newest_of first made)) code) (judged_long first 0 judged) (judged_done judged)
-      (inl (record { version = newest_of first made; front = at.0; newer = []; place = at.1; late = at.2; code = code; tells_it = is; told = refl }))
+      (inl (record { version = newest_of first made; front = at.0; newer = []; place = at.1; late = at.2; code = code; tells_it = is; reported = refl }))
   judged_done (starved {requests} {verdicts} {made} one judged is) =
       done_push (published ++ made) (length published) verdicts requests one failed (judged_long first 0 judged) (judged_done judged)
       (inr (inr refl))
@@ -103,7 +103,7 @@ module _ (published : List Version) (first : Version) (last : IsLast published f
         late = at.2;
         lets = lets;
         makes_it = is;
-        told = refl;
+        reported = refl;
       })))
 
   -- a batch that is written, or is not, has these verdicts once it is published

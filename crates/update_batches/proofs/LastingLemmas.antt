@@ -6,7 +6,7 @@ use Rattle.dns_message.specs.declared.update.Update.{Update}
 use Rattle.zone_tree.specs.Version.{Version}
 use Rattle.dns_engine.specs.Versions.{Makes}
 use Rattle.update_batches.specs.declared.verdict.Verdict.{Verdict}
-use Rattle.update_batches.specs.Batch.{newest_of, Judged, nothing, told, starved, changed}
+use Rattle.update_batches.specs.Batch.{newest_of, Judged, nothing, reported, starved, changed}
 use Rattle.update_batches.specs.declared.queued_update.QueuedUpdate.{QueuedUpdate}
 use Rattle.update_batches.specs.UpdateRequest.{octets_of}
 use Rattle.update_batches.specs.Journal.{AreMadeBy}
@@ -20,6 +20,6 @@ made_more first (version ∷ versions) (other ∷ updates) octets update next ar
 
 pub judged_by : {first : Version} {asked : List QueuedUpdate} {verdicts : List Verdict} {made : List Version} {updates : List (List ℕ)} → Judged first asked verdicts made updates → AreMadeBy first made updates
 judged_by nothing = tt
-judged_by (told one code judged is) = judged_by judged
+judged_by (reported one code judged is) = judged_by judged
 judged_by (starved one judged is) = judged_by judged
 judged_by {first} (changed {requests} {verdicts} {made} {updates} one next judged lets is) = made_more first made updates (octets_of one.request) one.request.update next (judged_by judged) one.request.read is

@@ -118,7 +118,7 @@ module _ {S : Type 0} (has : List Record → S → List Version → List (List �
               (safe_both has leaves zone (served.crash zone stood had) (lasts.crash zone (stood ++ served.updates) (served.stored zone stood had)));
         }
     served_by (Some why) old mid new served turn fails =
-        let long : length turn.verdicts ≡ length turn.batch = ap length fails.told ∙ replicate_long (length turn.batch) failed in
+        let long : length turn.verdicts ≡ length turn.batch = ap length fails.reported ∙ replicate_long (length turn.batch) failed in
         record {
           arrived = served.arrived ++ turn.arrived;
           requests = served.requests ++ turn.batch;
@@ -128,7 +128,7 @@ module _ {S : Type 0} (has : List Record → S → List Version → List (List �
           versions = served.versions;
           updates = served.updates;
           answered = λ first last. subst (λ (vs : List Verdict). AreAnswered first (served.requests ++ turn.batch) (served.verdicts ++ vs)
-              served.versions served.updates) (sym fails.told)
+              served.versions served.updates) (sym fails.reported)
               (failing (served.answered first last)
               (judged_on old.published mid.published served.versions first fails.first turn.batch fails.judged_verdicts fails.versions fails.updates served.published last fails.last fails.judged)
               fails.some);
@@ -140,4 +140,4 @@ module _ {S : Type 0} (has : List Record → S → List Version → List (List �
 
     pub served_on : {fault : Option F} {old mid new : ThreadState S} → HasServed has leaves old mid
         → HasTurned has leaves fault mid new → HasServed has leaves old new
-    served_on {fault} {old} {mid} {new} served turn = served_by fault old mid new served turn turn.told
+    served_on {fault} {old} {mid} {new} served turn = served_by fault old mid new served turn turn.reported

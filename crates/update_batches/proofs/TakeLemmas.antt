@@ -3,7 +3,7 @@ use Rattle.std.proofs.Common.{◌≡◌, ◌∙◌, refl, ℕ, zero, suc, ◌+�
 use Rattle.std.specs.Prelude.{slice_get}
 use Rattle.std.proofs.lemmas.Option.{none-some, same_Some}
 use Rattle.std.proofs.lemmas.List.{drop-map}
-use Rattle.update_batches.specs.Waiting.{Line, items_of, without_first}
+use Rattle.update_batches.specs.BoundedQueue.{Line, items_of, without_first}
 
 module _ {X : Type 0} where
   one_more : (i : ℕ) (l : List X) (x : X) → slice_get (drop i l) 0 ≡ Some x → take (suc i) l ≡ take i l ++ x ∷ []

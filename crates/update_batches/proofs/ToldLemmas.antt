@@ -94,7 +94,7 @@ module _ {S : Type 0} (has : List Record → S → List Version → List (List �
           last = last;
           judged = is.judged;
           some = subst (λ (n : ℕ). 0 < n) (sym (versions_long updates)) fails.2;
-          told = fails.1 ∙ ap (λ (n : ℕ). replicate n failed) (judged_long first room is.judged);
+          reported = fails.1 ∙ ap (λ (n : ℕ). replicate n failed) (judged_long first room is.judged);
           later_are = later_are;
           stored = λ zone stood had. subst (λ (vs : List Version). has zone after vs stood) (sym later_are) (still zone published stood had);
           crash = λ zone stood had. safe_same has leaves zone before before after published later stood stood (uncalled had) (crash zone published stood had)
@@ -128,7 +128,7 @@ module _ {S : Type 0} (has : List Record → S → List Version → List (List �
       last = fails.last;
       judged = fails.judged;
       some = fails.some;
-      told = fails.told;
+      reported = fails.reported;
       later_are = fails.later_are;
       stored = λ zone stood had. then zone later stood (fails.stored zone stood (first zone published stood had));
       crash = λ zone stood had. safe_tended zone published later stood stood old before after new had (first zone published stood had) (first_crash zone published stood had)

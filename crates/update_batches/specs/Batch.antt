@@ -30,7 +30,7 @@ logged bodies (update ∷ updates) = bodies ++ batch_of (update ∷ updates) ∷
 -- the versions that they make; and the octets of those that make one. A request that each rule lets through may get SERVFAIL, and then makes none
 pub data Judged (first : Version) : List QueuedUpdate → List Verdict → List Version → List (List ℕ) → Type 0 where
   nothing : Judged first [] [] [] []
-  told : {requests : List QueuedUpdate} {verdicts : List Verdict} {made : List Version} {updates : List (List ℕ)} (one : QueuedUpdate) (code : Rcode)
+  reported : {requests : List QueuedUpdate} {verdicts : List Verdict} {made : List Version} {updates : List (List ℕ)} (one : QueuedUpdate) (code : Rcode)
       → Judged first requests verdicts made updates → tells (newest_of first made) one.request code
       → Judged first (requests ++ one ∷ []) (verdicts ++ told_verdict (serial_in (newest_of first made)) code ∷ []) made updates
   starved : {requests : List QueuedUpdate} {verdicts : List Verdict} {made : List Version} {updates : List (List ℕ)} (one : QueuedUpdate)

@@ -34,7 +34,7 @@ module _ (published : List Version) (begun : ℕ) where
     pub place : published ≡ front ++ version ∷ newer
     pub late : begun ≤ length front + 1
     pub tells_it : tells version one.request code
-    pub told : verdict ≡ told_verdict (serial_in version) code
+    pub reported : verdict ≡ told_verdict (serial_in version) code
 
   -- or it makes the version after that one, and gets NOERROR with the serials of the two
   pub record IsMadeIn (one : QueuedUpdate) (verdict : Verdict) : Type 0 where
@@ -46,7 +46,7 @@ module _ (published : List Version) (begun : ℕ) where
     pub late : begun ≤ length front + 1
     pub lets : passes version one.request
     pub makes_it : makes version one.request next
-    pub told : verdict ≡ made_verdict (serial_in version) (serial_in next)
+    pub reported : verdict ≡ made_verdict (serial_in version) (serial_in next)
 
   -- an update's verdict is so by the versions that are published; or it is SERVFAIL, where there is no memory or room for it, or the disk fails (own)
   abbrev pub IsDone : QueuedUpdate → Verdict → Type 0

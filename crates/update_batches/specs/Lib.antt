@@ -6,4 +6,4 @@ pub mod Replies
 pub mod Turned
 pub mod UpdateRequest
 pub mod Verdict
-pub mod Waiting
+pub mod BoundedQueue

@@ -66,7 +66,7 @@ module _ {S : Type 0} (has : List Record → S → List Version → List (List �
     pub last : IsLast published first
     pub judged : Judged first batch judged_verdicts versions updates
     pub some : 0 < length versions
-    pub told : verdicts ≡ replicate (length batch) failed
+    pub reported : verdicts ≡ replicate (length batch) failed
     pub later_are : later ≡ published
     pub stored : (zone : List Record) (stood : List (List ℕ)) → has zone before published stood → has zone after later stood
     pub crash : (zone : List Record) (stood : List (List ℕ)) → has zone before published stood → IsCrashSafe zone before stood after later stood
@@ -89,7 +89,7 @@ module _ {S : Type 0} (has : List Record → S → List Version → List (List �
     pub many : (new.waiting ≡ []) ⊎ (length batch ≡ min (max room 1) 64)
     pub left : new.room + length new.published ≡ room + length old.published
     pub verdicts : List Verdict
-    pub told : IsTold old.published new.published batch verdicts fault old.store new.store
+    pub reported : IsTold old.published new.published batch verdicts fault old.store new.store
     pub replied : new.replied ≡ old.replied ++ replies_to verdicts batch
 
   -- turns, one after the other: the requests that waited and arrived since, but for those that wait still, are answered in order, each in the version that those before it make of

@@ -4,7 +4,7 @@ use Rattle.dns_rdata.specs.declared.numbers.Rcode.{Rcode}
 use Rattle.zone_tree.specs.Version.{Version, zone_serial}
 use Rattle.update_core.specs.Verdict.{verdict}
 use Rattle.dns_engine.specs.Versions.{Makes}
-use Rattle.dns_engine.specs.Told.{Tells}
+use Rattle.dns_engine.specs.Outcomes.{Tells}
 use Rattle.update_batches.specs.declared.update_request.UpdateRequest.{UpdateRequest}
 
 -- no rule gives it a code

@@ -50,7 +50,7 @@ fn judge_one(
     let newest = newest_of(first, updates);
     let before = newest.get().serial();
     match judge(alloc, newest, one.request.update(), one.request.may()) {
-        Judged::Told(code) => Verdict::told(code, before),
+        Judged::Code(code) => Verdict::with_code(code, before),
         Judged::Starved => Verdict::failed(),
         Judged::Made(next) => {
             let made = Verdict::made(before, next.get().serial());

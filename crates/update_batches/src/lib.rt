@@ -12,6 +12,7 @@
 //! holds its lock only briefly, and never while updates are judged or written.
 #![tactic(auto)]
 
+mod bounded_queue;
 mod judged;
 mod queue;
 mod queued_update;
@@ -22,8 +23,8 @@ mod update_store;
 mod update_thread;
 mod verdict;
 mod version_update;
-mod waiting;
 
+pub use bounded_queue::{Most, Put};
 pub use judged::{MOST, judge_batch};
 pub use queue::Queue;
 pub use queued_update::{QueuedUpdate, ReplyTo};
@@ -34,4 +35,3 @@ pub use update_store::UpdateStore;
 pub use update_thread::{BATCH, Ended, UpdateThread};
 pub use verdict::{Serials, Verdict};
 pub use version_update::VersionUpdate;
-pub use waiting::{Most, Put};

@@ -1,15 +1,15 @@
 //! What threads put, and one takes.
 ghost use Rattle.std.specs.Prelude.{◌≡◌, ◌<◌, IfErr, IsTrue, false, vec_capacity, vec_len};
-ghost use Rattle.update_batches.specs.Waiting.{BeginsWith};
+ghost use Rattle.update_batches.specs.BoundedQueue.{BeginsWith};
 
-use crate::waiting::{Most, Put, Waiting};
+use crate::bounded_queue::{BoundedQueue, Most, Put};
 use std::alloc::{AllocError, Global};
 use std::mem;
 use std::sync::{Condvar, Mutex, Wait};
 
 /// What waits, and whether more may come.
 struct State<T> {
-    waiting: Waiting<T>,
+    waiting: BoundedQueue<T>,
     ended: bool,
 }
 
@@ -29,7 +29,6 @@ pub struct Queue<T> {
     came: Condvar,
 }
 
-// By hand: a derived drop is proved once more in each crate that lets such a value go.
 impl<T: Drop> Drop for Queue<T> {
     fn drop(self) {
         let Queue { state: _, came: _ } = self;
@@ -40,7 +39,7 @@ impl<T: Drop> Queue<T> {
     /// A queue in which at most so much waits. It takes the memory for as many as may wait.
     pub fn new(alloc: Global, most: Most) -> Result<Queue<T>, AllocError> {
         let state = State {
-            waiting: Waiting::new(alloc, most)?,
+            waiting: BoundedQueue::new(alloc, most)?,
             ended: false,
         };
         Ok(Queue {
@@ -49,7 +48,7 @@ impl<T: Drop> Queue<T> {
         })
     }
 
-    /// Puts one, of so many octets; it comes back at once where there is no room for it ([`Waiting::put`]), or the queue is ended.
+    /// Puts one, of so many octets; it comes back at once where there is no room for it ([`BoundedQueue::put`]), or the queue is ended.
     pub fn put<R: Wait>(&self, rt: &R, item: T, octets: usize) -> Result<Put, T>
         ensures { IfErr result (λ back. back ≡ item) }
     {
@@ -63,7 +62,7 @@ impl<T: Drop> Queue<T> {
         put
     }
 
-    /// Waits until something waits or the queue is ended, and takes the first that wait, in their order, behind `taken`, as many as this has room for:
+    /// Waits until something waits or the queue is ended, and takes the first that wait, in their order, after `taken`, as many as this has room for:
     /// false where none is left, and none comes any more.
     pub fn take<R: Wait>(&self, rt: &R, taken: &mut Vec<T>) -> bool
         ensures begins { BeginsWith taken.new.items taken.old.items }

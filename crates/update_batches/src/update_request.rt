@@ -20,7 +20,6 @@ pub struct UpdateRequest {
     ghost short: { length octets.items < 2 ^ 16 },
 }
 
-// By hand: a derived drop is proved once more in each crate that lets such a value go.
 impl Drop for UpdateRequest {
     fn drop(self) {
         let UpdateRequest {

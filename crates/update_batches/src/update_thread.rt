@@ -41,7 +41,6 @@ pub struct UpdateThread<'a, P: UpdatePublisher, S: UpdateStore> {
     ghost verdicts_room: { 64 ≤ vec_capacity verdicts },
 }
 
-// By hand: a derived drop is proved once more in each crate that lets such a value go.
 impl<'a, P: UpdatePublisher, S: UpdateStore> Drop for UpdateThread<'a, P, S> {
     fn drop(self) {
         let UpdateThread {

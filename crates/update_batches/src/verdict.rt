@@ -37,7 +37,7 @@ fn serials_with(code: Rcode, serial: Serial) -> Option<Serials>
 
 impl Verdict {
     /// The verdict of an update that gets this code in a version of this serial, and makes none.
-    pub fn told(code: Rcode, serial: Serial) -> Verdict
+    pub fn with_code(code: Rcode, serial: Serial) -> Verdict
         ensures { result ≡ told_verdict serial.0 code }
     {
         Verdict {

@@ -13,7 +13,6 @@ pub struct VersionUpdate {
     ghost short: { length octets.items < 2 ^ 16 },
 }
 
-// By hand: a derived drop is proved once more in each crate that lets such a value go.
 impl Drop for VersionUpdate {
     fn drop(self) {
         let VersionUpdate {

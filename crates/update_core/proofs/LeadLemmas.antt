@@ -78,10 +78,10 @@ module _ (owner : Name) (rtype ttl : ℕ) where
       (ap (λ octets. list_any (is_sought r.owner r.rtype octets) sent) (data_at ds i some_data some_record below) ∙ lacks some_data))
 
   -- so an answer about the data behind it tells whether it leads on
-  pub told : (ds : List Data) → AllPairs IsBefore ds → (sent : List RawRecord) (r : RawRecord) (at next : ℕ) (d : Data) → at < length ds → ((e : Data) → (get_or ds at e).octets ≡ r.octets)
+  pub reported : (ds : List Data) → AllPairs IsBefore ds → (sent : List RawRecord) (r : RawRecord) (at next : ℕ) (d : Data) → at < length ds → ((e : Data) → (get_or ds at e).octets ≡ r.octets)
       → next ≡ place_behind (length ds) at → next < length ds → d ≡ get_or ds next d → (b : Bool) → b ≡ list_any (is_sought r.owner r.rtype d.octets) sent
       → (set : List Record) → set ≡ records_with owner rtype ttl ds → MatchBool b (LeadsOn set sent r) (is_of_whole set sent r ≡ false)
-  told ds rises sent r at next d below here place within is b says set found =
+  reported ds rises sent r at next d below here place within is b says set found =
       let at_next : (e : Data) → list_any (is_sought r.owner r.rtype (get_or ds next e).octets) sent ≡ b =
       λ e. ap (λ (f : Data). list_any (is_sought r.owner r.rtype f.octets) sent) (sym (get_or_read ds next d within is e)) ∙ sym says
       in

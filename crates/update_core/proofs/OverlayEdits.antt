@@ -46,8 +46,8 @@ module _ (owner name : Name) (apart : is_eq (canonical_cmp name owner) ≡ false
       let low = filter (λ r. is_lt (beside set r)) zone in
       let high = filter (λ r. is_gt (beside set r)) zone in
       filter-append (stands_at name) (low ++ set) high ∙ ap (λ l. l ++ filter (stands_at name) high) (filter-append (stands_at name) low set)
-      ∙ (λ i. decided (λ r. is_lt (beside set r)) (stands_at name) (is_lt (canonical_cmp name owner)) (λ r at. ap is_lt (stands r at)) zone i ++ none i
-      ++ decided (λ r. is_gt (beside set r)) (stands_at name) (is_gt (canonical_cmp name owner)) (λ r at. ap is_gt (stands r at)) zone i)
+      ∙ (λ i. decided (λ r. is_lt (beside set r)) (stands_at name) (is_lt (canonical_cmp name owner)) (λ r at. ap is_lt (is_present r at)) zone i ++ none i
+      ++ decided (λ r. is_gt (beside set r)) (stands_at name) (is_gt (canonical_cmp name owner)) (λ r at. ap is_gt (is_present r at)) zone i)
       ∙ by (canonical_cmp name owner) apart
     where
       first : (o p : Ordering) → is_eq o ≡ false → ordering_then o p ≡ o
@@ -58,8 +58,8 @@ module _ (owner name : Name) (apart : is_eq (canonical_cmp name owner) ≡ false
       there : (r : Record) → stands_at name r ≡ true → canonical_cmp r.owner (owner_of set) ≡ canonical_cmp name owner
       there r at = ap (canonical_cmp r.owner) e ∙ beside_folded r.owner owner ∙ canonical_total.congr r.owner name owner (tie_from_same r.owner name at)
 
-      stands : (r : Record) → stands_at name r ≡ true → beside set r ≡ canonical_cmp name owner
-      stands r at = ap (λ o. ordering_then o (nat_cmp r.rtype (rtype_of set))) (there r at) ∙ first (canonical_cmp name owner) (nat_cmp r.rtype (rtype_of set)) apart
+      is_present : (r : Record) → stands_at name r ≡ true → beside set r ≡ canonical_cmp name owner
+      is_present r at = ap (λ o. ordering_then o (nat_cmp r.rtype (rtype_of set))) (there r at) ∙ first (canonical_cmp name owner) (nat_cmp r.rtype (rtype_of set)) apart
 
       other : (b : Bool) (n : Name) → n ≡ fold_name owner → is_same n name ≡ b → b ≡ false
       other false n f g = refl

@@ -243,9 +243,9 @@ module _ (cur next : List Record) (owner : Name) (sets : List (List Record)) (mi
   -- so is a zone that has these sets for that owner's
   pub overlaid : (zone made : List Record) (f g : Name → Option (Vec (List Record))) → ((name : Name) → rrsets_of cur name ≡ at_owner (rrsets_of zone name) (f name)) → Rises IsBefore made
       → ((name : Name) → rrsets_of made name ≡ at_owner (rrsets_of zone name) (g name)) → (own : Vec (List Record)) → own.items ≡ sets → ((q : Name) → g q ≡ cond (is_at (canonical_cmp owner) q) (Some own) (f q)) → made ≡ next
-  overlaid zone made f g was rise stands own items updates =
+  overlaid zone made f g was rise is_present own items updates =
       same_by_owners made next rise k
-      (λ name. stands name ∙ ap (at_owner (rrsets_of zone name)) (updates name) ∙ by name (canonical_cmp owner name) refl ∙ sym (next_at name))
+      (λ name. is_present name ∙ ap (at_owner (rrsets_of zone name)) (updates name) ∙ by name (canonical_cmp owner name) refl ∙ sym (next_at name))
     where
       turned : (name : Name) (o : Ordering) → canonical_cmp owner name ≡ o → canonical_cmp name owner ≡ ordering_reverse o
       turned name o e = canonical_total.antisymm name owner ∙ ap ordering_reverse e

@@ -120,9 +120,9 @@ abbrev pub StaysAt : Overlaid → Name → Type 0
 StaysAt v name = rrsets_of v.made name ≡ rrsets_of v.base name
 
 module _ (zone : List Record) (last : Option Owned) (others : List Owned) (count : ℕ) (h : IsOverlay zone last others count) (v : Overlaid) (is : the_overlaid zone last others ≡ v) where
-  pub told : IfSome last (λ own. StaysAt v own.0) → (b : Bool) → MatchBool b (v.made ≢ v.base) (AllByRecursion (λ own. StaysAt v own.0) others) → MatchBool b (v.made ≢ v.base) (v.made ≡ v.base)
-  told mine true differs = differs
-  told mine false same =
+  pub reported : IfSome last (λ own. StaysAt v own.0) → (b : Bool) → MatchBool b (v.made ≢ v.base) (AllByRecursion (λ own. StaysAt v own.0) others) → MatchBool b (v.made ≢ v.base) (v.made ≡ v.base)
+  reported mine true differs = differs
+  reported mine false same =
       ap (λ (v : Overlaid). v.made) (sym is)
       ∙ unmade zone last others count h (subst (λ (v : Overlaid). IfSome last (λ own. StaysAt v own.0)) (sym is) mine) (subst (λ (v : Overlaid). AllByRecursion (λ own. StaysAt v own.0) others) (sym is) same)
       ∙ ap (λ (v : Overlaid). v.base) is

@@ -10,7 +10,7 @@ use Rattle.std.proofs.lemmas.Bool.{eqb-true}
 use Rattle.std.proofs.lemmas.Bool.Decides.{nat_tests, Decides-eqb}
 use Rattle.std.proofs.lemmas.List.Elements.{All-head, All-tail, filter-append}
 use Rattle.dns_name.specs.Name.{Name, is_same, canonical_cmp, wire_of, name_in}
-use Rattle.dns_name.proofs.LawLemmas.{name_in-stands}
+use Rattle.dns_name.proofs.LawLemmas.{name_in-is_present}
 use Rattle.dns_rdata.proofs.NameLemmas.{map_some, and_then_some, cond_some}
 use Rattle.dns_name.specs.Order.{is_same_equiv}
 use Rattle.dns_rdata.specs.Numbers.{type_CNAME, type_SOA, type_ANY, class_IN, class_NONE, class_ANY}
@@ -370,8 +370,8 @@ soa_short octets own e =
     let numbers = drop (length (wire_of second.0)) after in
     let last = map_some _ (names_then 0 20 numbers) behind.0 second.2 in
     let size = (Decides-eqb (length numbers) 20).0 (cond_some _ (Some numbers) last.0 last.1).0 in
-    let front = name_in-stands octets first.0 first.1 in
-    let middle = name_in-stands after second.0 second.1 in
+    let front = name_in-is_present octets first.0 first.1 in
+    let middle = name_in-is_present after second.0 second.1 in
     let whole = ap length front.1 in
     let part = ap length middle.1 in
     let a = front.0.short in

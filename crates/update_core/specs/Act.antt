@@ -87,7 +87,7 @@ abbrev pub at_serial : ℕ → List Record → List Record
 at_serial serial zone = map (record_at_serial serial) zone
 
 -- what a zone becomes whose records were changed into others: nothing new where they are the same, and else a zone of a greater
--- serial: where the update set none, the one behind the old one's (RFC 2136, 3.6; RFC 1982, 3)
+-- serial: where the update set none, the one after the old one's (RFC 2136, 3.6; RFC 1982, 3)
 abbrev pub completed : List Record → List Record → List Record
 completed zone after =
     if pointwise is_same_record zone after then zone

@@ -42,7 +42,7 @@ abbrev pub joined : List Record → ℕ → List ℕ → List Record
 joined set ttl octets =
     with_record (record { owner = owner_of set; rtype = rtype_of set; ttl = ttl; rdata = octets }) (map (λ (s : Record). record s { ttl = ttl }) set)
 
--- the set that stands behind an added record: an alias or an SOA alone, and any other record in its set (RFC 2136, 3.4.2.2)
+-- the set that stands after an added record: an alias or an SOA alone, and any other record in its set (RFC 2136, 3.4.2.2)
 abbrev pub set_behind : List Record → RawRecord → List Record
 set_behind zone r =
     if r.rtype == type_CNAME || r.rtype == type_SOA then entered r ∷ []

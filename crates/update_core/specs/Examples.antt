@@ -78,7 +78,7 @@ none owner rtype = sent owner rtype class_NONE 0 []
 abbrev pub delete : Name → ℕ → List ℕ → RawRecord
 delete owner rtype octets = sent owner rtype class_NONE 0 octets
 
--- a text of so many octets, one string of 255 behind another
+-- a text of so many octets, one string of 255 after another
 abbrev pub long_text : ℕ → List ℕ
 long_text octets = replicate octets 255
 

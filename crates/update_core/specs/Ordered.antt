@@ -30,12 +30,12 @@ record_of owner rtype octets = record { owner = owner; rtype = rtype; class = cl
 abbrev pub is_sought : Name → ℕ → List ℕ → RawRecord → Bool
 is_sought owner rtype octets r = r.rtype == rtype && bytes_eq r.octets octets && is_same r.owner owner
 
--- the place behind a place of so many, the first behind the last
+-- the place after a place of so many, the first after the last
 abbrev pub place_behind : ℕ → ℕ → ℕ
 place_behind count at = if nat_lt (at + 1) count then at + 1 else 0
 
 -- a record leads to the next of its set: its data stands at a place of the set, whose data ascend, and a record with the
--- data behind that place was sent
+-- data after that place was sent
 pub record LeadsOn (set : List Record) (sent : List RawRecord) (r : RawRecord) : Type 0 where
   pub ascending : AllPairs (λ s t. is_lt (slice_cmp nat_cmp s.rdata t.rdata) ≡ true) set
   pub at : ℕ

@@ -43,7 +43,7 @@ abbrev pub made_of : List Record → Option Owned → List Owned → List Record
 made_of zone None others = with_owners zone others
 made_of zone (Some last) others = with_owner last.0 (records_in last.1.items) (with_owners zone others)
 
--- all owners that were taken, with their sets: the one that was changed last behind the others
+-- all owners that were taken, with their sets: the one that was changed last after the others
 abbrev pub all_of : Option Owned → List Owned → List Owned
 all_of None others = others
 all_of (Some last) others = others ++ last ∷ []
@@ -84,7 +84,7 @@ abbrev pub set_or_none : Option (List Record) → List Record
 set_or_none None = []
 set_or_none (Some set) = set
 
--- the records of an owner and a type behind a record of an update that has an effect on them: it joins or replaces them, or goes from
+-- the records of an owner and a type after a record of an update that has an effect on them: it joins or replaces them, or goes from
 -- them, or all of them go (RFC 2136, 3.4.2.2 to 3.4.2.4)
 abbrev pub set_left : List Record → RawRecord → List Record
 set_left zone r = if r.class == class_IN then set_behind zone r else if r.class == class_NONE then without_data (rrset_of zone r.owner r.rtype) r.octets else []
@@ -99,7 +99,7 @@ abbrev pub IsDataOf : RawRecord → Option Data → Type 0
 IsDataOf r None = (r.class == class_IN) ≡ false
 IsDataOf r (Some d) = ((r.class == class_IN) ≡ true) × (d.rtype ≡ r.rtype) × (d.octets ≡ (entered r).rdata)
 
--- the sets of a record's owner in a zone, and those behind it where it makes others of the set of its type
+-- the sets of a record's owner in a zone, and those after it where it makes others of the set of its type
 abbrev pub IsChanged : List Record → RawRecord → List (List Record) → List (List Record) → Type 0
 IsChanged zone r own next =
     (next ≡ changed_sets own (change_for r (set_left zone r))) × (0 < length (set_left zone r) → IsRRset (set_left zone r) × (length (set_left zone r) ≤ max_set))

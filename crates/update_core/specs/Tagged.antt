@@ -11,7 +11,7 @@ use Rattle.dns_name.specs.Name.{Name, canonical_cmp, is_same}
 use Rattle.dns_name.specs.Order.{canonical_total, is_same_tied, is_same_Decides}
 use Rattle.dns_name.specs.Stored.{stored_label, stored_of}
 
--- the number that octets make behind others that made one
+-- the number that octets make after others that made one
 abbrev pub tag_from : ℕ → List ℕ → ℕ
 tag_from tag [] = tag
 tag_from tag (octet ∷ octets) = tag_from ((tag * 31 % 2 ^ 64 + octet) % 2 ^ 64) octets

@@ -43,7 +43,7 @@ pub(crate) fn row_of_addition(
     if is_lesser_soa(zone, raw, &rdata) {
         return Ok(Row::Nothing);
     }
-    if stands(zone, raw, &rdata) {
+    if is_present(zone, raw, &rdata) {
         return Ok(Row::Nothing);
     }
     Ok(Row::OneSet(Some(rdata)))
@@ -126,7 +126,7 @@ fn are_octets(octets: &[u8])
 }
 
 /// Whether a record that joins others stands in a zone already, with the TTL that it would give them: then it has no effect.
-fn stands(zone: &Place<'_>, raw: &RawRecord, rdata: &RData) -> bool
+fn is_present(zone: &Place<'_>, raw: &RawRecord, rdata: &RData) -> bool
     requires lawful { IsZone zone.now.made }
     requires at { zone.now.owner ≡ raw.now.owner }
     requires rtype { rdata.now.rtype ≡ raw.now.rtype }

@@ -15,7 +15,7 @@ pub fn verdict<Z: ZoneRead>(zone: &Z, update: &Update, may: bool) -> Result<(), 
     ensures { result_err result ≡ verdict (Z.records zone.now) update.now may }
 {
     check(zone, update)?;
-    // The permission comes behind the prerequisites: what they tell, anyone may ask.
+    // The permission comes after the prerequisites: what they tell, anyone may ask.
     if !may {
         return Err(Rcode::Refused);
     }

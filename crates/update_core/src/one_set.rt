@@ -44,7 +44,7 @@ pub(crate) fn change_set(
     Ok((before, after))
 }
 
-/// The set that stands behind a record where another stood, or none.
+/// The set that stands after a record where another stood, or none.
 fn set_after(
     alloc: Global,
     owner: &StoredName,

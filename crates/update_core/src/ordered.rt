@@ -150,7 +150,7 @@ fn do_all_lead_on<Z: ZoneRead>(zone: &Z, list: &[Sought<'_>]) -> bool
     true
 }
 
-/// Whether a record's data is in the zone's set of its owner and type, and the data behind it there, round from the last to
+/// Whether a record's data is in the zone's set of its owner and type, and the data after it there, round from the last to
 /// the first, was sent too.
 fn leads_on<Z: ZoneRead>(zone: &Z, list: &[Sought<'_>], raw: &RawRecord) -> bool
     requires { IsSorted sought_cmp list.now }
@@ -169,7 +169,7 @@ fn leads_on<Z: ZoneRead>(zone: &Z, list: &[Sought<'_>], raw: &RawRecord) -> bool
     is_sent(list, &raw.owner, raw.rtype, next.octets())
 }
 
-/// The place behind a place of so many, the first behind the last.
+/// The place after a place of so many, the first after the last.
 fn place_behind(count: usize, at: usize) -> usize
     requires { at < count }
     ensures value { result ≡ place_behind count at }

@@ -62,13 +62,13 @@ struct Made {
 }
 
 /// What an update makes of a version's zone, sent by a peer that may update, or may not (RFC 2136, 3). The version stays as
-/// it is; the one behind it has the next number, a greater serial, and what it changed (RFC 2136, 3.6; RFC 1982, 3.2; RFC
+/// it is; the one after it has the next number, a greater serial, and what it changed (RFC 2136, 3.6; RFC 1982, 3.2; RFC
 /// 1995, 4).
 ///
 /// An update costs a path of the zone's tree for each owner that it changes: no call goes over the whole zone.
 pub fn apply(alloc: Global, version: &Version, update: &Update, may: bool) -> Outcome
     requires { version.now.number + 1 < 2 ^ 64 }
-    ensures told { IsTold version.now update.now may result }
+    ensures reported { IsTold version.now update.now may result }
     // A rule that is broken is told before any memory is asked for.
     ensures refused { (code : Code) → verdict version.now.zone update.now may ≡ Some code → result ≡ Outcome.Refused code }
 {
@@ -130,7 +130,7 @@ fn owners_of(alloc: Global, raws: &[RawRecord]) -> Result<Vec<Name>, AllocError>
     raws.iter().map(|raw| raw.owner.copy()).collect(alloc)
 }
 
-/// A changed zone with a serial that is greater than the old zone's: the update's own, or the one behind the old one's
+/// A changed zone with a serial that is greater than the old zone's: the update's own, or the one after the old one's
 /// (RFC 2136, 3.6; RFC 1982, 3).
 fn completed(alloc: Global, zone: &Zone, after: Zone) -> Result<Zone, AllocError>
     ensures { IfOk result (λ next. next ≡ (if serial_less (zone_serial zone.now) (zone_serial after) then after else at_serial (serial_next (zone_serial zone.now)) after)) }

@@ -237,7 +237,7 @@ fn are_same(own: &[RRset], other: &[RRset]) -> bool
     true
 }
 
-/// All owners that were taken, the one that was changed last behind the others.
+/// All owners that were taken, the one that was changed last after the others.
 fn owned_in(
     alloc: Global,
     others: Owned,

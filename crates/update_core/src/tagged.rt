@@ -10,7 +10,7 @@ use dns_name::StoredName;
 use std::cmp::Ordering;
 use std::marker::Model;
 
-/// An owner as a zone keeps it, behind a number that its octets make: where two numbers differ, the names needn't be compared.
+/// An owner as a zone keeps it, after a number that its octets make: where two numbers differ, the names needn't be compared.
 /// Contracts see the name.
 #[derive(Drop)]
 pub(crate) struct TaggedName {

@@ -18,7 +18,7 @@ pub record AreOwned {T : Type 0} (entries : List (Entered T)) (before after : Re
   pub enough : length entries ≤ before.left
   pub spent : after ≡ less (length entries) before
 
--- a version has gone, of this number: those in front of it were owned, and its upgrade gave no owner, so that the reader has then seen its
+-- a version has gone, of this number: those before it were owned, and its upgrade gave no owner, so that the reader has then seen its
 -- number buried (own)
 pub record HasGone {T : Type 0} (entries : List (Entered T)) (before after : ReaderState T) (number : ℕ) : Type 0 where
   pub front : List (Entered T)

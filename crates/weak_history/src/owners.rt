@@ -42,7 +42,7 @@ impl<'a, T: Drop, C: Names<T>, N: Naming> Owners<'a, T, C, N> {
         self.places.len()
     }
 
-    /// Puts an owner behind the others.
+    /// Puts an owner after the others.
     pub(crate) fn push(&mut self, owner: NamedStrong<'a, T, C, N>)
         requires { length self.old < ENTRIES }
         ensures { self.new ≡ self.old ++ owner.entry ∷ [] }

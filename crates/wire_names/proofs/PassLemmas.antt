@@ -78,12 +78,12 @@ run_closing msg at place used on p =
     let both = length-append on.octets (0 ∷ []) in
     let is = on.used_is in
     let room = way.room in
-    let told = computed_spelt msg at (place + 1) way.labels closed.spells closed.lawful.short in
+    let reported = computed_spelt msg at (place + 1) way.labels closed.spells closed.lawful.short in
     record {
       few = omega arith;
       within = part_within msg place Closing p;
-      size = ap size_of told ∙ omega arith;
-      behind = λ r e. ends_there (name_at msg at) way.labels (place + 1) r told e;
+      size = ap size_of reported ∙ omega arith;
+      behind = λ r e. ends_there (name_at msg at) way.labels (place + 1) r reported e;
     }
 
 -- what a pointer below its run's start tells, by what stands at its target
@@ -123,10 +123,10 @@ led_by msg at place used target octets is way (read {next = next} {name = name} 
     let both = length-append (front_of way.labels) (wire_of name) in
     let wire = ap length join in
     let long : length (wire_of (way.labels ++ name)) ≡ used + length (wire_of name) = omega arith in
-    let told = computed_spelt msg at (place + 2) (way.labels ++ name) whole (omega arith) in
+    let reported = computed_spelt msg at (place + 2) (way.labels ++ name) whole (omega arith) in
     record {
-      size = ap size_of told ∙ long ∙ sym (joined_short used (length (wire_of name)) (omega arith) h) ∙ ap (λ o. joined used (size_of o)) (sym there);
-      behind = λ r e. ends_there (name_at msg at) (way.labels ++ name) (place + 2) r told e;
+      size = ap size_of reported ∙ long ∙ sym (joined_short used (length (wire_of name)) (omega arith) h) ∙ ap (λ o. joined used (size_of o)) (sym there);
+      behind = λ r e. ends_there (name_at msg at) (way.labels ++ name) (place + 2) r reported e;
     }
 led_by msg at place used target octets is way (not_read {fault = fault} r) =
     let refused = computed_fault msg at fault (way.refused fault (subst (λ (x : ℕ). Refuses msg target target x fault) is r)) in

@@ -52,8 +52,8 @@ pub plain_name : (msg rest : List ℕ) (at len : ℕ) (name : Name) → rest ≡
 plain_name msg rest at len name from lawful size there =
     let octets = wire_of name in
     let same : labels_in octets ≡ name = labels_in-wire_of name lawful.labels in
-    let stands : drop at msg ≡ octets ++ drop (length octets) (drop at msg) =
+    let is_present : drop at msg ≡ octets ++ drop (length octets) (drop at msg) =
     sym from ∙ there ∙ ap (λ (n : ℕ). octets ++ drop n rest) size ∙ ap (λ (xs : List ℕ). octets ++ drop (length octets) xs) from in
-    let spelt = plain_at msg octets at (IsWhole-wire_of name lawful.labels) stands in
+    let spelt = plain_at msg octets at (IsWhole-wire_of name lawful.labels) is_present in
     let named = subst (λ (n : Name). Spells msg at at n (at + length octets)) same spelt in
     computed_spelt msg at (at + length octets) name named lawful.short ∙ ap (λ (n : ℕ). Ok (name, at + n)) (sym size)

@@ -1,7 +1,7 @@
 -- What is kept of a name that a pointer can name.
 use Rattle.std.specs.Prelude.{ℕ, List, [], length, nat_lt, if◌then◌else◌}
 
--- a position where a name begins, the key of the name's first label, the parent behind that label, and the name's octets where they are many
+-- a position where a name begins, the key of the name's first label, the parent after that label, and the name's octets where they are many
 pub record Entry : Type 0 where
   pub key : ℕ
   pub position : ℕ

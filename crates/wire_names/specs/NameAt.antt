@@ -6,17 +6,17 @@ use Rattle.wire_names.specs.declared.part.NameReadFault.{NameReadFault}
 use Rattle.wire_names.specs.declared.part.NameReadFault.TheVariants.{Short, BadPointer, TooLong}
 use Rattle.wire_names.specs.declared.part.Part.TheVariants.{Closing, Label, Pointer}
 
--- what is read behind a label, with the label in front
+-- what is read after a label, with the label in front
 abbrev pub with_label : List ℕ → Result (Name × ℕ) NameReadFault → Result (Name × ℕ) NameReadFault
 with_label l (Ok r) = Ok (l ∷ r.0, r.1)
 with_label l (Err fault) = Err fault
 
--- what is read at a pointer's target, where reading goes on behind the pointer
+-- what is read at a pointer's target, where reading goes on after the pointer
 abbrev pub through_pointer : ℕ → Result (Name × ℕ) NameReadFault → Result (Name × ℕ) NameReadFault
 through_pointer next (Ok r) = Ok (r.0, next)
 through_pointer next (Err fault) = Err fault
 
--- in a run that began at `run`, behind labels of `used` octets: the name that the octets at `at` spell, and the
+-- in a run that began at `run`, after labels of `used` octets: the name that the octets at `at` spell, and the
 -- place where reading goes on, or the first fault, in at most so many steps (RFC 1035, 4.1.4)
 unfoldable pub name_from : ℕ → List ℕ → ℕ → ℕ → ℕ → Result (Name × ℕ) NameReadFault
 name_from zero msg run at used = Err Short

@@ -5,7 +5,7 @@ use Rattle.wire_names.specs.declared.part.NameReadFault.TheVariants.{Short, BadL
 use Rattle.wire_names.specs.declared.part.Part.{Part}
 use Rattle.wire_names.specs.declared.part.Part.TheVariants.{Closing, Label, Pointer}
 
--- a label of n octets, where so many stand behind its length octet (RFC 1035, 3.1)
+-- a label of n octets, where so many stand after its length octet (RFC 1035, 3.1)
 abbrev pub label_of : ℕ → List ℕ → Result Part NameReadFault
 label_of n octets = if nat_le n (length octets) then Ok (Label n) else Err Short
 

@@ -9,7 +9,7 @@ pub record IsKnown (msg : List ℕ) (entries : List Entry) (name : Name) (index 
   pub is : index ≡ parent_of (table_of msg entries) name
   pub known : index < 258
 
--- behind so many labels of a name stands the root, or a suffix that the table has: this is its number as a parent
+-- after so many labels of a name stands the root, or a suffix that the table has: this is its number as a parent
 pub record IsPlace (msg : List ℕ) (entries : List Entry) (name : Name) (place : Place) : Type 0 where
   pub within : place.labels ≤ length name
   pub index : place.index ≡ parent_of (table_of msg entries) (drop place.labels name)

@@ -10,7 +10,7 @@ abbrev pub size_of : Result (Name × ℕ) NameReadFault → ℕ
 size_of (Ok r) = length (wire_of r.0)
 size_of (Err fault) = 0
 
--- the position behind a name that was read; none where it has a fault
+-- the position after a name that was read; none where it has a fault
 abbrev pub behind_of : Result (Name × ℕ) NameReadFault → Option ℕ
 behind_of (Ok r) = Some r.1
 behind_of (Err fault) = None
@@ -19,7 +19,7 @@ behind_of (Err fault) = None
 abbrev pub AreSizes : List ℕ → List ℕ → ℕ → Type 0
 AreSizes msg sizes count = (at : ℕ) → at < count → slice_index sizes at ≡ size_of (name_at msg at)
 
--- the octets of labels, and of a name behind them that has so many octets, 0 of none; 0 where these are more than 255
+-- the octets of labels, and of a name after them that has so many octets, 0 of none; 0 where these are more than 255
 abbrev pub joined : ℕ → ℕ → ℕ
 joined used size = if size == 0 then 0 else if nat_le (used + size) 255 then used + size else 0
 
@@ -29,7 +29,7 @@ abbrev pub size_by : List ℕ → ℕ → ℕ → Option ℕ → ℕ
 size_by msg at used None = used + 1
 size_by msg at used (Some target) = if nat_lt target at then joined used (size_of (name_at msg target)) else 0
 
--- the position behind a name that begins with a run of labels: behind its zero octet, or behind its pointer
+-- the position after a name that begins with a run of labels: after its zero octet, or after its pointer
 abbrev pub behind_by : ℕ → Option ℕ → ℕ
 behind_by place None = place + 1
 behind_by place (Some target) = place + 2

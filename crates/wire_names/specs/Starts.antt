@@ -8,7 +8,7 @@ pub record IsStart (octets : List ℕ) (labels start : ℕ) : Type 0 where
   pub whole : IsWhole (drop start octets)
   pub rest : labels_in (drop start octets) ≡ drop labels (labels_in octets)
 
--- for each of the first labels of a name, so many of them, where it begins, and where the octets behind them begin
+-- for each of the first labels of a name, so many of them, where it begins, and where the octets after them begin
 pub record AreStarts (octets starts : List ℕ) (count : ℕ) : Type 0 where
   pub all : count ≤ length (labels_in octets)
   pub each : (i : ℕ) → i ≤ count → IsStart octets i (slice_index_or starts i 0)

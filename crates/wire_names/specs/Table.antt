@@ -44,11 +44,11 @@ spelt_at msg at = elim (name_at msg at) [ Ok read ↦ read.0 | Err fault ↦ [] 
 abbrev pub octet_before : ℕ → List ℕ → ℕ
 octet_before back label = slice_index_or (length label ∷ label) (length label - back) 0
 
--- the last four octets of a label as a number, its length octet in front of it (own)
+-- the last four octets of a label as a number, its length octet before it (own)
 abbrev pub end_key : List ℕ → ℕ
 end_key label = (octet_before 3 label * 256 + octet_before 2 label) * 65536 + (octet_before 1 label * 256 + octet_before 0 label)
 
--- the number of the octets of a label in front of its last four (own)
+-- the number of the octets of a label before its last four (own)
 abbrev pub front_key : List ℕ → ℕ
 front_key octets = fold (λ key octet. (key + octet) % 2 ^ 32 * 2654435761 % 2 ^ 32) 0 octets
 
@@ -56,7 +56,7 @@ front_key octets = fold (λ key octet. (key + octet) % 2 ^ 32 * 2654435761 % 2 ^
 abbrev pub label_key : List ℕ → ℕ
 label_key label = (front_key (take (length label - 4) label) + end_key label) % 2 ^ 32
 
--- the four octets up to one at an index, as a number; the first octet stands for those that would be in front of it (own)
+-- the four octets up to one at an index, as a number; the first octet stands for those that would be before it (own)
 abbrev pub key_up_to : List ℕ → ℕ → ℕ
 key_up_to octets n =
     (slice_index_or octets (n - 3) 0 * 256 + slice_index_or octets (n - 2) 0) * 65536
@@ -78,12 +78,12 @@ abbrev pub index_from : ℕ → Table → Name → ℕ
 index_from i [] name = 258 + length (wire_of name)
 index_from i (entry ∷ table) name = if same_spelling entry.1 name then i else index_from (i + 1) table name
 
--- the parent of what stands in front of a name: the index of the first entry that spells the name; 257 for the root (own)
+-- the parent of what stands before a name: the index of the first entry that spells the name; 257 for the root (own)
 abbrev pub parent_of : Table → Name → ℕ
 parent_of table [] = 257
 parent_of table (label ∷ name) = index_from 0 table (label ∷ name)
 
--- the entry of a position with its name: the key of its first label, the parent behind that label, and its octets where they are many (own)
+-- the entry of a position with its name: the key of its first label, the parent after that label, and its octets where they are many (own)
 abbrev pub entry_of : Table → ℕ × Name → Entry
 entry_of table named = record {
   key = first_key named.1;
@@ -124,7 +124,7 @@ pub record IsEntry (msg : List ℕ) (entry : Entry) : Type 0 where
 abbrev pub AreEntries : List ℕ → List Entry → Type 0
 AreEntries msg entries = All (IsEntry msg) entries
 
--- an entry whose parent no entry spells is the last one, and no more is entered behind it: the table is full, or the message has gone past
+-- an entry whose parent no entry spells is the last one, and no more is entered after it: the table is full, or the message has gone past
 -- what a pointer can name (own)
 abbrev pub IsClosed : List ℕ → List Entry → Type 0
 IsClosed msg entries = (i : ℕ) → i < length entries → 258 ≤ parent_at entries i → (i + 1 ≡ length entries) × ((length entries ≡ 256) ⊎ (16383 < length msg))

@@ -1,4 +1,4 @@
--- How a name is written into a message, with pointers to names in front of it (RFC 1035, 4.1.4).
+-- How a name is written into a message, with pointers to names before it (RFC 1035, 4.1.4).
 use Rattle.std.specs.Prelude.{◌⊎◌, drop, ◌≡◌, ℕ, ◌+◌, ◌/◌, ◌%◌, ◌<◌, ◌≤◌, Bool, List, [], ◌∷◌, ◌++◌, length, take, drop, if◌then◌else◌, Option, Some, None}
 use Rattle.dns_name.specs.Name.{Name, wire_of}
 use Rattle.wire_names.specs.Table.{Entry, Table, position_in, entered, keyed, parent_of}
@@ -27,13 +27,13 @@ new_entries table at (label ∷ name) =
       | None ↦ (at, label ∷ name) ∷ new_entries table (at + 1 + length label) name
     ]
 
--- the positions of a name's labels that stand one behind another, each behind its length, from a position on, each with the suffix that
+-- the positions of a name's labels that stand one after another, each after its length, from a position on, each with the suffix that
 -- begins there
 abbrev pub starts_of : ℕ → Name → Table
 starts_of at [] = []
 starts_of at (label ∷ name) = (at, label ∷ name) ∷ starts_of (at + 1 + length label) name
 
--- the first labels of a name, so many, can be entered at a position behind a table: none of the names that begin there is in it, and this is
+-- the first labels of a name, so many, can be entered at a position after a table: none of the names that begin there is in it, and this is
 -- the parent of the last of them (own)
 pub record CanEnter (entries : List Entry) (table : Table) (at : ℕ) (name : Name) (count last : ℕ) : Type 0 where
   pub entries_are : entries ≡ keyed table
@@ -49,17 +49,17 @@ written compress table name = if compress then name_octets table name else wire_
 abbrev pub entries_of : Bool → Table → ℕ → Name → Table
 entries_of compress table at name = if compress then new_entries table at name else []
 
--- the table behind a name at a position
+-- the table after a name at a position
 abbrev pub table_after : Bool → Table → ℕ → Name → Table
 table_after compress table at name = entered (λ entry. entry.0) table (entries_of compress table at name)
 
--- octets stand in a buffer from a position up to the next; what was in front of them and behind them is still there
+-- octets stand in a buffer from a position up to the next; what was before them and after them is still there
 pub record IsOverwritten (old new : List ℕ) (at : ℕ) (octets : List ℕ) (next : ℕ) : Type 0 where
   pub next_is : next ≡ at + length octets
   pub within : next ≤ length old
   pub new_is : new ≡ take at old ++ octets ++ drop next old
 
--- octets are written into a buffer at a position, which gives the position behind them; none where they don't fit, and
+-- octets are written into a buffer at a position, which gives the position after them; none where they don't fit, and
 -- then the buffer is as it was
 abbrev pub WritesOctets : List ℕ → List ℕ → ℕ → List ℕ → Option ℕ → Type 0
 WritesOctets old new at octets None = (length old < at + length octets) × (new ≡ old)

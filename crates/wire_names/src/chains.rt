@@ -1,20 +1,20 @@
 //! Chains of the entries of a table that have one parent, the newest first.
 //!
 //! Names can be chosen at will, so a number that is made of labels can be the same for many of them. A chain has the entries of one parent
-//! alone: where the labels of a name are sought one behind the other, all their chains together have each entry once at most.
+//! alone: where the labels of a name are sought one after the other, all their chains together have each entry once at most.
 ghost use Rattle.std.specs.Prelude.{◌≡◌, ◌+◌, ◌<◌, ◌≤◌, ◌++◌, ◌∷◌, [], ◌⊎◌, List, length, slice_index_or};
 ghost use Rattle.wire_names.specs.Entry.{Entry};
 ghost use Rattle.wire_names.specs.Chains.{AreChained};
 
 use crate::table::MAX_POSITIONS;
 
-/// For how many parents there is a chain: for each entry, for one behind the last, and for the root.
+/// For how many parents there is a chain: for each entry, for one after the last, and for the root.
 pub(crate) const CHAINS: usize = 258;
 
 /// The parent of an entry whose name has one label: the root.
 pub(crate) const ROOT: usize = 257;
 
-/// The parent of an entry behind whose first label stands a name that no entry spells is this and how many octets that name takes.
+/// The parent of an entry after whose first label stands a name that no entry spells is this and how many octets that name takes.
 pub(crate) const UNKNOWN: usize = 258;
 
 /// Stands for no index.
@@ -63,7 +63,7 @@ impl Chains {
         usize::from(self.older[index])
     }
 
-    /// Puts the entry at an index, behind all others, in front of those that have its parent.
+    /// Puts the entry at an index, after all others, before those that have its parent.
     pub(crate) fn push(&mut self, index: usize, parent: usize)
         requires few { index < 256 }
         ensures { (entries : List Entry) (entry : Entry) → AreChained entries self.old.newest self.old.older → length entries ≡ index → entry.parent ≡ parent → (parent ≤ index + 1) ⊎ (257 ≤ parent) → AreChained (entries ++ entry ∷ []) self.new.newest self.new.older }

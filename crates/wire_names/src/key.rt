@@ -11,10 +11,10 @@ const KEY: usize = 4;
 /// The key of a label of one octet, but for that octet: its length octet three times.
 const ONE_OCTET: u32 = 16_843_008;
 
-/// An odd number, by which each octet in front of the last four changes all higher bits of a key.
+/// An odd number, by which each octet before the last four changes all higher bits of a key.
 const FACTOR: u32 = 2_654_435_761;
 
-/// The key of the first label of the name in these octets: of its last four octets, and of those in front of them (own).
+/// The key of the first label of the name in these octets: of its last four octets, and of those before them (own).
 pub(crate) fn first_key(octets: &[u8]) -> u32
     requires whole { IsWhole octets.now }
     ensures { result ≡ first_key (labels_in octets.now) }
@@ -27,7 +27,7 @@ pub(crate) fn first_key(octets: &[u8]) -> u32
     front_key(&octets[1..len - 3]).wrapping_add(end)
 }
 
-/// The number of the octets of a label in front of its last four.
+/// The number of the octets of a label before its last four.
 fn front_key(octets: &[u8]) -> u32
     ensures { result ≡ front_key octets.now }
 {
@@ -37,7 +37,7 @@ fn front_key(octets: &[u8]) -> u32
     )
 }
 
-/// The last four octets of the first label of the name in these octets, as a number, with its length octet in front of it; the length octet
+/// The last four octets of the first label of the name in these octets, as a number, with its length octet before it; the length octet
 /// stands for those that a short label lacks.
 fn end_key(octets: &[u8]) -> u32
     requires whole { IsWhole octets.now }
@@ -62,7 +62,7 @@ fn four_up_to(octets: &[u8], last: usize) -> Option<u32>
     Some(u32::from_be_bytes(*four))
 }
 
-/// The four octets up to one at an index, as a number: the first stands for those that would be in front of it.
+/// The four octets up to one at an index, as a number: the first stands for those that would be before it.
 fn key_up_to(octets: &[u8], last: usize) -> u32
     ensures { result ≡ key_up_to octets.now last }
 {
@@ -72,7 +72,7 @@ fn key_up_to(octets: &[u8], last: usize) -> u32
     high * 65536 + low
 }
 
-/// The octet at an index, or 0 behind the end.
+/// The octet at an index, or 0 after the end.
 fn octet_at(octets: &[u8], index: usize) -> u32
     ensures octet { result ≡ slice_index_or octets.now index 0 }
     ensures low { result < 256 }

@@ -39,7 +39,7 @@ pub fn table_stays()
 {}
 
 /// Worked examples of the definitions: a label before a pointer down to a zero octet, a pointer to its own run's
-/// start, a length octet of 64, and a label that is cut; the names of RFC 1035, 4.1.4, behind a name at position 20;
+/// start, a length octet of 64, and a label that is cut; the names of RFC 1035, 4.1.4, after a name at position 20;
 /// and a name that two positions spell, of which the least is its earliest.
 #[tactic(auto, unfolding(crate::specs::NameAt::name_at, crate::specs::NameAt::name_from))]
 pub fn examples()

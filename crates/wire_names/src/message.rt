@@ -51,7 +51,7 @@ impl<'m> Message<'m> {
 
     /// A message of which it is remembered where the pointers end, and how many octets the names have, at as many of its places as
     /// there is room for. Where that is [`MAX_TARGETS`] of each or the message's length, each name that is read in it takes at most
-    /// 256 steps, and one that is passed over as many as it has labels in front of its first pointer.
+    /// 256 steps, and one that is passed over as many as it has labels before its first pointer.
     pub fn with_room(octets: &'m [u8], ends: &'m mut [u16], sizes: &'m mut [u8]) -> Message<'m>
         requires { length ends.old ≤ 2 ^ 16 }
         ensures { result ≡ octets.now }
@@ -76,7 +76,7 @@ impl<'m> Message<'m> {
         self.octets
     }
 
-    /// The name at a position, and the position behind it, as [`read_name`](crate::read_name) reads it. No memory is taken.
+    /// The name at a position, and the position after it, as [`read_name`](crate::read_name) reads it. No memory is taken.
     pub fn read_name(&self, at: usize) -> Result<(Name, usize), NameReadFault>
         ensures found { IfOk result (λ r. Spells self.now at at r.0 r.1) }
         ensures lawful { IfOk result (λ r. IsName r.0) }
@@ -94,7 +94,7 @@ impl<'m> Message<'m> {
         name_into(self.octets, self.ends, at, name)
     }
 
-    /// The position behind the name at a position, which is passed over; None where [`read_name`](Self::read_name) tells a fault.
+    /// The position after the name at a position, which is passed over; None where [`read_name`](Self::read_name) tells a fault.
     pub fn behind_name(&self, at: usize) -> Option<usize>
         ensures { result ≡ behind_of (name_at self.now at) }
     {
@@ -125,7 +125,7 @@ pub(crate) fn led_from(ends: &[u16], at: usize) -> usize
     }
 }
 
-/// The place where the pointers at a place end, by those of all places in front of it.
+/// The place where the pointers at a place end, by those of all places before it.
 fn end_at(octets: &[u8], ends: &[u16], at: usize) -> u16
     requires within { at < length ends.now }
     requires room { length ends.now ≤ 2 ^ 16 }

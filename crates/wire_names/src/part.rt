@@ -33,7 +33,7 @@ pub enum NameReadFault {
 pub(crate) enum Part {
     /// The zero octet that closes the name.
     Closing,
-    /// A label of this many octets, behind its length octet.
+    /// A label of this many octets, after its length octet.
     Label(usize),
     /// A pointer to this position.
     Pointer(usize),

@@ -1,4 +1,4 @@
-//! Names that are passed over: how many octets they have, and where reading goes on behind them (RFC 1035, 2.3.4 and 4.1.4).
+//! Names that are passed over: how many octets they have, and where reading goes on after them (RFC 1035, 2.3.4 and 4.1.4).
 ghost use Rattle.std.specs.Prelude.{◌≡◌, ◌+◌, ◌<◌, ◌≤◌, length, MatchOption};
 ghost use Rattle.wire_names.specs.Leads.{AreEnds};
 ghost use Rattle.wire_names.specs.NameAt.{name_at};
@@ -19,7 +19,7 @@ pub(crate) struct Run {
     pub target: Option<usize>,
 }
 
-/// The run of labels that begins at a position; None where the octets behind some of them are no part of a name, or they leave no
+/// The run of labels that begins at a position; None where the octets after some of them are no part of a name, or they leave no
 /// room for a zero octet in 255 octets.
 pub(crate) fn run_at(msg: &[u8], at: usize) -> Option<Run>
     ensures { MatchOption result (size_of (name_at msg.now at) ≡ 0) (IsRun msg.now at) }
@@ -56,7 +56,7 @@ pub(crate) fn run_at(msg: &[u8], at: usize) -> Option<Run>
     }
 }
 
-/// The position behind the name at a position, by the sizes of the names at a message's first places, and the ends of its pointers;
+/// The position after the name at a position, by the sizes of the names at a message's first places, and the ends of its pointers;
 /// None where the name has a fault (RFC 1035, 4.1.4).
 pub(crate) fn name_behind(msg: &[u8], ends: &[u16], sizes: &[u8], at: usize) -> Option<usize>
     requires ends { AreEnds msg.now ends.now (length ends.now) }
@@ -79,7 +79,7 @@ pub(crate) fn name_behind(msg: &[u8], ends: &[u16], sizes: &[u8], at: usize) -> 
     Some(run.place + 2)
 }
 
-/// The position behind the name at a position, which is read; None where it has a fault.
+/// The position after the name at a position, which is read; None where it has a fault.
 fn behind_read(msg: &[u8], ends: &[u16], at: usize) -> Option<usize>
     requires { AreEnds msg.now ends.now (length ends.now) }
     ensures { result ≡ behind_of (name_at msg.now at) }
@@ -90,7 +90,7 @@ fn behind_read(msg: &[u8], ends: &[u16], at: usize) -> Option<usize>
     }
 }
 
-/// How many octets the labels of a run have, and the name behind them that has so many; 0 where it has none, or these are more than
+/// How many octets the labels of a run have, and the name after them that has so many; 0 where it has none, or these are more than
 /// 255 (RFC 1035, 2.3.4).
 pub(crate) fn joined(used: usize, size: u8) -> u8
     requires { used < 255 }
@@ -114,7 +114,7 @@ pub(crate) fn write_sizes(octets: &[u8], sizes: &mut [u8])
     }
 }
 
-/// How many octets the name at a place has, by those of the names at all places in front of it; 0 where it has a fault.
+/// How many octets the name at a place has, by those of the names at all places before it; 0 where it has a fault.
 fn size_at(octets: &[u8], sizes: &[u8], at: usize) -> u8
     requires within { at < length sizes.now }
     requires before { AreSizes octets.now sizes.now at }

@@ -11,8 +11,8 @@ use crate::part::{NameReadFault, Part, label_at, part_at};
 use arrayvec::ArrayVec;
 use dns_name::{MAX_NAME, Name};
 
-/// The name at a position of the message, in the spelling that it has there, and the position behind it where
-/// reading goes on: behind its first pointer, if it has one. No memory is taken (RFC 1035, 4.1.4).
+/// The name at a position of the message, in the spelling that it has there, and the position after it where
+/// reading goes on: after its first pointer, if it has one. No memory is taken (RFC 1035, 4.1.4).
 ///
 /// Short where the message ends inside the name; BadLength where the two highest bits of a length octet are 01 or
 /// 10; BadPointer where a pointer's target isn't below the place where its run of labels began; TooLong where the
@@ -64,7 +64,7 @@ pub(crate) fn name_in(msg: &[u8], ends: &[u16], at: usize) -> Result<(Name, usiz
     }
 }
 
-/// Puts a label behind the others, after its length. False where that leaves no room for the zero octet.
+/// Puts a label after the others, after its length. False where that leaves no room for the zero octet.
 fn put_label(octets: &mut ArrayVec<u8, MAX_NAME>, label: &[u8]) -> bool
     ensures room { IsTrue result ↔ (length octets.old.items + (length label.now + 2) ≤ MAX_NAME) }
     ensures put { OnTrue result (octets.new.items ≡ octets.old.items ++ length label.now ∷ label.now) }
@@ -78,7 +78,7 @@ fn put_label(octets: &mut ArrayVec<u8, MAX_NAME>, label: &[u8]) -> bool
     true
 }
 
-/// Puts octets behind the others: one or two, as many labels of a long name have, without a call.
+/// Puts octets after the others: one or two, as many labels of a long name have, without a call.
 #[inline(always)]
 fn put_octets(octets: &mut ArrayVec<u8, MAX_NAME>, own: &[u8])
     requires { length octets.old.items + length own.now ≤ MAX_NAME }

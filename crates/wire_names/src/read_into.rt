@@ -31,7 +31,7 @@ pub(crate) fn name_into(
     }
 }
 
-/// Reads the name at a position of the message into a name where it stands there in full, and gives the position behind it; None
+/// Reads the name at a position of the message into a name where it stands there in full, and gives the position after it; None
 /// where it doesn't: the name stays as it is then.
 fn read_plain(msg: &[u8], at: usize, name: &mut Name) -> Option<usize>
     ensures found { IfSome result (λ next. name_at msg.now at ≡ Ok (name.new, next)) }

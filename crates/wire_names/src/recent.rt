@@ -13,7 +13,7 @@ use dns_name::first_label;
 /// How many names are kept.
 const NAMES: usize = 6;
 
-/// How many octets in front of what a name has in common with the one that was nearest last don't lead to another.
+/// How many octets before what a name has in common with the one that was nearest last don't lead to another.
 const FEW_IN_FRONT: usize = 16;
 
 /// A suffix of a recent name: how many octets it takes, and the index of the entry that spells it.
@@ -162,7 +162,7 @@ fn goes_on(octets: &[u8], others: &[u8], most: usize) -> bool {
     }
 }
 
-/// The octet in front of the last ones, so many.
+/// The octet before the last ones, so many.
 fn octet_before(octets: &[u8], behind: usize) -> Option<u8> {
     let at = octets.len().checked_sub(behind)?.checked_sub(1)?;
     octets.get(at).copied()

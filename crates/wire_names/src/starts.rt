@@ -6,7 +6,7 @@ ghost use Rattle.wire_names.specs.Starts.{AreStarts};
 /// The most labels of a name (RFC 1035, 2.3.4).
 const MAX_LABELS: usize = 128;
 
-/// For each of the first labels of a name, so many of them, the index of its length octet, and behind these where the rest begins.
+/// For each of the first labels of a name, so many of them, the index of its length octet, and after these where the rest begins.
 #[derive(Clone, Copy)]
 pub(crate) struct Starts {
     pub(crate) starts: [u8; MAX_LABELS],
@@ -34,7 +34,7 @@ impl Starts {
     }
 }
 
-/// Where the labels of the name in these octets begin that are in front of its longest suffix of at most so many octets.
+/// Where the labels of the name in these octets begin that are before its longest suffix of at most so many octets.
 pub(crate) fn starts_of(octets: &[u8], size: usize) -> Starts
     requires whole { IsWhole octets.now }
     requires short { length octets.now ≤ 255 }

@@ -37,7 +37,7 @@ const SPREAD: u32 = 2_654_435_761;
 const KEYS_OF_A_MARK: u32 = 524_288;
 
 /// The head of an entry: a position of a message where a name begins, the key of the name's first label, and its parent: the index of the
-/// entry that spells the name behind that label, or the root, or what no entry spells.
+/// entry that spells the name after that label, or the root, or what no entry spells.
 #[derive(Clone, Copy, Default)]
 pub(crate) struct Head {
     pub(crate) key: u32,
@@ -122,7 +122,7 @@ impl Positions {
         &[]
     }
 
-    /// How many octets the name takes behind the first label of the last entry, where no entry spells it.
+    /// How many octets the name takes after the first label of the last entry, where no entry spells it.
     #[tactic(auto, using(crate::proofs::LongLemmas::entries_many))]
     pub(crate) fn part(&self) -> Option<usize>
         ensures none { IsNone result → 0 < length self.now → parent_at self.now (length self.now - 1) < 258 }
@@ -189,7 +189,7 @@ impl Positions {
 
     /// Whether these very octets stand at the position at an index, or, where pointers are followed, the name in them is spelt there.
     #[tactic(auto, using(crate::proofs::LongLemmas::entries_many))]
-    pub(crate) fn stands(&self, msg: &[u8], octets: &[u8], index: usize, follows: bool) -> bool
+    pub(crate) fn is_present(&self, msg: &[u8], octets: &[u8], index: usize, follows: bool) -> bool
         requires table { IsTable msg.now self.now }
         requires whole { IsWhole octets.now }
         ensures { OnTrue result (IsSpelt msg.now self.now (labels_in octets.now) index) }
@@ -259,7 +259,7 @@ impl Positions {
         labels <= MAX_POSITIONS - self.heads.len() && size <= MAX_TARGET && at <= MAX_TARGET - size
     }
 
-    /// Whether there is room for one more position, behind so many that are yet to be entered, and a pointer can name it.
+    /// Whether there is room for one more position, after so many that are yet to be entered, and a pointer can name it.
     #[tactic(auto, using(crate::proofs::LongLemmas::entries_many))]
     fn has_room(&self, more: usize, position: usize) -> bool
         requires { more < 2 }
@@ -268,7 +268,7 @@ impl Positions {
         self.heads.len() + more < MAX_POSITIONS && position <= MAX_TARGET
     }
 
-    /// Enters a position behind all others, where the name in these octets begins.
+    /// Enters a position after all others, where the name in these octets begins.
     #[tactic(auto, using(crate::proofs::LongLemmas::entries_many))]
     fn push(&mut self, position: usize, octets: &[u8], parent: usize)
         requires whole { IsWhole octets.now }
@@ -308,7 +308,7 @@ fn unmark(marks: &mut [bool; MARKS]) {
 }
 
 /// Whether the name at a position begins with the first label of the name in these octets. Its length and its first two octets are
-/// compared in front of the others: most labels are short, or differ there.
+/// compared before the others: most labels are short, or differ there.
 #[inline(always)]
 fn begins_with(msg: &[u8], at: usize, octets: &[u8]) -> bool
     requires label { IsLabelAt msg.now at }
@@ -335,7 +335,7 @@ fn begins_with(msg: &[u8], at: usize, octets: &[u8]) -> bool
     !differ(label_at(octets, 0, len), label_at(msg, at, len))
 }
 
-/// Whether these very octets stand at a position. The first is compared in front of the others: most names differ there.
+/// Whether these very octets stand at a position. The first is compared before the others: most names differ there.
 fn stands_at(msg: &[u8], at: usize, octets: &[u8]) -> bool
     ensures { OnTrue result (drop at msg.now ≡ octets.now ++ drop (length octets.now) (drop at msg.now)) }
 {
@@ -393,7 +393,7 @@ pub(crate) fn spells(msg: &[u8], at: usize, octets: &[u8]) -> bool
     }
 }
 
-/// The octets behind the first labels of the name in these octets that stand at a position, one behind the other, as far as they are short.
+/// The octets after the first labels of the name in these octets that stand at a position, one after the other, as far as they are short.
 #[inline(always)]
 fn behind_same<'a>(msg: &[u8], at: usize, octets: &'a [u8]) -> &'a [u8]
     requires { IsWhole octets.now }
@@ -416,7 +416,7 @@ fn behind_same<'a>(msg: &[u8], at: usize, octets: &'a [u8]) -> &'a [u8]
     rest
 }
 
-/// Whether octets begin alike: with their first, and so many behind it. Where these are more than two, it isn't told.
+/// Whether octets begin alike: with their first, and so many after it. Where these are more than two, it isn't told.
 #[inline(always)]
 fn begin_alike(octets: &[u8], others: &[u8], len: usize) -> bool
     ensures { OnTrue result ((take (1 + len) octets.now ≡ take (1 + len) others.now) × (len < length others.now)) }

@@ -1,4 +1,4 @@
-//! Writing a name into a message, with pointers to names in front of it (RFC 1035, 4.1.4).
+//! Writing a name into a message, with pointers to names before it (RFC 1035, 4.1.4).
 ghost use Rattle.std.specs.Prelude.{◌≡◌, true, ℕ, ◌+◌, ◌-◌, ◌<◌, ◌≤◌, List, ◌++◌, [], length, take, Some, IfSome, IsNone};
 ghost use Rattle.dns_name.specs.Labels.{labels_in, IsWhole, IsFirstLabel};
 ghost use Rattle.wire_names.specs.Chains.{parent_at};
@@ -31,8 +31,8 @@ pub struct NameWriter {
 /// The index of the name written first: most often that of the question.
 const FIRST: usize = 0;
 
-/// Where the next name, or the name behind its first label, is likely to be in the table: the indexes of the name written last, and of
-/// the one behind that name's first label. They are looked at first, and promise nothing.
+/// Where the next name, or the name after its first label, is likely to be in the table: the indexes of the name written last, and of
+/// the one after that name's first label. They are looked at first, and promise nothing.
 #[derive(Clone, Copy)]
 struct Likely {
     last: usize,
@@ -48,7 +48,7 @@ impl Model for NameWriter {
     ghost view = { λ a. a.positions };
 }
 
-/// How a name is written behind a message: so many labels from the front of its octets, which end behind so many of them, and
+/// How a name is written after a message: so many labels from the front of its octets, which end after so many of them, and
 /// then a pointer, where there is one. The parent is that of the last of these labels: the index of what the pointer names, or the root.
 #[derive(Clone, Copy)]
 struct Cut {
@@ -58,7 +58,7 @@ struct Cut {
     parent: usize,
 }
 
-/// A suffix of a name that the table has: that behind so many of the name's labels, and its index; the root's is a number of its own.
+/// A suffix of a name that the table has: that after so many of the name's labels, and its index; the root's is a number of its own.
 #[derive(Clone, Copy)]
 struct Place {
     labels: usize,
@@ -94,12 +94,12 @@ impl NameWriter {
         self.recents.clear();
     }
 
-    /// Writes the name behind the message, which is the first `at` octets of `out`, and gives the position behind the
-    /// name; what is in front of the name and behind it stays. None where the name doesn't fit into `out`: nothing is
+    /// Writes the name after the message, which is the first `at` octets of `out`, and gives the position after the
+    /// name; what is before the name and after it stays. None where the name doesn't fit into `out`: nothing is
     /// written or entered then.
     ///
     /// With `compress`, the longest suffix that the table has is a pointer to its earliest position, and the positions
-    /// of the labels in front of it are entered into the table: up to 256 (own), and none over 16,383 (RFC 1035, 4.1.4).
+    /// of the labels before it are entered into the table: up to 256 (own), and none over 16,383 (RFC 1035, 4.1.4).
     /// Names are told apart by case. Without `compress` the name is written in full, and nothing is entered (RFC 2782).
     pub fn write(&mut self, name: &Name, compress: bool, out: &mut [u8], at: usize) -> Option<usize>
         requires within { at ≤ length out.old }
@@ -113,7 +113,7 @@ impl NameWriter {
         self.write_octets(name.wire(), compress, out, at)
     }
 
-    /// Writes the name in these octets, as [`write`](Self::write) writes a name: labels behind their lengths, up to a zero octet
+    /// Writes the name in these octets, as [`write`](Self::write) writes a name: labels after their lengths, up to a zero octet
     /// (RFC 1035, 3.1).
     pub fn write_octets(
         &mut self,
@@ -138,7 +138,7 @@ impl NameWriter {
         Some(next)
     }
 
-    /// How the name in these octets is written behind the message.
+    /// How the name in these octets is written after the message.
     fn cut(&mut self, msg: &[u8], octets: &[u8], compress: bool) -> Cut
         requires table { IsTable msg.now self.old }
         requires whole { IsWhole octets.now }
@@ -158,7 +158,7 @@ impl NameWriter {
         }
     }
 
-    /// How the name in these octets is written behind the message with compression. It, and the name behind its first label, are looked for
+    /// How the name in these octets is written after the message with compression. It, and the name after its first label, are looked for
     /// first where they are likely to be.
     fn compressed(&mut self, msg: &[u8], octets: &[u8]) -> Cut
         requires table { IsTable msg.now self.old }
@@ -173,8 +173,8 @@ impl NameWriter {
         }
     }
 
-    /// How the name in these octets, of two labels or more and of few octets, is written behind the message with compression, where it or the
-    /// name behind its first label is where it is likely to be.
+    /// How the name in these octets, of two labels or more and of few octets, is written after the message with compression, where it or the
+    /// name after its first label is where it is likely to be.
     fn likely_cut(&self, msg: &[u8], octets: &[u8]) -> Option<Cut>
         requires table { IsTable msg.now self.now }
         requires whole { IsWhole octets.now }
@@ -186,22 +186,22 @@ impl NameWriter {
             return None;
         }
         let Likely { last, parent } = self.likely;
-        if self.positions.stands(msg, behind, parent, true) {
+        if self.positions.is_present(msg, behind, parent, true) {
             return Some(self.cut_behind(msg, octets, behind, parent));
         }
-        if self.positions.stands(msg, octets, last, false) {
+        if self.positions.is_present(msg, octets, last, false) {
             return Some(self.cut_at(0, 0, last));
         }
-        if self.positions.stands(msg, octets, FIRST, false) {
+        if self.positions.is_present(msg, octets, FIRST, false) {
             return Some(self.cut_at(0, 0, FIRST));
         }
-        if self.positions.stands(msg, behind, last, false) {
+        if self.positions.is_present(msg, behind, last, false) {
             return Some(self.cut_behind(msg, octets, behind, last));
         }
         None
     }
 
-    /// How the name in these octets is written behind the message with compression, where these are the octets behind its first label, and
+    /// How the name in these octets is written after the message with compression, where these are the octets after its first label, and
     /// the name in them has this index in the table.
     fn cut_behind(&self, msg: &[u8], octets: &[u8], behind: &[u8], parent: usize) -> Cut
         requires table { IsTable msg.now self.now }
@@ -230,7 +230,7 @@ impl NameWriter {
         }
     }
 
-    /// How the name in these octets is written behind the message with compression: its labels are sought from the last on, or from those on
+    /// How the name in these octets is written after the message with compression: its labels are sought from the last on, or from those on
     /// that a name which was sought lately has as well.
     fn sought(&mut self, msg: &[u8], octets: &[u8]) -> Cut
         requires table { IsTable msg.now self.old }
@@ -245,7 +245,7 @@ impl NameWriter {
         cut
     }
 
-    /// How the name in these octets is written behind the message with compression: its labels in front of this suffix, which it seems to
+    /// How the name in these octets is written after the message with compression: its labels before this suffix, which it seems to
     /// have, are sought from the last on.
     fn sought_behind(&self, msg: &[u8], octets: &[u8], suffix: Suffix) -> Cut
         requires table { IsTable msg.now self.now }
@@ -270,7 +270,7 @@ impl NameWriter {
         self.cut_at(place.labels, starts.start(place.labels), place.index)
     }
 
-    /// Where the labels of the name in these octets begin that are in front of this suffix, and its place, where the table has it there; else
+    /// Where the labels of the name in these octets begin that are before this suffix, and its place, where the table has it there; else
     /// where all begin, and the place of the root.
     fn front(&self, msg: &[u8], octets: &[u8], suffix: Suffix) -> (Starts, Place)
         requires table { IsTable msg.now self.now }
@@ -301,7 +301,7 @@ impl NameWriter {
         )
     }
 
-    /// Keeps the suffix of a name that was found far in front of the one from which it was sought, and a name of which many labels are
+    /// Keeps the suffix of a name that was found far before the one from which it was sought, and a name of which many labels are
     /// entered at a position.
     fn remember(&mut self, at: usize, octets: &[u8], from: Suffix, cut: Cut)
         ensures { self.new ≡ self.old }
@@ -315,7 +315,7 @@ impl NameWriter {
         }
     }
 
-    /// The place of the longest name that is found from a place on, each label being sought in front of the last one found.
+    /// The place of the longest name that is found from a place on, each label being sought before the last one found.
     fn climb(&self, msg: &[u8], octets: &[u8], starts: &Starts, found: Place) -> Place
         requires table { IsTable msg.now self.now }
         requires whole { IsWhole octets.now }
@@ -344,7 +344,7 @@ impl NameWriter {
     }
 
     /// The place of the longest name that the table has, where the last entry is of a name that was entered in part, and this is how many
-    /// octets are behind its first label: the name that the last entry spells may be longer than the place that was found.
+    /// octets are after its first label: the name that the last entry spells may be longer than the place that was found.
     fn climb_in_part(
         &self,
         msg: &[u8],
@@ -388,7 +388,7 @@ impl NameWriter {
 }
 
 impl Likely {
-    /// What is likely behind a name that is cut so where the table had so many positions.
+    /// What is likely after a name that is cut so where the table had so many positions.
     fn after(self, count: usize, cut: Cut) -> Likely {
         match cut.labels {
             0 => Likely {
@@ -416,8 +416,8 @@ impl Default for NameWriter {
     }
 }
 
-/// Puts a name's octets at a position as they are cut: the position behind them, or None where they don't fit, and then
-/// nothing is written. What is in front of them and behind them stays.
+/// Puts a name's octets at a position as they are cut: the position after them, or None where they don't fit, and then
+/// nothing is written. What is before them and after them stays.
 fn put_cut(out: &mut [u8], at: usize, octets: &[u8], cut: Cut) -> Option<usize>
     requires within { at ≤ length out.old }
     requires whole { cut.len ≤ length octets.now }
@@ -431,7 +431,7 @@ fn put_cut(out: &mut [u8], at: usize, octets: &[u8], cut: Cut) -> Option<usize>
     }
 }
 
-/// Puts octets at a position and a pointer behind them, as [`put`] does (RFC 1035, 4.1.4).
+/// Puts octets at a position and a pointer after them, as [`put`] does (RFC 1035, 4.1.4).
 fn put_both(out: &mut [u8], at: usize, front: &[u8], target: u16) -> Option<usize>
     requires within { at ≤ length out.old }
     requires low { target < 16384 }
@@ -445,8 +445,8 @@ fn put_both(out: &mut [u8], at: usize, front: &[u8], target: u16) -> Option<usiz
     put(out, behind, &[POINTER as u8 + high, low])
 }
 
-/// Puts octets at a position: the position behind them, or None where they don't fit, and then nothing is written.
-/// What is in front of them and behind them stays.
+/// Puts octets at a position: the position after them, or None where they don't fit, and then nothing is written.
+/// What is before them and after them stays.
 fn put(out: &mut [u8], at: usize, octets: &[u8]) -> Option<usize>
     requires { at ≤ length out.old }
     ensures { WritesOctets out.old out.new at octets.now result }

@@ -45,10 +45,10 @@ ended number seen IsDone lock lock_of given_of told_of may_of work_of given (Err
     subst (λ c. IsReturned number seen IsDone lock given (told_of c) (may_of c) (work_of c)) (sym then) first
 
 -- what comes back as another work does that is the same, where both were told the same
-pub given_along : {W T : Type 0} (number : W → ℕ) (seen : W → List T) (IsDone : W → Type 0) (given : W) (own told : Bool) (back work : W) → own ≡ told → work ≡ back → IsGivenBack number seen IsDone given own back → IsGivenBack number seen IsDone given told work
-given_along number seen IsDone given own told back work same is r =
+pub given_along : {W T : Type 0} (number : W → ℕ) (seen : W → List T) (IsDone : W → Type 0) (given : W) (own reported : Bool) (back work : W) → own ≡ reported → work ≡ back → IsGivenBack number seen IsDone given own back → IsGivenBack number seen IsDone given reported work
+given_along number seen IsDone given own reported back work same is r =
     let with_told = subst (λ (b : Bool). IsGivenBack number seen IsDone given b back) same r in
-    subst (λ w. IsGivenBack number seen IsDone given told w) (sym is) with_told
+    subst (λ w. IsGivenBack number seen IsDone given reported w) (sym is) with_told
 
 -- what is related one by one is so by a wider relation
 pub each_wider : {A B : Type 0} (R S : A → B → Type 0) → ((x : A) (y : B) → R x y → S x y) → (xs : List A) (ys : List B) → Each R xs ys → Each S xs ys

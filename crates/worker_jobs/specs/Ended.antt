@@ -26,14 +26,14 @@ end_by TurnStarved = IsStarved
 -- the end of a thread's job, from the end of its datagrams: the same, except that it may also be done, with any count, where no datagram could be
 -- received (own)
 abbrev pub EndsSo : JobEnd → JobEnd → Type 0
-EndsSo (HasDone count) told = told ≡ HasDone count
-EndsSo HasFailed told = (told ≡ HasFailed) ⊎ ((count : ℕ) × (told ≡ HasDone count))
-EndsSo IsSpent told = told ≡ IsSpent
-EndsSo IsStarved told = told ≡ IsStarved
+EndsSo (HasDone count) reported = reported ≡ HasDone count
+EndsSo HasFailed reported = (reported ≡ HasFailed) ⊎ ((count : ℕ) × (reported ≡ HasDone count))
+EndsSo IsSpent reported = reported ≡ IsSpent
+EndsSo IsStarved reported = reported ≡ IsStarved
 
 -- a job's datagrams are answered, at most this many, each as its peer's, by the addresses that may update and transfer. The job's end is the one
 -- from the end of its datagrams (RFC 1035, 4.2.1)
 abbrev pub JobEndsBy : {T : Type 0} → (Peer → Learned T → Learned T → List ℕ → List (List ℕ) → Type 0) → List IpAddr → JobEnd
     → Learned T → List Datagram × List Datagram → ℕ → ℕ → Learned T → Option (List Datagram × List Datagram) → ℕ → Type 0
-JobEndsBy IsReply addresses told start old faults most seen new more =
-    (end : DatagramsEnd) × (told ≡ job_end end most) × EndsBy IsReply addresses end start old faults most seen new more
+JobEndsBy IsReply addresses reported start old faults most seen new more =
+    (end : DatagramsEnd) × (reported ≡ job_end end most) × EndsBy IsReply addresses end start old faults most seen new more

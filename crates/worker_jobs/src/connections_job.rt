@@ -32,8 +32,8 @@ pub struct ConnectionsJob<'a, S: Drop, P, L, C> {
     stop: StopFlag<'a>,
     clock: &'a C,
     /// The losses when they were last logged, and the time of that.
-    told: Losses,
-    told_at: Duration,
+    logged: Losses,
+    logged_at: Duration,
     /// How many ended connections are counted in the work limit.
     counted: u64,
     end: Option<JobEnd>,
@@ -50,8 +50,8 @@ impl<'a, S: Drop, P: Drop, L: Drop, C> Drop for ConnectionsJob<'a, S, P, L, C> {
             plan: _,
             stop: _,
             clock: _,
-            told: _,
-            told_at: _,
+            logged: _,
+            logged_at: _,
             counted: _,
             end: _,
             scratch: _,
@@ -139,8 +139,8 @@ impl<
             plan,
             stop,
             clock,
-            told: Losses::default(),
-            told_at: Duration::from_secs(0),
+            logged: Losses::default(),
+            logged_at: Duration::from_secs(0),
             counted: 0,
             end: None,
             scratch: CachePadded::new(scratch),
@@ -148,13 +148,13 @@ impl<
     }
 
     /// The same job, where other threads tell which connections' replies are ready.
-    pub fn hearing(self, alloc: Global, told: &'a WakeList) -> ConnectionsJob<'a, S, P, L, C>
+    pub fn hearing(self, alloc: Global, wake_list: &'a WakeList) -> ConnectionsJob<'a, S, P, L, C>
         ensures number { result.number ≡ self.entry.number }
         ensures plan { result.plan ≡ self.entry.plan }
         ensures event_loop { result.event_loop ≡ self.entry.event_loop }
     {
         let mut hearing = self;
-        hearing.poll.listen(alloc, told);
+        hearing.poll.listen(alloc, wake_list);
         hearing
     }
 
@@ -180,22 +180,22 @@ impl<
 
     /// Logs the connections lost since the last such line, at most once a second.
     fn tell<R: Wait, O: ServiceLog>(&mut self, rt: &R, log: &O, tally: Tally)
-        ensures told { (self.new.told ≡ self.old.told) ⊎ (self.new.told ≡ lost_of tally) }
+        ensures logged { (self.new.logged ≡ self.old.logged) ⊎ (self.new.logged ≡ lost_of tally) }
         ensures number { self.new.number ≡ self.old.number }
         ensures plan { self.new.plan ≡ self.old.plan }
         ensures event_loop { self.new.event_loop ≡ self.old.event_loop }
     {
         let lost = losses_in(tally);
-        if lost == self.told {
+        if lost == self.logged {
             return;
         }
-        let now = self.clock.monotonic().unwrap_or(self.told_at);
-        if now.saturating_sub(self.told_at) < Duration::from_secs(SILENCE) {
+        let now = self.clock.monotonic().unwrap_or(self.logged_at);
+        if now.saturating_sub(self.logged_at) < Duration::from_secs(SILENCE) {
             return;
         }
-        let losses = losses_since(self.told, lost);
-        self.told = lost;
-        self.told_at = now;
+        let losses = losses_since(self.logged, lost);
+        self.logged = lost;
+        self.logged_at = now;
         let worker = self.number;
         log.tell(rt, Event::Lost { worker, losses });
     }

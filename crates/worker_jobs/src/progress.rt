@@ -40,7 +40,7 @@ impl Shutdown {
     }
 
     /// Counts a thread that has begun. True where all have begun with this one.
-    pub fn begin(&self) -> bool {
+    pub fn thread_started(&self) -> bool {
         self.begun.fetch_add(1, Ordering::SeqCst).saturating_add(1) == self.threads
     }
 

@@ -7,13 +7,16 @@ use std::sync::{Mutex, Wait};
 
 /// The woken keys, and the waker that ends the worker's wait.
 struct State {
-    told: WokenKeys,
+    reported: WokenKeys,
     waker: Option<Waker>,
 }
 
 impl Drop for State {
     fn drop(self) {
-        let State { told: _, waker: _ } = self;
+        let State {
+            reported: _,
+            waker: _,
+        } = self;
     }
 }
 
@@ -31,9 +34,12 @@ impl Drop for WakeList {
 impl WakeList {
     /// An empty list, for a worker that has at most `most` connections. `AllocError` where there is no memory for as many keys.
     pub fn new(alloc: Global, most: usize) -> Result<WakeList, AllocError> {
-        let told = WokenKeys::new(alloc, most)?;
+        let reported = WokenKeys::new(alloc, most)?;
         Ok(WakeList {
-            state: Mutex::new(State { told, waker: None }),
+            state: Mutex::new(State {
+                reported,
+                waker: None,
+            }),
         })
     }
 
@@ -45,7 +51,7 @@ impl WakeList {
     /// Adds the key of a connection, and ends the worker's wait, or else its next one. It waits only while another thread uses the list.
     pub fn tell<R: Wait>(&self, rt: &R, key: usize) {
         let mut state = self.state.lock(rt);
-        state.told.put(key);
+        state.reported.put(key);
         if let Some(waker) = &state.waker {
             let _ = waker.wake();
         }
@@ -53,6 +59,6 @@ impl WakeList {
 
     /// Removes one of the keys, and gives it. None where the list is empty.
     pub(crate) fn take<R: Wait>(&self, rt: &R) -> Option<usize> {
-        self.state.lock(rt).told.take()
+        self.state.lock(rt).reported.take()
     }
 }

@@ -31,7 +31,7 @@ impl Model for WokenKeys {
 impl WokenKeys {
     /// No key is woken yet. Keys are less than `most`. `AllocError` where there is no memory for as many.
     pub(crate) fn new(alloc: Global, most: usize) -> Result<WokenKeys, AllocError>
-        ensures { IfOk result (λ told. told ≡ record { keys = []; most = most }) }
+        ensures { IfOk result (λ reported. reported ≡ record { keys = []; most = most }) }
     {
         let keys = Vec::with_capacity(alloc, most)?;
         Ok(WokenKeys { keys, most })

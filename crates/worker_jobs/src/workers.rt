@@ -102,7 +102,7 @@ impl<
 #[derive(Drop)]
 struct Returned<'m, W> {
     work: W,
-    told: OnceToken<'m, bool>,
+    reported: OnceToken<'m, bool>,
 }
 
 /// A task that is given to a thread, and the lock that tells the thread whether the tasks may be done.
@@ -113,34 +113,34 @@ struct Given<'m, W> {
 }
 
 impl<'m, W: Task> Promise<Returned<'m, W>> for Given<'m, W> {
-    ghost kept_by = { λ given back. IsReturned W.number W.seen W.is_done given.may.now.id given.work.value back.told.of back.told.value back.work };
+    ghost kept_by = { λ given back. IsReturned W.number W.seen W.is_done given.may.now.id given.work.value back.reported.of back.reported.value back.work };
 }
 
 /// Does a task once all threads have been started. Doesn't do it where a thread was refused.
 fn do_one<'m, R: Wait, W: Task>(rt: &R, may: &'m OnceLock<bool>, mut work: W) -> Returned<'m, W>
-    ensures { IsReturned W.number W.seen W.is_done may.entry.now.id work result.told.of result.told.value result.work }
+    ensures { IsReturned W.number W.seen W.is_done may.entry.now.id work result.reported.of result.reported.value result.work }
 {
     may.wait(rt);
-    let told = may.init(rt, || false);
-    if *may.value(&told) {
+    let reported = may.init(rt, || false);
+    if *may.value(&reported) {
         work.work(rt);
     }
-    Returned { work, told }
+    Returned { work, reported }
 }
 
 /// A task whose thread has been started, or one that is given back because its thread was refused.
-type Begun<'m, W> = Result<PromisedHandle<Returned<'m, W>, Given<'m, W>>, Returned<'m, W>>;
+type StartedThread<'m, W> = Result<PromisedHandle<Returned<'m, W>, Given<'m, W>>, Returned<'m, W>>;
 
 /// Starts a thread for a task. Where the thread is refused, no task may be done from then on.
-fn begin<'s, E, R: Threads + Wait + Sync, W: Task + 's>(
+fn start_thread<'s, E, R: Threads + Wait + Sync, W: Task + 's>(
     rt: &'s R,
     scope: &'s Scope<'s, E>,
     may: &'s OnceLock<bool>,
     work: W,
-) -> Begun<'s, W>
+) -> StartedThread<'s, W>
     ensures { MatchResult result
         (λ handle. (handle.promise.may.now.id ≡ may.entry.now.id) × (handle.promise.work.value ≡ work))
-        (λ back. IsReturned W.number W.seen W.is_done may.entry.now.id work back.told.of back.told.value back.work) }
+        (λ back. IsReturned W.number W.seen W.is_done may.entry.now.id work back.reported.of back.reported.value back.work) }
 {
     let given = Given {
         may,
@@ -157,31 +157,31 @@ fn begin<'s, E, R: Threads + Wait + Sync, W: Task + 's>(
 }
 
 /// Starts a thread for each task, and appends the started tasks to `begun`, which has room for them.
-fn begin_all<'s, E, R: Threads + Wait + Sync, W: Task + 's>(
+fn start_threads<'s, E, R: Threads + Wait + Sync, W: Task + 's>(
     rt: &'s R,
     scope: &'s Scope<'s, E>,
     may: &'s OnceLock<bool>,
     works: Vec<W>,
-    mut begun: Vec<Begun<'s, W>>,
-) -> Vec<Begun<'s, W>>
+    mut begun: Vec<StartedThread<'s, W>>,
+) -> Vec<StartedThread<'s, W>>
     requires room { vec_len works ≤ vec_capacity begun }
     requires empty { begun.items ≡ [] }
     requires len { vec_len begun ≡ 0 }
     ensures count { vec_len result ≡ vec_len works }
     ensures begun { Each (λ given one. MatchResult one
         (λ handle. (handle.promise.may.now.id ≡ may.entry.now.id) × (handle.promise.work.value ≡ given))
-        (λ back. IsReturned W.number W.seen W.is_done may.entry.now.id given back.told.of back.told.value back.work)) works.items result.items }
+        (λ back. IsReturned W.number W.seen W.is_done may.entry.now.id given back.reported.of back.reported.value back.work)) works.items result.items }
 {
     for work in works {
-        begun.push_reserved(begin(rt, scope, may, work));
+        begun.push_reserved(start_thread(rt, scope, may, work));
     }
     begun
 }
 
 /// Waits for a task.
-fn end<'s, R: Threads, W: Task>(rt: &R, begun: Begun<'s, W>) -> Returned<'s, W>
+fn end<'s, R: Threads, W: Task>(rt: &R, begun: StartedThread<'s, W>) -> Returned<'s, W>
     ensures { MatchResult begun.entry
-        (λ handle. IsReturned W.number W.seen W.is_done handle.promise.may.now.id handle.promise.work.value result.told.of result.told.value result.work)
+        (λ handle. IsReturned W.number W.seen W.is_done handle.promise.may.now.id handle.promise.work.value result.reported.of result.reported.value result.work)
         (λ back. result ≡ back) }
 {
     match begun {
@@ -193,7 +193,7 @@ fn end<'s, R: Threads, W: Task>(rt: &R, begun: Begun<'s, W>) -> Returned<'s, W>
 /// Waits for each task, and appends what comes back to `returned`, which has room for it.
 fn end_all<'s, R: Threads, W: Task>(
     rt: &R,
-    begun: Vec<Begun<'s, W>>,
+    begun: Vec<StartedThread<'s, W>>,
     mut returned: Vec<Returned<'s, W>>,
 ) -> Vec<Returned<'s, W>>
     requires room { vec_len begun ≤ vec_capacity returned }
@@ -201,7 +201,7 @@ fn end_all<'s, R: Threads, W: Task>(
     requires len { vec_len returned ≡ 0 }
     ensures count { vec_len result ≡ vec_len begun.entry }
     ensures ended { Each (λ one back. MatchResult one
-        (λ handle. IsReturned W.number W.seen W.is_done handle.promise.may.now.id handle.promise.work.value back.told.of back.told.value back.work)
+        (λ handle. IsReturned W.number W.seen W.is_done handle.promise.may.now.id handle.promise.work.value back.reported.of back.reported.value back.work)
         (λ given. back ≡ given)) begun.entry.items result.items }
 {
     for one in begun {
@@ -212,19 +212,22 @@ fn end_all<'s, R: Threads, W: Task>(
 
 /// Appends the tasks that came back to `done`, which has room for them.
 fn tasks_of<'s, W: Task>(
-    told: &OnceToken<'s, bool>,
+    reported: &OnceToken<'s, bool>,
     returned: Vec<Returned<'s, W>>,
     mut done: Vec<W>,
 ) -> Vec<W>
     requires room { vec_len returned ≤ vec_capacity done }
     requires empty { done.items ≡ [] }
     requires len { vec_len done ≡ 0 }
-    requires told { All (λ back. back.told.of ≡ told.now.of) returned.items }
-    ensures { Each (λ back work. (back.told.value ≡ told.now.value) × (work ≡ back.work)) returned.entry.items result.items }
+    requires reported { All (λ back. back.reported.of ≡ reported.now.of) returned.items }
+    ensures { Each (λ back work. (back.reported.value ≡ reported.now.value) × (work ≡ back.work)) returned.entry.items result.items }
 {
     for back in returned {
-        let Returned { work, told: own } = back;
-        own.agrees(told);
+        let Returned {
+            work,
+            reported: own,
+        } = back;
+        own.agrees(reported);
         done.push_reserved(work);
     }
     done
@@ -264,12 +267,12 @@ fn do_in<'s, E, R: Threads + Wait + Sync, W: Task + 's, M: MainTask>(
     let Ok(done) = Vec::with_capacity(alloc, count) else {
         return (false, works, meanwhile);
     };
-    let begun = begin_all(rt, scope, may, works, begun);
-    let told = may.init(rt, || true);
-    let started = *may.value(&told);
+    let begun = start_threads(rt, scope, may, works, begun);
+    let reported = may.init(rt, || true);
+    let started = *may.value(&reported);
     let beside = do_beside(rt, started, meanwhile);
     let returned = end_all(rt, begun, returned);
-    let done = tasks_of(&told, returned, done);
+    let done = tasks_of(&reported, returned, done);
     (started, done, beside)
 }
 

@@ -3,7 +3,7 @@ use Rattle.std.proofs.Common.{◌≡◌, refl, sym, ap, subst, ℕ, ◌+◌, ◌
 use Rattle.std.specs.Prelude.{◌==◌, is_some, nat_lt, if◌then◌else◌}
 use Rattle.cell_core.specs.Words.{State}
 use Rattle.cell_core.specs.declared.words.WordEvent.{WordEvent}
-use Rattle.cell_core.specs.declared.words.WordEvent.TheVariants as told
+use Rattle.cell_core.specs.declared.words.WordEvent.TheVariants as reported
 use Rattle.serve_core.specs.Heading.{header_alone, heading_of_update, heading_of_bad}
 use Rattle.serve_core.specs.declared.heading.Heading.{Heading}
 use Rattle.dns_message.specs.declared.query.Parsed.{Parsed}
@@ -20,7 +20,7 @@ use Rattle.serve_core.specs.Served.{Got, ForNothing, answered, got, got_for}
 use Rattle.update_core.specs.Act.{act}
 use Rattle.update_core.specs.Applied.{code_of}
 use Rattle.world_run.specs.declared.judged.Judged.{Judged}
-use Rattle.world_run.specs.declared.judged.Judged.TheVariants.{Told, Makes}
+use Rattle.world_run.specs.declared.judged.Judged.TheVariants.{Code, Makes}
 use Rattle.world_run.specs.declared.entries.Entry.{Entry}
 use Rattle.world_run.specs.declared.phase.Keeping.{Keeping}
 use Rattle.world_run.specs.declared.phase.Phase.{Phase}
@@ -59,46 +59,46 @@ past_told head event (purpose.Leaves other kept entry leaving) given e =
     subst (λ h. KeepsHeading h event (leaving_after other kept entry leaving)) same (leaving_told other event kept entry leaving)
 
 probe_told : (words : State Numbered) (version : Numbered) (keeping : Keeping) (event : WordEvent) → KeepsHeading keeping.heading event (after words (phase.Probe version keeping) event)
-probe_told words version keeping (told.Loaded owner number) = refl
-probe_told words version keeping told.Passed = refl
-probe_told words version keeping told.Taken = refl
-probe_told words version keeping told.NoSlot = inl (refl, refl)
-probe_told words version keeping told.Prepared = refl
-probe_told words version keeping (told.Swapped number) = refl
-probe_told words version keeping (told.Settled owner number) = refl
-probe_told words version keeping told.Left = refl
-probe_told words version keeping told.Emptied = refl
-probe_told words version keeping (told.Buried number) = refl
-probe_told words version keeping told.Kept = refl
-probe_told words version keeping told.Freed = refl
-probe_told words version keeping told.Alive = refl
-probe_told words version keeping told.Dead = refl
-probe_told words version keeping (told.Raised owner number) = refl
-probe_told words version keeping (told.Noted owner number) = refl
-probe_told words version keeping told.Faded = refl
-probe_told words version keeping told.Closed = refl
-probe_told words version keeping told.Restored = refl
+probe_told words version keeping (reported.Loaded owner number) = refl
+probe_told words version keeping reported.Passed = refl
+probe_told words version keeping reported.Taken = refl
+probe_told words version keeping reported.NoSlot = inl (refl, refl)
+probe_told words version keeping reported.Prepared = refl
+probe_told words version keeping (reported.Swapped number) = refl
+probe_told words version keeping (reported.Settled owner number) = refl
+probe_told words version keeping reported.Left = refl
+probe_told words version keeping reported.Emptied = refl
+probe_told words version keeping (reported.Buried number) = refl
+probe_told words version keeping reported.Kept = refl
+probe_told words version keeping reported.Freed = refl
+probe_told words version keeping reported.Alive = refl
+probe_told words version keeping reported.Dead = refl
+probe_told words version keeping (reported.Raised owner number) = refl
+probe_told words version keeping (reported.Noted owner number) = refl
+probe_told words version keeping reported.Faded = refl
+probe_told words version keeping reported.Closed = refl
+probe_told words version keeping reported.Restored = refl
 
 settle_told : (words : State Numbered) (keeping : Keeping) (event : WordEvent) → KeepsHeading keeping.heading event (after words (phase.Settle keeping) event)
-settle_told words keeping (told.Loaded owner number) = refl
-settle_told words keeping told.Passed = refl
-settle_told words keeping told.Taken = refl
-settle_told words keeping told.NoSlot = refl
-settle_told words keeping told.Prepared = refl
-settle_told words keeping (told.Swapped number) = refl
-settle_told words keeping (told.Settled owner number) = refl
-settle_told words keeping told.Left = refl
-settle_told words keeping told.Emptied = refl
-settle_told words keeping (told.Buried number) = refl
-settle_told words keeping told.Kept = refl
-settle_told words keeping told.Freed = refl
-settle_told words keeping told.Alive = refl
-settle_told words keeping told.Dead = refl
-settle_told words keeping (told.Raised owner number) = refl
-settle_told words keeping (told.Noted owner number) = refl
-settle_told words keeping told.Faded = refl
-settle_told words keeping told.Closed = refl
-settle_told words keeping told.Restored = refl
+settle_told words keeping (reported.Loaded owner number) = refl
+settle_told words keeping reported.Passed = refl
+settle_told words keeping reported.Taken = refl
+settle_told words keeping reported.NoSlot = refl
+settle_told words keeping reported.Prepared = refl
+settle_told words keeping (reported.Swapped number) = refl
+settle_told words keeping (reported.Settled owner number) = refl
+settle_told words keeping reported.Left = refl
+settle_told words keeping reported.Emptied = refl
+settle_told words keeping (reported.Buried number) = refl
+settle_told words keeping reported.Kept = refl
+settle_told words keeping reported.Freed = refl
+settle_told words keeping reported.Alive = refl
+settle_told words keeping reported.Dead = refl
+settle_told words keeping (reported.Raised owner number) = refl
+settle_told words keeping (reported.Noted owner number) = refl
+settle_told words keeping reported.Faded = refl
+settle_told words keeping reported.Closed = refl
+settle_told words keeping reported.Restored = refl
 
 entered_told : (given : ℕ) (keeping : Keeping) (owner : ℕ) (event : WordEvent) (o : Option Serial) → keeping.enters ≡ o
     → KeepsHeading keeping.heading event (if is_some keeping.enters then On (phase.Enter given owner keeping) else On (phase.Release given (purpose.Publish keeping owner None)))
@@ -106,91 +106,91 @@ entered_told given keeping owner event None e = rw e refl
 entered_told given keeping owner event (Some serial) e = rw e refl
 
 keep_told : (words : State Numbered) (given : ℕ) (keeping : Keeping) (event : WordEvent) → KeepsHeading keeping.heading event (after words (phase.Keep given keeping) event)
-keep_told words given keeping (told.Loaded owner number) = entered_told given keeping owner (told.Loaded owner number) keeping.enters refl
-keep_told words given keeping told.Passed = refl
-keep_told words given keeping told.Taken = refl
-keep_told words given keeping told.NoSlot = refl
-keep_told words given keeping told.Prepared = refl
-keep_told words given keeping (told.Swapped number) = refl
-keep_told words given keeping (told.Settled owner number) = refl
-keep_told words given keeping told.Left = refl
-keep_told words given keeping told.Emptied = refl
-keep_told words given keeping (told.Buried number) = refl
-keep_told words given keeping told.Kept = refl
-keep_told words given keeping told.Freed = refl
-keep_told words given keeping told.Alive = refl
-keep_told words given keeping told.Dead = refl
-keep_told words given keeping (told.Raised owner number) = refl
-keep_told words given keeping (told.Noted owner number) = refl
-keep_told words given keeping told.Faded = refl
-keep_told words given keeping told.Closed = refl
-keep_told words given keeping told.Restored = refl
+keep_told words given keeping (reported.Loaded owner number) = entered_told given keeping owner (reported.Loaded owner number) keeping.enters refl
+keep_told words given keeping reported.Passed = refl
+keep_told words given keeping reported.Taken = refl
+keep_told words given keeping reported.NoSlot = refl
+keep_told words given keeping reported.Prepared = refl
+keep_told words given keeping (reported.Swapped number) = refl
+keep_told words given keeping (reported.Settled owner number) = refl
+keep_told words given keeping reported.Left = refl
+keep_told words given keeping reported.Emptied = refl
+keep_told words given keeping (reported.Buried number) = refl
+keep_told words given keeping reported.Kept = refl
+keep_told words given keeping reported.Freed = refl
+keep_told words given keeping reported.Alive = refl
+keep_told words given keeping reported.Dead = refl
+keep_told words given keeping (reported.Raised owner number) = refl
+keep_told words given keeping (reported.Noted owner number) = refl
+keep_told words given keeping reported.Faded = refl
+keep_told words given keeping reported.Closed = refl
+keep_told words given keeping reported.Restored = refl
 
 enter_told : (words : State Numbered) (given kept : ℕ) (keeping : Keeping) (event : WordEvent) → KeepsHeading keeping.heading event (after words (phase.Enter given kept keeping) event)
-enter_told words given kept keeping (told.Loaded owner number) = refl
-enter_told words given kept keeping told.Passed = refl
-enter_told words given kept keeping told.Taken = refl
-enter_told words given kept keeping told.NoSlot = refl
-enter_told words given kept keeping told.Prepared = refl
-enter_told words given kept keeping (told.Swapped number) = refl
-enter_told words given kept keeping (told.Settled owner number) = refl
-enter_told words given kept keeping told.Left = refl
-enter_told words given kept keeping told.Emptied = refl
-enter_told words given kept keeping (told.Buried number) = refl
-enter_told words given kept keeping told.Kept = refl
-enter_told words given kept keeping told.Freed = refl
-enter_told words given kept keeping told.Alive = refl
-enter_told words given kept keeping told.Dead = refl
-enter_told words given kept keeping (told.Raised owner number) = refl
-enter_told words given kept keeping (told.Noted owner number) = refl
-enter_told words given kept keeping told.Faded = refl
-enter_told words given kept keeping told.Closed = refl
-enter_told words given kept keeping told.Restored = refl
+enter_told words given kept keeping (reported.Loaded owner number) = refl
+enter_told words given kept keeping reported.Passed = refl
+enter_told words given kept keeping reported.Taken = refl
+enter_told words given kept keeping reported.NoSlot = refl
+enter_told words given kept keeping reported.Prepared = refl
+enter_told words given kept keeping (reported.Swapped number) = refl
+enter_told words given kept keeping (reported.Settled owner number) = refl
+enter_told words given kept keeping reported.Left = refl
+enter_told words given kept keeping reported.Emptied = refl
+enter_told words given kept keeping (reported.Buried number) = refl
+enter_told words given kept keeping reported.Kept = refl
+enter_told words given kept keeping reported.Freed = refl
+enter_told words given kept keeping reported.Alive = refl
+enter_told words given kept keeping reported.Dead = refl
+enter_told words given kept keeping (reported.Raised owner number) = refl
+enter_told words given kept keeping (reported.Noted owner number) = refl
+enter_told words given kept keeping reported.Faded = refl
+enter_told words given kept keeping reported.Closed = refl
+enter_told words given kept keeping reported.Restored = refl
 
 release_told : (words : State Numbered) (at : ℕ) (for : Purpose) (head : Heading) → heading_for for ≡ Some head → (event : WordEvent) → KeepsHeading head event (after words (phase.Release at for) event)
-release_told words at for head e (told.Loaded owner number) = past_told head _ for answer.Left e
-release_told words at for head e told.Passed = past_told head _ for answer.Left e
-release_told words at for head e told.Taken = past_told head _ for answer.Left e
-release_told words at for head e told.NoSlot = past_told head _ for answer.Left e
-release_told words at for head e told.Prepared = past_told head _ for answer.Left e
-release_told words at for head e (told.Swapped number) = past_told head _ for answer.Left e
-release_told words at for head e (told.Settled owner number) = past_told head _ for answer.Left e
-release_told words at for head e told.Left = past_told head _ for answer.Left e
-release_told words at for head e told.Emptied = e
-release_told words at for head e (told.Buried number) = past_told head _ for answer.Left e
-release_told words at for head e told.Kept = past_told head _ for answer.Left e
-release_told words at for head e told.Freed = past_told head _ for answer.Left e
-release_told words at for head e told.Alive = past_told head _ for answer.Left e
-release_told words at for head e told.Dead = past_told head _ for answer.Left e
-release_told words at for head e (told.Raised owner number) = past_told head _ for answer.Left e
-release_told words at for head e (told.Noted owner number) = past_told head _ for answer.Left e
-release_told words at for head e told.Faded = past_told head _ for answer.Left e
-release_told words at for head e told.Closed = past_told head _ for answer.Left e
-release_told words at for head e told.Restored = past_told head _ for answer.Left e
+release_told words at for head e (reported.Loaded owner number) = past_told head _ for answer.Left e
+release_told words at for head e reported.Passed = past_told head _ for answer.Left e
+release_told words at for head e reported.Taken = past_told head _ for answer.Left e
+release_told words at for head e reported.NoSlot = past_told head _ for answer.Left e
+release_told words at for head e reported.Prepared = past_told head _ for answer.Left e
+release_told words at for head e (reported.Swapped number) = past_told head _ for answer.Left e
+release_told words at for head e (reported.Settled owner number) = past_told head _ for answer.Left e
+release_told words at for head e reported.Left = past_told head _ for answer.Left e
+release_told words at for head e reported.Emptied = e
+release_told words at for head e (reported.Buried number) = past_told head _ for answer.Left e
+release_told words at for head e reported.Kept = past_told head _ for answer.Left e
+release_told words at for head e reported.Freed = past_told head _ for answer.Left e
+release_told words at for head e reported.Alive = past_told head _ for answer.Left e
+release_told words at for head e reported.Dead = past_told head _ for answer.Left e
+release_told words at for head e (reported.Raised owner number) = past_told head _ for answer.Left e
+release_told words at for head e (reported.Noted owner number) = past_told head _ for answer.Left e
+release_told words at for head e reported.Faded = past_told head _ for answer.Left e
+release_told words at for head e reported.Closed = past_told head _ for answer.Left e
+release_told words at for head e reported.Restored = past_told head _ for answer.Left e
 
 bury_told : (words : State Numbered) (at : ℕ) (for : Purpose) (head : Heading) → heading_for for ≡ Some head → (event : WordEvent) → KeepsHeading head event (after words (phase.Bury at for) event)
-bury_told words at for head e (told.Loaded owner number) = past_told head _ for answer.Left e
-bury_told words at for head e told.Passed = past_told head _ for answer.Left e
-bury_told words at for head e told.Taken = past_told head _ for answer.Left e
-bury_told words at for head e told.NoSlot = past_told head _ for answer.Left e
-bury_told words at for head e told.Prepared = past_told head _ for answer.Left e
-bury_told words at for head e (told.Swapped number) = past_told head _ for answer.Left e
-bury_told words at for head e (told.Settled owner number) = past_told head _ for answer.Left e
-bury_told words at for head e told.Left = past_told head _ for answer.Left e
-bury_told words at for head e told.Emptied = past_told head _ for answer.Left e
-bury_told words at for head e (told.Buried number) = e
-bury_told words at for head e told.Kept = past_told head _ for answer.Left e
-bury_told words at for head e told.Freed = past_told head _ for answer.Left e
-bury_told words at for head e told.Alive = past_told head _ for answer.Left e
-bury_told words at for head e told.Dead = past_told head _ for answer.Left e
-bury_told words at for head e (told.Raised owner number) = past_told head _ for answer.Left e
-bury_told words at for head e (told.Noted owner number) = past_told head _ for answer.Left e
-bury_told words at for head e told.Faded = past_told head _ for answer.Left e
-bury_told words at for head e told.Closed = past_told head _ for answer.Left e
-bury_told words at for head e told.Restored = past_told head _ for answer.Left e
+bury_told words at for head e (reported.Loaded owner number) = past_told head _ for answer.Left e
+bury_told words at for head e reported.Passed = past_told head _ for answer.Left e
+bury_told words at for head e reported.Taken = past_told head _ for answer.Left e
+bury_told words at for head e reported.NoSlot = past_told head _ for answer.Left e
+bury_told words at for head e reported.Prepared = past_told head _ for answer.Left e
+bury_told words at for head e (reported.Swapped number) = past_told head _ for answer.Left e
+bury_told words at for head e (reported.Settled owner number) = past_told head _ for answer.Left e
+bury_told words at for head e reported.Left = past_told head _ for answer.Left e
+bury_told words at for head e reported.Emptied = past_told head _ for answer.Left e
+bury_told words at for head e (reported.Buried number) = e
+bury_told words at for head e reported.Kept = past_told head _ for answer.Left e
+bury_told words at for head e reported.Freed = past_told head _ for answer.Left e
+bury_told words at for head e reported.Alive = past_told head _ for answer.Left e
+bury_told words at for head e reported.Dead = past_told head _ for answer.Left e
+bury_told words at for head e (reported.Raised owner number) = past_told head _ for answer.Left e
+bury_told words at for head e (reported.Noted owner number) = past_told head _ for answer.Left e
+bury_told words at for head e reported.Faded = past_told head _ for answer.Left e
+bury_told words at for head e reported.Closed = past_told head _ for answer.Left e
+bury_told words at for head e reported.Restored = past_told head _ for answer.Left e
 
 fade_told : (words : State Numbered) (at : ℕ) (number : Option ℕ) (for : Purpose) (head : Heading) → heading_for for ≡ Some head → (event : WordEvent) → KeepsHeading head event (after words (phase.Fade at number for) event)
-fade_told words at number for head e told.Closed = e
+fade_told words at number for head e reported.Closed = e
 fade_told words at number for head e event = past_told head event for (gone number) e
 
 under : (words : State Numbered) (at : Phase) (event : WordEvent) (one head : Heading) → Some one ≡ Some head → KeepsHeading one event (after words at event) → KeepsHeading head event (after words at event)
@@ -219,11 +219,11 @@ keeps_head words (phase.Free at number for) event head e = past_told head event 
 -- what a judgement says that is got
 abbrev GotBy : Numbered → Got → Option Judged → Type 0
 GotBy last given None = Unit {0}
-GotBy last given (Some (Told head code)) = given ≡ got_alone head code last.zone
+GotBy last given (Some (Code head code)) = given ≡ got_alone head code last.zone
 GotBy last given (Some (Makes head version)) = given ≡ got_alone head NoError version.zone
 
 made_if : (last : Numbered) (head : Heading) (zone : List Record) (test : Bool) → is_equal_zone last.zone zone ≡ test
-    → GotBy last (got_alone head NoError zone) (if test then Some (Told head NoError) else Some (Makes head (record { number = last.number + 1; zone = zone; changes = Some (changes_between last.zone zone) })))
+    → GotBy last (got_alone head NoError zone) (if test then Some (Code head NoError) else Some (Makes head (record { number = last.number + 1; zone = zone; changes = Some (changes_between last.zone zone) })))
 made_if last head zone true t = ap (got_alone head NoError) (sym ((zones_told last.zone zone).0 t))
 made_if last head zone false t = refl
 
@@ -235,7 +235,7 @@ by_got : (last : Numbered) (update : DynamicUpdate) (code : Option Rcode) → Go
 by_got last update (Some code) = refl
 by_got last update None = made_got last (heading_of_update update) (act last.zone update)
 
-fault_got : (last : Numbered) (head : Heading) (code : Rcode) (test : Bool) → GotBy last (got_alone head code last.zone) (if test then Some (Told head code) else None)
+fault_got : (last : Numbered) (head : Heading) (code : Rcode) (test : Bool) → GotBy last (got_alone head code last.zone) (if test then Some (Code head code) else None)
 fault_got last head code true = refl
 fault_got last head code false = tt
 
@@ -254,9 +254,9 @@ numbered_got last request false = tt
 judged_got : (last : Numbered) (request : List ℕ) (j : Option Judged) → judged last request ≡ j → GotBy last (got_for Udp true last.zone (reads request)) j
 judged_got last request j e = subst (λ o. GotBy last (got_for Udp true last.zone (reads request)) o) e (numbered_got last request (nat_lt (last.number + 1) (2 ^ 64)))
 
-pub told_got : (last : Numbered) (request : List ℕ) (head : Heading) (code : Rcode) → judged last request ≡ Some (Told head code) → got Udp true ForNothing last.zone request ≡ got_alone head code last.zone
+pub told_got : (last : Numbered) (request : List ℕ) (head : Heading) (code : Rcode) → judged last request ≡ Some (Code head code) → got Udp true ForNothing last.zone request ≡ got_alone head code last.zone
 unfolding got
-told_got last request head code e = judged_got last request (Some (Told head code)) e
+told_got last request head code e = judged_got last request (Some (Code head code)) e
 
 pub made_is_got : (last : Numbered) (request : List ℕ) (head : Heading) (version : Numbered) → judged last request ≡ Some (Makes head version) → got Udp true ForNothing last.zone request ≡ got_alone head NoError version.zone
 unfolding got

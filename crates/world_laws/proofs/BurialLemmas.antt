@@ -17,7 +17,7 @@ use Rattle.cell_core.specs.declared.words.Owner.TheVariants.{Holding, Twice, Wea
 use Rattle.cell_core.specs.Words.{found_by, found_last, grants}
 use Rattle.cell_core.specs.WordSteps.{Makes}
 use Rattle.cell_core.specs.declared.words.WordEvent.{WordEvent}
-use Rattle.cell_core.specs.declared.words.WordEvent.TheVariants as told
+use Rattle.cell_core.specs.declared.words.WordEvent.TheVariants as reported
 use Rattle.cell_core.specs.declared.words.WordStep.TheVariants as word
 use Rattle.dns_rdata.specs.Record.{Record}
 use Rattle.serve_core.specs.declared.heading.Heading.{Heading}
@@ -32,7 +32,7 @@ use Rattle.zone_tree.specs.Version.{Version as Numbered}
 use Rattle.world_run.specs.declared.judged.Judged.{Judged}
 use Rattle.world_run.specs.declared.judged.Judged.TheVariants as judgement
 use Rattle.world_run.specs.declared.phase.End.{End}
-use Rattle.world_run.specs.declared.phase.End.TheVariants.{Owned, OwnedWeakly, Told, NoSlot, Kept, Sent}
+use Rattle.world_run.specs.declared.phase.End.TheVariants.{Owned, OwnedWeakly, Replied, NoSlot, Kept, Sent}
 use Rattle.world_run.specs.declared.phase.Keeping.{Keeping}
 use Rattle.world_run.specs.declared.phase.Phase.{Phase}
 use Rattle.world_run.specs.declared.phase.Phase.TheVariants as phase
@@ -59,10 +59,10 @@ use Rattle.world_run.specs.Entries.{later}
 use Rattle.world_run.specs.declared.entries.Entry.{Entry}
 use Rattle.world_run.specs.declared.sending.Seeking.{Seeking}
 use Rattle.world_run.specs.declared.sending.Sending.{Sending}
-use Rattle.world_run.specs.World.{World, started, call_of, without_call, owner_of, is_taken, zone_of, answer_of, asks_sent, ask_start, drop_start, fade_start, copy_start, weak_start, up_start, is_used, is_taken_weakly, seek_start, transfer_asked, transfer_said, transfer_of, transfer_start, none_got, is_barred, can_enter, is_held, oldest_kept, update_start, start, answer_at, step_once, steps_up_to, go_on, most_steps, is_full, all_made, whole, begin, begin_under, stepped, next, turn, onto_replies, play}
+use Rattle.world_run.specs.World.{World, started, call_of, without_call, owner_of, is_taken, zone_of, answer_of, asks_sent, ask_start, drop_start, fade_start, copy_start, weak_start, up_start, is_used, is_taken_weakly, seek_start, transfer_asked, transfer_said, transfer_of, transfer_start, none_got, is_barred, can_enter, is_held, oldest_kept, update_start, start, answer_at, step_once, steps_up_to, go_on, most_steps, is_full, all_made, whole, begin_call, begin_under, stepped, next, turn, onto_replies, play}
 use Rattle.world_laws.proofs.FirstLemmas.{IsOpening, OpeningOf, start_opening}
-use Rattle.world_laws.proofs.HandPlay.{started_hands}
-use Rattle.world_laws.proofs.HandSeats.{Zones}
+use Rattle.world_laws.proofs.UsePlay.{started_in_use}
+use Rattle.world_laws.proofs.UseLists.{Zones}
 use Rattle.world_laws.proofs.SwapLemmas.{step_by}
 
 -- a number that is to be told
@@ -108,7 +108,7 @@ abbrev pub told_by : ℕ → Progress → ℕ
 told_by n (On at) = freed n at
 told_by n (Done (Owned name owner number)) = 0
 told_by n (Done (OwnedWeakly name owner number)) = 0
-told_by n (Done (Told given)) = buried_in n given
+told_by n (Done (Replied given)) = buried_in n given
 told_by n (Done (Sent sending)) = 0
 told_by n (Done (NoSlot head)) = 0
 told_by n (Done (Kept head owner entry)) = 0
@@ -121,7 +121,7 @@ pub record Once (words : Zones) (seen : ℕ → ℕ) (calls : List UnderWay) (pr
   pub gone : (n : ℕ) → 0 < seen n + (told_by n progress + frees n calls) → cell.buried n ≡ true
 
 abbrev pub quiet : Progress
-quiet = Done (Told answer.Left)
+quiet = Done (Replied answer.Left)
 
 -- a step that buries nothing tells no more
 leaving_none : (n : ℕ) (head : Heading) (kept : ℕ) (entry : Option Entry) (leaving : List ℕ) → told_by n (leaving_after head kept entry leaving) ≡ 0
@@ -144,30 +144,30 @@ past_less n (purpose.Leaves head kept entry leaving) given = let none = leaving_
 past_less n (purpose.Sent sending got) given = let none = sent_none n sending got in omega (arith, none)
 
 load_none : (n : ℕ) (name : List ℕ) (event : WordEvent) → told_by n (load_after name event) ≡ 0
-load_none n name (told.Loaded owner number) = refl
+load_none n name (reported.Loaded owner number) = refl
 load_none n name event = refl
 
 look_none : (n : ℕ) (name : List ℕ) (owner : ℕ) (event : WordEvent) → told_by n (look_after name owner event) ≡ 0
-look_none n name owner told.Alive = refl
-look_none n name owner told.Dead = refl
+look_none n name owner reported.Alive = refl
+look_none n name owner reported.Dead = refl
 look_none n name owner event = refl
 
 raise_none : (n : ℕ) (name : List ℕ) (owner : ℕ) (event : WordEvent) → told_by n (raise_after name owner event) ≡ 0
-raise_none n name owner (told.Raised next number) = refl
-raise_none n name owner told.Dead = refl
+raise_none n name owner (reported.Raised next number) = refl
+raise_none n name owner reported.Dead = refl
 raise_none n name owner event = refl
 
 note_none : (n : ℕ) (name : List ℕ) (owner : ℕ) (event : WordEvent) → told_by n (note_after name owner event) ≡ 0
-note_none n name owner (told.Noted next number) = refl
+note_none n name owner (reported.Noted next number) = refl
 note_none n name owner event = refl
 
 probe_none : (n : ℕ) (version : Numbered) (keeping : Keeping) (event : WordEvent) → told_by n (probe_after version keeping event) ≡ 0
-probe_none n version keeping told.Taken = refl
-probe_none n version keeping told.NoSlot = refl
+probe_none n version keeping reported.Taken = refl
+probe_none n version keeping reported.NoSlot = refl
 probe_none n version keeping event = refl
 
 settle_none : (n : ℕ) (keeping : Keeping) (event : WordEvent) → told_by n (settle_after keeping event) ≡ 0
-settle_none n keeping (told.Settled owner number) = refl
+settle_none n keeping (reported.Settled owner number) = refl
 settle_none n keeping event = refl
 
 entered_none : (n given : ℕ) (keeping : Keeping) (owner : ℕ) (enters : Bool) → told_by n (if enters then On (phase.Enter given owner keeping) else On (phase.Release given (purpose.Publish keeping owner None))) ≡ 0
@@ -175,16 +175,16 @@ entered_none n given keeping owner true = refl
 entered_none n given keeping owner false = refl
 
 keep_none : (n given : ℕ) (keeping : Keeping) (event : WordEvent) → told_by n (keep_after given keeping event) ≡ 0
-keep_none n given keeping (told.Loaded owner number) = entered_none n given keeping owner (is_some keeping.enters)
+keep_none n given keeping (reported.Loaded owner number) = entered_none n given keeping owner (is_some keeping.enters)
 keep_none n given keeping event = refl
 
 enter_none : (n given kept : ℕ) (keeping : Keeping) (event : WordEvent) → told_by n (enter_after given kept keeping event) ≡ 0
-enter_none n given kept keeping (told.Noted owner number) = refl
+enter_none n given kept keeping (reported.Noted owner number) = refl
 enter_none n given kept keeping event = refl
 
 seek_none : (n owner : ℕ) (seeking : Seeking) (event : WordEvent) → told_by n (seek_after owner seeking event) ≡ 0
-seek_none n owner seeking told.Alive = refl
-seek_none n owner seeking told.Dead = sent_none n seeking.sending seeking.owners
+seek_none n owner seeking reported.Alive = refl
+seek_none n owner seeking reported.Dead = sent_none n seeking.sending seeking.owners
 seek_none n owner seeking event = refl
 
 gained_none : (n : ℕ) (seeking : Seeking) (left : List ℕ) → told_by n (gained_after seeking left) ≡ 0
@@ -196,12 +196,12 @@ got_none n owner seeking next_owner None = refl
 got_none n owner seeking next_owner (Some version) = gained_none n (with_got next_owner version seeking) seeking.left
 
 gain_none : (n : ℕ) (words : Zones) (owner : ℕ) (seeking : Seeking) (event : WordEvent) → told_by n (gain_after words owner seeking event) ≡ 0
-gain_none n words owner seeking (told.Raised next_owner number) = got_none n owner seeking next_owner (found_by words next_owner)
-gain_none n words owner seeking told.Dead = sent_none n seeking.sending seeking.owners
+gain_none n words owner seeking (reported.Raised next_owner number) = got_none n owner seeking next_owner (found_by words next_owner)
+gain_none n words owner seeking reported.Dead = sent_none n seeking.sending seeking.owners
 gain_none n words owner seeking event = refl
 
 release_none : (words : Zones) (n owner : ℕ) (for : Purpose) (event : WordEvent) → told_by n (after words (phase.Release owner for) event) ≤ 0
-release_none words n owner for told.Emptied = omega arith
+release_none words n owner for reported.Emptied = omega arith
 release_none words n owner for event = past_less n for answer.Left
 
 gone_less : (n : ℕ) (for : Purpose) (number : Option ℕ) → told_by n (past for (gone number)) ≤ told_of n number
@@ -209,7 +209,7 @@ gone_less n for None = past_less n for answer.Faded
 gone_less n for (Some number) = past_less n for (answer.Buried number)
 
 fade_less : (words : Zones) (n owner : ℕ) (number : Option ℕ) (for : Purpose) (event : WordEvent) → told_by n (after words (phase.Fade owner number for) event) ≤ told_of n number
-fade_less words n owner number for told.Closed = omega arith
+fade_less words n owner number for reported.Closed = omega arith
 fade_less words n owner number for event = gone_less n for number
 
 -- what a step makes of numbers that are to be told
@@ -221,7 +221,7 @@ grows : (words : Zones) (at : Phase) (event : WordEvent) (cell next : Cell Numbe
 grows words at event cell next s n e = let short = step_runs words (word_step at) event cell next s in (run_grows cell next short.steps short.runs).buried n e
 
 bury_goes : (words new : Zones) (owner : ℕ) (for : Purpose) (event : WordEvent) (cell next : Cell Numbered) → Makes {T = Numbered} words (word.Bury owner) event new → ShowsStep {T = Numbered} words (word.Bury owner) event cell next → Goes cell next (phase.Bury owner for) (after new (phase.Bury owner for) event)
-bury_goes words new owner for event cell next (place, there, seat, found, m) s =
+bury_goes words new owner for event cell next (place, there, use_of, found, m) s =
     elim (cases_Bool (there.shares == 0)) [
       | inl none ↦ (
           let h = rw none at m in
@@ -338,14 +338,14 @@ messages_told n (Some messages) = refl
 end_less : (n : ℕ) (end : End) → one_if (tells_buried n (Answered (answer_at end))) ≤ told_by n (Done end)
 end_less n (Owned name owner number) = omega arith
 end_less n (OwnedWeakly name owner number) = omega arith
-end_less n (Told (answer.Owner name number)) = omega arith
-end_less n (Told answer.Left) = omega arith
-end_less n (Told (answer.Buried number)) = omega arith
-end_less n (Told answer.Faded) = omega arith
-end_less n (Told answer.Nothing) = omega arith
-end_less n (Told (answer.Reply octets)) = omega arith
-end_less n (Told answer.Silent) = omega arith
-end_less n (Told (answer.Messages messages)) = omega arith
+end_less n (Replied (answer.Owner name number)) = omega arith
+end_less n (Replied answer.Left) = omega arith
+end_less n (Replied (answer.Buried number)) = omega arith
+end_less n (Replied answer.Faded) = omega arith
+end_less n (Replied answer.Nothing) = omega arith
+end_less n (Replied (answer.Reply octets)) = omega arith
+end_less n (Replied answer.Silent) = omega arith
+end_less n (Replied (answer.Messages messages)) = omega arith
 end_less n (NoSlot head) = omega arith
 end_less n (Kept head owner entry) = omega arith
 end_less n (Sent sending) = let none = messages_told n (sent_for sending (reads sending.request)) in omega (arith, none)
@@ -457,7 +457,7 @@ transfer_still world request (Some owner) = of_still world owner request (found_
 
 update_still : (world : World) (what : Option Judged) → IsStill (update_start world what)
 update_still world None = tt
-update_still world (Some (judgement.Told head code)) = λ n. refl
+update_still world (Some (judgement.Replied head code)) = λ n. refl
 update_still world (Some (judgement.Makes head version)) = still_if (nat_lt world.words.granted grants && is_held world.words (oldest_kept world.keep world.kept) && can_enter world.words world.window) _ _ tt tt
 
 start_still : (world : World) (call : Call) → IsStill (start world call)
@@ -531,7 +531,7 @@ pushed words seen calls c given none o = record {
   gone = λ n some. o.gone n (let b = none n in let d = frees_push n calls c in omega (arith, some, b, d));
 }
 
-begin_once : (seen : ℕ → ℕ) (world : World) (name : List ℕ) (call : Call) (how : Start) → IsStill how → OpeningOf how → Once world.words seen world.calls quiet → OnceBehind seen (begin world name call how)
+begin_once : (seen : ℕ → ℕ) (world : World) (name : List ℕ) (call : Call) (how : Start) → IsStill how → OpeningOf how → Once world.words seen world.calls quiet → OnceBehind seen (begin_call world name call how)
 begin_once seen world name call Refused still is o = to_some seen _ (silent world.words seen world.calls NotEnabled (λ n. refl) o)
 begin_once seen world name call (Answers given) still is o = to_if seen (is_full world) _ _ (to_none seen) (to_some seen _ (answered_once world.words seen world.calls given still o))
 begin_once seen world name call (Takes at) still is o =
@@ -649,7 +649,7 @@ play_told seen world (line ∷ lines) replies behind o e =
 -- what is told, from the first line on
 told_from : (first : List Record) (keep window : ℕ) (lines : List Line) (replies : List WorldReply) (world : World) → play (started first keep window) lines ≡ Some (replies, world) → ToldOnce (λ n. 0) replies world
 told_from first keep window lines replies world e =
-    let h = started_hands first keep window in
+    let h = started_in_use first keep window in
     play_told (λ n. 0) (started first keep window) lines replies world (record { cell = h.cell; shows = h.shows; few = λ n. omega arith; gone = λ n some. absurd (omega (arith, some)) }) e
 
 -- whatever lines were played, each number is told as buried once at most

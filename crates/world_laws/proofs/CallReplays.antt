@@ -19,7 +19,7 @@ use Rattle.cell_core.specs.WordSteps.{Makes, with_version, with_shares, with_wea
 use Rattle.cell_core.specs.declared.words.Publisher.TheVariants.{Swapping}
 use Rattle.cell_core.specs.declared.words.Slot.{Slot}
 use Rattle.cell_core.specs.declared.words.WordEvent.{WordEvent}
-use Rattle.cell_core.specs.declared.words.WordEvent.TheVariants as told
+use Rattle.cell_core.specs.declared.words.WordEvent.TheVariants as reported
 use Rattle.cell_core.specs.declared.words.WordStep.{WordStep}
 use Rattle.cell_core.specs.declared.words.WordStep.TheVariants as word
 use Rattle.dns_rdata.specs.Record.{Record}
@@ -31,7 +31,7 @@ use Rattle.world_run.specs.declared.entries.Entry.{Entry}
 use Rattle.world_run.specs.declared.sending.Seeking.{Seeking}
 use Rattle.world_run.specs.declared.sending.Sending.{Sending}
 use Rattle.world_run.specs.declared.phase.End.{End}
-use Rattle.world_run.specs.declared.phase.End.TheVariants.{Owned, OwnedWeakly, Told, NoSlot, Kept, Sent}
+use Rattle.world_run.specs.declared.phase.End.TheVariants.{Owned, OwnedWeakly, Replied, NoSlot, Kept, Sent}
 use Rattle.world_run.specs.declared.phase.Keeping.{Keeping}
 use Rattle.world_run.specs.declared.phase.Phase.{Phase}
 use Rattle.world_run.specs.declared.phase.Phase.TheVariants as phase
@@ -46,7 +46,7 @@ use Rattle.world_run.specs.Phases.{word_step, after, past, gone, leaving_after, 
 use Rattle.world_laws.specs.InTurn.{LeavesPublished}
 use Rattle.world_laws.specs.Leads.{IsBuriedIn}
 use Rattle.world_run.specs.World.{next}
-use Rattle.world_laws.proofs.HandSeats.{serial_of_entry, swaps_now, swapped_in}
+use Rattle.world_laws.proofs.UseLists.{serial_of_entry, swaps_now, swapped_in}
 pub use Rattle.world_laws.proofs.TellLemmas.{replay_more, MakesNext, Script, scripted, script, Ever, Placed, updates_in, IsFresh, IsNext, placed_next, AreInTurn, Zones, Tells, NoSwap, publishes_nothing, tells_same, SwapsNext, tells_swapped}
 
 -- where a version is entered, it is with this serial
@@ -160,7 +160,7 @@ abbrev StillThere : Zones → Zones → Type 0
 StillThere words new = (new.publisher ≡ words.publisher) × ((place : ℕ) → words.publisher ≡ Swapping place → version_in new place ≡ version_in words place)
 
 bury_keeps_swap : (words new : Zones) (cell : Cell Numbered) (owner : ℕ) (event : WordEvent) → Shows words cell → Makes {T = Numbered} words (word.Bury owner) event new → StillThere words new
-bury_keeps_swap words new cell owner event s (at, there, seat, found, m) =
+bury_keeps_swap words new cell owner event s (at, there, use_of, found, m) =
     elim (eqb_tells there.shares 0) [
       | inl none ↦ (
           let h = rw none.0 at m in
@@ -177,7 +177,7 @@ bury_keeps_swap words new cell owner event s (at, there, seat, found, m) =
     ]
 
 release_keeps_swap : (words new : Zones) (owner : ℕ) (event : WordEvent) → Makes {T = Numbered} words (word.Release owner) event new → StillThere words new
-release_keeps_swap words new owner event (number, at, there, seat, found, m) =
+release_keeps_swap words new owner event (number, at, there, use_of, found, m) =
     elim (cases_Bool (fetch_sub there.shares 1 == 0)) [
       | inl none ↦ (
           let h = rw none at m in
@@ -219,14 +219,14 @@ owner_keeps_swap words new cell word.Swap event of s m = absurd of
 owner_keeps_swap words new cell word.Settle event of s m = absurd of
 owner_keeps_swap words new cell (word.Release owner) event of s m = release_keeps_swap words new owner event m
 owner_keeps_swap words new cell (word.Bury owner) event of s m = bury_keeps_swap words new cell owner event s m
-owner_keeps_swap words new cell (word.Free owner) event of s (at, there, seat, found, told_is, new_is) =
+owner_keeps_swap words new cell (word.Free owner) event of s (at, there, use_of, found, told_is, new_is) =
     ((ap (λ (w : Zones). w.publisher) new_is), λ place publisher. version_stays words new place at there (with_shares free_word there) found (ap (λ (w : Zones). w.table) new_is) refl)
 owner_keeps_swap words new cell (word.Look owner) event of s m = look_keeps_swap words new owner event m
 owner_keeps_swap words new cell (word.Raise owner) event of s m = raise_keeps_swap words new owner event m
-owner_keeps_swap words new cell (word.Note owner) event of s (number, at, there, seat, found, room, told_is, new_is) =
+owner_keeps_swap words new cell (word.Note owner) event of s (number, at, there, use_of, found, room, told_is, new_is) =
     ((ap (λ (w : Zones). w.publisher) new_is), λ place publisher. version_stays words new place at there (with_weak_word (fetch_add there.weak 1) there) found (ap (λ (w : Zones). w.table) new_is) refl)
 owner_keeps_swap words new cell (word.Fade owner) event of s m = fade_keeps_swap words new owner event m
-owner_keeps_swap words new cell (word.Reset owner) event of s (at, there, seat, found, told_is, new_is) =
+owner_keeps_swap words new cell (word.Reset owner) event of s (at, there, use_of, found, told_is, new_is) =
     ((ap (λ (w : Zones). w.publisher) new_is), λ place publisher. version_stays words new place at there (with_weak_word 1 there) found (ap (λ (w : Zones). w.table) new_is) refl)
 
 owner_keeps : (S : Script) (first : List Record) (us : List Placed) (words new : Zones) (cell : Cell Numbered) (step : WordStep Numbered) (event : WordEvent) (other : Phase) → OfOwner step → Shows words cell → Makes words step event new → Coherent S first us words other → Coherent S first us new other
@@ -288,7 +288,7 @@ owner_no_swap (word.Reset owner) of = tt
 abbrev pub EndsAs : List Record → List Placed → End → Type 0
 EndsAs first us (Owned name owner number) = Unit {0}
 EndsAs first us (OwnedWeakly name owner number) = Unit {0}
-EndsAs first us (Told given) = Unit {0}
+EndsAs first us (Replied given) = Unit {0}
 EndsAs first us (NoSlot head) = Unit {0}
 EndsAs first us (Kept head owner entry) = EntersAs (serial_of_entry entry) (last_serial first us)
 EndsAs first us (Sent sending) = Unit {0}
@@ -317,81 +317,81 @@ past_follows S first us words owner (purpose.Leaves head kept entry leaving) giv
 past_follows S first us words owner (purpose.Sent sending got) given c = sent_follows S first us words sending got
 
 load_follows : (S : Script) (first : List Record) (us : List Placed) (words : Zones) (name : List ℕ) (event : WordEvent) → Follows S first us words false (after words (phase.Load name) event)
-load_follows S first us words name (told.Loaded owner number) = tt
-load_follows S first us words name told.Passed = (tt, refl)
-load_follows S first us words name told.Taken = (tt, refl)
-load_follows S first us words name told.NoSlot = (tt, refl)
-load_follows S first us words name told.Prepared = (tt, refl)
-load_follows S first us words name (told.Swapped number) = (tt, refl)
-load_follows S first us words name (told.Settled owner number) = (tt, refl)
-load_follows S first us words name told.Left = (tt, refl)
-load_follows S first us words name told.Emptied = (tt, refl)
-load_follows S first us words name (told.Buried number) = (tt, refl)
-load_follows S first us words name told.Kept = (tt, refl)
-load_follows S first us words name told.Freed = (tt, refl)
-load_follows S first us words name told.Alive = (tt, refl)
-load_follows S first us words name told.Dead = (tt, refl)
-load_follows S first us words name (told.Raised owner number) = (tt, refl)
-load_follows S first us words name (told.Noted owner number) = (tt, refl)
-load_follows S first us words name told.Faded = (tt, refl)
-load_follows S first us words name told.Closed = (tt, refl)
-load_follows S first us words name told.Restored = (tt, refl)
+load_follows S first us words name (reported.Loaded owner number) = tt
+load_follows S first us words name reported.Passed = (tt, refl)
+load_follows S first us words name reported.Taken = (tt, refl)
+load_follows S first us words name reported.NoSlot = (tt, refl)
+load_follows S first us words name reported.Prepared = (tt, refl)
+load_follows S first us words name (reported.Swapped number) = (tt, refl)
+load_follows S first us words name (reported.Settled owner number) = (tt, refl)
+load_follows S first us words name reported.Left = (tt, refl)
+load_follows S first us words name reported.Emptied = (tt, refl)
+load_follows S first us words name (reported.Buried number) = (tt, refl)
+load_follows S first us words name reported.Kept = (tt, refl)
+load_follows S first us words name reported.Freed = (tt, refl)
+load_follows S first us words name reported.Alive = (tt, refl)
+load_follows S first us words name reported.Dead = (tt, refl)
+load_follows S first us words name (reported.Raised owner number) = (tt, refl)
+load_follows S first us words name (reported.Noted owner number) = (tt, refl)
+load_follows S first us words name reported.Faded = (tt, refl)
+load_follows S first us words name reported.Closed = (tt, refl)
+load_follows S first us words name reported.Restored = (tt, refl)
 
 look_follows : (S : Script) (first : List Record) (us : List Placed) (words : Zones) (name : List ℕ) (owner : ℕ) (event : WordEvent) → Follows S first us words false (after words (phase.Look name owner) event)
-look_follows S first us words name owner told.Alive = (tt, refl)
-look_follows S first us words name owner told.Dead = tt
+look_follows S first us words name owner reported.Alive = (tt, refl)
+look_follows S first us words name owner reported.Dead = tt
 look_follows S first us words name owner event = (tt, refl)
 
 raise_follows : (S : Script) (first : List Record) (us : List Placed) (words : Zones) (name : List ℕ) (owner : ℕ) (event : WordEvent) → Follows S first us words false (after words (phase.Raise name owner) event)
-raise_follows S first us words name owner (told.Raised next number) = tt
-raise_follows S first us words name owner told.Dead = tt
+raise_follows S first us words name owner (reported.Raised next number) = tt
+raise_follows S first us words name owner reported.Dead = tt
 raise_follows S first us words name owner event = (tt, refl)
 
 note_follows : (S : Script) (first : List Record) (us : List Placed) (words : Zones) (name : List ℕ) (owner : ℕ) (event : WordEvent) → Follows S first us words false (after words (phase.Note name owner) event)
-note_follows S first us words name owner (told.Noted next number) = tt
+note_follows S first us words name owner (reported.Noted next number) = tt
 note_follows S first us words name owner event = (tt, refl)
 
 probe_follows : (S : Script) (first : List Record) (us : List Placed) (words : Zones) (version : Numbered) (keeping : Keeping) → IsNext S first us version × EntersAs keeping.enters (zone_serial version.zone) → (event : WordEvent) → Follows S first us words true (after words (phase.Probe version keeping) event)
-probe_follows S first us words version keeping n (told.Loaded owner number) = (n, refl)
-probe_follows S first us words version keeping n told.Passed = (n, refl)
-probe_follows S first us words version keeping n told.Taken = (n, refl)
-probe_follows S first us words version keeping n told.NoSlot = tt
-probe_follows S first us words version keeping n told.Prepared = (n, refl)
-probe_follows S first us words version keeping n (told.Swapped number) = (n, refl)
-probe_follows S first us words version keeping n (told.Settled owner number) = (n, refl)
-probe_follows S first us words version keeping n told.Left = (n, refl)
-probe_follows S first us words version keeping n told.Emptied = (n, refl)
-probe_follows S first us words version keeping n (told.Buried number) = (n, refl)
-probe_follows S first us words version keeping n told.Kept = (n, refl)
-probe_follows S first us words version keeping n told.Freed = (n, refl)
-probe_follows S first us words version keeping n told.Alive = (n, refl)
-probe_follows S first us words version keeping n told.Dead = (n, refl)
-probe_follows S first us words version keeping n (told.Raised owner number) = (n, refl)
-probe_follows S first us words version keeping n (told.Noted owner number) = (n, refl)
-probe_follows S first us words version keeping n told.Faded = (n, refl)
-probe_follows S first us words version keeping n told.Closed = (n, refl)
-probe_follows S first us words version keeping n told.Restored = (n, refl)
+probe_follows S first us words version keeping n (reported.Loaded owner number) = (n, refl)
+probe_follows S first us words version keeping n reported.Passed = (n, refl)
+probe_follows S first us words version keeping n reported.Taken = (n, refl)
+probe_follows S first us words version keeping n reported.NoSlot = tt
+probe_follows S first us words version keeping n reported.Prepared = (n, refl)
+probe_follows S first us words version keeping n (reported.Swapped number) = (n, refl)
+probe_follows S first us words version keeping n (reported.Settled owner number) = (n, refl)
+probe_follows S first us words version keeping n reported.Left = (n, refl)
+probe_follows S first us words version keeping n reported.Emptied = (n, refl)
+probe_follows S first us words version keeping n (reported.Buried number) = (n, refl)
+probe_follows S first us words version keeping n reported.Kept = (n, refl)
+probe_follows S first us words version keeping n reported.Freed = (n, refl)
+probe_follows S first us words version keeping n reported.Alive = (n, refl)
+probe_follows S first us words version keeping n reported.Dead = (n, refl)
+probe_follows S first us words version keeping n (reported.Raised owner number) = (n, refl)
+probe_follows S first us words version keeping n (reported.Noted owner number) = (n, refl)
+probe_follows S first us words version keeping n reported.Faded = (n, refl)
+probe_follows S first us words version keeping n reported.Closed = (n, refl)
+probe_follows S first us words version keeping n reported.Restored = (n, refl)
 
 settle_follows : (S : Script) (first : List Record) (us : List Placed) (words : Zones) (keeping : Keeping) → EntersAs keeping.enters (last_serial first us) → (event : WordEvent) → Follows S first us words true (after words (phase.Settle keeping) event)
-settle_follows S first us words keeping c (told.Loaded owner number) = (c, refl)
-settle_follows S first us words keeping c told.Passed = (c, refl)
-settle_follows S first us words keeping c told.Taken = (c, refl)
-settle_follows S first us words keeping c told.NoSlot = (c, refl)
-settle_follows S first us words keeping c told.Prepared = (c, refl)
-settle_follows S first us words keeping c (told.Swapped number) = (c, refl)
-settle_follows S first us words keeping c (told.Settled owner number) = (c, refl)
-settle_follows S first us words keeping c told.Left = (c, refl)
-settle_follows S first us words keeping c told.Emptied = (c, refl)
-settle_follows S first us words keeping c (told.Buried number) = (c, refl)
-settle_follows S first us words keeping c told.Kept = (c, refl)
-settle_follows S first us words keeping c told.Freed = (c, refl)
-settle_follows S first us words keeping c told.Alive = (c, refl)
-settle_follows S first us words keeping c told.Dead = (c, refl)
-settle_follows S first us words keeping c (told.Raised owner number) = (c, refl)
-settle_follows S first us words keeping c (told.Noted owner number) = (c, refl)
-settle_follows S first us words keeping c told.Faded = (c, refl)
-settle_follows S first us words keeping c told.Closed = (c, refl)
-settle_follows S first us words keeping c told.Restored = (c, refl)
+settle_follows S first us words keeping c (reported.Loaded owner number) = (c, refl)
+settle_follows S first us words keeping c reported.Passed = (c, refl)
+settle_follows S first us words keeping c reported.Taken = (c, refl)
+settle_follows S first us words keeping c reported.NoSlot = (c, refl)
+settle_follows S first us words keeping c reported.Prepared = (c, refl)
+settle_follows S first us words keeping c (reported.Swapped number) = (c, refl)
+settle_follows S first us words keeping c (reported.Settled owner number) = (c, refl)
+settle_follows S first us words keeping c reported.Left = (c, refl)
+settle_follows S first us words keeping c reported.Emptied = (c, refl)
+settle_follows S first us words keeping c (reported.Buried number) = (c, refl)
+settle_follows S first us words keeping c reported.Kept = (c, refl)
+settle_follows S first us words keeping c reported.Freed = (c, refl)
+settle_follows S first us words keeping c reported.Alive = (c, refl)
+settle_follows S first us words keeping c reported.Dead = (c, refl)
+settle_follows S first us words keeping c (reported.Raised owner number) = (c, refl)
+settle_follows S first us words keeping c (reported.Noted owner number) = (c, refl)
+settle_follows S first us words keeping c reported.Faded = (c, refl)
+settle_follows S first us words keeping c reported.Closed = (c, refl)
+settle_follows S first us words keeping c reported.Restored = (c, refl)
 
 entered_follows : (S : Script) (first : List Record) (us : List Placed) (words : Zones) (given : ℕ) (keeping : Keeping) (owner : ℕ) (enters : Bool) → EntersAs keeping.enters (last_serial first us)
     → Follows S first us words true (if enters then On (phase.Enter given owner keeping) else On (phase.Release given (purpose.Publish keeping owner None)))
@@ -399,7 +399,7 @@ entered_follows S first us words given keeping owner true c = (c, refl)
 entered_follows S first us words given keeping owner false c = (tt, refl)
 
 keep_follows : (S : Script) (first : List Record) (us : List Placed) (words : Zones) (given : ℕ) (keeping : Keeping) → EntersAs keeping.enters (last_serial first us) → (event : WordEvent) → Follows S first us words true (after words (phase.Keep given keeping) event)
-keep_follows S first us words given keeping c (told.Loaded owner number) = entered_follows S first us words given keeping owner (is_some keeping.enters) c
+keep_follows S first us words given keeping c (reported.Loaded owner number) = entered_follows S first us words given keeping owner (is_some keeping.enters) c
 keep_follows S first us words given keeping c event = (c, refl)
 
 entry_enters : (number owner serial : ℕ) (o : Option Serial) → EntersAs o serial → EntersAs (serial_of_entry (entry_of o number owner)) serial
@@ -407,12 +407,12 @@ entry_enters number owner serial None c = tt
 entry_enters number owner serial (Some entering) c = c
 
 enter_follows : (S : Script) (first : List Record) (us : List Placed) (words : Zones) (given kept : ℕ) (keeping : Keeping) → EntersAs keeping.enters (last_serial first us) → (event : WordEvent) → Follows S first us words true (after words (phase.Enter given kept keeping) event)
-enter_follows S first us words given kept keeping c (told.Noted owner number) = (entry_enters number owner (last_serial first us) keeping.enters c, refl)
+enter_follows S first us words given kept keeping c (reported.Noted owner number) = (entry_enters number owner (last_serial first us) keeping.enters c, refl)
 enter_follows S first us words given kept keeping c event = (c, refl)
 
 seek_follows : (S : Script) (first : List Record) (us : List Placed) (words : Zones) (owner : ℕ) (seeking : Seeking) (event : WordEvent) → Follows S first us words false (after words (phase.Seek owner seeking) event)
-seek_follows S first us words owner seeking told.Alive = (tt, refl)
-seek_follows S first us words owner seeking told.Dead = sent_follows S first us words seeking.sending seeking.owners
+seek_follows S first us words owner seeking reported.Alive = (tt, refl)
+seek_follows S first us words owner seeking reported.Dead = sent_follows S first us words seeking.sending seeking.owners
 seek_follows S first us words owner seeking event = (tt, refl)
 
 gained_follows : (S : Script) (first : List Record) (us : List Placed) (words : Zones) (seeking : Seeking) (left : List ℕ) → Follows S first us words false (gained_after seeking left)
@@ -424,54 +424,54 @@ got_follows S first us words owner seeking next None = (tt, refl)
 got_follows S first us words owner seeking next (Some version) = gained_follows S first us words (with_got next version seeking) seeking.left
 
 gain_follows : (S : Script) (first : List Record) (us : List Placed) (words : Zones) (owner : ℕ) (seeking : Seeking) (event : WordEvent) → Follows S first us words false (after words (phase.Gain owner seeking) event)
-gain_follows S first us words owner seeking (told.Raised next number) = got_follows S first us words owner seeking next (found_by words next)
-gain_follows S first us words owner seeking told.Dead = sent_follows S first us words seeking.sending seeking.owners
+gain_follows S first us words owner seeking (reported.Raised next number) = got_follows S first us words owner seeking next (found_by words next)
+gain_follows S first us words owner seeking reported.Dead = sent_follows S first us words seeking.sending seeking.owners
 gain_follows S first us words owner seeking event = (tt, refl)
 
 release_follows : (S : Script) (first : List Record) (us : List Placed) (words : Zones) (at : ℕ) (for : Purpose) → CoherentFor first us for → (event : WordEvent) → Follows S first us words (updates (phase.Release at for)) (after words (phase.Release at for) event)
-release_follows S first us words at for c (told.Loaded owner number) = past_follows S first us words at for answer.Left c
-release_follows S first us words at for c told.Passed = past_follows S first us words at for answer.Left c
-release_follows S first us words at for c told.Taken = past_follows S first us words at for answer.Left c
-release_follows S first us words at for c told.NoSlot = past_follows S first us words at for answer.Left c
-release_follows S first us words at for c told.Prepared = past_follows S first us words at for answer.Left c
-release_follows S first us words at for c (told.Swapped number) = past_follows S first us words at for answer.Left c
-release_follows S first us words at for c (told.Settled owner number) = past_follows S first us words at for answer.Left c
-release_follows S first us words at for c told.Left = past_follows S first us words at for answer.Left c
-release_follows S first us words at for c told.Emptied = (c, refl)
-release_follows S first us words at for c (told.Buried number) = past_follows S first us words at for answer.Left c
-release_follows S first us words at for c told.Kept = past_follows S first us words at for answer.Left c
-release_follows S first us words at for c told.Freed = past_follows S first us words at for answer.Left c
-release_follows S first us words at for c told.Alive = past_follows S first us words at for answer.Left c
-release_follows S first us words at for c told.Dead = past_follows S first us words at for answer.Left c
-release_follows S first us words at for c (told.Raised owner number) = past_follows S first us words at for answer.Left c
-release_follows S first us words at for c (told.Noted owner number) = past_follows S first us words at for answer.Left c
-release_follows S first us words at for c told.Faded = past_follows S first us words at for answer.Left c
-release_follows S first us words at for c told.Closed = past_follows S first us words at for answer.Left c
-release_follows S first us words at for c told.Restored = past_follows S first us words at for answer.Left c
+release_follows S first us words at for c (reported.Loaded owner number) = past_follows S first us words at for answer.Left c
+release_follows S first us words at for c reported.Passed = past_follows S first us words at for answer.Left c
+release_follows S first us words at for c reported.Taken = past_follows S first us words at for answer.Left c
+release_follows S first us words at for c reported.NoSlot = past_follows S first us words at for answer.Left c
+release_follows S first us words at for c reported.Prepared = past_follows S first us words at for answer.Left c
+release_follows S first us words at for c (reported.Swapped number) = past_follows S first us words at for answer.Left c
+release_follows S first us words at for c (reported.Settled owner number) = past_follows S first us words at for answer.Left c
+release_follows S first us words at for c reported.Left = past_follows S first us words at for answer.Left c
+release_follows S first us words at for c reported.Emptied = (c, refl)
+release_follows S first us words at for c (reported.Buried number) = past_follows S first us words at for answer.Left c
+release_follows S first us words at for c reported.Kept = past_follows S first us words at for answer.Left c
+release_follows S first us words at for c reported.Freed = past_follows S first us words at for answer.Left c
+release_follows S first us words at for c reported.Alive = past_follows S first us words at for answer.Left c
+release_follows S first us words at for c reported.Dead = past_follows S first us words at for answer.Left c
+release_follows S first us words at for c (reported.Raised owner number) = past_follows S first us words at for answer.Left c
+release_follows S first us words at for c (reported.Noted owner number) = past_follows S first us words at for answer.Left c
+release_follows S first us words at for c reported.Faded = past_follows S first us words at for answer.Left c
+release_follows S first us words at for c reported.Closed = past_follows S first us words at for answer.Left c
+release_follows S first us words at for c reported.Restored = past_follows S first us words at for answer.Left c
 
 bury_follows : (S : Script) (first : List Record) (us : List Placed) (words : Zones) (at : ℕ) (for : Purpose) → CoherentFor first us for → (event : WordEvent) → Follows S first us words (updates (phase.Bury at for)) (after words (phase.Bury at for) event)
-bury_follows S first us words at for c (told.Loaded owner number) = past_follows S first us words at for answer.Left c
-bury_follows S first us words at for c told.Passed = past_follows S first us words at for answer.Left c
-bury_follows S first us words at for c told.Taken = past_follows S first us words at for answer.Left c
-bury_follows S first us words at for c told.NoSlot = past_follows S first us words at for answer.Left c
-bury_follows S first us words at for c told.Prepared = past_follows S first us words at for answer.Left c
-bury_follows S first us words at for c (told.Swapped number) = past_follows S first us words at for answer.Left c
-bury_follows S first us words at for c (told.Settled owner number) = past_follows S first us words at for answer.Left c
-bury_follows S first us words at for c told.Left = past_follows S first us words at for answer.Left c
-bury_follows S first us words at for c told.Emptied = past_follows S first us words at for answer.Left c
-bury_follows S first us words at for c (told.Buried number) = (c, refl)
-bury_follows S first us words at for c told.Kept = past_follows S first us words at for answer.Left c
-bury_follows S first us words at for c told.Freed = past_follows S first us words at for answer.Left c
-bury_follows S first us words at for c told.Alive = past_follows S first us words at for answer.Left c
-bury_follows S first us words at for c told.Dead = past_follows S first us words at for answer.Left c
-bury_follows S first us words at for c (told.Raised owner number) = past_follows S first us words at for answer.Left c
-bury_follows S first us words at for c (told.Noted owner number) = past_follows S first us words at for answer.Left c
-bury_follows S first us words at for c told.Faded = past_follows S first us words at for answer.Left c
-bury_follows S first us words at for c told.Closed = past_follows S first us words at for answer.Left c
-bury_follows S first us words at for c told.Restored = past_follows S first us words at for answer.Left c
+bury_follows S first us words at for c (reported.Loaded owner number) = past_follows S first us words at for answer.Left c
+bury_follows S first us words at for c reported.Passed = past_follows S first us words at for answer.Left c
+bury_follows S first us words at for c reported.Taken = past_follows S first us words at for answer.Left c
+bury_follows S first us words at for c reported.NoSlot = past_follows S first us words at for answer.Left c
+bury_follows S first us words at for c reported.Prepared = past_follows S first us words at for answer.Left c
+bury_follows S first us words at for c (reported.Swapped number) = past_follows S first us words at for answer.Left c
+bury_follows S first us words at for c (reported.Settled owner number) = past_follows S first us words at for answer.Left c
+bury_follows S first us words at for c reported.Left = past_follows S first us words at for answer.Left c
+bury_follows S first us words at for c reported.Emptied = past_follows S first us words at for answer.Left c
+bury_follows S first us words at for c (reported.Buried number) = (c, refl)
+bury_follows S first us words at for c reported.Kept = past_follows S first us words at for answer.Left c
+bury_follows S first us words at for c reported.Freed = past_follows S first us words at for answer.Left c
+bury_follows S first us words at for c reported.Alive = past_follows S first us words at for answer.Left c
+bury_follows S first us words at for c reported.Dead = past_follows S first us words at for answer.Left c
+bury_follows S first us words at for c (reported.Raised owner number) = past_follows S first us words at for answer.Left c
+bury_follows S first us words at for c (reported.Noted owner number) = past_follows S first us words at for answer.Left c
+bury_follows S first us words at for c reported.Faded = past_follows S first us words at for answer.Left c
+bury_follows S first us words at for c reported.Closed = past_follows S first us words at for answer.Left c
+bury_follows S first us words at for c reported.Restored = past_follows S first us words at for answer.Left c
 
 fade_follows : (S : Script) (first : List Record) (us : List Placed) (words : Zones) (at : ℕ) (number : Option ℕ) (for : Purpose) → CoherentFor first us for → (event : WordEvent) → Follows S first us words (updates (phase.Fade at number for)) (after words (phase.Fade at number for) event)
-fade_follows S first us words at number for c told.Closed = (c, refl)
+fade_follows S first us words at number for c reported.Closed = (c, refl)
 fade_follows S first us words at number for c event = past_follows S first us words at for (gone number) c
 
 -- a step leaves the updates so far, and the versions that are published, as they were; or it is the swap of an update, which is the next

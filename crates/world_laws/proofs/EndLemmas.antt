@@ -19,7 +19,7 @@ use Rattle.cell_core.specs.declared.words.Owner.{Owner}
 use Rattle.cell_core.specs.declared.words.Owner.TheVariants.{Holding, Weakly, Burying, Fading, Resetting, Freeing, Spent}
 use Rattle.cell_core.specs.declared.words.Publisher.TheVariants.{Probing, Preparing, Swapping, Settling}
 use Rattle.cell_core.specs.declared.words.WordEvent.{WordEvent}
-use Rattle.cell_core.specs.declared.words.WordEvent.TheVariants as told
+use Rattle.cell_core.specs.declared.words.WordEvent.TheVariants as reported
 use Rattle.cell_core.specs.declared.words.WordStep.TheVariants as word
 use Rattle.cell_core.proofs.GoesOn.{load_goes_on}
 use Rattle.cell_core.proofs.SeatLemmas.{get_set_other, get_push_old}
@@ -150,14 +150,14 @@ abbrev pub Passes : ℕ → Purpose → Type 0
 Passes owner for = (left : ℕ) (words : Zones) (cell : Cell Numbered) (given : Answer) → behind_owner for ≤ left → Shows words cell → CanPass owner words.owners for → EndsFrom left words (past for given)
 
 -- an owner that has come further stands there
-seat_after : (words new : Zones) (owner : ℕ) (before next : Owner) → slice_get words.owners owner ≡ Some before → new.owners ≡ slice_set words.owners owner next → slice_get new.owners owner ≡ Some next
-seat_after words new owner before next seat is =
-    ap (λ (o : List Owner). slice_get o owner) is ∙ get_set_same words.owners owner next (slice_get_within words.owners owner before seat)
+use_after : (words new : Zones) (owner : ℕ) (before next : Owner) → slice_get words.owners owner ≡ Some before → new.owners ≡ slice_set words.owners owner next → slice_get new.owners owner ≡ Some next
+use_after words new owner before next use_of is =
+    ap (λ (o : List Owner). slice_get o owner) is ∙ get_set_same words.owners owner next (slice_get_within words.owners owner before use_of)
 
 free_ends : (left : ℕ) (words : Zones) (cell : Cell Numbered) (owner place : ℕ) (number : Option ℕ) (for : Purpose) → Passes owner for → 1 + behind_owner for ≤ left → Shows words cell → slice_get words.owners owner ≡ Some (Freeing place) → CanPass owner words.owners for
     → IsDone (steps_up_to left words (phase.Free owner number for)).0
-free_ends left words cell owner place number for passes enough s seat can =
-    let has = free_goes_on words cell owner place s seat in
+free_ends left words cell owner place number for passes enough s use_of can =
+    let has = free_goes_on words cell owner place s use_of in
     let shown = step_shows words has.1 (word.Free owner) has.0 cell s has.2 in
     let (there_place, there, freed, found, told_is, new_is) = has.2 in
     step_ends left words has.1 (phase.Free owner number for) (past for (gone number)) (omega (arith, enough)) (went words has.1 (phase.Free owner number for) has.0 _ has.2 refl)
@@ -165,93 +165,93 @@ free_ends left words cell owner place number for passes enough s seat can =
 
 reset_ends : (left : ℕ) (words : Zones) (cell : Cell Numbered) (owner place : ℕ) (number : Option ℕ) (for : Purpose) → Passes owner for → 2 + behind_owner for ≤ left → Shows words cell → slice_get words.owners owner ≡ Some (Resetting place) → CanPass owner words.owners for
     → IsDone (steps_up_to left words (phase.Reset owner number for)).0
-reset_ends left words cell owner place number for passes enough s seat can =
-    let has = reset_goes_on words cell owner place s seat in
+reset_ends left words cell owner place number for passes enough s use_of can =
+    let has = reset_goes_on words cell owner place s use_of in
     let shown = step_shows words has.1 (word.Reset owner) has.0 cell s has.2 in
     let (there_place, there, resets, found, told_is, new_is) = has.2 in
     let owners_is : has.1.owners ≡ slice_set words.owners owner (Freeing there_place) = ap (λ (w : Zones). w.owners) new_is in
-    let next_seat = seat_after words has.1 owner (Resetting place) (Freeing there_place) seat owners_is in
+    let next_use = use_after words has.1 owner (Resetting place) (Freeing there_place) use_of owners_is in
     on_by left words has.1 (phase.Reset owner number for) (phase.Free owner number for) (omega (arith, enough)) (went words has.1 (phase.Reset owner number for) has.0 _ has.2 refl)
-    (free_ends (left - 1) has.1 shown.0 owner there_place number for passes (omega (arith, enough)) shown.2 next_seat (can_after words has.1 owner (Freeing there_place) for owners_is can))
+    (free_ends (left - 1) has.1 shown.0 owner there_place number for passes (omega (arith, enough)) shown.2 next_use (can_after words has.1 owner (Freeing there_place) for owners_is can))
 
 fade_done : (left : ℕ) (words new : Zones) (cell : Cell Numbered) (owner : ℕ) (how : Owner) (number : Option ℕ) (for : Purpose) (event : WordEvent) → Passes owner for → 3 + behind_owner for ≤ left → Shows new cell → slice_get words.owners owner ≡ Some how → CanPass owner words.owners for
     → Makes words (word.Fade owner) event new → IsDone (steps_up_to left words (phase.Fade owner number for)).0
-fade_done left words new cell owner how number for event passes enough s seat can (place, there, fades, found, m) =
+fade_done left words new cell owner how number for event passes enough s use_of can (place, there, fades, found, m) =
     elim (cases_Bool (fetch_sub there.weak 1 == 0)) [
       | inl none ↦ (
           let h = rw none at m in
-          let made_here : Makes words (word.Fade owner) told.Closed new = (place, there, fades, found, rw none (refl, h.1)) in
+          let made_here : Makes words (word.Fade owner) reported.Closed new = (place, there, fades, found, rw none (refl, h.1)) in
           let owners_is : new.owners ≡ slice_set words.owners owner (Resetting place) = ap (λ (w : Zones). w.owners) h.1 in
-          let next_seat = seat_after words new owner how (Resetting place) seat owners_is in
-          on_by left words new (phase.Fade owner number for) (phase.Reset owner number for) (omega (arith, enough)) (went words new (phase.Fade owner number for) told.Closed _ made_here refl)
-          (reset_ends (left - 1) new cell owner place number for passes (omega (arith, enough)) s next_seat (can_after words new owner (Resetting place) for owners_is can))
+          let next_use = use_after words new owner how (Resetting place) use_of owners_is in
+          on_by left words new (phase.Fade owner number for) (phase.Reset owner number for) (omega (arith, enough)) (went words new (phase.Fade owner number for) reported.Closed _ made_here refl)
+          (reset_ends (left - 1) new cell owner place number for passes (omega (arith, enough)) s next_use (can_after words new owner (Resetting place) for owners_is can))
           )
       | inr some ↦ (
           let h = rw some at m in
-          let made_here : Makes words (word.Fade owner) told.Faded new = (place, there, fades, found, rw some (refl, h.1)) in
+          let made_here : Makes words (word.Fade owner) reported.Faded new = (place, there, fades, found, rw some (refl, h.1)) in
           let owners_is : new.owners ≡ slice_set words.owners owner Spent = ap (λ (w : Zones). w.owners) h.1 in
-          step_ends left words new (phase.Fade owner number for) (past for (gone number)) (omega (arith, enough)) (went words new (phase.Fade owner number for) told.Faded _ made_here refl)
+          step_ends left words new (phase.Fade owner number for) (past for (gone number)) (omega (arith, enough)) (went words new (phase.Fade owner number for) reported.Faded _ made_here refl)
           (passes (left - 1) new cell (gone number) (omega (arith, enough)) s (can_after words new owner Spent for owners_is can))
           )
     ]
 
 pub fade_ends : (left : ℕ) (words : Zones) (cell : Cell Numbered) (owner place : ℕ) (how : Owner) (number : Option ℕ) (for : Purpose) → Passes owner for → 3 + behind_owner for ≤ left → Shows words cell → slice_get words.owners owner ≡ Some how → fading_of how ≡ Some place → CanPass owner words.owners for
     → IsDone (steps_up_to left words (phase.Fade owner number for)).0
-fade_ends left words cell owner place how number for passes enough s seat fades can =
-    let has = fade_goes_on words cell owner place s (ap (option_and_then fading_of) seat ∙ fades) in
+fade_ends left words cell owner place how number for passes enough s use_of fades can =
+    let has = fade_goes_on words cell owner place s (ap (option_and_then fading_of) use_of ∙ fades) in
     let shown = step_shows words has.1 (word.Fade owner) has.0 cell s has.2 in
-    fade_done left words has.1 shown.0 owner how number for has.0 passes enough shown.2 seat can has.2
+    fade_done left words has.1 shown.0 owner how number for has.0 passes enough shown.2 use_of can has.2
 
 bury_done : (left : ℕ) (words new : Zones) (cell : Cell Numbered) (owner : ℕ) (for : Purpose) (event : WordEvent) → Passes owner for → 4 + behind_owner for ≤ left → Shows new cell → CanPass owner words.owners for → Makes words (word.Bury owner) event new → IsDone (steps_up_to left words (phase.Bury owner for)).0
-bury_done left words new cell owner for event passes enough s can (place, there, seat, found, m) =
+bury_done left words new cell owner for event passes enough s can (place, there, use_of, found, m) =
     elim (cases_Bool (there.shares == 0)) [
       | inl none ↦ (
           let h = rw none at m in
-          let made_here : Makes words (word.Bury owner) (told.Buried h.0) new = (place, there, seat, found, rw none (h.0, h.1, refl, h.3)) in
+          let made_here : Makes words (word.Bury owner) (reported.Buried h.0) new = (place, there, use_of, found, rw none (h.0, h.1, refl, h.3)) in
           let owners_is : new.owners ≡ slice_set words.owners owner (Fading place) = ap (λ (w : Zones). w.owners) h.3 in
-          let next_seat = seat_after words new owner (Burying place) (Fading place) seat owners_is in
-          on_by left words new (phase.Bury owner for) (phase.Fade owner (Some h.0) for) (omega (arith, enough)) (went words new (phase.Bury owner for) (told.Buried h.0) _ made_here refl)
-          (fade_ends (left - 1) new cell owner place (Fading place) (Some h.0) for passes (omega (arith, enough)) s next_seat refl (can_after words new owner (Fading place) for owners_is can))
+          let next_use = use_after words new owner (Burying place) (Fading place) use_of owners_is in
+          on_by left words new (phase.Bury owner for) (phase.Fade owner (Some h.0) for) (omega (arith, enough)) (went words new (phase.Bury owner for) (reported.Buried h.0) _ made_here refl)
+          (fade_ends (left - 1) new cell owner place (Fading place) (Some h.0) for passes (omega (arith, enough)) s next_use refl (can_after words new owner (Fading place) for owners_is can))
           )
       | inr some ↦ (
           let h = rw some at m in
-          let made_here : Makes words (word.Bury owner) told.Kept new = (place, there, seat, found, rw some (refl, h.1)) in
+          let made_here : Makes words (word.Bury owner) reported.Kept new = (place, there, use_of, found, rw some (refl, h.1)) in
           let owners_is : new.owners ≡ slice_set words.owners owner Spent = ap (λ (w : Zones). w.owners) h.1 in
-          step_ends left words new (phase.Bury owner for) (past for answer.Left) (omega (arith, enough)) (went words new (phase.Bury owner for) told.Kept _ made_here refl)
+          step_ends left words new (phase.Bury owner for) (past for answer.Left) (omega (arith, enough)) (went words new (phase.Bury owner for) reported.Kept _ made_here refl)
           (passes (left - 1) new cell answer.Left (omega (arith, enough)) s (can_after words new owner Spent for owners_is can))
           )
     ]
 
 bury_ends : (left : ℕ) (words : Zones) (cell : Cell Numbered) (owner place : ℕ) (for : Purpose) → Passes owner for → 4 + behind_owner for ≤ left → Shows words cell → slice_get words.owners owner ≡ Some (Burying place) → CanPass owner words.owners for → IsDone (steps_up_to left words (phase.Bury owner for)).0
-bury_ends left words cell owner place for passes enough s seat can =
-    let has = bury_goes_on words cell owner place s seat in
+bury_ends left words cell owner place for passes enough s use_of can =
+    let has = bury_goes_on words cell owner place s use_of in
     let shown = step_shows words has.1 (word.Bury owner) has.0 cell s has.2 in
     bury_done left words has.1 shown.0 owner for has.0 passes enough shown.2 can has.2
 
 release_done : (left : ℕ) (words new : Zones) (cell : Cell Numbered) (owner : ℕ) (for : Purpose) (event : WordEvent) → Passes owner for → 5 + behind_owner for ≤ left → Shows new cell → CanPass owner words.owners for → Makes words (word.Release owner) event new → IsDone (steps_up_to left words (phase.Release owner for)).0
-release_done left words new cell owner for event passes enough s can (number, place, there, seat, found, m) =
+release_done left words new cell owner for event passes enough s can (number, place, there, use_of, found, m) =
     elim (cases_Bool (fetch_sub there.shares 1 == 0)) [
       | inl none ↦ (
           let h = rw none at m in
-          let made_here : Makes words (word.Release owner) told.Emptied new = (number, place, there, seat, found, rw none (refl, h.1)) in
+          let made_here : Makes words (word.Release owner) reported.Emptied new = (number, place, there, use_of, found, rw none (refl, h.1)) in
           let owners_is : new.owners ≡ slice_set words.owners owner (Burying place) = ap (λ (w : Zones). w.owners) h.1 in
-          let next_seat = seat_after words new owner (Holding number place) (Burying place) seat owners_is in
-          on_by left words new (phase.Release owner for) (phase.Bury owner for) (omega (arith, enough)) (went words new (phase.Release owner for) told.Emptied _ made_here refl)
-          (bury_ends (left - 1) new cell owner place for passes (omega (arith, enough)) s next_seat (can_after words new owner (Burying place) for owners_is can))
+          let next_use = use_after words new owner (Holding number place) (Burying place) use_of owners_is in
+          on_by left words new (phase.Release owner for) (phase.Bury owner for) (omega (arith, enough)) (went words new (phase.Release owner for) reported.Emptied _ made_here refl)
+          (bury_ends (left - 1) new cell owner place for passes (omega (arith, enough)) s next_use (can_after words new owner (Burying place) for owners_is can))
           )
       | inr some ↦ (
           let h = rw some at m in
-          let made_here : Makes words (word.Release owner) told.Left new = (number, place, there, seat, found, rw some (refl, h.1)) in
+          let made_here : Makes words (word.Release owner) reported.Left new = (number, place, there, use_of, found, rw some (refl, h.1)) in
           let owners_is : new.owners ≡ slice_set words.owners owner Spent = ap (λ (w : Zones). w.owners) h.1 in
-          step_ends left words new (phase.Release owner for) (past for answer.Left) (omega (arith, enough)) (went words new (phase.Release owner for) told.Left _ made_here refl)
+          step_ends left words new (phase.Release owner for) (past for answer.Left) (omega (arith, enough)) (went words new (phase.Release owner for) reported.Left _ made_here refl)
           (passes (left - 1) new cell answer.Left (omega (arith, enough)) s (can_after words new owner Spent for owners_is can))
           )
     ]
 
 pub release_ends : (left : ℕ) (words : Zones) (cell : Cell Numbered) (owner number place : ℕ) (for : Purpose) → Passes owner for → 5 + behind_owner for ≤ left → Shows words cell → slice_get words.owners owner ≡ Some (Holding number place) → CanPass owner words.owners for
     → IsDone (steps_up_to left words (phase.Release owner for)).0
-release_ends left words cell owner number place for passes enough s seat can =
-    let has = release_goes_on words cell owner number place s seat in
+release_ends left words cell owner number place for passes enough s use_of can =
+    let has = release_goes_on words cell owner number place s use_of in
     let shown = step_shows words has.1 (word.Release owner) has.0 cell s has.2 in
     release_done left words has.1 shown.0 owner for has.0 passes enough shown.2 can has.2
 
@@ -328,51 +328,51 @@ beside_push owner owners one keeping b = record { held = held_push owner owners 
 
 published_ends : (left : ℕ) (words : Zones) (cell : Cell Numbered) (given number place kept : ℕ) (entry : Option Entry) (keeping : Keeping) → 58 ≤ left → Shows words cell → slice_get words.owners given ≡ Some (Holding number place) → Beside given words.owners keeping
     → IsDone (steps_up_to left words (phase.Release given (purpose.Publish keeping kept entry))).0
-published_ends left words cell given number place kept entry keeping enough s seat b =
+published_ends left words cell given number place kept entry keeping enough s use_of b =
     let few = b.few in
-    release_ends left words cell given number place (purpose.Publish keeping kept entry) (publish_passes given keeping kept entry) (omega (arith, enough, few)) s seat (b.held, b.apart, b.all)
+    release_ends left words cell given number place (purpose.Publish keeping kept entry) (publish_passes given keeping kept entry) (omega (arith, enough, few)) s use_of (b.held, b.apart, b.all)
 
 enter_ends : (left : ℕ) (words : Zones) (cell : Cell Numbered) (given number place kept last slot : ℕ) (keeping : Keeping) → 59 ≤ left → Shows words cell → words.noted < notes → slice_get words.owners kept ≡ Some (Holding last slot) → slice_get words.owners given ≡ Some (Holding number place) → Beside given words.owners keeping
     → IsDone (steps_up_to left words (phase.Enter given kept keeping)).0
-enter_ends left words cell given number place kept last slot keeping enough s room here seat b =
+enter_ends left words cell given number place kept last slot keeping enough s room here use_of b =
     let has = note_goes_on words cell kept last slot s here room in
     let (noted_number, noted_place, there, at, found, few, told_is, new_is) = has.2 in
-    let made_here : Makes words (word.Note kept) (told.Noted (length words.owners) noted_number) has.1 = (noted_number, noted_place, there, at, found, few, refl, new_is) in
+    let made_here : Makes words (word.Note kept) (reported.Noted (length words.owners) noted_number) has.1 = (noted_number, noted_place, there, at, found, few, refl, new_is) in
     let shown = step_shows words has.1 (word.Note kept) has.0 cell s has.2 in
     let one : Owner = Weakly noted_number noted_place in
     let owners_is : has.1.owners ≡ words.owners ++ one ∷ [] = ap (λ (w : Zones). w.owners) new_is in
-    let still : slice_get has.1.owners given ≡ Some (Holding number place) = ap (λ o. slice_get o given) owners_is ∙ get_push_old words.owners one (Holding number place) given seat in
+    let still : slice_get has.1.owners given ≡ Some (Holding number place) = ap (λ o. slice_get o given) owners_is ∙ get_push_old words.owners one (Holding number place) given use_of in
     let entry = entry_of keeping.enters noted_number (length words.owners) in
-    on_by left words has.1 (phase.Enter given kept keeping) (phase.Release given (purpose.Publish keeping kept entry)) (omega (arith, enough)) (went words has.1 (phase.Enter given kept keeping) (told.Noted (length words.owners) noted_number) _ made_here refl)
+    on_by left words has.1 (phase.Enter given kept keeping) (phase.Release given (purpose.Publish keeping kept entry)) (omega (arith, enough)) (went words has.1 (phase.Enter given kept keeping) (reported.Noted (length words.owners) noted_number) _ made_here refl)
     (published_ends (left - 1) has.1 shown.0 given number place kept entry keeping (omega (arith, enough)) shown.2 still (subst (λ o. Beside given o keeping) (sym owners_is) (beside_push given words.owners one keeping b)))
 
 loaded_ends : (left : ℕ) (words : Zones) (cell : Cell Numbered) (given number place kept last slot : ℕ) (keeping : Keeping) (enters : Bool) → is_some keeping.enters ≡ enters → 59 ≤ left → Shows words cell → (is_some keeping.enters ≡ true → words.noted < notes) → slice_get words.owners kept ≡ Some (Holding last slot)
     → slice_get words.owners given ≡ Some (Holding number place) → Beside given words.owners keeping → EndsFrom left words (if enters then On (phase.Enter given kept keeping) else On (phase.Release given (purpose.Publish keeping kept None)))
-loaded_ends left words cell given number place kept last slot keeping true e enough s room here seat b = enter_ends left words cell given number place kept last slot keeping enough s (room e) here seat b
-loaded_ends left words cell given number place kept last slot keeping false e enough s room here seat b = published_ends left words cell given number place kept None keeping (omega (arith, enough)) s seat b
+loaded_ends left words cell given number place kept last slot keeping true e enough s room here use_of b = enter_ends left words cell given number place kept last slot keeping enough s (room e) here use_of b
+loaded_ends left words cell given number place kept last slot keeping false e enough s room here use_of b = published_ends left words cell given number place kept None keeping (omega (arith, enough)) s use_of b
 
 keep_ends : (left : ℕ) (words : Zones) (cell : Cell Numbered) (given number place : ℕ) (keeping : Keeping) → 60 ≤ left → Shows words cell → words.granted < grants → (is_some keeping.enters ≡ true → words.noted < notes) → slice_get words.owners given ≡ Some (Holding number place) → Beside given words.owners keeping
     → IsDone (steps_up_to left words (phase.Keep given keeping)).0
-keep_ends left words cell given number place keeping enough s few room seat b =
+keep_ends left words cell given number place keeping enough s few room use_of b =
     let has = load_goes_on words cell s few in
     let (last, found, less, told_is, new_is) = has.2 in
-    let made_here : Makes words word.Load (told.Loaded (length words.owners) last) has.1 = (last, found, less, refl, new_is) in
+    let made_here : Makes words word.Load (reported.Loaded (length words.owners) last) has.1 = (last, found, less, refl, new_is) in
     let shown = step_shows words has.1 word.Load has.0 cell s has.2 in
     let one : Owner = Holding last (slot_of words.latest) in
     let owners_is : has.1.owners ≡ words.owners ++ one ∷ [] = ap (λ (w : Zones). w.owners) new_is in
     let noted_is : has.1.noted ≡ words.noted = ap (λ (w : Zones). w.noted) new_is in
-    let still : slice_get has.1.owners given ≡ Some (Holding number place) = ap (λ o. slice_get o given) owners_is ∙ get_push_old words.owners one (Holding number place) given seat in
+    let still : slice_get has.1.owners given ≡ Some (Holding number place) = ap (λ o. slice_get o given) owners_is ∙ get_push_old words.owners one (Holding number place) given use_of in
     let here : slice_get has.1.owners (length words.owners) ≡ Some one = ap (λ o. slice_get o (length words.owners)) owners_is ∙ get_push_new words.owners one (length words.owners) refl in
-    step_ends left words has.1 (phase.Keep given keeping) _ (omega (arith, enough)) (went words has.1 (phase.Keep given keeping) (told.Loaded (length words.owners) last) _ made_here refl)
+    step_ends left words has.1 (phase.Keep given keeping) _ (omega (arith, enough)) (went words has.1 (phase.Keep given keeping) (reported.Loaded (length words.owners) last) _ made_here refl)
     (loaded_ends (left - 1) has.1 shown.0 given number place (length words.owners) last (slot_of words.latest) keeping (is_some keeping.enters) refl (omega (arith, enough)) shown.2 (λ e. subst (λ n. n < notes) (sym noted_is) (room e)) here still
     (subst (λ o. Beside given o keeping) (sym owners_is) (beside_push given words.owners one keeping b)))
 
 settle_done : (left : ℕ) (words new : Zones) (cell : Cell Numbered) (keeping : Keeping) (event : WordEvent) → 61 ≤ left → Shows new cell → CanEnd words keeping → Makes words word.Settle event new → IsDone (steps_up_to left words (phase.Settle keeping)).0
 settle_done left words new cell keeping event enough s can (number, place, given, there, is, found, told_is, new_is) =
-    let made_here : Makes words word.Settle (told.Settled (length words.owners) number) new = (number, place, given, there, is, found, refl, new_is) in
+    let made_here : Makes words word.Settle (reported.Settled (length words.owners) number) new = (number, place, given, there, is, found, refl, new_is) in
     let owners_is : new.owners ≡ words.owners ++ Holding number place ∷ [] = ap (λ (w : Zones). w.owners) new_is in
     let granted_is : new.granted ≡ words.granted = ap (λ (w : Zones). w.granted) new_is in
-    let seat : slice_get new.owners (length words.owners) ≡ Some (Holding number place) = ap (λ o. slice_get o (length words.owners)) owners_is ∙ get_push_new words.owners (Holding number place) (length words.owners) refl in
+    let use_of : slice_get new.owners (length words.owners) ≡ Some (Holding number place) = ap (λ o. slice_get o (length words.owners)) owners_is ∙ get_push_new words.owners (Holding number place) (length words.owners) refl in
     let noted_is : new.noted ≡ words.noted = ap (λ (w : Zones). w.noted) new_is in
     let beside : Beside (length words.owners) new.owners keeping = subst (λ o. Beside (length words.owners) o keeping) (sym owners_is) (record {
       held = held_new words.owners (Holding number place) keeping.oldest can.oldest;
@@ -380,8 +380,8 @@ settle_done left words new cell keeping event enough s can (number, place, given
       all = all_push Weakly words.owners (Holding number place) keeping.leaving can.leaving;
       few = can.few;
     }) in
-    on_by left words new (phase.Settle keeping) (phase.Keep (length words.owners) keeping) (omega (arith, enough)) (went words new (phase.Settle keeping) (told.Settled (length words.owners) number) _ made_here refl)
-    (keep_ends (left - 1) new cell (length words.owners) number place keeping (omega (arith, enough)) s (subst (λ n. n < grants) (sym granted_is) can.shares) (λ e. subst (λ n. n < notes) (sym noted_is) (can.notes_left e)) seat beside)
+    on_by left words new (phase.Settle keeping) (phase.Keep (length words.owners) keeping) (omega (arith, enough)) (went words new (phase.Settle keeping) (reported.Settled (length words.owners) number) _ made_here refl)
+    (keep_ends (left - 1) new cell (length words.owners) number place keeping (omega (arith, enough)) s (subst (λ n. n < grants) (sym granted_is) can.shares) (λ e. subst (λ n. n < notes) (sym noted_is) (can.notes_left e)) use_of beside)
 
 swap_done : (left : ℕ) (words new : Zones) (cell : Cell Numbered) (keeping : Keeping) (event : WordEvent) → 62 ≤ left → Shows new cell → CanEnd words keeping → Makes words word.Swap event new → IsDone (steps_up_to left words (phase.Swap keeping)).0
 swap_done left words new cell keeping event enough s can (place, last, is, within, number, told_is, new_is) =
@@ -418,22 +418,22 @@ probe_done left words new cell version keeping place event enough within s can f
     elim (cases_Bool (there.shares == free_word)) [
       | inl free ↦ (
           let h = rw free at m in
-          let made_here : Makes words word.Probe told.Taken new = (seen, there, is, found, rw free (refl, h.1)) in
+          let made_here : Makes words word.Probe reported.Taken new = (seen, there, is, found, rw free (refl, h.1)) in
           let still = can_keep words new keeping (ap (λ (w : Zones). w.owners) h.1) (ap (λ (w : Zones). w.granted) h.1) (ap (λ (w : Zones). w.noted) h.1) can in
-          on_by left words new (phase.Probe version keeping) (phase.Prepare version keeping) (omega (arith, enough)) (went words new (phase.Probe version keeping) told.Taken _ made_here refl)
+          on_by left words new (phase.Probe version keeping) (phase.Prepare version keeping) (omega (arith, enough)) (went words new (phase.Probe version keeping) reported.Taken _ made_here refl)
           (prepare_ends (left - 1) new cell version keeping seen (omega (arith, enough, within)) s still few (publisher_after new _ h.1))
           )
       | inr isnt ↦ elim (eqb_tells (seen + 1) slots) [
         | inl all ↦ (
             let h = rw (isnt, all.0) at m in
-            let made_here : Makes words word.Probe told.NoSlot new = (seen, there, is, found, rw (isnt, all.0) (refl, h.1)) in
-            done_by left words new (phase.Probe version keeping) _ (omega (arith, enough)) (went words new (phase.Probe version keeping) told.NoSlot _ made_here refl) tt
+            let made_here : Makes words word.Probe reported.NoSlot new = (seen, there, is, found, rw (isnt, all.0) (refl, h.1)) in
+            done_by left words new (phase.Probe version keeping) _ (omega (arith, enough)) (went words new (phase.Probe version keeping) reported.NoSlot _ made_here refl) tt
             )
         | inr more ↦ (
             let h = rw (isnt, more.0) at m in
-            let made_here : Makes words word.Probe told.Passed new = (seen, there, is, found, rw (isnt, more.0) (refl, h.1)) in
+            let made_here : Makes words word.Probe reported.Passed new = (seen, there, is, found, rw (isnt, more.0) (refl, h.1)) in
             let still = can_keep words new keeping (ap (λ (w : Zones). w.owners) h.1) (ap (λ (w : Zones). w.granted) h.1) (ap (λ (w : Zones). w.noted) h.1) can in
-            on_by left words new (phase.Probe version keeping) (phase.Probe version keeping) (omega (arith, enough)) (went words new (phase.Probe version keeping) told.Passed _ made_here refl)
+            on_by left words new (phase.Probe version keeping) (phase.Probe version keeping) (omega (arith, enough)) (went words new (phase.Probe version keeping) reported.Passed _ made_here refl)
             (goes (seen + 1) (publisher_after new _ h.1) still (omega (arith, enough, within, same, more.1)))
             )
       ]

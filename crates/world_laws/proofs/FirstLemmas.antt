@@ -12,7 +12,7 @@ use Rattle.cell_core.specs.WordSteps.{Makes}
 use Rattle.cell_core.specs.declared.words.Owner.{Owner}
 use Rattle.cell_core.specs.declared.words.Owner.TheVariants.{Holding, Twice, Weakly, Both, Burying, Fading, Resetting, Freeing, Spent}
 use Rattle.cell_core.specs.declared.words.WordEvent.{WordEvent}
-use Rattle.cell_core.specs.declared.words.WordEvent.TheVariants as told
+use Rattle.cell_core.specs.declared.words.WordEvent.TheVariants as reported
 use Rattle.cell_core.specs.declared.words.WordStep.TheVariants as word
 use Rattle.cell_core.specs.Words.{grants, place_of, version_in, found_last}
 use Rattle.cell_core.specs.declared.words.Version.{Version}
@@ -46,7 +46,7 @@ use Rattle.world_run.specs.declared.step.WorldStep.{WorldStep}
 use Rattle.world_run.specs.declared.step.WorldStep.TheVariants.{Whole, Begin, Next}
 use Rattle.world_run.specs.Phases.{word_step}
 use Rattle.world_run.specs.World.{fade_start, copy_start, weak_start, up_start, is_used, is_taken_weakly}
-use Rattle.world_run.specs.World.{World, owner_of, call_of, is_taken, zone_of, drop_start, ask_said, ask_start, is_held, publication_start, update_start, oldest_kept, start, answer_at, step_once, steps_up_to, most_steps, is_full, all_made, whole, begin, begin_under, stepped, next, turn}
+use Rattle.world_run.specs.World.{World, owner_of, call_of, is_taken, zone_of, drop_start, ask_said, ask_start, is_held, publication_start, update_start, oldest_kept, start, answer_at, step_once, steps_up_to, most_steps, is_full, all_made, whole, begin_call, begin_under, stepped, next, turn}
 use Rattle.world_laws.proofs.RunLemmas.{one_step}
 use Rattle.world_run.proofs.StepLemmas.{stays_there, goes_further}
 use Rattle.cell_core.proofs.WeakShows.{to_fade}
@@ -146,35 +146,35 @@ IsProbe at = ⊥
 
 load_done : (left : ℕ) (words new : Zones) (name : List ℕ) (event : WordEvent) → 1 ≤ left → Makes words word.Load event new → IsDone (steps_up_to left words (phase.Load name)).0
 load_done left words new name event enough (number, found, few, told_is, new_is) =
-    let made_here : Makes words word.Load (told.Loaded (length words.owners) number) new = (number, found, few, refl, new_is) in
-    done_by left words new (phase.Load name) _ (omega arith) (went words new (phase.Load name) (told.Loaded (length words.owners) number) _ made_here refl) tt
+    let made_here : Makes words word.Load (reported.Loaded (length words.owners) number) new = (number, found, few, refl, new_is) in
+    done_by left words new (phase.Load name) _ (omega arith) (went words new (phase.Load name) (reported.Loaded (length words.owners) number) _ made_here refl) tt
 
 raise_done : (left : ℕ) (words new : Zones) (name : List ℕ) (from : ℕ) (event : WordEvent) → 1 ≤ left → Makes words (word.Raise from) event new → IsDone (steps_up_to left words (phase.Raise name from)).0
 raise_done left words new name from event enough (number, place, there, own, found, room, m) =
     elim (cases_Bool (nat_lt there.shares dead_word)) [
       | inl little ↦ (
           let h = rw little at m in
-          let made_here : Makes words (word.Raise from) (told.Raised (length words.owners) number) new = (number, place, there, own, found, room, rw little (refl, h.1)) in
-          done_by left words new (phase.Raise name from) _ (omega (arith, enough)) (went words new (phase.Raise name from) (told.Raised (length words.owners) number) _ made_here refl) tt
+          let made_here : Makes words (word.Raise from) (reported.Raised (length words.owners) number) new = (number, place, there, own, found, room, rw little (refl, h.1)) in
+          done_by left words new (phase.Raise name from) _ (omega (arith, enough)) (went words new (phase.Raise name from) (reported.Raised (length words.owners) number) _ made_here refl) tt
           )
       | inr great ↦ (
           let h = rw great at m in
-          let made_here : Makes words (word.Raise from) told.Dead new = (number, place, there, own, found, room, rw great (refl, h.1)) in
-          done_by left words new (phase.Raise name from) _ (omega (arith, enough)) (went words new (phase.Raise name from) told.Dead _ made_here refl) tt
+          let made_here : Makes words (word.Raise from) reported.Dead new = (number, place, there, own, found, room, rw great (refl, h.1)) in
+          done_by left words new (phase.Raise name from) _ (omega (arith, enough)) (went words new (phase.Raise name from) reported.Dead _ made_here refl) tt
           )
     ]
 
 note_done : (left : ℕ) (words new : Zones) (name : List ℕ) (from : ℕ) (event : WordEvent) → 1 ≤ left → Makes words (word.Note from) event new → IsDone (steps_up_to left words (phase.Note name from)).0
-note_done left words new name from event enough (number, place, there, seat, found, room, told_is, new_is) =
-    let made_here : Makes words (word.Note from) (told.Noted (length words.owners) number) new = (number, place, there, seat, found, room, refl, new_is) in
-    done_by left words new (phase.Note name from) _ (omega (arith, enough)) (went words new (phase.Note name from) (told.Noted (length words.owners) number) _ made_here refl) tt
+note_done left words new name from event enough (number, place, there, use_of, found, room, told_is, new_is) =
+    let made_here : Makes words (word.Note from) (reported.Noted (length words.owners) number) new = (number, place, there, use_of, found, room, refl, new_is) in
+    done_by left words new (phase.Note name from) _ (omega (arith, enough)) (went words new (phase.Note name from) (reported.Noted (length words.owners) number) _ made_here refl) tt
 
 -- a weak owner's release
 weak_done : (words new : Zones) (cell : Cell Numbered) (owner : ℕ) (event : WordEvent) → Shows words cell → Makes words (word.Fade owner) event new → IsDone (steps_up_to most_steps words (phase.Fade owner None purpose.Drop)).0
 weak_done words new cell owner event s (place, there, fades, found, m) =
     elim (to_fade words owner place fades) [
-      | inl seat ↦ fade_ends most_steps words cell owner place (Weakly seat.0 place) None purpose.Drop (drop_passes owner) (omega arith) s seat.1 refl tt
-      | inr seat ↦ fade_ends most_steps words cell owner place (Fading place) None purpose.Drop (drop_passes owner) (omega arith) s seat refl tt
+      | inl use_of ↦ fade_ends most_steps words cell owner place (Weakly use_of.0 place) None purpose.Drop (drop_passes owner) (omega arith) s use_of.1 refl tt
+      | inr use_of ↦ fade_ends most_steps words cell owner place (Fading place) None purpose.Drop (drop_passes owner) (omega arith) s use_of refl tt
     ]
 
 -- a raise behind a look is made, or nothing has changed
@@ -188,14 +188,14 @@ look_then : (words new : Zones) (name : List ℕ) (from : ℕ) (event : WordEven
 look_then words new name from event (number, place, there, own, found, m) =
     elim (cases_Bool (nat_lt there.shares dead_word)) [
       | inl little ↦ (
-          let made_here : Makes words (word.Look from) told.Alive words = (number, place, there, own, found, rw little (refl, refl)) in
-          let goes = goes_further most_steps words words (phase.Look name from) (phase.Raise name from) (omega arith) (went words words (phase.Look name from) told.Alive (On (phase.Raise name from)) made_here refl) in
+          let made_here : Makes words (word.Look from) reported.Alive words = (number, place, there, own, found, rw little (refl, refl)) in
+          let goes = goes_further most_steps words words (phase.Look name from) (phase.Raise name from) (omega arith) (went words words (phase.Look name from) reported.Alive (On (phase.Raise name from)) made_here refl) in
           subst (λ (c : Progress × Zones). Unchanged words c) (sym goes) (raise_then (most_steps - 1) words name from (step_once words (phase.Raise name from)) (omega arith) refl)
           )
       | inr great ↦ (
-          let made_here : Makes words (word.Look from) told.Dead words = (number, place, there, own, found, rw great (refl, refl)) in
+          let made_here : Makes words (word.Look from) reported.Dead words = (number, place, there, own, found, rw great (refl, refl)) in
           done_unchanged words (steps_up_to most_steps words (phase.Look name from))
-          (done_by most_steps words words (phase.Look name from) _ (omega arith) (went words words (phase.Look name from) told.Dead _ made_here refl) tt)
+          (done_by most_steps words words (phase.Look name from) _ (omega arith) (went words words (phase.Look name from) reported.Dead _ made_here refl) tt)
           )
     ]
 
@@ -220,8 +220,8 @@ first_then words new cell (phase.Swap keeping) event is s few m = absurd is
 first_then words new cell (phase.Settle keeping) event is s few m = absurd is
 first_then words new cell (phase.Keep given keeping) event is s few m = absurd is
 first_then words new cell (phase.Enter given kept keeping) event is s few m = absurd is
-first_then words new cell (phase.Release owner purpose.Drop) event is s few (number, place, there, seat, found, m) =
-    done_unchanged words (steps_up_to most_steps words (phase.Release owner purpose.Drop)) (release_ends most_steps words cell owner number place purpose.Drop (drop_passes owner) (omega arith) s seat tt)
+first_then words new cell (phase.Release owner purpose.Drop) event is s few (number, place, there, use_of, found, m) =
+    done_unchanged words (steps_up_to most_steps words (phase.Release owner purpose.Drop)) (release_ends most_steps words cell owner number place purpose.Drop (drop_passes owner) (omega arith) s use_of tt)
 first_then words new cell (phase.Release owner (purpose.Publish keeping kept entry)) event is s few m = absurd is
 first_then words new cell (phase.Release owner (purpose.Oldest head kept entry leaving)) event is s few m = absurd is
 first_then words new cell (phase.Release owner (purpose.Leaves head kept entry leaving)) event is s few m = absurd is
@@ -432,7 +432,7 @@ publication_first world head version ok =
 
 update_first : (world : World) (what : Option Judged) → EntriesOk world → FirstOf world.words (update_start world what)
 update_first world None ok = tt
-update_first world (Some (judgement.Told head code)) ok = tt
+update_first world (Some (judgement.Replied head code)) ok = tt
 update_first world (Some (judgement.Makes head version)) ok = publication_first world head version ok
 
 -- calls begin so, by their kind
@@ -496,7 +496,7 @@ transfer_opening world request (Some owner) = of_opening world owner request (fo
 
 update_opening : (world : World) (what : Option Judged) → OpeningOf (update_start world what)
 update_opening world None = tt
-update_opening world (Some (judgement.Told head code)) = tt
+update_opening world (Some (judgement.Replied head code)) = tt
 update_opening world (Some (judgement.Makes head version)) = opening_if (nat_lt world.words.granted grants && is_held world.words (oldest_kept world.keep world.kept) && can_enter world.words world.window) _ _ tt tt
 
 pub start_opening : (world : World) (call : Call) → OpeningOf (start world call)
@@ -555,7 +555,7 @@ whole_refusal world cell call (Takes at) is s few =
     refusal_if world (is_full world) _ _ (nothing world)
     (all_made_refusal world call (steps_up_to most_steps world.words at) (first_by world.words cell at (step_once world.words at) refl is s (λ probe. few)))
 
-begin_refusal : (world : World) (name : List ℕ) (call : Call) (how : Start) → Refusal world (begin world name call how)
+begin_refusal : (world : World) (name : List ℕ) (call : Call) (how : Start) → Refusal world (begin_call world name call how)
 begin_refusal world name call Refused = itself world
 begin_refusal world name call (Answers answer) = refusal_if world (is_full world) _ _ (nothing world) (another world _ _ (no_answered answer))
 begin_refusal world name call (Takes at) = refusal_if world (is_full world) _ _ (nothing world) (another world _ _ (λ e. absurd (let wrong = e in cc)))

@@ -26,15 +26,15 @@ use Rattle.world_laws.specs.Replays.{IsSentAt}
 use Rattle.world_run.specs.World.{World, started, owner_of, kept_versions, play}
 use Rattle.world_laws.proofs.CallReplays.{script, updates_in}
 use Rattle.world_laws.proofs.OtherCalls.{any_update}
-use Rattle.world_laws.proofs.HandEnds.{no_swaps}
-use Rattle.world_laws.proofs.HandLemmas.{HandIs, AllFit, times, times_append, fit_front, fit_back, lives}
-use Rattle.world_laws.proofs.HandLemmas.Hand.{holds, weakly}
-use Rattle.world_laws.proofs.HandPlay.{Kept, played_kept}
-use Rattle.world_laws.proofs.HandSeats.{Zones, window_seats}
+use Rattle.world_laws.proofs.UseEnds.{no_swaps}
+use Rattle.world_laws.proofs.UseLemmas.{IsOfKind, AllFit, times, times_append, fit_front, fit_back, lives}
+use Rattle.world_laws.proofs.UseLemmas.UseKind.{holds, weakly}
+use Rattle.world_laws.proofs.UsePlay.{Kept, played_kept}
+use Rattle.world_laws.proofs.UseLists.{Zones, window_uses}
 use Rattle.world_laws.proofs.WindowRest.{Rests, Noted, window_buried, window_free}
 use Rattle.world_run.specs.declared.entries.Entry.{Entry}
-use Rattle.world_laws.proofs.HandTurns.{times_four, fits_four}
-use Rattle.world_laws.proofs.HandWorld.{store_of, stays_of, seats_as, both_seats, kept_seats, kept_left, entries_left, call_seats, any_publishes, Hands}
+use Rattle.world_laws.proofs.UseTurns.{times_four, fits_four}
+use Rattle.world_laws.proofs.UseWorld.{store_of, stays_of, uses_as, both_uses, kept_uses, kept_left, entries_left, call_uses, any_publishes, AllInUse}
 use Rattle.world_laws.proofs.ReplayLemmas.{goes_replayed, replayed_us}
 
 -- the number in W is the last
@@ -54,23 +54,23 @@ same_length words one two s t =
     omega (arith, is, a, b)
 
 -- a name's owner is in hand
-named_holds : (owners : List Owner) (name : List ℕ) (names : List Named) (owner : ℕ) → AllFit owners (seats_as holds names) → owner_of name names ≡ Some owner → HandIs owners owner holds
+named_holds : (owners : List Owner) (name : List ℕ) (names : List Named) (owner : ℕ) → AllFit owners (uses_as holds names) → owner_of name names ≡ Some owner → IsOfKind owners owner holds
 named_holds owners name [] owner fits e = absurd (let wrong = e in cc)
 named_holds owners name (x ∷ names) owner fits e =
     elim (cases_Bool (bytes_eq x.name name)) [
-      | inl same ↦ (let found = rw same at e in let it : x.owner ≡ owner = (let f = found in cc) in subst (λ o. HandIs owners o holds) it fits.0)
+      | inl same ↦ (let found = rw same at e in let it : x.owner ≡ owner = (let f = found in cc) in subst (λ o. IsOfKind owners o holds) it fits.0)
       | inr other ↦ named_holds owners name names owner fits.1 (rw other at e)
     ]
 
 -- what is in hand beside the calls under way
-pub parts_of : (world : World) (h : Hands world) → AllFit world.words.owners (seats_as holds world.names) × AllFit world.words.owners (kept_left h.from world.keep world.kept (any_update world.calls)) × AllFit world.words.owners (entries_left (h.from + length world.kept) world.entries (any_update world.calls))
+pub parts_of : (world : World) (h : AllInUse world) → AllFit world.words.owners (uses_as holds world.names) × AllFit world.words.owners (kept_left h.from world.keep world.kept (any_update world.calls)) × AllFit world.words.owners (entries_left (h.from + length world.kept) world.entries (any_update world.calls))
 parts_of world h =
     let kept_ones = kept_left h.from world.keep world.kept (any_update world.calls) in
     let window = entries_left (h.from + length world.kept) world.entries (any_update world.calls) in
-    let all = fits_four world.words.owners [] (both_seats world.names world.weak_names) (kept_ones ++ window) (call_seats h.last h.from (stays_of (store_of world)) world.calls) h.seated.fit in
-    (fit_front world.words.owners (seats_as holds world.names) (seats_as weakly world.weak_names) all.1, fit_front world.words.owners kept_ones window all.2, fit_back world.words.owners kept_ones window all.2)
+    let all = fits_four world.words.owners [] (both_uses world.names world.weak_names) (kept_ones ++ window) (call_uses h.last h.from (stays_of (store_of world)) world.calls) h.in_use.fit in
+    (fit_front world.words.owners (uses_as holds world.names) (uses_as weakly world.weak_names) all.1, fit_front world.words.owners kept_ones window all.2, fit_back world.words.owners kept_ones window all.2)
 
-name_has : (world : World) (cell : Cell Numbered) (name : List ℕ) (owner : ℕ) → Hands world → Shows world.words cell → owner_of name world.names ≡ Some owner → HoldsVersion cell.published world name owner
+name_has : (world : World) (cell : Cell Numbered) (name : List ℕ) (owner : ℕ) → AllInUse world → Shows world.words cell → owner_of name world.names ≡ Some owner → HoldsVersion cell.published world name owner
 name_has world cell name owner h s e =
     let held = named_holds world.words.owners name world.names owner (parts_of world h).0 e in
     let found = owner_finds world.words cell owner held.0 held.1 s held.2 in
@@ -85,7 +85,7 @@ name_has world cell name owner h s e =
     }
 
 -- the versions that are kept are those published with their numbers, in turn
-kept_are : (words : Zones) (cell : Cell Numbered) (from : ℕ) (kept : List ℕ) → Shows words cell → AllFit words.owners (kept_seats from kept) → from + length kept ≡ length cell.published → flat_map (λ owner. option_to_list (found_by words owner)) kept ≡ drop from cell.published
+kept_are : (words : Zones) (cell : Cell Numbered) (from : ℕ) (kept : List ℕ) → Shows words cell → AllFit words.owners (kept_uses from kept) → from + length kept ≡ length cell.published → flat_map (λ owner. option_to_list (found_by words owner)) kept ≡ drop from cell.published
 kept_are words cell from [] s fits count = sym (drop_all from cell.published (omega (arith, count)))
 kept_are words cell from (o ∷ os) s fits count =
     let found = owner_finds words cell o from fits.0.0 s fits.0.1 in
@@ -93,7 +93,7 @@ kept_are words cell from (o ∷ os) s fits count =
     let more = kept_are words cell (from + 1) os s fits.1 (omega (arith, count)) in
     ap (λ v. option_to_list v ++ flat_map (λ owner. option_to_list (found_by words owner)) os) given ∙ (ap (λ vs. found.0 ∷ vs) more ∙ sym (drop_here cell.published from found.0 (sym found.2)))
 
-kept_is : (world : World) (cell : Cell Numbered) (h : Hands world) → any_update world.calls ≡ false → Shows world.words cell → kept_versions world ≡ drop h.from cell.published
+kept_is : (world : World) (cell : Cell Numbered) (h : AllInUse world) → any_update world.calls ≡ false → Shows world.words cell → kept_versions world ≡ drop h.from cell.published
 kept_is world cell h none s =
     let fits = rw none at (parts_of world h).1 in
     let swaps = no_swaps world.calls none in
@@ -105,12 +105,12 @@ held_by_kept first lines top begun_as world k =
     let r = goes_replayed first lines top world k.goes in
     record {
       replayed = r;
-      names = λ name owner e. name_has world r.reached.cell name owner k.hands r.reached.shows e;
+      names = λ name owner e. name_has world r.reached.cell name owner k.all_in_use r.reached.shows e;
       kept = λ none. (
           let swaps = no_swaps world.calls none in
-          let same = same_length world.words k.hands.cell r.reached.cell k.hands.shows r.reached.shows in
-          let e : k.hands.from ≡ length r.updates - world.keep = omega (arith, k.hands.kept_from, k.hands.swapped, swaps, k.hands.counted, same, r.replays.counted) in
-          kept_is world r.reached.cell k.hands none r.reached.shows ∙ ap (λ n. drop n r.reached.cell.published) e
+          let same = same_length world.words k.all_in_use.cell r.reached.cell k.all_in_use.shows r.reached.shows in
+          let e : k.all_in_use.from ≡ length r.updates - world.keep = omega (arith, k.all_in_use.kept_from, k.all_in_use.swapped, swaps, k.all_in_use.counted, same, r.replays.counted) in
+          kept_is world r.reached.cell k.all_in_use none r.reached.shows ∙ ap (λ n. drop n r.reached.cell.published) e
           );
     }
 
@@ -123,7 +123,7 @@ pub played_held : (first : List Record) (keep window : ℕ) (lines : List Line) 
 played_held first keep window lines replies world e = (let k = played_kept first keep window lines replies world e in held_by_kept first lines k.0 (started first keep window) world k.1)
 
 -- what is kept has a number from that of the oldest on
-kept_has : (owners : List Owner) (from : ℕ) (kept : List ℕ) (i : ℕ) → AllFit owners (kept_seats from kept) → 0 < times i (kept_seats from kept) → (number : ℕ) × (place : ℕ) × (from ≤ number) × (slice_get owners i ≡ Some (Holding number place))
+kept_has : (owners : List Owner) (from : ℕ) (kept : List ℕ) (i : ℕ) → AllFit owners (kept_uses from kept) → 0 < times i (kept_uses from kept) → (number : ℕ) × (place : ℕ) × (from ≤ number) × (slice_get owners i ≡ Some (Holding number place))
 kept_has owners from [] i fits some = absurd (omega (arith, some))
 kept_has owners from (o ∷ os) i fits some =
     elim (eqb_tells o i) [
@@ -136,7 +136,7 @@ kept_has owners from (o ∷ os) i fits some =
     ]
 
 -- and each of these numbers has an owner
-kept_owns : (owners : List Owner) (from : ℕ) (kept : List ℕ) (number : ℕ) → AllFit owners (kept_seats from kept) → from ≤ number → number < from + length kept → (owner : ℕ) × (place : ℕ) × (slice_get owners owner ≡ Some (Holding number place))
+kept_owns : (owners : List Owner) (from : ℕ) (kept : List ℕ) (number : ℕ) → AllFit owners (kept_uses from kept) → from ≤ number → number < from + length kept → (owner : ℕ) × (place : ℕ) × (slice_get owners owner ≡ Some (Holding number place))
 kept_owns owners from [] number fits within less = absurd (omega (arith, within, less))
 kept_owns owners from (o ∷ os) number fits within less =
     elim (eqb_tells from number) [
@@ -145,7 +145,7 @@ kept_owns owners from (o ∷ os) number fits within less =
     ]
 
 -- an owner of the window is a weak one, of one of the last numbers
-window_has : (owners : List Owner) (total : ℕ) (entries : List Entry) (i : ℕ) → AllFit owners (window_seats total entries) → 0 < times i (window_seats total entries) → (number : ℕ) × (place : ℕ) × (total ≤ number + length entries) × (slice_get owners i ≡ Some (Weakly number place))
+window_has : (owners : List Owner) (total : ℕ) (entries : List Entry) (i : ℕ) → AllFit owners (window_uses total entries) → 0 < times i (window_uses total entries) → (number : ℕ) × (place : ℕ) × (total ≤ number + length entries) × (slice_get owners i ≡ Some (Weakly number place))
 window_has owners total [] i fits some = absurd (omega (arith, some))
 window_has owners total (x ∷ entries) i fits some =
     elim (eqb_tells x.owner i) [
@@ -158,7 +158,7 @@ window_has owners total (x ∷ entries) i fits some =
     ]
 
 -- and each of these numbers has one
-window_owns : (owners : List Owner) (total : ℕ) (entries : List Entry) (number : ℕ) → AllFit owners (window_seats total entries) → total ≤ number + length entries → number < total → (owner : ℕ) × (place : ℕ) × (slice_get owners owner ≡ Some (Weakly number place))
+window_owns : (owners : List Owner) (total : ℕ) (entries : List Entry) (number : ℕ) → AllFit owners (window_uses total entries) → total ≤ number + length entries → number < total → (owner : ℕ) × (place : ℕ) × (slice_get owners owner ≡ Some (Weakly number place))
 window_owns owners total [] number fits within less = absurd (omega (arith, within, less))
 window_owns owners total (x ∷ entries) number fits within less =
     elim (eqb_tells x.number number) [
@@ -166,7 +166,7 @@ window_owns owners total (x ∷ entries) number fits within less =
       | inr other ↦ (let n = fits.0.0 in let apart = other.1 in window_owns owners total entries number fits.1 (omega (arith, within, n, apart)) less)
     ]
 
-window_few : (owners : List Owner) (total : ℕ) (entries : List Entry) → AllFit owners (window_seats total entries) → length entries ≤ total
+window_few : (owners : List Owner) (total : ℕ) (entries : List Entry) → AllFit owners (window_uses total entries) → length entries ≤ total
 window_few owners total [] fits = omega arith
 window_few owners total (x ∷ entries) fits = let n = fits.0.0 in omega (arith, n)
 
@@ -177,15 +177,15 @@ AtRestAs from back how = (how ≡ Spent) ⊎ (((number : ℕ) × (place : ℕ) �
 -- all that is in hand then
 record InStore (owners : List Owner) (from back total : ℕ) (kept : List ℕ) (entries : List Entry) : Type 0 where
   whole : back + length entries ≡ total
-  strong : AllFit owners (kept_seats from kept)
-  weak : AllFit owners (window_seats total entries)
-  exact : (i : ℕ) → times i (kept_seats from kept) + times i (window_seats total entries) ≡ lives (slice_get owners i)
+  strong : AllFit owners (kept_uses from kept)
+  weak : AllFit owners (window_uses total entries)
+  exact : (i : ℕ) → times i (kept_uses from kept) + times i (window_uses total entries) ≡ lives (slice_get owners i)
 
 kept_one : (owners : List Owner) (from back total : ℕ) (kept : List ℕ) (entries : List Entry) (owner : ℕ) (how : Owner) → InStore owners from back total kept entries → slice_get owners owner ≡ Some how → lives (Some how) ≡ 1 → AtRestAs from back how
 kept_one owners from back total kept entries owner how s at one =
     let count = s.exact owner in
     let is : lives (slice_get owners owner) ≡ 1 = ap lives at ∙ one in
-    elim (cases_lt 0 (times owner (kept_seats from kept))) [
+    elim (cases_lt 0 (times owner (kept_uses from kept))) [
       | inl strong ↦ (
           let has = kept_has owners from kept owner s.strong strong in
           inr (inl (has.0, has.1, has.2, (let e : Some how ≡ Some (Holding has.0 has.1) = sym at ∙ has.3 in cc)))
@@ -210,7 +210,7 @@ spent_or_kept owners from back total kept entries owner (Freeing place) s at = k
 spent_or_kept owners from back total kept entries owner Spent s at = inl refl
 
 -- the versions that are kept have the last number and those before it, and so do those of the window
-rests_so : (world : World) (h : Hands world) → world.names ≡ [] → world.weak_names ≡ [] → world.calls ≡ [] → (last : ℕ) → length h.cell.published ≡ last + 1
+rests_so : (world : World) (h : AllInUse world) → world.names ≡ [] → world.weak_names ≡ [] → world.calls ≡ [] → (last : ℕ) → length h.cell.published ≡ last + 1
     → Rests world.words (last - world.keep) (last + 1 - length world.entries) last × Noted world.words (last + 1 - length world.entries) last × (length world.entries ≤ last + 1)
 rests_so world h no_names no_weak no_calls last count =
     let no_update : any_update world.calls ≡ false = ap any_update no_calls in
@@ -232,15 +232,15 @@ rests_so world h no_names no_weak no_calls last count =
       strong = fits;
       weak = window;
       exact = λ i. (
-          let all = h.seated.exact i in
-          let four = times_four i [] (both_seats world.names world.weak_names) (kept_ones ++ entries) (call_seats h.last h.from (stays_of (store_of world)) world.calls) in
+          let all = h.in_use.exact i in
+          let four = times_four i [] (both_uses world.names world.weak_names) (kept_ones ++ entries) (call_uses h.last h.from (stays_of (store_of world)) world.calls) in
           let two = times_append i kept_ones entries in
-          let both = times_append i (seats_as holds world.names) (seats_as weakly world.weak_names) in
-          let names : times i (seats_as holds world.names) ≡ 0 = ap (λ ns. times i (seats_as holds ns)) no_names in
-          let weaks : times i (seats_as weakly world.weak_names) ≡ 0 = ap (λ ns. times i (seats_as weakly ns)) no_weak in
-          let calls : times i (call_seats h.last h.from (stays_of (store_of world)) world.calls) ≡ 0 = ap (λ cs. times i (call_seats h.last h.from (stays_of (store_of world)) cs)) no_calls in
-          let kept : times i kept_ones ≡ times i (kept_seats h.from world.kept) = ap (λ b. times i (kept_left h.from world.keep world.kept b)) no_update in
-          let noted : times i entries ≡ times i (window_seats (h.from + length world.kept) world.entries) = ap (λ b. times i (entries_left (h.from + length world.kept) world.entries b)) no_update in
+          let both = times_append i (uses_as holds world.names) (uses_as weakly world.weak_names) in
+          let names : times i (uses_as holds world.names) ≡ 0 = ap (λ ns. times i (uses_as holds ns)) no_names in
+          let weaks : times i (uses_as weakly world.weak_names) ≡ 0 = ap (λ ns. times i (uses_as weakly ns)) no_weak in
+          let calls : times i (call_uses h.last h.from (stays_of (store_of world)) world.calls) ≡ 0 = ap (λ cs. times i (call_uses h.last h.from (stays_of (store_of world)) cs)) no_calls in
+          let kept : times i kept_ones ≡ times i (kept_uses h.from world.kept) = ap (λ b. times i (kept_left h.from world.keep world.kept b)) no_update in
+          let noted : times i entries ≡ times i (window_uses (h.from + length world.kept) world.entries) = ap (λ b. times i (entries_left (h.from + length world.kept) world.entries b)) no_update in
           omega (arith, all, four, two, both, names, weaks, calls, kept, noted)
           );
     } in (
@@ -261,10 +261,10 @@ played_rests first keep window lines replies world e no_names no_weak no_calls =
     let all = played_kept first keep window lines replies world e in
     let k = all.1 in
     let r = goes_replayed first lines all.0 world k.goes in
-    let same = same_length world.words k.hands.cell r.reached.cell k.hands.shows r.reached.shows in
+    let same = same_length world.words k.all_in_use.cell r.reached.cell k.all_in_use.shows r.reached.shows in
     let last = length r.updates in
     let noted = length world.entries in
-    let so = rests_so world k.hands no_names no_weak no_calls last (omega (arith, same, r.replays.counted)) in
+    let so = rests_so world k.all_in_use no_names no_weak no_calls last (omega (arith, same, r.replays.counted)) in
     let rest = subst (λ n. Rests world.words (last - n) (last + 1 - noted) last) k.same.0 so.0 in
     let few = so.2 in
     record {

@@ -20,7 +20,7 @@ use Rattle.dns_rdata.specs.Record.{Record}
 use Rattle.zone_tree.specs.Version.{Version as Numbered}
 use Rattle.world_run.specs.declared.calls.UnderWay.{UnderWay}
 use Rattle.world_run.specs.declared.phase.End.{End}
-use Rattle.world_run.specs.declared.phase.End.TheVariants.{Owned, OwnedWeakly, Told, NoSlot, Kept, Sent}
+use Rattle.world_run.specs.declared.phase.End.TheVariants.{Owned, OwnedWeakly, Replied, NoSlot, Kept, Sent}
 use Rattle.world_run.specs.declared.phase.Phase.{Phase}
 use Rattle.world_run.specs.declared.phase.Phase.TheVariants as phase
 use Rattle.world_run.specs.declared.phase.Progress.{Progress}
@@ -40,13 +40,13 @@ use Rattle.world_laws.specs.InTurn.{EndsUnder, IsOpen, IsOfCall, GivesAt, IsTold
 use Rattle.world_run.specs.Phases.{step_name, updates}
 use Rattle.world_laws.specs.Replays.{Sends, IsSentAt}
 use Rattle.world_laws.specs.UpdateAnswers.{heading_for, heading_of}
-use Rattle.world_run.specs.World.{World, started, call_of, without_call, code_reply, answer_at, step_once, steps_up_to, most_steps, is_full, all_made, whole, begin, begin_under, start, stepped, next, turn, onto_replies, play}
+use Rattle.world_run.specs.World.{World, started, call_of, without_call, code_reply, answer_at, step_once, steps_up_to, most_steps, is_full, all_made, whole, begin_call, begin_under, start, stepped, next, turn, onto_replies, play}
 use Rattle.world_laws.proofs.CallReplays.{Script, scripted, Placed, updates_in, Zones}
 use Rattle.world_laws.proofs.OtherCalls.{any_update, AtMostOne, found_any, found_alone}
 use Rattle.world_laws.proofs.FirstLemmas.{Unchanged, FirstOf, IsFirst, IsProbe, first_by, start_first}
-use Rattle.world_laws.proofs.HandPlay.{BeginsOk, start_begins, entries_ok, turn_hands, turn_same, started_hands, started_less, started_few}
-use Rattle.world_laws.proofs.HandSeats.{swapped_in, swapped_at}
-use Rattle.world_laws.proofs.HandWorld.{Hands}
+use Rattle.world_laws.proofs.UsePlay.{BeginsOk, start_begins, entries_ok, turn_in_use, turn_same, started_in_use, started_less, started_few}
+use Rattle.world_laws.proofs.UseLists.{swapped_in, swapped_at}
+use Rattle.world_laws.proofs.UseWorld.{AllInUse}
 use Rattle.world_laws.proofs.HeldLemmas.{same_length}
 use Rattle.world_laws.proofs.ReplayLemmas.{Goes, found_here, found_behind, found_new, by_after, AddedBy, Turned, turn_comes, goes_as, AllSent, all_sent, start_goes, no_updates, place_in, update_at, goes_replayed, replayed_us}
 use Rattle.world_laws.proofs.SwapLemmas.{HeadEnd, HeadAt, step_keeps}
@@ -93,7 +93,7 @@ head_updates (phase.Free owner number for) head e = head_updates_for for head ow
 kept_answer : (end : End) (head : Heading) → swapped_at (Done end) ≡ 1 → HeadEnd head end → answer_at end ≡ code_reply head NoError
 kept_answer (Owned name owner number) head swapped is = absurd (omega (arith, swapped))
 kept_answer (OwnedWeakly name owner number) head swapped is = absurd (omega (arith, swapped))
-kept_answer (Told given) head swapped is = absurd (omega (arith, swapped))
+kept_answer (Replied given) head swapped is = absurd (omega (arith, swapped))
 kept_answer (NoSlot other) head swapped is = absurd (omega (arith, swapped))
 kept_answer (Kept other owner entry) head swapped is = ap (λ h. code_reply h NoError) is
 kept_answer (Sent sending) head swapped is = absurd (omega (arith, swapped))
@@ -231,36 +231,36 @@ made_calls world call (Done end, words) = refl
 
 whole_fate : (lines : List Line) (replies : List WorldReply) (top : ℕ) (world : World) (made : Call) (how : Start) (name : List ℕ) (call : UnderWay) → slice_get lines top ≡ Some (Whole made) → call_of name world.calls ≡ Some call
     → FateBehind lines replies top world (Whole made) name call (whole world made how)
-whole_fate lines replies top world made Refused name call here found = fate_some lines replies top world (Whole made) name call _ (λ told. inl (found, λ answer. whole_ends_none lines replies top made name answer here))
+whole_fate lines replies top world made Refused name call here found = fate_some lines replies top world (Whole made) name call _ (λ reported. inl (found, λ answer. whole_ends_none lines replies top made name answer here))
 whole_fate lines replies top world made (Answers answer) name call here found =
     fate_if lines replies top world (Whole made) name call (is_full world) _ _ (fate_none lines replies top world (Whole made) name call)
-    (fate_some lines replies top world (Whole made) name call _ (λ told. inl (found, λ answer. whole_ends_none lines replies top made name answer here)))
+    (fate_some lines replies top world (Whole made) name call _ (λ reported. inl (found, λ answer. whole_ends_none lines replies top made name answer here)))
 whole_fate lines replies top world made (Takes at) name call here found =
     fate_if lines replies top world (Whole made) name call (is_full world) _ _ (fate_none lines replies top world (Whole made) name call)
-    (fate_some lines replies top world (Whole made) name call _ (λ told. inl (ap (call_of name) (made_calls world made (steps_up_to most_steps world.words at)) ∙ found, λ answer. whole_ends_none lines replies top made name answer here)))
+    (fate_some lines replies top world (Whole made) name call _ (λ reported. inl (ap (call_of name) (made_calls world made (steps_up_to most_steps world.words at)) ∙ found, λ answer. whole_ends_none lines replies top made name answer here)))
 
 begin_fate : (lines : List Line) (replies : List WorldReply) (top : ℕ) (world : World) (begun : List ℕ) (made : Call) (how : Start) (name : List ℕ) (call : UnderWay) → slice_get lines top ≡ Some (Begin begun made) → call_of name world.calls ≡ Some call
-    → FateBehind lines replies top world (Begin begun made) name call (begin world begun made how)
-begin_fate lines replies top world begun made Refused name call here found = fate_some lines replies top world (Begin begun made) name call _ (λ told. inl (found, λ answer. begin_ends_none lines replies top begun made name answer here))
+    → FateBehind lines replies top world (Begin begun made) name call (begin_call world begun made how)
+begin_fate lines replies top world begun made Refused name call here found = fate_some lines replies top world (Begin begun made) name call _ (λ reported. inl (found, λ answer. begin_ends_none lines replies top begun made name answer here))
 begin_fate lines replies top world begun made (Answers answer) name call here found =
     fate_if lines replies top world (Begin begun made) name call (is_full world) _ _ (fate_none lines replies top world (Begin begun made) name call)
-    (fate_some lines replies top world (Begin begun made) name call _ (λ told. inl (found, λ answer. begin_ends_none lines replies top begun made name answer here)))
+    (fate_some lines replies top world (Begin begun made) name call _ (λ reported. inl (found, λ answer. begin_ends_none lines replies top begun made name answer here)))
 begin_fate lines replies top world begun made (Takes at) name call here found =
     fate_if lines replies top world (Begin begun made) name call (is_full world) _ _ (fate_none lines replies top world (Begin begun made) name call)
-    (fate_some lines replies top world (Begin begun made) name call _ (λ told. inl (found_old name world.calls call (record { name = begun; phase = at }) found, λ answer. begin_ends_none lines replies top begun made name answer here)))
+    (fate_some lines replies top world (Begin begun made) name call _ (λ reported. inl (found_old name world.calls call (record { name = begun; phase = at }) found, λ answer. begin_ends_none lines replies top begun made name answer here)))
 
 under_fate : (lines : List Line) (replies : List WorldReply) (top : ℕ) (world : World) (begun : List ℕ) (made : Call) (other : Option UnderWay) (name : List ℕ) (call : UnderWay) → slice_get lines top ≡ Some (Begin begun made) → call_of name world.calls ≡ Some call
     → FateBehind lines replies top world (Begin begun made) name call (begin_under world begun made other)
 under_fate lines replies top world begun made None name call here found = begin_fate lines replies top world begun made (start world made) name call here found
-under_fate lines replies top world begun made (Some other) name call here found = fate_some lines replies top world (Begin begun made) name call _ (λ told. inl (found, λ answer. begin_ends_none lines replies top begun made name answer here))
+under_fate lines replies top world begun made (Some other) name call here found = fate_some lines replies top world (Begin begun made) name call _ (λ reported. inl (found, λ answer. begin_ends_none lines replies top begun made name answer here))
 
 -- the call of the line's own name
 own_fate : (lines : List Line) (replies : List WorldReply) (top : ℕ) (world : World) (name : List ℕ) (call : UnderWay) (o : Option (Progress × Zones)) → slice_get lines top ≡ Some (Next name) → call_of name world.calls ≡ Some call → step_once world.words call.phase ≡ o
     → slice_get replies top ≡ Some (stepped world name call.phase o).0 → Fate lines replies top world (Next name) (stepped world name call.phase o).0 (stepped world name call.phase o).1 name call
-own_fate lines replies top world name call None here found is told = inl (found, λ answer. refused_ends_none lines replies top name answer told)
-own_fate lines replies top world name call (Some (On further, words)) here found is told =
-    inr (inl (further, words, is, found_new name (without_call name world.calls) further (none_without name world.calls), λ answer. step_ends_none lines replies top name (step_name call.phase) answer told, refl))
-own_fate lines replies top world name call (Some (Done end, words)) here found is told = inr (inr (end, words, is, refl, (here, step_name call.phase, told)))
+own_fate lines replies top world name call None here found is reported = inl (found, λ answer. refused_ends_none lines replies top name answer reported)
+own_fate lines replies top world name call (Some (On further, words)) here found is reported =
+    inr (inl (further, words, is, found_new name (without_call name world.calls) further (none_without name world.calls), λ answer. step_ends_none lines replies top name (step_name call.phase) answer reported, refl))
+own_fate lines replies top world name call (Some (Done end, words)) here found is reported = inr (inr (end, words, is, refl, (here, step_name call.phase, reported)))
 
 -- and one of another name
 beside_fate : (lines : List Line) (replies : List WorldReply) (top : ℕ) (world : World) (other : List ℕ) (stepping : UnderWay) (o : Option (Progress × Zones)) (name : List ℕ) (call : UnderWay) → slice_get lines top ≡ Some (Next other) → bytes_eq other name ≡ false → call_of name world.calls ≡ Some call
@@ -273,25 +273,25 @@ beside_fate lines replies top world other stepping (Some (Done end, words)) name
 
 next_fate : (lines : List Line) (replies : List WorldReply) (top : ℕ) (world : World) (other : List ℕ) (o : Option UnderWay) (name : List ℕ) (call : UnderWay) → slice_get lines top ≡ Some (Next other) → call_of other world.calls ≡ o → call_of name world.calls ≡ Some call
     → slice_get replies top ≡ Some (next world other o).0 → Fate lines replies top world (Next other) (next world other o).0 (next world other o).1 name call
-next_fate lines replies top world other None name call here e found told = inl (found, λ answer. refused_ends_none lines replies top name answer told)
-next_fate lines replies top world other (Some stepping) name call here e found told =
+next_fate lines replies top world other None name call here e found reported = inl (found, λ answer. refused_ends_none lines replies top name answer reported)
+next_fate lines replies top world other (Some stepping) name call here e found reported =
     elim (cases_Bool (bytes_eq other name)) [
       | inl same ↦ (
           let is = same_name other name same in
           let it : stepping ≡ call = (let f : Some stepping ≡ Some call = sym e ∙ (ap (λ n. call_of n world.calls) is ∙ found) in cc) in
           subst (λ n. Fate lines replies top world (Next other) (stepped world other stepping.phase (step_once world.words stepping.phase)).0 (stepped world other stepping.phase (step_once world.words stepping.phase)).1 n call) is
           (subst (λ c. Fate lines replies top world (Next other) (stepped world other stepping.phase (step_once world.words stepping.phase)).0 (stepped world other stepping.phase (step_once world.words stepping.phase)).1 other c) it
-          (own_fate lines replies top world other stepping (step_once world.words stepping.phase) here e refl told))
+          (own_fate lines replies top world other stepping (step_once world.words stepping.phase) here e refl reported))
           )
       | inr apart ↦ beside_fate lines replies top world other stepping (step_once world.words stepping.phase) name call here apart found
     ]
 
 pub fate : (lines : List Line) (replies : List WorldReply) (top : ℕ) (world : World) (line : Line) (given : WorldReply) (after : World) (name : List ℕ) (call : UnderWay) → turn world line ≡ Some (given, after) → Tells lines replies top line given → call_of name world.calls ≡ Some call
     → Fate lines replies top world line given after name call
-fate lines replies top world (Whole made) given after name call e told found = whole_fate lines replies top world made (start world made) name call told.0 found given after e told.1
-fate lines replies top world (Begin begun made) given after name call e told found = under_fate lines replies top world begun made (call_of begun world.calls) name call told.0 found given after e told.1
-fate lines replies top world (Next other) given after name call e told found =
-    fate_some lines replies top world (Next other) name call (next world other (call_of other world.calls)) (λ here. next_fate lines replies top world other (call_of other world.calls) name call told.0 refl found here) given after e told.1
+fate lines replies top world (Whole made) given after name call e reported found = whole_fate lines replies top world made (start world made) name call reported.0 found given after e reported.1
+fate lines replies top world (Begin begun made) given after name call e reported found = under_fate lines replies top world begun made (call_of begun world.calls) name call reported.0 found given after e reported.1
+fate lines replies top world (Next other) given after name call e reported found =
+    fate_some lines replies top world (Next other) name call (next world other (call_of other world.calls)) (λ here. next_fate lines replies top world other (call_of other world.calls) name call reported.0 refl found here) given after e reported.1
 
 -- the line that began the update under way is still the one
 began_on : (lines : List Line) (replies : List WorldReply) (top : ℕ) (world : World) (line : Line) (given : WorldReply) (after : World) → Tells lines replies top line given → turn world line ≡ Some (given, after) → AtMostOne world.calls → any_update after.calls ≡ true → (sent : ℕ) (head : Heading)
@@ -327,7 +327,7 @@ began_on lines replies top world line given after t e one some sent head by =
 told_on : (lines : List Line) (replies : List WorldReply) (top : ℕ) (world : World) (line : Line) (given : WorldReply) (after : World) (one : Placed) → Tells lines replies top line given → turn world line ≡ Some (given, after) → IsToldSo lines replies top world.calls one → IsToldSo lines replies (top + 1) after.calls one
 told_on lines replies top world line given after one t e s =
     elim s [
-      | inl told ↦ inl told
+      | inl reported ↦ inl reported
       | inr under ↦ elim (fate lines replies top world line given after under.0 under.1 e t under.2) [
         | inl stays ↦ inr (under.0, under.1, stays.0, under.3, under.4, open_on lines replies one.place top under.0 stays.1 under.5)
         | inr goes ↦ elim goes [
@@ -380,16 +380,16 @@ words_change S T first world after one g h added same =
 -- that of a call that the line goes on with is under way behind its swap, or told NOERROR
 step_told : (lines : List Line) (replies : List WorldReply) (top : ℕ) (world : World) (name : List ℕ) (call : UnderWay) (progress : Progress) (words : Zones) (one : Placed) → slice_get lines top ≡ Some (Next name) → swapped_at progress ≡ 1 → HeadAt (heading_of_update one.update) progress → IsOpen lines replies one.place top name
     → slice_get replies top ≡ Some (stepped world name call.phase (Some (progress, words))).0 → IsToldSo lines replies (top + 1) (stepped world name call.phase (Some (progress, words))).1.calls one
-step_told lines replies top world name call (On further) words one here swapped headed still told =
-    inr (name, record { name = name; phase = further }, found_new name (without_call name world.calls) further (none_without name world.calls), headed, swapped, open_on lines replies one.place top name (λ answer. step_ends_none lines replies top name (step_name call.phase) answer told) still)
-step_told lines replies top world name call (Done end) words one here swapped headed still told =
-    inl (top, inr (name, still, (here, step_name call.phase, told ∙ ap (λ a. Some (Last (step_name call.phase) a)) (kept_answer end (heading_of_update one.update) swapped headed))))
+step_told lines replies top world name call (On further) words one here swapped headed still reported =
+    inr (name, record { name = name; phase = further }, found_new name (without_call name world.calls) further (none_without name world.calls), headed, swapped, open_on lines replies one.place top name (λ answer. step_ends_none lines replies top name (step_name call.phase) answer reported) still)
+step_told lines replies top world name call (Done end) words one here swapped headed still reported =
+    inl (top, inr (name, still, (here, step_name call.phase, reported ∙ ap (λ a. Some (Last (step_name call.phase) a)) (kept_answer end (heading_of_update one.update) swapped headed))))
 
 step_by_turn : (world : World) (name : List ℕ) (call : UnderWay) (progress : Progress) (words : Zones) (given : WorldReply) (after : World) → turn world (Next name) ≡ Some (given, after) → call_of name world.calls ≡ Some call → step_once world.words call.phase ≡ Some (progress, words)
     → stepped world name call.phase (Some (progress, words)) ≡ (given, after)
 step_by_turn world name call progress words given after e found is =
-    let told : next world name (call_of name world.calls) ≡ (given, after) = (let f = e in cc) in
-    ap (stepped world name call.phase) (sym is) ∙ (ap (next world name) (sym found) ∙ told)
+    let reported : next world name (call_of name world.calls) ≡ (given, after) = (let f = e in cc) in
+    ap (stepped world name call.phase) (sym is) ∙ (ap (next world name) (sym found) ∙ reported)
 
 -- the name of the update under way
 own_open : (lines : List Line) (replies : List WorldReply) (top : ℕ) (world : World) (name : List ℕ) (call : UnderWay) (sent : ℕ) (head : Heading) → AtMostOne world.calls → call_of name world.calls ≡ Some call → updates call.phase ≡ true → BeganBy lines replies top world.calls sent head
@@ -402,10 +402,10 @@ own_open lines replies top world name call sent head one found is by =
 -- what is so at each line
 record Now (lines : List Line) (replies : List WorldReply) (first : List Record) (top : ℕ) (world : World) : Type 0 where
   goes : Goes (scripted (IsSentAt lines) top (BeganBy lines replies top world.calls)) first world
-  hands : Hands world
+  all_in_use : AllInUse world
   less : world.window ≤ 16
   few : length world.entries ≤ 16
-  told : (k : ℕ) (one : Placed) → slice_get goes.us k ≡ Some one → IsToldSo lines replies top world.calls one
+  reported : (k : ℕ) (one : Placed) → slice_get goes.us k ≡ Some one → IsToldSo lines replies top world.calls one
 
 abbrev LineFact : List Line → List WorldReply → List Placed → ℕ → World → World → Type 0
 LineFact lines replies us top world after =
@@ -420,8 +420,8 @@ told_new : (lines : List Line) (replies : List WorldReply) (first : List Record)
     → IsToldSo lines replies (top + 1) after.calls one × IsOfCall lines replies one.place top
 told_new lines replies first top world (Whole call) given after one t e n turned added by =
     let how : start world call ≡ Takes by.1 = by.2 in
-    let begins = start_begins (scripted (IsSentAt lines) top (BeganBy lines replies top world.calls)) first world call n.goes n.hands in
-    let firsts = taken_first world n.goes.tells.cell call by.1 (start world call) how (start_first world call (entries_ok world n.hands n.few)) begins in
+    let begins = start_begins (scripted (IsSentAt lines) top (BeganBy lines replies top world.calls)) first world call n.goes n.all_in_use in
+    let firsts = taken_first world n.goes.tells.cell call by.1 (start world call) how (start_first world call (entries_ok world n.all_in_use n.few)) begins in
     let same = first_by world.words n.goes.tells.cell by.1 (step_once world.words by.1) refl firsts.0 n.goes.tells.shows firsts.1 in
     let changed = words_change _ _ first world after one n.goes turned.goes added in
     let played : (if is_full world then None else Some (all_made world call (steps_up_to most_steps world.words by.1))) ≡ Some (given, after) = ap (whole world call) (sym how) ∙ e in
@@ -431,8 +431,8 @@ told_new lines replies first top world (Begin name call) given after one t e n t
 told_new lines replies first top world (Next name) given after one t e n turned added by =
     let own = own_open lines replies top world name by.0 one.place (heading_of_update one.update) n.goes.one by.1 by.3 by.2 in
     let pair = step_by_turn world name by.0 by.4 by.5 given after e by.1 by.6 in
-    let told : slice_get replies top ≡ Some (stepped world name by.0.phase (Some (by.4, by.5))).0 = t.1 ∙ ap (λ (p : WorldReply × World). Some p.0) (sym pair) in
-    let is = step_told lines replies top world name by.0 by.4 by.5 one t.0 by.7 (by.8 (heading_of_update one.update) own.0) own.1 told in
+    let reported : slice_get replies top ≡ Some (stepped world name by.0.phase (Some (by.4, by.5))).0 = t.1 ∙ ap (λ (p : WorldReply × World). Some p.0) (sym pair) in
+    let is = step_told lines replies top world name by.0 by.4 by.5 one t.0 by.7 (by.8 (heading_of_update one.update) own.0) own.1 reported in
     (subst (λ (p : WorldReply × World). IsToldSo lines replies (top + 1) p.1.calls one) pair is, inr (name, own.1, t.0))
 
 record After (lines : List Line) (replies : List WorldReply) (first : List Record) (top : ℕ) (world : World) (us : List Placed) (after : World) : Type 0 where
@@ -447,7 +447,7 @@ line_now lines replies first top world line given after t sent e n =
     let turned : TurnOf lines replies first top world n line given after = turn_comes (scripted (IsSentAt lines) top (BeganBy lines replies top world.calls)) first world line sent n.goes given after e in
     let goes = goes_as (scripted (IsSentAt lines) (top + 1) (by_after (scripted (IsSentAt lines) (top + 1) (BeganBy lines replies top world.calls)) top line given after)) (top + 1) (BeganBy lines replies (top + 1) after.calls) first after (omega arith)
     (λ some sent head by. began_on lines replies top world line given after t e n.goes.one some sent head by) turned.goes in
-    let hands = turn_hands (scripted (IsSentAt lines) top (BeganBy lines replies top world.calls)) first world line n.goes n.hands n.few given after e in
+    let all_in_use = turn_in_use (scripted (IsSentAt lines) top (BeganBy lines replies top world.calls)) first world line n.goes n.all_in_use n.few given after e in
     let same_on = turn_same world line given after e in
     elim turned.comes [
       | inl same ↦ (
@@ -455,10 +455,10 @@ line_now lines replies first top world line given after t sent e n =
           record {
             now = record {
               goes = goes.0;
-              hands = hands;
+              all_in_use = all_in_use;
               less = subst (λ w. w ≤ 16) (sym same_on.1) n.less;
               few = same_on.2 n.less n.few;
-              told = λ k one at. told_on lines replies top world line given after one t e (n.told k one (ap (λ us. slice_get us k) (sym is) ∙ at));
+              reported = λ k one at. told_on lines replies top world line given after one t e (n.reported k one (ap (λ us. slice_get us k) (sym is) ∙ at));
             };
             more = [];
             extends = is ∙ sym (append-nil n.goes.us);
@@ -471,11 +471,11 @@ line_now lines replies first top world line given after t sent e n =
           record {
             now = record {
               goes = goes.0;
-              hands = hands;
+              all_in_use = all_in_use;
               less = subst (λ w. w ≤ 16) (sym same_on.1) n.less;
               few = same_on.2 n.less n.few;
-              told = λ k one at. elim (push_cases n.goes.us adds.0 one k (ap (λ us. slice_get us k) (sym is) ∙ at)) [
-                | inl old ↦ told_on lines replies top world line given after one t e (n.told k one old)
+              reported = λ k one at. elim (push_cases n.goes.us adds.0 one k (ap (λ us. slice_get us k) (sym is) ∙ at)) [
+                | inl old ↦ told_on lines replies top world line given after one t e (n.reported k one old)
                 | inr it ↦ subst (λ o. IsToldSo lines replies (top + 1) after.calls o) it new.0
               ];
             };
@@ -539,32 +539,32 @@ out_line lines replies first top world line rest given after behind n e a out = 
 
 abbrev OutFrom : List Line → List WorldReply → List Record → ℕ → List Line → Type 0
 OutFrom lines replies first top rest =
-    (world : World) (n : Now lines replies first top world) (told : List WorldReply) (behind : World) → At replies told top → play world rest ≡ Some (told, behind) → Out lines replies first top world rest n.goes.us behind
+    (world : World) (n : Now lines replies first top world) (reported : List WorldReply) (behind : World) → At replies reported top → play world rest ≡ Some (reported, behind) → Out lines replies first top world rest n.goes.us behind
 
-rest_out : (lines : List Line) (replies : List WorldReply) (first : List Record) (top : ℕ) (world : World) (line : Line) (rest : List Line) (n : Now lines replies first top world) (given : WorldReply) (after : World) (told : List WorldReply) (behind : World) (o : Option (List WorldReply × World)) → turn world line ≡ Some (given, after) → slice_get lines top ≡ Some line
-    → ((request : List ℕ) → Sends request line → IsSentAt lines top request) → OutFrom lines replies first (top + 1) rest → At replies told top → play after rest ≡ o → onto_replies given o ≡ Some (told, behind) → Out lines replies first top world (line ∷ rest) n.goes.us behind
-rest_out lines replies first top world line rest n given after told behind None e here sent all at p f = absurd (let wrong = f in cc)
-rest_out lines replies first top world line rest n given after told behind (Some played) e here sent all at p f =
-    let pair : (given ∷ played.0, played.1) ≡ (told, behind) = (let i = f in cc) in
+rest_out : (lines : List Line) (replies : List WorldReply) (first : List Record) (top : ℕ) (world : World) (line : Line) (rest : List Line) (n : Now lines replies first top world) (given : WorldReply) (after : World) (reported : List WorldReply) (behind : World) (o : Option (List WorldReply × World)) → turn world line ≡ Some (given, after) → slice_get lines top ≡ Some line
+    → ((request : List ℕ) → Sends request line → IsSentAt lines top request) → OutFrom lines replies first (top + 1) rest → At replies reported top → play after rest ≡ o → onto_replies given o ≡ Some (reported, behind) → Out lines replies first top world (line ∷ rest) n.goes.us behind
+rest_out lines replies first top world line rest n given after reported behind None e here sent all at p f = absurd (let wrong = f in cc)
+rest_out lines replies first top world line rest n given after reported behind (Some played) e here sent all at p f =
+    let pair : (given ∷ played.0, played.1) ≡ (reported, behind) = (let i = f in cc) in
     let same = ap (λ (t : List WorldReply × World). t.0) pair in
     let parts = at_next replies played.0 given top (subst (λ ts. At replies ts top) (sym same) at) in
     let a = line_now lines replies first top world line given after (here, parts.0) sent e n in
     subst (λ (w : World). Out lines replies first top world (line ∷ rest) n.goes.us w) (ap (λ (t : List WorldReply × World). t.1) pair)
     (out_line lines replies first top world line rest given after played.1 n e a (all after a.now played.0 played.1 parts.1 p))
 
-line_out : (lines : List Line) (replies : List WorldReply) (first : List Record) (top : ℕ) (world : World) (line : Line) (rest : List Line) (n : Now lines replies first top world) (told : List WorldReply) (behind : World) (o : Option (WorldReply × World)) → turn world line ≡ o → slice_get lines top ≡ Some line
-    → ((request : List ℕ) → Sends request line → IsSentAt lines top request) → OutFrom lines replies first (top + 1) rest → At replies told top → option_and_then (λ t. onto_replies t.0 (play t.1 rest)) o ≡ Some (told, behind) → Out lines replies first top world (line ∷ rest) n.goes.us behind
-line_out lines replies first top world line rest n told behind None e here sent all at f = absurd (let wrong = f in cc)
-line_out lines replies first top world line rest n told behind (Some t) e here sent all at f = rest_out lines replies first top world line rest n t.0 t.1 told behind (play t.1 rest) e here sent all at refl f
+line_out : (lines : List Line) (replies : List WorldReply) (first : List Record) (top : ℕ) (world : World) (line : Line) (rest : List Line) (n : Now lines replies first top world) (reported : List WorldReply) (behind : World) (o : Option (WorldReply × World)) → turn world line ≡ o → slice_get lines top ≡ Some line
+    → ((request : List ℕ) → Sends request line → IsSentAt lines top request) → OutFrom lines replies first (top + 1) rest → At replies reported top → option_and_then (λ t. onto_replies t.0 (play t.1 rest)) o ≡ Some (reported, behind) → Out lines replies first top world (line ∷ rest) n.goes.us behind
+line_out lines replies first top world line rest n reported behind None e here sent all at f = absurd (let wrong = f in cc)
+line_out lines replies first top world line rest n reported behind (Some t) e here sent all at f = rest_out lines replies first top world line rest n t.0 t.1 reported behind (play t.1 rest) e here sent all at refl f
 
 play_out : (lines : List Line) (replies : List WorldReply) (first : List Record) (top : ℕ) (rest : List Line) → At lines rest top → AllSent (IsSentAt lines) top rest → OutFrom lines replies first top rest
-play_out lines replies first top [] at_lines sent world n told behind at e =
-    let pair : ([], world) ≡ (told, behind) = (let i = e in cc) in
+play_out lines replies first top [] at_lines sent world n reported behind at e =
+    let pair : ([], world) ≡ (reported, behind) = (let i = e in cc) in
     subst (λ (w : World). Out lines replies first top world [] n.goes.us w) (ap (λ (t : List WorldReply × World). t.1) pair)
     (record { last = top; at_end = omega arith; now = n; more = []; extends = sym (append-nil n.goes.us); each = tt })
-play_out lines replies first top (line ∷ rest) at_lines sent world n told behind at e =
+play_out lines replies first top (line ∷ rest) at_lines sent world n reported behind at e =
     let parts = at_next lines rest line top at_lines in
-    line_out lines replies first top world line rest n told behind (turn world line) refl parts.0 sent.0 (play_out lines replies first (top + 1) rest parts.1 sent.1) at e
+    line_out lines replies first top world line rest n reported behind (turn world line) refl parts.0 sent.0 (play_out lines replies first (top + 1) rest parts.1 sent.1) at e
 
 -- the line at a place
 abbrev EachAt : (lines : List Line) (replies : List WorldReply) (us : List Placed) (top : ℕ) (rest : List Line) → Type 0
@@ -583,8 +583,8 @@ each_played lines replies us top rest given between place line earlier before re
 each_turn : (lines : List Line) (replies : List WorldReply) (us : List Placed) (top : ℕ) (world : World) (first_line : Line) (rest : List Line) (place : ℕ) (line : Line) (earlier : List WorldReply) (before : World) (reply : WorldReply) (after : World) (o : Option (WorldReply × World)) → turn world first_line ≡ o → EachAt lines replies us (top + 1) rest
     → EachLine lines replies us top world (first_line ∷ rest) → slice_get rest place ≡ Some line → option_and_then (λ t. onto_replies t.0 (play t.1 (take place rest))) o ≡ Some (earlier, before) → turn before line ≡ Some (reply, after) → LineFact lines replies us (top + 1 + place) before after
 each_turn lines replies us top world first_line rest place line earlier before reply after None t all each at e f = absurd (let wrong = e in cc)
-each_turn lines replies us top world first_line rest place line earlier before reply after (Some told) t all each at e f =
-    each_played lines replies us top rest told.0 told.1 place line earlier before reply after (play told.1 (take place rest)) all (each told.0 told.1 t).1 at refl e f
+each_turn lines replies us top world first_line rest place line earlier before reply after (Some reported) t all each at e f =
+    each_played lines replies us top rest reported.0 reported.1 place line earlier before reply after (play reported.1 (take place rest)) all (each reported.0 reported.1 t).1 at refl e f
 
 each_at : (lines : List Line) (replies : List WorldReply) (us : List Placed) (top : ℕ) (rest : List Line) → EachAt lines replies us top rest
 each_at lines replies us top [] world place line earlier before reply after each at e f = absurd (let wrong = at in cc)
@@ -604,17 +604,17 @@ each_at lines replies us top (x ∷ rest) world (suc place) line earlier before 
 told_out : (lines : List Line) (replies : List WorldReply) (last : ℕ) (world : World) (one : Placed) (update : DynamicUpdate) → last ≡ length lines → one.update ≡ update → IsToldSo lines replies last world.calls one → IsToldNoError lines replies world one.place update
 told_out lines replies last world one update end is s =
     elim s [
-      | inl told ↦ inl (told.0, subst (λ (u : DynamicUpdate). GivesAt lines replies one.place told.0 (code_reply (heading_of_update u) NoError)) is told.1)
+      | inl reported ↦ inl (reported.0, subst (λ (u : DynamicUpdate). GivesAt lines replies one.place reported.0 (code_reply (heading_of_update u) NoError)) is reported.1)
       | inr under ↦ inr (under.0, under.1, subst (λ p. IsOpen lines replies one.place p under.0) end under.5, under.2, under.3 ∙ ap (λ (u : DynamicUpdate). Some (heading_of_update u)) is)
     ]
 
 started_now : (lines : List Line) (replies : List WorldReply) (first : List Record) (keep window : ℕ) → Now lines replies first 0 (started first keep window)
 started_now lines replies first keep window = record {
   goes = start_goes (scripted (IsSentAt lines) 0 (BeganBy lines replies 0 [])) first keep window;
-  hands = started_hands first keep window;
+  all_in_use = started_in_use first keep window;
   less = started_less first keep window;
   few = started_few first keep window;
-  told = λ k one at. absurd (no_updates (scripted (IsSentAt lines) 0 (BeganBy lines replies 0 [])) first keep window k one at);
+  reported = λ k one at. absurd (no_updates (scripted (IsSentAt lines) 0 (BeganBy lines replies 0 [])) first keep window k one at);
 }
 
 -- whatever lines were played, updates are told in turn
@@ -629,12 +629,12 @@ told_in_turn first keep window lines replies world e =
     let r = goes_replayed first lines out.last world plain.0 in
     record {
       replayed = r;
-      told = λ k update at. (
+      reported = λ k update at. (
           let one = update_at plain.0.us k update (ap (λ us. slice_get us k) (sym same.0) ∙ at) in
           let here : slice_get out.now.goes.us k ≡ Some one.0 = ap (λ us. slice_get us k) (sym plain.1) ∙ one.1 in
-          let told = told_out lines replies out.last world one.0 update end one.2 (out.now.told k one.0 here) in
+          let reported = told_out lines replies out.last world one.0 update end one.2 (out.now.reported k one.0 here) in
           let place : r.in_turn.place k ≡ one.0.place = same.1 k ∙ ap place_in one.1 in
-          subst (λ p. IsToldNoError lines replies world p update) (sym place) told
+          subst (λ p. IsToldNoError lines replies world p update) (sym place) reported
           );
       others = λ place line earlier before reply after at p f. (
           let fact = each_at lines replies out.now.goes.us 0 lines (started first keep window) place line earlier before reply after out.each at p f in

@@ -20,7 +20,7 @@ use Rattle.serve_core.specs.Transport.{is_stream}
 use Rattle.serve_core.specs.Transfers.{peer_over, is_unfit, is_permitted, is_current, list_for, messages_to}
 use Rattle.transfer_core.proofs.FullLemmas.{full_taken}
 use Rattle.transfer_core.proofs.PackedLemmas.{all_records}
-use Rattle.transfer_core.specs.Chain.{told, told_changes}
+use Rattle.transfer_core.specs.Chain.{reported, told_changes}
 use Rattle.transfer_core.specs.Lists.{full, as_sent}
 use Rattle.transfer_core.specs.Packed.{spelt, packed, octets_of}
 use Rattle.transfer_core.specs.Take.{take as taken_by}
@@ -100,7 +100,7 @@ module _ (S : List ℕ → Type 0) (first : Zone) (published : List Numbered) (u
       ⊎ LeadFromAsker first ups version serial query.question.name (records_of messages))
 
   abbrev pub ChangesLead : QueryAsked → List Numbered → Type 0
-  ChangesLead query got = (serial : Serial) → query.serial ≡ Some serial → LeadFromAsker first ups version serial query.question.name (map as_sent (map (spelt query.question.name) (told (soa_of version.zone) got)))
+  ChangesLead query got = (serial : Serial) → query.serial ≡ Some serial → LeadFromAsker first ups version serial query.question.name (map as_sent (map (spelt query.question.name) (reported (soa_of version.zone) got)))
 
   leads_by : (serial : Serial) (query : QueryAsked) (less whole : Bool) (got : List Numbered) → query.serial ≡ Some serial → serial_less serial.0 (zone_serial version.zone) ≡ less → (whole ≡ false → IsUntold entries words version serial) → (whole ≡ true → ChangesLead query got)
       → Leads serial query (packed query.head query.question (reply_opt query.edns) (if not less then soa_of version.zone else unwrap_or (told_changes whole (soa_of version.zone) got) (full version.zone)))
@@ -108,7 +108,7 @@ module _ (S : List ℕ → Type 0) (first : Zone) (published : List Numbered) (u
   leads_by serial query true false got asks e untold changes =
       inr (inl (records_so query (full version.zone), λ asker known. ap (taken_by (zone_at first ups asker)) (records_so query (full version.zone)) ∙ whole_so query.question.name asker known, untold refl))
   leads_by serial query true true got asks e untold changes =
-      inr (inr (subst (LeadFromAsker first ups version serial query.question.name) (sym (records_so query (told (soa_of version.zone) got))) (changes refl serial asks)))
+      inr (inr (subst (LeadFromAsker first ups version serial query.question.name) (sym (records_so query (reported (soa_of version.zone) got))) (changes refl serial asks)))
 
   -- the messages that it gets
   sent_by : (sending : Sending) (query : QueryAsked) (permitted : Bool) (octets : List (List ℕ)) → is_permitted sending.version.zone (peer_over Tcp true) query ≡ permitted

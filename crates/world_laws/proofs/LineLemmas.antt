@@ -15,7 +15,7 @@ use Rattle.world_run.specs.declared.step.WorldReply.{WorldReply}
 use Rattle.world_run.specs.declared.step.WorldStep.TheVariants.{Begin, Next}
 use Rattle.world_laws.specs.Lines.{name_of, TakesOneStep}
 use Rattle.world_run.specs.Phases.{word_step, step_name}
-use Rattle.world_run.specs.World.{World, call_of, step_once, is_full, begin, begin_under, start, stepped, next, turn}
+use Rattle.world_run.specs.World.{World, call_of, step_once, is_full, begin_call, begin_under, start, stepped, next, turn}
 use Rattle.world_laws.proofs.RunLemmas.{one_step}
 
 -- a call's step has its word step's name
@@ -52,8 +52,8 @@ next_one world name (Some call) = stepped_one world name call.phase (step_once w
 -- a line that goes on with a call takes one step
 pub next_takes_one : (world after : World) (name : List ℕ) (reply : WorldReply) → turn world (Next name) ≡ Some (reply, after) → TakesOneStep world reply after
 next_takes_one world after name reply e =
-    let told : next world name (call_of name world.calls) ≡ (reply, after) = (let f = e in cc) in
-    subst (λ (t : WorldReply × World). TakesOneStep world t.0 t.1) told (next_one world name (call_of name world.calls))
+    let reported : next world name (call_of name world.calls) ≡ (reply, after) = (let f = e in cc) in
+    subst (λ (t : WorldReply × World). TakesOneStep world t.0 t.1) reported (next_one world name (call_of name world.calls))
 
 -- what a line leaves of the words, where it is played
 abbrev KeepsWords : World → Option (WorldReply × World) → Type 0
@@ -68,7 +68,7 @@ to_if : (world : World) (test : Bool) (played : WorldReply × World) → played.
 to_if world true played same reply after e = absurd (let wrong = e in cc)
 to_if world false played same reply after e = to_some world played same reply after e
 
-begin_keeps : (world : World) (name : List ℕ) (call : Call) (how : Start) → KeepsWords world (begin world name call how)
+begin_keeps : (world : World) (name : List ℕ) (call : Call) (how : Start) → KeepsWords world (begin_call world name call how)
 begin_keeps world name call Refused = to_some world _ refl
 begin_keeps world name call (Answers given) = to_if world (is_full world) _ refl
 begin_keeps world name call (Takes at) = to_if world (is_full world) _ refl

@@ -16,7 +16,7 @@ use Rattle.cell_core.specs.Words.{grants, begun, first_slot, version_in, place_o
 use Rattle.cell_core.specs.declared.words.Owner.{Owner}
 use Rattle.cell_core.specs.declared.words.Owner.TheVariants.{Holding, Twice, Weakly, Both, Burying, Fading, Resetting, Freeing, Spent}
 use Rattle.cell_core.specs.declared.words.Version.{Version}
-use Rattle.cell_core.specs.declared.words.WordEvent.TheVariants as told
+use Rattle.cell_core.specs.declared.words.WordEvent.TheVariants as reported
 use Rattle.cell_core.specs.declared.words.WordStep.TheVariants as word
 use Rattle.dns_rdata.specs.Record.{Record}
 use Rattle.serve_core.specs.Heading.{heading_of_update}
@@ -34,7 +34,7 @@ use Rattle.world_run.specs.World.{asks_sent, seek_start, transfer_asked, transfe
 use Rattle.world_run.specs.Entries.{most_entries, entered, enters, later}
 use Rattle.world_run.specs.declared.entries.Entry.{Entry}
 use Rattle.world_run.specs.declared.phase.End.{End}
-use Rattle.world_run.specs.declared.phase.End.TheVariants.{Owned, OwnedWeakly, Told, NoSlot, Kept, Sent}
+use Rattle.world_run.specs.declared.phase.End.TheVariants.{Owned, OwnedWeakly, Replied, NoSlot, Kept, Sent}
 use Rattle.world_run.specs.declared.sending.Sending.{Sending}
 use Rattle.world_run.specs.declared.judged.Judged.{Judged}
 use Rattle.world_run.specs.declared.judged.Judged.TheVariants as judgement
@@ -57,9 +57,9 @@ use Rattle.world_laws.specs.InTurn.{LeavesPublished}
 use Rattle.world_laws.specs.UpdateAnswers.{heading_of}
 use Rattle.world_run.specs.declared.step.WorldReply.TheVariants.{Answered, Begun, NotEnabled}
 use Rattle.world_laws.proofs.AnswerLemmas.{keeps_head}
-use Rattle.world_laws.proofs.HandSeats.{swapped_in, swapped_at, swaps_now}
+use Rattle.world_laws.proofs.UseLists.{swapped_in, swapped_at, swaps_now}
 use Rattle.world_laws.specs.Replays.{Sends, IsSentAt, AreSentInTurn}
-use Rattle.world_run.specs.World.{World, loaded_once, started, call_of, without_call, publication_start, update_start, oldest_kept, is_held, start, step_once, steps_up_to, go_on, most_steps, is_full, given_up, all_made, whole, begin, begin_under, stepped, next, turn, onto_replies, play, entries_at, zone_of, owner_of, is_taken, is_taken_weakly, is_used, drop_start, fade_start, copy_start, weak_start, up_start, weak_given_up, ask_start}
+use Rattle.world_run.specs.World.{World, loaded_once, started, call_of, without_call, publication_start, update_start, oldest_kept, is_held, start, step_once, steps_up_to, go_on, most_steps, is_full, given_up, all_made, whole, begin_call, begin_under, stepped, next, turn, onto_replies, play, entries_at, zone_of, owner_of, is_taken, is_taken_weakly, is_used, drop_start, fade_start, copy_start, weak_start, up_start, weak_given_up, ask_start}
 use Rattle.world_laws.specs.Replays.{IsReplayed, IsAnsweredInReplay}
 use Rattle.world_laws.specs.Runs.{IsAnsweredAtLoaded}
 use Rattle.world_run.proofs.JudgeLemmas.{made_by}
@@ -264,7 +264,7 @@ publication_ok S first us world place head version none n =
 
 update_ok : (S : Script) (first : List Record) (us : List Placed) (world : World) (request : List ℕ) (place : ℕ) (last : Numbered) (what : Option Judged) → judged last request ≡ what → S.sends place request → IsFresh S us place → any_update world.calls ≡ false → found_last world.words ≡ Some last → Tells S first world.words us → StartOk S first us world.words world.calls place (update_start world what)
 update_ok S first us world request place last None is sent fresh none found t = tt
-update_ok S first us world request place last (Some (judgement.Told head code)) is sent fresh none found t = tt
+update_ok S first us world request place last (Some (judgement.Replied head code)) is sent fresh none found t = tt
 update_ok S first us world request place last (Some (judgement.Makes head version)) is sent fresh none found t =
     let m = made_by last request head version is in
     let l = last_replay S first world.words us last t found in
@@ -349,7 +349,7 @@ kept_updates S us later words new at progress one comes =
 window_at : (first : List Record) (before after : World) (us : List Placed) (end : End) → after.entries ≡ entries_at before.window end before.entries → EndsAs first us end → (swapped_at (Done end) ≡ 1 → any_update after.calls ≡ false) → WindowComes first before us after
 window_at first before after us (Owned name owner number) is ends none = inl is
 window_at first before after us (OwnedWeakly name owner number) is ends none = inl is
-window_at first before after us (Told given) is ends none = inl is
+window_at first before after us (Replied given) is ends none = inl is
 window_at first before after us (NoSlot head) is ends none = inl is
 window_at first before after us (Kept head owner None) is ends none = inl is
 window_at first before after us (Kept head owner (Some entry)) is ends none = inr (record { entry = entry; entered_so = is; serial = ends; ended = none refl })
@@ -511,7 +511,7 @@ begun_goes S first world name call place at unused g ok =
       further = further_none world.words;
     }
 
-begin_goes : (S : Script) (first : List Record) (world : World) (name : List ℕ) (call : Call) (place : ℕ) (how : Start) → call_of name world.calls ≡ None → (g : Goes S first world) → StartOk S first g.us world.words world.calls place how → TurnedBehind S first world g.us (Begin name call) place (begin world name call how)
+begin_goes : (S : Script) (first : List Record) (world : World) (name : List ℕ) (call : Call) (place : ℕ) (how : Start) → call_of name world.calls ≡ None → (g : Goes S first world) → StartOk S first g.us world.words world.calls place how → TurnedBehind S first world g.us (Begin name call) place (begin_call world name call how)
 begin_goes S first world name call place Refused unused g ok = to_some S first world g.us (Begin name call) place _ (itself S first world g (Begin name call) place NotEnabled)
 begin_goes S first world name call place (Answers given) unused g ok =
     to_if S first world g.us (Begin name call) place (is_full world) _ _ (to_none S first world g.us (Begin name call) place) (to_some S first world g.us (Begin name call) place _ (itself S first world g (Begin name call) place (Answered given)))
@@ -674,9 +674,9 @@ start_tells S first = record {
 -- the first version is loaded once, and noted where there is a window
 started_tells : (S : Script) (first : List Record) (window : ℕ) (some : Bool) → nat_lt 0 window ≡ some → Tells S first (started_words (first_version first) window) []
 started_tells S first window true e =
-    rw e (tells_same S first (loaded_once (first_version first)) (noted_once (first_version first)) [] (word.Note 0) (told.Noted 1 0) tt (0, 0, first_slot (first_version first), refl, refl, lit< tt, refl, refl)
-    (tells_same S first (begun (first_version first)) (loaded_once (first_version first)) [] word.Load (told.Loaded 0 0) tt (0, refl, lit< tt, refl, refl) (start_tells S first)))
-started_tells S first window false e = rw e (tells_same S first (begun (first_version first)) (loaded_once (first_version first)) [] word.Load (told.Loaded 0 0) tt (0, refl, lit< tt, refl, refl) (start_tells S first))
+    rw e (tells_same S first (loaded_once (first_version first)) (noted_once (first_version first)) [] (word.Note 0) (reported.Noted 1 0) tt (0, 0, first_slot (first_version first), refl, refl, lit< tt, refl, refl)
+    (tells_same S first (begun (first_version first)) (loaded_once (first_version first)) [] word.Load (reported.Loaded 0 0) tt (0, refl, lit< tt, refl, refl) (start_tells S first)))
+started_tells S first window false e = rw e (tells_same S first (begun (first_version first)) (loaded_once (first_version first)) [] word.Load (reported.Loaded 0 0) tt (0, refl, lit< tt, refl, refl) (start_tells S first))
 
 pub start_goes : (S : Script) (first : List Record) (keep window : ℕ) → Goes S first (started first keep window)
 start_goes S first keep window = record {

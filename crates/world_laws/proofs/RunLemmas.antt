@@ -19,7 +19,7 @@ use Rattle.cell_core.specs.Shows.{WordRuns}
 use Rattle.cell_core.specs.Words.{State, begun, first_slot, grants, version_in, place_of, owned_of, found_by, found_last}
 use Rattle.cell_core.specs.WordSteps.{Makes}
 use Rattle.cell_core.specs.declared.words.WordEvent.{WordEvent}
-use Rattle.cell_core.specs.declared.words.WordEvent.TheVariants as told
+use Rattle.cell_core.specs.declared.words.WordEvent.TheVariants as reported
 use Rattle.cell_core.specs.declared.words.WordStep.{WordStep}
 use Rattle.cell_core.specs.declared.words.WordStep.TheVariants as word
 use Rattle.dns_rdata.specs.Record.{Record}
@@ -42,7 +42,7 @@ use Rattle.world_run.specs.Judgements.{asks_update, judged}
 use Rattle.world_run.specs.declared.judged.Judged.{Judged}
 use Rattle.world_run.specs.declared.judged.Judged.TheVariants as judgement
 use Rattle.world_run.specs.declared.phase.End.{End}
-use Rattle.world_run.specs.declared.phase.End.TheVariants.{Owned, OwnedWeakly, Told, NoSlot, Kept, Sent}
+use Rattle.world_run.specs.declared.phase.End.TheVariants.{Owned, OwnedWeakly, Replied, NoSlot, Kept, Sent}
 use Rattle.world_run.specs.declared.phase.Progress.{Progress}
 use Rattle.world_run.specs.declared.phase.Progress.TheVariants.{On, Done}
 use Rattle.world_run.specs.declared.names.Named.{Named}
@@ -62,7 +62,7 @@ use Rattle.world_run.specs.Phases.{word_step, after, past, gone, leaving_after, 
 use Rattle.world_run.specs.Entries.{most_entries, later}
 use Rattle.world_laws.specs.Runs.{Run, Comes, IsFromLoad, IsShownBy, ShowsReached, IsAnsweredAtLoaded}
 use Rattle.world_laws.specs.Runs.Comes.{loaded, raised, noted}
-use Rattle.world_run.specs.World.{World, loaded_once, noted_once, started, started_within, owner_of, without_name, zone_of, call_of, without_call, is_taken, is_taken_weakly, is_used, drop_start, fade_start, copy_start, weak_start, up_start, asks_sent, ask_said, ask_start, seek_start, transfer_asked, transfer_said, transfer_of, transfer_start, none_got, is_barred, can_enter, is_held, oldest_kept, update_start, start, given_up, weak_given_up, names_at, weak_names_at, step_once, steps_up_to, go_on, most_steps, is_full, all_made, whole, begin, begin_under, stepped, next, turn, onto_replies, play}
+use Rattle.world_run.specs.World.{World, loaded_once, noted_once, started, started_within, owner_of, without_name, zone_of, call_of, without_call, is_taken, is_taken_weakly, is_used, drop_start, fade_start, copy_start, weak_start, up_start, asks_sent, ask_said, ask_start, seek_start, transfer_asked, transfer_said, transfer_of, transfer_start, none_got, is_barred, can_enter, is_held, oldest_kept, update_start, start, given_up, weak_given_up, names_at, weak_names_at, step_once, steps_up_to, go_on, most_steps, is_full, all_made, whole, begin_call, begin_under, stepped, next, turn, onto_replies, play}
 
 -- an owner comes from a load of a run, and has its number
 pub record WasLoaded (run : Run) (owners : List Owner) (owner : ℕ) : Type 0 where
@@ -94,14 +94,14 @@ Further owners later = (owner number : ℕ) → KeepsNumber owners owner number 
 
 comes_still : (run longer : Run) (loader owner : ℕ) → Keeps run longer → Comes run loader owner → Comes longer loader owner
 comes_still run longer loader owner keeps loaded = loaded
-comes_still run longer loader owner keeps (raised place from next number c e) = raised place from next number (comes_still run longer loader from keeps c) (keeps place (word.Raise from, told.Raised next number) e)
-comes_still run longer loader owner keeps (noted place from next number c e) = noted place from next number (comes_still run longer loader from keeps c) (keeps place (word.Note from, told.Noted next number) e)
+comes_still run longer loader owner keeps (raised place from next number c e) = raised place from next number (comes_still run longer loader from keeps c) (keeps place (word.Raise from, reported.Raised next number) e)
+comes_still run longer loader owner keeps (noted place from next number c e) = noted place from next number (comes_still run longer loader from keeps c) (keeps place (word.Note from, reported.Noted next number) e)
 
 loaded_still : (run longer : Run) (owners later : List Owner) (owner : ℕ) → Keeps run longer → Further owners later → WasLoaded run owners owner → WasLoaded longer later owner
 loaded_still run longer owners later owner keeps further was =
     let f = was.from in
     record {
-      from = record { place = f.place; loader = f.loader; number = f.number; is_load = keeps f.place (word.Load, told.Loaded f.loader f.number) f.is_load; comes = comes_still run longer f.loader owner keeps f.comes };
+      from = record { place = f.place; loader = f.loader; number = f.number; is_load = keeps f.place (word.Load, reported.Loaded f.loader f.number) f.is_load; comes = comes_still run longer f.loader owner keeps f.comes };
       keeps = further owner f.number was.keeps;
     }
 
@@ -171,7 +171,7 @@ weak_given_all run owners call names all = all
 abbrev pub EndIsLoaded : Run → List Owner → Progress → Type 0
 EndIsLoaded run owners (Done (Owned name owner number)) = WasLoaded run owners owner
 EndIsLoaded run owners (Done (OwnedWeakly name owner number)) = WasLoaded run owners owner
-EndIsLoaded run owners (Done (Told answer)) = Unit {0}
+EndIsLoaded run owners (Done (Replied answer)) = Unit {0}
 EndIsLoaded run owners (Done (NoSlot head)) = Unit {0}
 EndIsLoaded run owners (Done (Kept head owner entry)) = Unit {0}
 EndIsLoaded run owners (Done (Sent sending)) = Unit {0}
@@ -197,12 +197,12 @@ past_by run owners (purpose.Leaves head kept entry leaving) given = leaving_by r
 past_by run owners (purpose.Sent sending got) given = sent_by run owners sending got
 
 probe_by : (run : Run) (words : State Numbered) (version : Numbered) (keeping : Keeping) (event : WordEvent) → EndIsLoaded run words.owners (after words (phase.Probe version keeping) event)
-probe_by run words version keeping told.Taken = tt
-probe_by run words version keeping told.NoSlot = tt
+probe_by run words version keeping reported.Taken = tt
+probe_by run words version keeping reported.NoSlot = tt
 probe_by run words version keeping event = tt
 
 settle_by : (run : Run) (words : State Numbered) (keeping : Keeping) (event : WordEvent) → EndIsLoaded run words.owners (after words (phase.Settle keeping) event)
-settle_by run words keeping (told.Settled owner number) = tt
+settle_by run words keeping (reported.Settled owner number) = tt
 settle_by run words keeping event = tt
 
 entered_by : (run : Run) (owners : List Owner) (given : ℕ) (keeping : Keeping) (owner : ℕ) (enters : Bool)
@@ -211,16 +211,16 @@ entered_by run owners given keeping owner true = tt
 entered_by run owners given keeping owner false = tt
 
 keep_by : (run : Run) (words : State Numbered) (given : ℕ) (keeping : Keeping) (event : WordEvent) → EndIsLoaded run words.owners (after words (phase.Keep given keeping) event)
-keep_by run words given keeping (told.Loaded owner number) = entered_by run words.owners given keeping owner (is_some keeping.enters)
+keep_by run words given keeping (reported.Loaded owner number) = entered_by run words.owners given keeping owner (is_some keeping.enters)
 keep_by run words given keeping event = tt
 
 enter_by : (run : Run) (words : State Numbered) (given kept : ℕ) (keeping : Keeping) (event : WordEvent) → EndIsLoaded run words.owners (after words (phase.Enter given kept keeping) event)
-enter_by run words given kept keeping (told.Noted owner number) = tt
+enter_by run words given kept keeping (reported.Noted owner number) = tt
 enter_by run words given kept keeping event = tt
 
 seek_by : (run : Run) (words : State Numbered) (owner : ℕ) (seeking : Seeking) (event : WordEvent) → EndIsLoaded run words.owners (after words (phase.Seek owner seeking) event)
-seek_by run words owner seeking told.Alive = tt
-seek_by run words owner seeking told.Dead = sent_by run words.owners seeking.sending seeking.owners
+seek_by run words owner seeking reported.Alive = tt
+seek_by run words owner seeking reported.Dead = sent_by run words.owners seeking.sending seeking.owners
 seek_by run words owner seeking event = tt
 
 gained_by : (run : Run) (owners : List Owner) (seeking : Seeking) (left : List ℕ) → EndIsLoaded run owners (gained_after seeking left)
@@ -232,20 +232,20 @@ got_by run owners owner seeking next None = tt
 got_by run owners owner seeking next (Some version) = gained_by run owners (with_got next version seeking) seeking.left
 
 gain_by : (run : Run) (words : State Numbered) (owner : ℕ) (seeking : Seeking) (event : WordEvent) → EndIsLoaded run words.owners (after words (phase.Gain owner seeking) event)
-gain_by run words owner seeking (told.Raised next number) = got_by run words.owners owner seeking next (found_by words next)
-gain_by run words owner seeking told.Dead = sent_by run words.owners seeking.sending seeking.owners
+gain_by run words owner seeking (reported.Raised next number) = got_by run words.owners owner seeking next (found_by words next)
+gain_by run words owner seeking reported.Dead = sent_by run words.owners seeking.sending seeking.owners
 gain_by run words owner seeking event = tt
 
 release_by : (run : Run) (words : State Numbered) (at : ℕ) (for : Purpose) (event : WordEvent) → EndIsLoaded run words.owners (after words (phase.Release at for) event)
-release_by run words at for told.Emptied = tt
+release_by run words at for reported.Emptied = tt
 release_by run words at for event = past_by run words.owners for answer.Left
 
 bury_by : (run : Run) (words : State Numbered) (at : ℕ) (for : Purpose) (event : WordEvent) → EndIsLoaded run words.owners (after words (phase.Bury at for) event)
-bury_by run words at for (told.Buried number) = tt
+bury_by run words at for (reported.Buried number) = tt
 bury_by run words at for event = past_by run words.owners for answer.Left
 
 fade_by : (run : Run) (words : State Numbered) (at : ℕ) (number : Option ℕ) (for : Purpose) (event : WordEvent) → EndIsLoaded run words.owners (after words (phase.Fade at number for) event)
-fade_by run words at number for told.Closed = tt
+fade_by run words at number for reported.Closed = tt
 fade_by run words at number for event = past_by run words.owners for (gone number)
 
 -- an owner behind a step that another makes
@@ -255,45 +255,45 @@ loaded_on run words new step event owner m was =
 
 -- a load gives an owner that comes from it, a raise and a note one that comes from where their owner does
 load_by : (run : Run) (words new : State Numbered) (name : List ℕ) (event : WordEvent) → Makes {T = Numbered} words word.Load event new → EndIsLoaded (run ++ (word.Load, event) ∷ []) new.owners (after new (phase.Load name) event)
-load_by run words new name (told.Loaded owner number) m = record {
-  from = record { place = length run; loader = owner; number = number; is_load = get_push_new run (word.Load, told.Loaded owner number) (length run) refl; comes = loaded };
+load_by run words new name (reported.Loaded owner number) m = record {
+  from = record { place = length run; loader = owner; number = number; is_load = get_push_new run (word.Load, reported.Loaded owner number) (length run) refl; comes = loaded };
   keeps = (loaded_keeps words new owner number m).1;
 }
 load_by run words new name event m = tt
 
 look_by : (longer : Run) (words : State Numbered) (name : List ℕ) (owner : ℕ) (event : WordEvent) → WasLoaded longer words.owners owner → EndIsLoaded longer words.owners (after words (phase.Look name owner) event)
-look_by longer words name owner told.Alive was = was
-look_by longer words name owner told.Dead was = tt
+look_by longer words name owner reported.Alive was = was
+look_by longer words name owner reported.Dead was = tt
 look_by longer words name owner event was = was
 
 raise_by : (run : Run) (words new : State Numbered) (name : List ℕ) (from : ℕ) (event : WordEvent) → Makes {T = Numbered} words (word.Raise from) event new → WasLoaded run words.owners from → WasLoaded (run ++ (word.Raise from, event) ∷ []) new.owners from → EndIsLoaded (run ++ (word.Raise from, event) ∷ []) new.owners (after new (phase.Raise name from) event)
-raise_by run words new name from (told.Raised next number) m was still =
+raise_by run words new name from (reported.Raised next number) m was still =
     let f = was.from in
-    let on : Keeps run (run ++ (word.Raise from, told.Raised next number) ∷ []) = λ place s e. get_push_old run (word.Raise from, told.Raised next number) s place e in
+    let on : Keeps run (run ++ (word.Raise from, reported.Raised next number) ∷ []) = λ place s e. get_push_old run (word.Raise from, reported.Raised next number) s place e in
     record {
       from = record {
         place = f.place;
         loader = f.loader;
         number = f.number;
-        is_load = on f.place (word.Load, told.Loaded f.loader f.number) f.is_load;
-        comes = raised (length run) from next number (comes_still run _ f.loader from on f.comes) (get_push_new run (word.Raise from, told.Raised next number) (length run) refl);
+        is_load = on f.place (word.Load, reported.Loaded f.loader f.number) f.is_load;
+        comes = raised (length run) from next number (comes_still run _ f.loader from on f.comes) (get_push_new run (word.Raise from, reported.Raised next number) (length run) refl);
       };
       keeps = (raised_keeps words new from next number f.number m was.keeps).1;
     }
-raise_by run words new name from told.Dead m was still = tt
+raise_by run words new name from reported.Dead m was still = tt
 raise_by run words new name from event m was still = still
 
 note_by : (run : Run) (words new : State Numbered) (name : List ℕ) (from : ℕ) (event : WordEvent) → Makes {T = Numbered} words (word.Note from) event new → WasLoaded run words.owners from → WasLoaded (run ++ (word.Note from, event) ∷ []) new.owners from → EndIsLoaded (run ++ (word.Note from, event) ∷ []) new.owners (after new (phase.Note name from) event)
-note_by run words new name from (told.Noted next number) m was still =
+note_by run words new name from (reported.Noted next number) m was still =
     let f = was.from in
-    let on : Keeps run (run ++ (word.Note from, told.Noted next number) ∷ []) = λ place s e. get_push_old run (word.Note from, told.Noted next number) s place e in
+    let on : Keeps run (run ++ (word.Note from, reported.Noted next number) ∷ []) = λ place s e. get_push_old run (word.Note from, reported.Noted next number) s place e in
     record {
       from = record {
         place = f.place;
         loader = f.loader;
         number = f.number;
-        is_load = on f.place (word.Load, told.Loaded f.loader f.number) f.is_load;
-        comes = noted (length run) from next number (comes_still run _ f.loader from on f.comes) (get_push_new run (word.Note from, told.Noted next number) (length run) refl);
+        is_load = on f.place (word.Load, reported.Loaded f.loader f.number) f.is_load;
+        comes = noted (length run) from next number (comes_still run _ f.loader from on f.comes) (get_push_new run (word.Note from, reported.Noted next number) (length run) refl);
       };
       keeps = (noted_keeps words new from next number f.number m was.keeps).1;
     }
@@ -504,7 +504,7 @@ transfer_loads run owners world request (Some owner) = of_loads run owners world
 
 update_loads : (run : Run) (owners : List Owner) (world : World) (what : Option Judged) → StartLoaded run owners (update_start world what)
 update_loads run owners world None = tt
-update_loads run owners world (Some (judgement.Told head code)) = tt
+update_loads run owners world (Some (judgement.Replied head code)) = tt
 update_loads run owners world (Some (judgement.Makes head version)) = start_if run owners (nat_lt world.words.granted grants && is_held world.words (oldest_kept world.keep world.kept) && can_enter world.words world.window) _ _ tt tt
 
 start_loads : (first : List Record) (world : World) (call : Call) (s : Shown first world) → StartLoaded s.run world.words.owners (start world call)
@@ -525,7 +525,7 @@ whole_shown first world call (Takes phase) s was =
     behind_if first (is_full world) _ _ (behind_none first)
     (behind_some first _ (all_made_shown first world call s (steps_up_to most_steps world.words phase) (longer_many most_steps first s.run world.words phase s.runs was)))
 
-begin_shown : (first : List Record) (world : World) (name : List ℕ) (call : Call) (how : Start) (s : Shown first world) → StartLoaded s.run world.words.owners how → ShownBehind first (begin world name call how)
+begin_shown : (first : List Record) (world : World) (name : List ℕ) (call : Call) (how : Start) (s : Shown first world) → StartLoaded s.run world.words.owners how → ShownBehind first (begin_call world name call how)
 begin_shown first world name call Refused s was = behind_some first _ s
 begin_shown first world name call (Answers answer) s was = behind_if first (is_full world) _ _ (behind_none first) (behind_some first _ s)
 begin_shown first world name call (Takes phase) s was =
@@ -591,14 +591,14 @@ play_shown first world (line ∷ lines) replies behind s e =
 -- the first version is loaded once, and noted where there is a window
 started_by : (first : List Record) (keep window : ℕ) (some : Bool) → nat_lt 0 window ≡ some → Shown first (started_within first keep window)
 started_by first keep window true e = record {
-  run = (word.Load, told.Loaded 0 0) ∷ (word.Note 0, told.Noted 1 0) ∷ [];
+  run = (word.Load, reported.Loaded 0 0) ∷ (word.Note 0, reported.Noted 1 0) ∷ [];
   runs = rw e (loaded_once (first_version first), (0, refl, lit< tt, refl, refl), (noted_once (first_version first), (0, 0, first_slot (first_version first), refl, refl, lit< tt, refl, refl), refl));
   names = tt;
   weak_names = tt;
   calls = tt;
 }
 started_by first keep window false e = record {
-  run = (word.Load, told.Loaded 0 0) ∷ [];
+  run = (word.Load, reported.Loaded 0 0) ∷ [];
   runs = rw e (loaded_once (first_version first), (0, refl, lit< tt, refl, refl), refl);
   names = tt;
   weak_names = tt;

@@ -15,7 +15,7 @@ use Rattle.cell_core.specs.Words.{dead_word, found_by, grants, owned_of}
 use Rattle.cell_core.specs.WordSteps.{Makes}
 use Rattle.cell_core.specs.declared.words.Owner.{Owner}
 use Rattle.cell_core.specs.declared.words.Owner.TheVariants.{Holding, Weakly}
-use Rattle.cell_core.specs.declared.words.WordEvent.TheVariants as told
+use Rattle.cell_core.specs.declared.words.WordEvent.TheVariants as reported
 use Rattle.cell_core.specs.declared.words.WordStep.TheVariants as word
 use Rattle.world_run.specs.declared.phase.Phase.TheVariants as phase
 use Rattle.world_run.specs.declared.phase.Progress.TheVariants.{On}
@@ -63,13 +63,13 @@ seek_by later gains left words cell owner seeking is enough s weak all room =
     let (number, place, there, own, found, m) = has.2 in
     elim (cases_Bool (nat_lt there.shares dead_word)) [
       | inl alive ↦ (
-          let made_here : Makes words (word.Look owner) told.Alive words = (number, place, there, own, found, rw alive (refl, refl)) in
-          on_by left words words (phase.Seek owner seeking) (phase.Gain owner seeking) (omega (arith, enough)) (went words words (phase.Seek owner seeking) told.Alive (On (phase.Gain owner seeking)) made_here refl)
+          let made_here : Makes words (word.Look owner) reported.Alive words = (number, place, there, own, found, rw alive (refl, refl)) in
+          on_by left words words (phase.Seek owner seeking) (phase.Gain owner seeking) (omega (arith, enough)) (went words words (phase.Seek owner seeking) reported.Alive (On (phase.Gain owner seeking)) made_here refl)
           (gains (left - 1) words cell owner seeking is (omega (arith, enough)) s weak all room)
           )
       | inr dead ↦ (
-          let made_here : Makes words (word.Look owner) told.Dead words = (number, place, there, own, found, rw dead (refl, refl)) in
-          step_ends left words words (phase.Seek owner seeking) (sent_after seeking.sending seeking.owners) (omega (arith, enough)) (went words words (phase.Seek owner seeking) told.Dead (sent_after seeking.sending seeking.owners) made_here refl)
+          let made_here : Makes words (word.Look owner) reported.Dead words = (number, place, there, own, found, rw dead (refl, refl)) in
+          step_ends left words words (phase.Seek owner seeking) (sent_after seeking.sending seeking.owners) (omega (arith, enough)) (went words words (phase.Seek owner seeking) reported.Dead (sent_after seeking.sending seeking.owners) made_here refl)
           (sent_end seeking.sending seeking.owners (left - 1) words cell (omega (arith, enough)) s all)
           )
     ]
@@ -90,16 +90,16 @@ gain_by later more left words cell owner seeking is enough s weak all room =
       | inl alive ↦ (
           let h = rw alive at m in
           let next = length words.owners in
-          let made_here : Makes words (word.Raise owner) (told.Raised next number) has.1 = (number, place, there, own, found, few, rw alive (refl, h.1)) in
+          let made_here : Makes words (word.Raise owner) (reported.Raised next number) has.1 = (number, place, there, own, found, few, rw alive (refl, h.1)) in
           let owners_is : has.1.owners ≡ words.owners ++ Holding number place ∷ [] = ap (λ (w : Zones). w.owners) h.1 in
           let granted_is : has.1.granted ≡ words.granted + 1 = ap (λ (w : Zones). w.granted) h.1 in
           let here : slice_get has.1.owners next ≡ Some (Holding number place) = ap (λ o. slice_get o next) owners_is ∙ get_push_new words.owners (Holding number place) next refl in
           let finds = owner_finds has.1 shown.0 next number place shown.2 here in
           let given : found_by has.1 next ≡ Some finds.0 = owner_is_given has.1 shown.0 next number place shown.2 here ∙ finds.2 in
           let further = with_got next finds.0 seeking in
-          let goes : after has.1 (phase.Gain owner seeking) (told.Raised next number) ≡ gained_after further later = ap (got_after owner seeking next) given ∙ ap (gained_after further) is in
+          let goes : after has.1 (phase.Gain owner seeking) (reported.Raised next number) ≡ gained_after further later = ap (got_after owner seeking next) given ∙ ap (gained_after further) is in
           let longer : length further.owners ≡ length seeking.owners + 1 = length-append seeking.owners (next ∷ []) in
-          step_ends left words has.1 (phase.Gain owner seeking) (gained_after further later) (omega (arith, enough)) (went words has.1 (phase.Gain owner seeking) (told.Raised next number) (gained_after further later) made_here goes)
+          step_ends left words has.1 (phase.Gain owner seeking) (gained_after further later) (omega (arith, enough)) (went words has.1 (phase.Gain owner seeking) (reported.Raised next number) (gained_after further later) made_here goes)
           (gained_end later more (left - 1) has.1 shown.0 further (omega (arith, enough, longer)) shown.2
           (subst (λ o. AreWeak o later) (sym owners_is) (weak_push words.owners (Holding number place) later weak.1))
           (subst (λ o. AreAll Holding o further.owners) (sym owners_is) (got_more words.owners number place seeking.owners all))
@@ -107,9 +107,9 @@ gain_by later more left words cell owner seeking is enough s weak all room =
           )
       | inr dead ↦ (
           let h = rw dead at m in
-          let made_here : Makes words (word.Raise owner) told.Dead has.1 = (number, place, there, own, found, few, rw dead (refl, h.1)) in
+          let made_here : Makes words (word.Raise owner) reported.Dead has.1 = (number, place, there, own, found, few, rw dead (refl, h.1)) in
           let owners_is : has.1.owners ≡ words.owners = ap (λ (w : Zones). w.owners) h.1 in
-          step_ends left words has.1 (phase.Gain owner seeking) (sent_after seeking.sending seeking.owners) (omega (arith, enough)) (went words has.1 (phase.Gain owner seeking) told.Dead (sent_after seeking.sending seeking.owners) made_here refl)
+          step_ends left words has.1 (phase.Gain owner seeking) (sent_after seeking.sending seeking.owners) (omega (arith, enough)) (went words has.1 (phase.Gain owner seeking) reported.Dead (sent_after seeking.sending seeking.owners) made_here refl)
           (sent_end seeking.sending seeking.owners (left - 1) has.1 shown.0 (omega (arith, enough)) shown.2 (subst (λ o. AreAll Holding o seeking.owners) (sym owners_is) all))
           )
     ]

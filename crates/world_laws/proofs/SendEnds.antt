@@ -11,17 +11,17 @@ use Rattle.dns_message.specs.declared.update.Update.{Update as DynamicUpdate}
 use Rattle.dns_rdata.specs.Numbers.{type_IXFR}
 use Rattle.dns_rdata.specs.declared.numbers.Serial.{Serial}
 use Rattle.transfer_core.proofs.VersionLemmas.{list_told, list_taken}
-use Rattle.transfer_core.specs.Chain.{zones_of, told}
+use Rattle.transfer_core.specs.Chain.{zones_of, reported}
 use Rattle.transfer_core.specs.Lists.{AreVersions, as_sent, incremental, newest}
 use Rattle.transfer_core.specs.Packed.{spelt}
 use Rattle.transfer_core.specs.Take.{take as taken_by}
 use Rattle.zone_tree.specs.Version.{Version as Numbered, zone_serial}
 use Rattle.zone_tree.specs.Zone.{IsZone, soa_of}
-use Rattle.world_run.specs.World.{World, started, version_of, call_of, none_got, answer_at, step_once, steps_up_to, most_steps, is_full, all_made, whole, begin, begin_under, stepped, next, start, turn, play, given_up, weak_given_up}
+use Rattle.world_run.specs.World.{World, started, version_of, call_of, none_got, answer_at, step_once, steps_up_to, most_steps, is_full, all_made, whole, begin_call, begin_under, stepped, next, start, turn, play, given_up, weak_given_up}
 use Rattle.world_run.specs.declared.calls.UnderWay.{UnderWay}
 use Rattle.world_run.specs.declared.entries.Entry.{Entry}
 use Rattle.world_run.specs.declared.phase.End.{End}
-use Rattle.world_run.specs.declared.phase.End.TheVariants.{Owned, OwnedWeakly, Told, NoSlot, Kept, Sent}
+use Rattle.world_run.specs.declared.phase.End.TheVariants.{Owned, OwnedWeakly, Replied, NoSlot, Kept, Sent}
 use Rattle.world_run.specs.declared.phase.Phase.{Phase}
 use Rattle.world_run.specs.declared.phase.Progress.{Progress}
 use Rattle.world_run.specs.declared.phase.Progress.TheVariants.{On, Done}
@@ -72,7 +72,7 @@ asker_serial first ups words entries version request sending query serial reads_
 
 -- where each version behind the asker's was got, what changed leads from there
 changes_lead : (first : Zone) (ups : List DynamicUpdate) (words : Zones) (entries : List Entry) (version : Numbered) (request : List ℕ) (sending : Sending) (query : QueryAsked) (serial : Serial) → reads request ≡ parsed.Query query → (s : Sends first ups words entries version request sending) → sending.whole ≡ true → query.serial ≡ Some serial
-    → LeadFromAsker first ups version serial query.question.name (map as_sent (map (spelt query.question.name) (told (soa_of version.zone) sending.got)))
+    → LeadFromAsker first ups version serial query.question.name (map as_sent (map (spelt query.question.name) (reported (soa_of version.zone) sending.got)))
 changes_lead first ups words entries version request sending query serial reads_so s whole_so asks =
     let a = s.asked in
     let got = sending.got in
@@ -85,7 +85,7 @@ changes_lead first ups words entries version request sending query serial reads_
     let serial_is = asker_serial first ups words entries version request sending query serial reads_so s asks in
     let zones : zones_of got ≡ zones_behind first s.seen s.asker (version.number - s.asker) = s.got.zones ∙ ap (zones_behind first s.seen s.asker) (sym n) in
     let last : newest zone (zones_of got) ≡ version.zone = ap (newest zone) s.got.zones ∙ (newest_behind first s.seen s.asker (length got) zone refl ∙ (ap (zone_at first s.seen) count ∙ sym a.served)) in
-    let list : told (soa_of version.zone) got ≡ incremental zone (zones_of got) = list_told zone got version.zone s.got.behind last in
+    let list : reported (soa_of version.zone) got ≡ incremental zone (zones_of got) = list_told zone got version.zone s.got.behind last in
     let versions : AreVersions zone (zones_of got) = subst (AreVersions zone) (sym zones) a.versions in
     let some : got ≢ [] = λ e. (let m : length got ≡ 0 = ap length e in absurd (omega (arith, m, count, before))) in
     let taken : taken_by zone (map as_sent (incremental zone (zones_of got))) ≡ Ok version.zone = list_taken zone got version.zone (record { some = some; behind = s.got.behind; last = last }) versions in
@@ -103,7 +103,7 @@ changes_lead first ups words entries version request sending query serial reads_
           differs_behind serial.0 zone (zones_behind first s.seen s.asker (version.number - s.asker)) (number - (s.asker + 1)) (zone_at first s.seen number) (ap zone_serial (sym here) ∙ serial_is) a.versions.serials there (ap zone_serial (sym now) ∙ e)
           );
       changes = ap (λ l. map as_sent (map (spelt name) l)) (list ∙ (ap (λ z. incremental z (zones_of got)) (sym here) ∙ ap (incremental (zone_at first ups s.asker)) (sym all)));
-      taken = ap (λ z. taken_by z (map as_sent (map (spelt name) (told (soa_of version.zone) got)))) here ∙ (taken_spelt zone name (told (soa_of version.zone) got) ∙ (ap (λ l. taken_by zone (map as_sent l)) list ∙ taken));
+      taken = ap (λ z. taken_by z (map as_sent (map (spelt name) (reported (soa_of version.zone) got)))) here ∙ (taken_spelt zone name (reported (soa_of version.zone) got) ∙ (ap (λ l. taken_by zone (map as_sent l)) list ∙ taken));
     }
 
 -- what is told where a call may be begun
@@ -115,7 +115,7 @@ unless_full false one two e = (let f = e in cc)
 end_sends : (first : Zone) (ups : List DynamicUpdate) (words : Zones) (entries : List Entry) (version : Numbered) (request : List ℕ) (end : End) (given : Answer) → answer_at end ≡ given → SendsAt first ups words entries version request (Done end) → (sending : Sending) × Sends first ups words entries version request sending × (sent_answer sending ≡ given)
 end_sends first ups words entries version request (Owned name owner number) given e s = absurd s
 end_sends first ups words entries version request (OwnedWeakly name owner number) given e s = absurd s
-end_sends first ups words entries version request (Told told_answer) given e s = absurd s
+end_sends first ups words entries version request (Replied told_answer) given e s = absurd s
 end_sends first ups words entries version request (NoSlot head) given e s = absurd s
 end_sends first ups words entries version request (Kept head owner entry) given e s = absurd s
 end_sends first ups words entries version request (Sent sending) given e s = (sending, s, e)
@@ -197,7 +197,7 @@ record IsBegun (world : World) (begun : List ℕ) (call : Call) (after : World) 
   how : start world call ≡ Takes at
   there : call_of begun after.calls ≡ Some (record { name = begun; phase = at })
 
-begun_if : (world : World) (begun : List ℕ) (call : Call) (after : World) (how : Start) → start world call ≡ how → call_of begun world.calls ≡ None → begin world begun call how ≡ Some (Begun, after) → IsBegun world begun call after
+begun_if : (world : World) (begun : List ℕ) (call : Call) (after : World) (how : Start) → start world call ≡ how → call_of begun world.calls ≡ None → begin_call world begun call how ≡ Some (Begun, after) → IsBegun world begun call after
 begun_if world begun call after Refused how none e =
     let pair : (NotEnabled, world) ≡ (Begun, after) = (let f = e in cc) in
     absurd (let wrong : NotEnabled ≡ Begun = ap (λ (p : WorldReply × World). p.0) pair in cc)

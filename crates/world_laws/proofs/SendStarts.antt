@@ -38,8 +38,8 @@ use Rattle.world_laws.specs.Leads.{AreOctets, IsUntold, zones_behind}
 use Rattle.world_laws.specs.Replays.{IsSent, IsSentAt}
 use Rattle.world_laws.proofs.CallReplays.{script, updates_in}
 use Rattle.world_laws.proofs.ChainLists.{Zone, are_versions, fits_less, fits_front}
-use Rattle.world_laws.proofs.HandLemmas.{AllFit}
-use Rattle.world_laws.proofs.HandSeats.{window_seats}
+use Rattle.world_laws.proofs.UseLemmas.{AllFit}
+use Rattle.world_laws.proofs.UseLists.{window_uses}
 use Rattle.world_laws.proofs.LeadLemmas.{zone_at, chain_from}
 use Rattle.world_laws.proofs.OtherCalls.{unbarred}
 use Rattle.world_laws.proofs.SendSteps.{AreNumbered, SendsIn, behind_count}
@@ -62,7 +62,7 @@ up_to_kept number x entries e = rw e refl
 up_to_gone : (number : ℕ) (x : Entry) (entries : List Entry) → nat_le x.number number ≡ false → up_to number (x ∷ entries) ≡ up_to number entries
 up_to_gone number x entries e = rw e refl
 
-none_up : (owners : List Owner) (total number : ℕ) (entries : List Entry) → AllFit owners (window_seats total entries) → number + length entries < total → up_to number entries ≡ []
+none_up : (owners : List Owner) (total number : ℕ) (entries : List Entry) → AllFit owners (window_uses total entries) → number + length entries < total → up_to number entries ≡ []
 none_up owners total number [] fit less = refl
 none_up owners total number (x ∷ entries) fit less =
     let is = fit.0.0 in
@@ -91,7 +91,7 @@ record UpTo (owners : List Owner) (first : Zone) (ups : List DynamicUpdate) (ask
   count : asker + length front ≡ number
   serials : serials_in front ≡ serials_of (zones_behind first ups asker (length front))
 
-all_up : (owners : List Owner) (first : Zone) (ups : List DynamicUpdate) (total asker number : ℕ) (entries : List Entry) → AllFit owners (window_seats total entries) → AreSerials first ups entries → asker + 1 + length entries ≡ total → number + 1 ≤ total → asker ≤ number → UpTo owners first ups asker number entries
+all_up : (owners : List Owner) (first : Zone) (ups : List DynamicUpdate) (total asker number : ℕ) (entries : List Entry) → AllFit owners (window_uses total entries) → AreSerials first ups entries → asker + 1 + length entries ≡ total → number + 1 ≤ total → asker ≤ number → UpTo owners first ups asker number entries
 all_up owners first ups total asker number [] fit serials count within before = record { front = []; back = []; is = refl; split = refl; numbered = tt; count = omega (arith, count, within, before); serials = refl }
 all_up owners first ups total asker number (x ∷ entries) fit serials count within before =
     let said = fit.0.0 in
@@ -138,7 +138,7 @@ record Found (owners : List Owner) (first : Zone) (ups : List DynamicUpdate) (si
   count : asker + length os ≡ number
   fit : fits size (serials_of (zone_at first ups asker ∷ zones_behind first ups asker (length os))) ≡ true
 
-found_met : (owners : List Owner) (first : Zone) (ups : List DynamicUpdate) (size total number serial : ℕ) (x : Entry) (entries : List Entry) (os : List ℕ) → AllFit owners (window_seats total (x ∷ entries)) → AreSerials first ups (x ∷ entries) → number + 1 ≤ total → x.number ≤ number → fits size (serials_in (x ∷ entries)) ≡ true → x.serial.0 ≡ serial
+found_met : (owners : List Owner) (first : Zone) (ups : List DynamicUpdate) (size total number serial : ℕ) (x : Entry) (entries : List Entry) (os : List ℕ) → AllFit owners (window_uses total (x ∷ entries)) → AreSerials first ups (x ∷ entries) → number + 1 ≤ total → x.number ≤ number → fits size (serials_in (x ∷ entries)) ≡ true → x.serial.0 ≡ serial
     → owners_in (up_to number entries) ≡ os → Found owners first ups size number serial (x ∷ entries) os
 found_met owners first ups size total number serial x entries os fit serials within under short same is =
     let said = fit.0.0 in
@@ -184,7 +184,7 @@ found_further owners first ups size number serial x entries os f = record {
   fit = f.fit;
 }
 
-found_entries : (owners : List Owner) (first : Zone) (ups : List DynamicUpdate) (size total number serial : ℕ) (entries : List Entry) (owner : ℕ) (left : List ℕ) → AllFit owners (window_seats total entries) → AreSerials first ups entries → number + 1 ≤ total → fits size (serials_in entries) ≡ true
+found_entries : (owners : List Owner) (first : Zone) (ups : List DynamicUpdate) (size total number serial : ℕ) (entries : List Entry) (owner : ℕ) (left : List ℕ) → AllFit owners (window_uses total entries) → AreSerials first ups entries → number + 1 ≤ total → fits size (serials_in entries) ≡ true
     → behind serial (up_to number entries) ≡ owner ∷ left → Found owners first ups size number serial entries (owner ∷ left)
 found_entries owners first ups size total number serial [] owner left fit serials within short e = absurd (let wrong = e in cc)
 found_entries owners first ups size total number serial (x ∷ entries) owner left fit serials within short e =
@@ -201,7 +201,7 @@ found_entries owners first ups size total number serial (x ∷ entries) owner le
     ]
 
 -- where none is to be upgraded, no entry of a version in front of the number has the serial
-none_there : (owners : List Owner) (first : Zone) (ups : List DynamicUpdate) (total number : ℕ) (x : Entry) (entries : List Entry) → AllFit owners (window_seats total (x ∷ entries)) → AreSerials first ups (x ∷ entries) → number + 1 ≤ total → x.number ≤ number → owners_in (up_to number entries) ≡ [] → x.number ≡ number
+none_there : (owners : List Owner) (first : Zone) (ups : List DynamicUpdate) (total number : ℕ) (x : Entry) (entries : List Entry) → AllFit owners (window_uses total (x ∷ entries)) → AreSerials first ups (x ∷ entries) → number + 1 ≤ total → x.number ≤ number → owners_in (up_to number entries) ≡ [] → x.number ≡ number
 none_there owners first ups total number x entries fit serials within under none =
     let said = fit.0.0 in
     let u = all_up owners first ups total x.number number entries fit.1 serials.1 (omega (arith, said)) within under in
@@ -211,7 +211,7 @@ none_there owners first ups total number x entries fit serials within under none
     let count = u.count in
     omega (arith, count, n, m)
 
-none_before : (owners : List Owner) (first : Zone) (ups : List DynamicUpdate) (total number serial : ℕ) (entries : List Entry) (place : ℕ) (entry : Entry) → AllFit owners (window_seats total entries) → AreSerials first ups entries → number + 1 ≤ total → behind serial (up_to number entries) ≡ []
+none_before : (owners : List Owner) (first : Zone) (ups : List DynamicUpdate) (total number serial : ℕ) (entries : List Entry) (place : ℕ) (entry : Entry) → AllFit owners (window_uses total entries) → AreSerials first ups entries → number + 1 ≤ total → behind serial (up_to number entries) ≡ []
     → slice_get entries place ≡ Some entry → entry.number < number → entry.serial.0 ≢ serial
 none_before owners first ups total number serial [] place entry fit serials within none at less same = let wrong = at in cc
 none_before owners first ups total number serial (x ∷ entries) zero entry fit serials within none at less same =
@@ -319,7 +319,7 @@ module _ (lines : List Line) (first : Zone) (keep window top : ℕ) (world : Wor
       let ups = updates_in n.goes.us in
       let s = served name version has in
       let l = s.within in
-      let fit = window_fits (script (IsSentAt lines) top) first world n.goes n.hands (unbarred world.calls barred) in
+      let fit = window_fits (script (IsSentAt lines) top) first world n.goes n.all_in_use (unbarred world.calls barred) in
       let f = found_entries world.words.owners first ups world.window (length ups + 1) version.number serial.0 world.entries seek.owner seek.left fit n.serials.each (omega (arith, l)) n.serials.fit seek.owners_are in
       let count = f.count in
       let all : version.number - f.asker ≡ length (seek.owner ∷ seek.left) = omega (arith, count) in
@@ -386,7 +386,7 @@ module _ (lines : List Line) (first : Zone) (keep window top : ℕ) (world : Wor
       let ups = updates_in n.goes.us in
       let same : other ≡ serial = (let f = e in cc) in
       let l = s.within in
-      let fit = window_fits (script (IsSentAt lines) top) first world n.goes n.hands (unbarred world.calls barred) in
+      let fit = window_fits (script (IsSentAt lines) top) first world n.goes n.all_in_use (unbarred world.calls barred) in
       inl (λ place entry at less is. none_before world.words.owners first ups (length ups + 1) version.number other.0 world.entries place entry fit n.serials.each (omega (arith, l)) none at less (is ∙ ap (λ (x : Serial). x.0) (sym same)))
 
   of_answers : (name request : List ℕ) (owner : ℕ) (o : Option Numbered) (query : QueryAsked) (given : Answer) → version_of name world ≡ o → reads request ≡ parsed.Query query → transfer_of world owner request o ≡ Answers given → AtOnce name request query given

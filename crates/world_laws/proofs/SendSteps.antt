@@ -14,7 +14,7 @@ use Rattle.cell_core.specs.Words.{found_by, owned_of}
 use Rattle.cell_core.specs.WordSteps.{Makes}
 use Rattle.cell_core.specs.declared.words.Owner.{Owner}
 use Rattle.cell_core.specs.declared.words.WordEvent.{WordEvent}
-use Rattle.cell_core.specs.declared.words.WordEvent.TheVariants as told
+use Rattle.cell_core.specs.declared.words.WordEvent.TheVariants as reported
 use Rattle.cell_core.specs.declared.words.WordStep.TheVariants as word
 use Rattle.dns_message.specs.Request.{reads}
 use Rattle.dns_message.specs.declared.query.Parsed.TheVariants as parsed
@@ -26,7 +26,7 @@ use Rattle.transfer_core.specs.Lists.{AreVersions, newest}
 use Rattle.world_run.specs.Phases.{word_step, after, past, gone, sent_after, completed, with_got, gained_after, got_after, updates}
 use Rattle.world_run.specs.World.{step_once, steps_up_to, go_on}
 use Rattle.world_run.specs.declared.entries.Entry.{Entry}
-use Rattle.world_run.specs.declared.phase.End.TheVariants.{Owned, OwnedWeakly, Told, NoSlot, Kept, Sent}
+use Rattle.world_run.specs.declared.phase.End.TheVariants.{Owned, OwnedWeakly, Replied, NoSlot, Kept, Sent}
 use Rattle.world_run.specs.declared.phase.Phase.{Phase}
 use Rattle.world_run.specs.declared.phase.Phase.TheVariants as phase
 use Rattle.world_run.specs.declared.phase.Progress.{Progress}
@@ -157,7 +157,7 @@ abbrev pub SendsAt : Zone → List DynamicUpdate → Zones → List Entry → Nu
 SendsAt first ups words entries version request (On at) = SendsIn first ups words entries version request at
 SendsAt first ups words entries version request (Done (Owned name owner number)) = ⊥
 SendsAt first ups words entries version request (Done (OwnedWeakly name owner number)) = ⊥
-SendsAt first ups words entries version request (Done (Told given)) = ⊥
+SendsAt first ups words entries version request (Done (Replied given)) = ⊥
 SendsAt first ups words entries version request (Done (NoSlot head)) = ⊥
 SendsAt first ups words entries version request (Done (Kept head owner entry)) = ⊥
 SendsAt first ups words entries version request (Done (Sent sending)) = Sends first ups words entries version request sending
@@ -259,15 +259,15 @@ module _ (first : Zone) (ups : List DynamicUpdate) (entries : List Entry) (versi
   past_follows words (purpose.Sent sending got) given s = sent_follows words sending got s
 
   release_follows : (words : Zones) (at : ℕ) (for : Purpose) → SendsFor first ups words entries version request for → (event : WordEvent) → SendsAt first ups words entries version request (after words (phase.Release at for) event)
-  release_follows words at for s told.Emptied = s
+  release_follows words at for s reported.Emptied = s
   release_follows words at for s event = past_follows words for answer.Left s
 
   bury_follows : (words : Zones) (at : ℕ) (for : Purpose) → SendsFor first ups words entries version request for → (event : WordEvent) → SendsAt first ups words entries version request (after words (phase.Bury at for) event)
-  bury_follows words at for s (told.Buried number) = s
+  bury_follows words at for s (reported.Buried number) = s
   bury_follows words at for s event = past_follows words for answer.Left s
 
   fade_follows : (words : Zones) (at : ℕ) (number : Option ℕ) (for : Purpose) → SendsFor first ups words entries version request for → (event : WordEvent) → SendsAt first ups words entries version request (after words (phase.Fade at number for) event)
-  fade_follows words at number for s told.Closed = s
+  fade_follows words at number for s reported.Closed = s
   fade_follows words at number for s event = past_follows words for (gone number) s
 
   -- no further version is got where the next one is buried
@@ -317,18 +317,18 @@ module _ (first : Zone) (ups : List DynamicUpdate) (entries : List Entry) (versi
       let which : dead.0 ≡ number = keeps.same dead.0 dead.1 (ap (option_and_then owned_of) dead.2) in
       (next, shows, subst (λ k. next.buried k ≡ true) which (dead_is cell next dead.0 dead.3))
 
-  look_dead : (words new : Zones) (owner number : ℕ) (cell : Cell Numbered) → Shows words cell → Makes {T = Numbered} words (word.Look owner) told.Dead new → KeepsNumber words.owners owner number → IsBuriedIn new number
-  look_dead words new owner number cell shows m keeps = (let shown = step_shows {T = Numbered} words new (word.Look owner) told.Dead cell shows m in dead_buried words new owner number cell shown.0 shown.2 shown.1 keeps)
+  look_dead : (words new : Zones) (owner number : ℕ) (cell : Cell Numbered) → Shows words cell → Makes {T = Numbered} words (word.Look owner) reported.Dead new → KeepsNumber words.owners owner number → IsBuriedIn new number
+  look_dead words new owner number cell shows m keeps = (let shown = step_shows {T = Numbered} words new (word.Look owner) reported.Dead cell shows m in dead_buried words new owner number cell shown.0 shown.2 shown.1 keeps)
 
-  raise_dead : (words new : Zones) (owner number : ℕ) (cell : Cell Numbered) → Shows words cell → Makes {T = Numbered} words (word.Raise owner) told.Dead new → KeepsNumber words.owners owner number → IsBuriedIn new number
-  raise_dead words new owner number cell shows m keeps = (let shown = step_shows {T = Numbered} words new (word.Raise owner) told.Dead cell shows m in dead_buried words new owner number cell shown.0 shown.2 shown.1 keeps)
+  raise_dead : (words new : Zones) (owner number : ℕ) (cell : Cell Numbered) → Shows words cell → Makes {T = Numbered} words (word.Raise owner) reported.Dead new → KeepsNumber words.owners owner number → IsBuriedIn new number
+  raise_dead words new owner number cell shows m keeps = (let shown = step_shows {T = Numbered} words new (word.Raise owner) reported.Dead cell shows m in dead_buried words new owner number cell shown.0 shown.2 shown.1 keeps)
 
   seek_follows : (words new : Zones) (cell : Cell Numbered) (owner : ℕ) (seeking : Seeking) → Shows words cell → (s : Seeks first ups words entries version request owner seeking) → (event : WordEvent) → Makes {T = Numbered} words (word.Look owner) event new → Seeks first ups new entries version request owner seeking
       → SendsAt first ups new entries version request (after new (phase.Seek owner seeking) event)
   unfolding goes_by
-  seek_follows words new cell owner seeking shows s told.Alive m later = later
-  seek_follows words new cell owner seeking shows s told.Dead m later =
-      let further = further_step words new (word.Look owner) told.Dead m in
+  seek_follows words new cell owner seeking shows s reported.Alive m later = later
+  seek_follows words new cell owner seeking shows s reported.Dead m later =
+      let further = further_step words new (word.Look owner) reported.Dead m in
       sent_follows new seeking.sending seeking.owners (ends_here new owner seeking (goes_by words new owner seeking further s) (look_dead words new owner (s.asker + length seeking.sending.got + 1) cell shows m s.numbered.0))
   seek_follows words new cell owner seeking shows s event m later = later
 
@@ -404,11 +404,11 @@ module _ (first : Zone) (ups : List DynamicUpdate) (entries : List Entry) (versi
   gain_follows : (S : Script) (us : List Placed) (words new : Zones) (cell : Cell Numbered) (owner : ℕ) (seeking : Seeking) → Shows words cell → (s : Seeks first ups words entries version request owner seeking) → (event : WordEvent) → Makes {T = Numbered} words (word.Raise owner) event new → ups ≡ updates_in us → Tells S first new us
       → Seeks first ups new entries version request owner seeking → SendsAt first ups new entries version request (after new (phase.Gain owner seeking) event)
   unfolding goes_by
-  gain_follows S us words new cell owner seeking shows s (told.Raised next number) m is t later =
+  gain_follows S us words new cell owner seeking shows s (reported.Raised next number) m is t later =
       let keeps = raised_keeps words new owner next number (s.asker + length seeking.sending.got + 1) m s.numbered.0 in
-      got_follows S us new owner seeking next (found_by new next) refl is t (goes_by words new owner seeking (further_step words new (word.Raise owner) (told.Raised next number) m) s) keeps.1
-  gain_follows S us words new cell owner seeking shows s told.Dead m is t later =
-      let further = further_step words new (word.Raise owner) told.Dead m in
+      got_follows S us new owner seeking next (found_by new next) refl is t (goes_by words new owner seeking (further_step words new (word.Raise owner) (reported.Raised next number) m) s) keeps.1
+  gain_follows S us words new cell owner seeking shows s reported.Dead m is t later =
+      let further = further_step words new (word.Raise owner) reported.Dead m in
       sent_follows new seeking.sending seeking.owners (ends_here new owner seeking (goes_by words new owner seeking further s) (raise_dead words new owner (s.asker + length seeking.sending.got + 1) cell shows m s.numbered.0))
   gain_follows S us words new cell owner seeking shows s event m is t later = later
 

@@ -7,7 +7,7 @@ use Rattle.cell_core.specs.Made.{made}
 use Rattle.cell_core.specs.Words.{State, found_by}
 use Rattle.cell_core.specs.WordSteps.{Makes}
 use Rattle.cell_core.specs.declared.words.WordEvent.{WordEvent}
-use Rattle.cell_core.specs.declared.words.WordEvent.TheVariants as told
+use Rattle.cell_core.specs.declared.words.WordEvent.TheVariants as reported
 use Rattle.dns_rdata.specs.Record.{Record}
 use Rattle.serve_core.specs.declared.heading.Heading.{Heading}
 use Rattle.world_run.specs.declared.phase.Phase.{Phase}
@@ -17,7 +17,7 @@ use Rattle.zone_tree.specs.Version.{Version as Numbered}
 use Rattle.world_run.specs.Phases.{word_step, after, past, leaving_after, oldest_after, sent_after, completed, with_got, gained_after, got_after, is_for_update, updates, gone}
 use Rattle.world_laws.specs.UpdateAnswers.{heading_of, KeepsHeading}
 use Rattle.world_run.specs.declared.phase.End.{End}
-use Rattle.world_run.specs.declared.phase.End.TheVariants.{Owned, OwnedWeakly, Told, NoSlot, Kept, Sent}
+use Rattle.world_run.specs.declared.phase.End.TheVariants.{Owned, OwnedWeakly, Replied, NoSlot, Kept, Sent}
 use Rattle.world_run.specs.declared.entries.Entry.{Entry}
 use Rattle.world_run.specs.declared.sending.Seeking.{Seeking}
 use Rattle.world_run.specs.declared.sending.Sending.{Sending}
@@ -28,7 +28,7 @@ use Rattle.world_run.specs.declared.phase.Purpose.TheVariants as purpose
 use Rattle.world_run.specs.declared.step.Answer.{Answer}
 use Rattle.world_run.specs.declared.step.Answer.TheVariants as answer
 use Rattle.world_laws.proofs.AnswerLemmas.{keeps_head}
-use Rattle.world_laws.proofs.HandSeats.{swapped_for, swapped_in, swapped_at, swaps_now}
+use Rattle.world_laws.proofs.UseLists.{swapped_for, swapped_in, swapped_at, swaps_now}
 use Rattle.world_run.specs.World.{step_once, next}
 use Rattle.world_laws.proofs.CallReplays.{Script, Placed, Zones, Tells, Coherent, Behind, behind}
 
@@ -71,30 +71,30 @@ past_swapped (purpose.Leaves head kept entry leaving) given = leaving_swapped he
 past_swapped (purpose.Sent sending got) given = sent_swapped sending got
 
 load_swapped : (words : Zones) (name : List ℕ) (event : WordEvent) → swapped_at (after words (phase.Load name) event) ≡ 0
-load_swapped words name (told.Loaded owner number) = refl
+load_swapped words name (reported.Loaded owner number) = refl
 load_swapped words name event = refl
 
 look_swapped : (words : Zones) (name : List ℕ) (owner : ℕ) (event : WordEvent) → swapped_at (after words (phase.Look name owner) event) ≡ 0
-look_swapped words name owner told.Alive = refl
-look_swapped words name owner told.Dead = refl
+look_swapped words name owner reported.Alive = refl
+look_swapped words name owner reported.Dead = refl
 look_swapped words name owner event = refl
 
 raise_swapped : (words : Zones) (name : List ℕ) (owner : ℕ) (event : WordEvent) → swapped_at (after words (phase.Raise name owner) event) ≡ 0
-raise_swapped words name owner (told.Raised next number) = refl
-raise_swapped words name owner told.Dead = refl
+raise_swapped words name owner (reported.Raised next number) = refl
+raise_swapped words name owner reported.Dead = refl
 raise_swapped words name owner event = refl
 
 note_swapped : (words : Zones) (name : List ℕ) (owner : ℕ) (event : WordEvent) → swapped_at (after words (phase.Note name owner) event) ≡ 0
-note_swapped words name owner (told.Noted next number) = refl
+note_swapped words name owner (reported.Noted next number) = refl
 note_swapped words name owner event = refl
 
 probe_swapped : (words : Zones) (version : Numbered) (keeping : Keeping) (event : WordEvent) → swapped_at (after words (phase.Probe version keeping) event) ≡ 0
-probe_swapped words version keeping told.Taken = refl
-probe_swapped words version keeping told.NoSlot = refl
+probe_swapped words version keeping reported.Taken = refl
+probe_swapped words version keeping reported.NoSlot = refl
 probe_swapped words version keeping event = refl
 
 settle_swapped : (words : Zones) (keeping : Keeping) (event : WordEvent) → swapped_at (after words (phase.Settle keeping) event) ≡ 1
-settle_swapped words keeping (told.Settled owner number) = refl
+settle_swapped words keeping (reported.Settled owner number) = refl
 settle_swapped words keeping event = refl
 
 entered_swapped : (given : ℕ) (keeping : Keeping) (owner : ℕ) (enters : Bool) → swapped_at (if enters then On (phase.Enter given owner keeping) else On (phase.Release given (purpose.Publish keeping owner None))) ≡ 1
@@ -102,16 +102,16 @@ entered_swapped given keeping owner true = refl
 entered_swapped given keeping owner false = refl
 
 keep_swapped : (words : Zones) (given : ℕ) (keeping : Keeping) (event : WordEvent) → swapped_at (after words (phase.Keep given keeping) event) ≡ 1
-keep_swapped words given keeping (told.Loaded owner number) = entered_swapped given keeping owner (is_some keeping.enters)
+keep_swapped words given keeping (reported.Loaded owner number) = entered_swapped given keeping owner (is_some keeping.enters)
 keep_swapped words given keeping event = refl
 
 enter_swapped : (words : Zones) (given kept : ℕ) (keeping : Keeping) (event : WordEvent) → swapped_at (after words (phase.Enter given kept keeping) event) ≡ 1
-enter_swapped words given kept keeping (told.Noted owner number) = refl
+enter_swapped words given kept keeping (reported.Noted owner number) = refl
 enter_swapped words given kept keeping event = refl
 
 seek_swapped : (words : Zones) (owner : ℕ) (seeking : Seeking) (event : WordEvent) → swapped_at (after words (phase.Seek owner seeking) event) ≡ 0
-seek_swapped words owner seeking told.Alive = refl
-seek_swapped words owner seeking told.Dead = sent_swapped seeking.sending seeking.owners
+seek_swapped words owner seeking reported.Alive = refl
+seek_swapped words owner seeking reported.Dead = sent_swapped seeking.sending seeking.owners
 seek_swapped words owner seeking event = refl
 
 gained_swapped : (seeking : Seeking) (left : List ℕ) → swapped_at (gained_after seeking left) ≡ 0
@@ -123,20 +123,20 @@ got_swapped owner seeking next_owner None = refl
 got_swapped owner seeking next_owner (Some version) = gained_swapped (with_got next_owner version seeking) seeking.left
 
 gain_swapped : (words : Zones) (owner : ℕ) (seeking : Seeking) (event : WordEvent) → swapped_at (after words (phase.Gain owner seeking) event) ≡ 0
-gain_swapped words owner seeking (told.Raised next_owner number) = got_swapped owner seeking next_owner (found_by words next_owner)
-gain_swapped words owner seeking told.Dead = sent_swapped seeking.sending seeking.owners
+gain_swapped words owner seeking (reported.Raised next_owner number) = got_swapped owner seeking next_owner (found_by words next_owner)
+gain_swapped words owner seeking reported.Dead = sent_swapped seeking.sending seeking.owners
 gain_swapped words owner seeking event = refl
 
 release_swapped : (words : Zones) (owner : ℕ) (for : Purpose) (event : WordEvent) → swapped_at (after words (phase.Release owner for) event) ≡ swapped_for for
-release_swapped words owner for told.Emptied = refl
+release_swapped words owner for reported.Emptied = refl
 release_swapped words owner for event = past_swapped for answer.Left
 
 bury_swapped : (words : Zones) (owner : ℕ) (for : Purpose) (event : WordEvent) → swapped_at (after words (phase.Bury owner for) event) ≡ swapped_for for
-bury_swapped words owner for (told.Buried number) = refl
+bury_swapped words owner for (reported.Buried number) = refl
 bury_swapped words owner for event = past_swapped for answer.Left
 
 fade_swapped : (words : Zones) (owner : ℕ) (number : Option ℕ) (for : Purpose) (event : WordEvent) → swapped_at (after words (phase.Fade owner number for) event) ≡ swapped_for for
-fade_swapped words owner number for told.Closed = refl
+fade_swapped words owner number for reported.Closed = refl
 fade_swapped words owner number for event = past_swapped for (gone number)
 
 pub after_swapped : (words : Zones) (at : Phase) (event : WordEvent) → swapped_at (after words at event) ≡ swapped_in at + swaps_now at
@@ -208,7 +208,7 @@ swap_updates (phase.Free owner number for) e = absurd (omega (arith, e))
 abbrev pub HeadEnd : Heading → End → Type 0
 HeadEnd head (Owned name owner number) = ⊥
 HeadEnd head (OwnedWeakly name owner number) = ⊥
-HeadEnd head (Told given) = ⊥
+HeadEnd head (Replied given) = ⊥
 HeadEnd head (NoSlot other) = other ≡ head
 HeadEnd head (Kept other owner entry) = other ≡ head
 HeadEnd head (Sent sending) = ⊥

@@ -205,7 +205,7 @@ load_publishes words new event cell later (number, found, few, told_is, new_is) 
     ap (λ (c : Cell Numbered). c.published) shown.3
 
 bury_publishes : (words new : Zones) (owner : ℕ) (event : WordEvent) (cell later : Cell Numbered) → Makes {T = Numbered} words (word.Bury owner) event new → ShowsStep {T = Numbered} words (word.Bury owner) event cell later → later.published ≡ cell.published
-bury_publishes words new owner event cell later (place, there, seat, found, m) s =
+bury_publishes words new owner event cell later (place, there, use_of, found, m) s =
     elim (cases_Bool (there.shares == 0)) [
       | inl none ↦ (
           let h = rw none at m in

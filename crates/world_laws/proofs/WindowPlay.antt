@@ -17,8 +17,8 @@ use Rattle.world_laws.specs.Leads.{HaveSerials}
 use Rattle.world_laws.specs.Replays.{IsSentAt, IsReplayed}
 use Rattle.world_laws.proofs.CallReplays.{script, Placed, updates_in, Zones, Further}
 use Rattle.world_laws.proofs.ChainLists.{Zone}
-use Rattle.world_laws.proofs.HandPlay.{Kept, turn_hands, turn_same, started_hands, started_less, started_few}
-use Rattle.world_laws.proofs.HandWorld.{Hands}
+use Rattle.world_laws.proofs.UsePlay.{Kept, turn_in_use, turn_same, started_in_use, started_less, started_few}
+use Rattle.world_laws.proofs.UseWorld.{AllInUse}
 use Rattle.world_laws.proofs.HeldLemmas.{held_by_kept, held_us}
 use Rattle.world_laws.proofs.LeadLemmas.{zone_at}
 use Rattle.world_laws.proofs.OtherCalls.{moved}
@@ -28,7 +28,7 @@ use Rattle.world_laws.proofs.WindowSerials.{Serials, serial_at, serials_on, wind
 -- a world behind so many of the lines
 pub record Now (lines : List Line) (first : Zone) (keep window top : ℕ) (world : World) : Type 0 where
   pub goes : Goes (script (IsSentAt lines) top) first world
-  pub hands : Hands world
+  pub all_in_use : AllInUse world
   pub less : world.window ≤ 16
   pub few : length world.entries ≤ 16
   pub serials : Serials first (updates_in goes.us) world.window world.entries
@@ -43,29 +43,29 @@ pub record After (lines : List Line) (first : Zone) (keep window top : ℕ) (ups
   pub further : Further words after.words
 
 -- one line more
-rest_more : (line : Line) (told given : WorldReply) (after : World) (replies : List WorldReply) (world : World) (o p : Option (List WorldReply × World)) → onto_replies told o ≡ Some (replies, world)
-    → ((replies : List WorldReply) (behind : World) → o ≡ Some (replies, behind) → behind ≡ world → (all : List WorldReply) × (p ≡ Some (all, after))) → (all : List WorldReply) × (onto_replies told p ≡ Some (all, after))
-rest_more line told given after replies world None p e more = absurd (let wrong = e in cc)
-rest_more line told given after replies world (Some rest) p e more =
-    let pair : (told ∷ rest.0, rest.1) ≡ (replies, world) = (let i = e in cc) in
+rest_more : (line : Line) (reported given : WorldReply) (after : World) (replies : List WorldReply) (world : World) (o p : Option (List WorldReply × World)) → onto_replies reported o ≡ Some (replies, world)
+    → ((replies : List WorldReply) (behind : World) → o ≡ Some (replies, behind) → behind ≡ world → (all : List WorldReply) × (p ≡ Some (all, after))) → (all : List WorldReply) × (onto_replies reported p ≡ Some (all, after))
+rest_more line reported given after replies world None p e more = absurd (let wrong = e in cc)
+rest_more line reported given after replies world (Some rest) p e more =
+    let pair : (reported ∷ rest.0, rest.1) ≡ (replies, world) = (let i = e in cc) in
     let m = more rest.0 rest.1 refl (ap (λ (t : List WorldReply × World). t.1) pair) in
-    (told ∷ m.0, ap (onto_replies told) m.1)
+    (reported ∷ m.0, ap (onto_replies reported) m.1)
 
 play_more_by : (lines : List Line) (line : Line) (replies : List WorldReply) (between : World) (given : WorldReply) (after : World) (o : Option (WorldReply × World))
-    → ((told : WorldReply) (world : World) (rest : List WorldReply) (behind : World) → play world lines ≡ Some (rest, behind) → behind ≡ between → (all : List WorldReply) × (play world (lines ++ line ∷ []) ≡ Some (all, after)))
-    → option_and_then (λ told. onto_replies told.0 (play told.1 lines)) o ≡ Some (replies, between) → (all : List WorldReply) × (option_and_then (λ told. onto_replies told.0 (play told.1 (lines ++ line ∷ []))) o ≡ Some (all, after))
+    → ((reported : WorldReply) (world : World) (rest : List WorldReply) (behind : World) → play world lines ≡ Some (rest, behind) → behind ≡ between → (all : List WorldReply) × (play world (lines ++ line ∷ []) ≡ Some (all, after)))
+    → option_and_then (λ reported. onto_replies reported.0 (play reported.1 lines)) o ≡ Some (replies, between) → (all : List WorldReply) × (option_and_then (λ reported. onto_replies reported.0 (play reported.1 (lines ++ line ∷ []))) o ≡ Some (all, after))
 play_more_by lines line replies between given after None more e = absurd (let wrong = e in cc)
-play_more_by lines line replies between given after (Some told) more e =
-    rest_more line told.0 given after replies between (play told.1 lines) (play told.1 (lines ++ line ∷ [])) e (λ rest behind p same. more told.0 told.1 rest behind p same)
+play_more_by lines line replies between given after (Some reported) more e =
+    rest_more line reported.0 given after replies between (play reported.1 lines) (play reported.1 (lines ++ line ∷ [])) e (λ rest behind p same. more reported.0 reported.1 rest behind p same)
 
 play_more : (world : World) (lines : List Line) (line : Line) (replies : List WorldReply) (between : World) (given : WorldReply) (after : World) → play world lines ≡ Some (replies, between) → turn between line ≡ Some (given, after)
     → (all : List WorldReply) × (play world (lines ++ line ∷ []) ≡ Some (all, after))
 play_more world [] line replies between given after e t =
     let pair : ([], world) ≡ (replies, between) = (let i = e in cc) in
     let same : world ≡ between = ap (λ (p : List WorldReply × World). p.1) pair in
-    (given ∷ [], ap (option_and_then (λ told. onto_replies told.0 (play told.1 []))) (ap (λ w. turn w line) same ∙ t))
+    (given ∷ [], ap (option_and_then (λ reported. onto_replies reported.0 (play reported.1 []))) (ap (λ w. turn w line) same ∙ t))
 play_more world (one ∷ lines) line replies between given after e t =
-    play_more_by lines line replies between given after (turn world one) (λ told w rest behind p same. play_more w lines line rest behind given after p (ap (λ v. turn v line) same ∙ t)) e
+    play_more_by lines line replies between given after (turn world one) (λ reported w rest behind p same. play_more w lines line rest behind given after p (ap (λ v. turn v line) same ∙ t)) e
 
 taken_more : (lines : List Line) (top : ℕ) (line : Line) → slice_get lines top ≡ Some line → take (top + 1) lines ≡ take top lines ++ line ∷ []
 taken_more lines top line e =
@@ -76,7 +76,7 @@ pub line_now : (lines : List Line) (first : Zone) (keep window top : ℕ) (world
 line_now lines first keep window top world line given after here e n =
     let t = turn_comes (script (IsSentAt lines) top) first world line (λ request sends. (line, here, sends)) n.goes given after e in
     let goes = goes_as (moved (script (IsSentAt lines) (top + 1)) (top + 1) (by_after (script (IsSentAt lines) (top + 1)) top line given after)) (top + 1) (λ place head. Unit {0}) first after (omega arith) (λ some place head by. tt) t.goes in
-    let hands = turn_hands (script (IsSentAt lines) top) first world line n.goes n.hands n.few given after e in
+    let all_in_use = turn_in_use (script (IsSentAt lines) top) first world line n.goes n.all_in_use n.few given after e in
     let same_on = turn_same world line given after e in
     let same_us : updates_in t.goes.us ≡ updates_in goes.0.us = ap updates_in (sym goes.1) in
     let grown : (more : List DynamicUpdate) × (updates_in goes.0.us ≡ updates_in n.goes.us ++ more) = elim t.comes [
@@ -87,10 +87,10 @@ line_now lines first keep window top world line given after here e n =
     record {
       now = record {
         goes = goes.0;
-        hands = hands;
+        all_in_use = all_in_use;
         less = subst (λ w. w ≤ 16) (sym same_on.1) n.less;
         few = same_on.2 n.less n.few;
-        serials = serials_on (script (IsSentAt lines) (top + 1)) first world after (updates_in n.goes.us) grown.0 t.goes.us goes.0 hands same_on.1 grown.1 same_us t.window n.serials;
+        serials = serials_on (script (IsSentAt lines) (top + 1)) first world after (updates_in n.goes.us) grown.0 t.goes.us goes.0 all_in_use same_on.1 grown.1 same_us t.window n.serials;
         earlier = reached.0;
         reached = ap (play (started first keep window)) (taken_more lines top line here) ∙ reached.1;
       };
@@ -114,7 +114,7 @@ started_now lines first keep window =
     let none : updates_in goes.us ≡ [] = none_us goes.us (no_updates (script (IsSentAt lines) 0) first keep window) in
     record {
       goes = goes;
-      hands = started_hands first keep window;
+      all_in_use = started_in_use first keep window;
       less = started_less first keep window;
       few = started_few first keep window;
       serials = subst (λ u. Serials first u (min window most_entries) (first_entries first (min window most_entries))) (sym none) (first_serials first (min window most_entries) (nat_lt 0 (min window most_entries)) refl);
@@ -145,13 +145,13 @@ module _ (lines : List Line) (replies : List WorldReply) (first : Zone) (keep wi
     pub is : track top behind now
 
   abbrev From : List Line → ℕ → Type 0
-  From rest top = (world : World) (n : Now lines first keep window top world) (told : List WorldReply) (behind : World) → At replies told top → track top world n → play world rest ≡ Some (told, behind) → Behind (top + length rest) behind
+  From rest top = (world : World) (n : Now lines first keep window top world) (reported : List WorldReply) (behind : World) → At replies reported top → track top world n → play world rest ≡ Some (reported, behind) → Behind (top + length rest) behind
 
-  further_on : (top : ℕ) (world : World) (line : Line) (rest : List Line) (given : WorldReply) (after : World) (told : List WorldReply) (behind : World) (o : Option (List WorldReply × World)) → slice_get lines top ≡ Some line → turn world line ≡ Some (given, after) → From rest (top + 1) → (n : Now lines first keep window top world)
-      → At replies told top → track top world n → play after rest ≡ o → onto_replies given o ≡ Some (told, behind) → Behind (top + length (line ∷ rest)) behind
-  further_on top world line rest given after told behind None here e all n at so p f = absurd (let wrong = f in cc)
-  further_on top world line rest given after told behind (Some played) here e all n at so p f =
-      let pair : (given ∷ played.0, played.1) ≡ (told, behind) = (let i = f in cc) in
+  further_on : (top : ℕ) (world : World) (line : Line) (rest : List Line) (given : WorldReply) (after : World) (reported : List WorldReply) (behind : World) (o : Option (List WorldReply × World)) → slice_get lines top ≡ Some line → turn world line ≡ Some (given, after) → From rest (top + 1) → (n : Now lines first keep window top world)
+      → At replies reported top → track top world n → play after rest ≡ o → onto_replies given o ≡ Some (reported, behind) → Behind (top + length (line ∷ rest)) behind
+  further_on top world line rest given after reported behind None here e all n at so p f = absurd (let wrong = f in cc)
+  further_on top world line rest given after reported behind (Some played) here e all n at so p f =
+      let pair : (given ∷ played.0, played.1) ≡ (reported, behind) = (let i = f in cc) in
       let same = ap (λ (t : List WorldReply × World). t.0) pair in
       let parts = at_next replies played.0 given top (subst (λ ts. At replies ts top) (sym same) at) in
       let a = line_now lines first keep window top world line given after here e n in
@@ -160,24 +160,24 @@ module _ (lines : List Line) (replies : List WorldReply) (first : Zone) (keep wi
       (subst (λ (w : World). Behind (top + 1 + length rest) w) (ap (λ (t : List WorldReply × World). t.1) pair)
       (all after a.now played.0 played.1 parts.1 (on top world line given after here parts.0 e n a so) p))
 
-  one_on : (top : ℕ) (world : World) (line : Line) (rest : List Line) (told : List WorldReply) (behind : World) (o : Option (WorldReply × World)) → slice_get lines top ≡ Some line → turn world line ≡ o → From rest (top + 1) → (n : Now lines first keep window top world)
-      → At replies told top → track top world n → option_and_then (λ t. onto_replies t.0 (play t.1 rest)) o ≡ Some (told, behind) → Behind (top + length (line ∷ rest)) behind
-  one_on top world line rest told behind None here e all n at so f = absurd (let wrong = f in cc)
-  one_on top world line rest told behind (Some t) here e all n at so f = further_on top world line rest t.0 t.1 told behind (play t.1 rest) here e all n at so refl f
+  one_on : (top : ℕ) (world : World) (line : Line) (rest : List Line) (reported : List WorldReply) (behind : World) (o : Option (WorldReply × World)) → slice_get lines top ≡ Some line → turn world line ≡ o → From rest (top + 1) → (n : Now lines first keep window top world)
+      → At replies reported top → track top world n → option_and_then (λ t. onto_replies t.0 (play t.1 rest)) o ≡ Some (reported, behind) → Behind (top + length (line ∷ rest)) behind
+  one_on top world line rest reported behind None here e all n at so f = absurd (let wrong = f in cc)
+  one_on top world line rest reported behind (Some t) here e all n at so f = further_on top world line rest t.0 t.1 reported behind (play t.1 rest) here e all n at so refl f
 
   pub play_on : (rest : List Line) (top : ℕ) → At lines rest top → From rest top
-  play_on [] top at_lines world n told behind at so e =
-      let pair : ([], world) ≡ (told, behind) = (let i = e in cc) in
+  play_on [] top at_lines world n reported behind at so e =
+      let pair : ([], world) ≡ (reported, behind) = (let i = e in cc) in
       let here : top ≡ top + length {A = Line} [] = omega arith in
       subst (λ (w : World). Behind (top + 0) w) (ap (λ (t : List WorldReply × World). t.1) pair) (subst (λ k. Behind k world) here (record { now = n; is = so }))
-  play_on (line ∷ rest) top at_lines world n told behind at so e =
+  play_on (line ∷ rest) top at_lines world n reported behind at so e =
       let parts = at_next lines rest line top at_lines in
-      one_on top world line rest told behind (turn world line) parts.0 refl (play_on rest (top + 1) parts.1) n at so e
+      one_on top world line rest reported behind (turn world line) parts.0 refl (play_on rest (top + 1) parts.1) n at so e
 
 -- behind all lines
 pub played_now : (lines : List Line) (replies : List WorldReply) (first : Zone) (keep window : ℕ) (world : World) → play (started first keep window) lines ≡ Some (replies, world) → Now lines first keep window (length lines) world
 played_now lines replies first keep window world e =
-    let b = play_on lines replies first keep window (λ top world n. Unit {0}) (λ top world line given after here told t n a so. tt) lines 0 (at_all lines) (started first keep window) (started_now lines first keep window) replies world (at_all replies) tt e in
+    let b = play_on lines replies first keep window (λ top world n. Unit {0}) (λ top world line given after here reported t n a so. tt) lines 0 (at_all lines) (started first keep window) (started_now lines first keep window) replies world (at_all replies) tt e in
     let all : 0 + length lines ≡ length lines = omega arith in
     subst (λ k. Now lines first keep window k world) all b.now
 
@@ -187,7 +187,7 @@ known_replayed lines first keep window top world n = (goes_replayed first lines 
 
 pub known_held : (lines : List Line) (first : Zone) (keep window top : ℕ) (world : World) (n : Now lines first keep window top world) → (h : HoldVersions first lines world) × (h.replayed.updates ≡ updates_in n.goes.us)
 known_held lines first keep window top world n =
-    let k : Kept (script (IsSentAt lines) top) first world world = record { goes = n.goes; hands = n.hands; same = (refl, refl, λ less few. few) } in
+    let k : Kept (script (IsSentAt lines) top) first world world = record { goes = n.goes; all_in_use = n.all_in_use; same = (refl, refl, λ less few. few) } in
     (held_by_kept first lines top world world k, held_us first lines top world world k)
 
 -- whatever lines were played, the window's entries have the serials of their versions
@@ -199,7 +199,7 @@ played_serials first keep window lines replies world e =
       replayed = r.0;
       serials = λ place entry at. subst (λ u. (entry.number ≤ length u) × (entry.serial.0 ≡ zone_serial (zone_at first u entry.number))) (sym r.1) (serial_at first (updates_in n.goes.us) world.entries place entry n.serials.each at);
       newest = λ none place entry at. (
-          let m = window_numbers world.words.owners (length (updates_in n.goes.us) + 1) world.entries place entry (window_fits (script (IsSentAt lines) (length lines)) first world n.goes n.hands none) at in
+          let m = window_numbers world.words.owners (length (updates_in n.goes.us) + 1) world.entries place entry (window_fits (script (IsSentAt lines) (length lines)) first world n.goes n.all_in_use none) at in
           let same : length r.0.updates ≡ length (updates_in n.goes.us) = ap length r.1 in
           omega (arith, m, same)
           );

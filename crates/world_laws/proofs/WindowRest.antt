@@ -114,8 +114,8 @@ others_unburied state cell from back s r j gone =
     elim (cases_lt j from) [
       | inl before ↦ before
       | inr within ↦ (
-          let seat = r.owned j within (s.numbers.buried j gone) in
-          let lies = s.owner_is seat.0 (Holding j seat.1) seat.2 in
+          let use_of = r.owned j within (s.numbers.buried j gone) in
+          let lies = s.owner_is use_of.0 (Holding j use_of.1) use_of.2 in
           absurd (true≢false (sym gone ∙ lies.unburied))
           )
     ]
@@ -173,10 +173,10 @@ dead_at state cell plan number place there (dead j late its) e has gone at s =
 
 dead_lies : {T : Type 0} (state : State T) (cell : Cell T) (from back : ℕ) (s : Shows state cell) → Rests state from back s.plan.last → Noted state back s.plan.last → (number : ℕ) → back ≤ number → number ≤ s.plan.last → cell.buried number ≡ true → Lies state s.plan number
 dead_lies state cell from back s r n number within before gone =
-    let seat = n number within before in
-    let of = s.owner_is seat.0 (Weakly number seat.1) seat.2 in
-    let found = get_within state.table seat.1 (omega (arith, of.0, s.table.size)) in
-    dead_at state cell s.plan number seat.1 found.0 (s.plan.phase seat.1) refl of.1 gone found.1 (s.table.slot_is seat.1 found.0 found.1)
+    let use_of = n number within before in
+    let of = s.owner_is use_of.0 (Weakly number use_of.1) use_of.2 in
+    let found = get_within state.table use_of.1 (omega (arith, of.0, s.table.size)) in
+    dead_at state cell s.plan number use_of.1 found.0 (s.plan.phase use_of.1) refl of.1 gone found.1 (s.table.slot_is use_of.1 found.0 found.1)
 
 lies_at : {T : Type 0} (state : State T) (cell : Cell T) (from back low : ℕ) (s : Shows state cell) → Rests state from back s.plan.last → Noted state back s.plan.last → ((low ≡ from) × (low ≤ back)) ⊎ ((low ≡ back) × (low ≤ from)) → (number : ℕ) → low ≤ number → number ≤ s.plan.last → Lies state s.plan number
 lies_at state cell from back low s r n lowest number within before =

@@ -16,10 +16,10 @@ use Rattle.world_run.specs.World.{World}
 use Rattle.world_laws.specs.Leads.{zones_behind}
 use Rattle.world_laws.proofs.CallReplays.{Script, Placed, updates_in}
 use Rattle.world_laws.proofs.ChainLists.{Zone}
-use Rattle.world_laws.proofs.HandEnds.{no_swaps}
-use Rattle.world_laws.proofs.HandLemmas.{AllFit}
-use Rattle.world_laws.proofs.HandSeats.{window_seats}
-use Rattle.world_laws.proofs.HandWorld.{Hands}
+use Rattle.world_laws.proofs.UseEnds.{no_swaps}
+use Rattle.world_laws.proofs.UseLemmas.{AllFit}
+use Rattle.world_laws.proofs.UseLists.{window_uses}
+use Rattle.world_laws.proofs.UseWorld.{AllInUse}
 use Rattle.world_laws.proofs.HeldLemmas.{parts_of, same_length}
 use Rattle.world_laws.proofs.LeadLemmas.{zone_at}
 use Rattle.world_laws.proofs.OtherCalls.{any_update}
@@ -86,7 +86,7 @@ entered_fit size entry (x ∷ entries) some =
     ]
 
 -- the window's numbers are in turn, up to the last
-pub window_numbers : (owners : List Owner) (total : ℕ) (entries : List Entry) (place : ℕ) (entry : Entry) → AllFit owners (window_seats total entries) → slice_get entries place ≡ Some entry → entry.number + length entries ≡ total + place
+pub window_numbers : (owners : List Owner) (total : ℕ) (entries : List Entry) (place : ℕ) (entry : Entry) → AllFit owners (window_uses total entries) → slice_get entries place ≡ Some entry → entry.number + length entries ≡ total + place
 window_numbers owners total [] place entry fits_so e = absurd (let wrong = e in cc)
 window_numbers owners total (x ∷ entries) zero entry fits_so e =
     let same : x ≡ entry = (let f = e in cc) in
@@ -96,16 +96,16 @@ window_numbers owners total (x ∷ entries) zero entry fits_so e =
 window_numbers owners total (x ∷ entries) (suc place) entry fits_so e = (let more = window_numbers owners total entries place entry fits_so.1 e in omega (arith, more))
 
 -- they are in hand while no update is under way
-pub window_fits : (S : Script) (first : Zone) (world : World) (g : Goes S first world) (h : Hands world) → any_update world.calls ≡ false → AllFit world.words.owners (window_seats (length (updates_in g.us) + 1) world.entries)
+pub window_fits : (S : Script) (first : Zone) (world : World) (g : Goes S first world) (h : AllInUse world) → any_update world.calls ≡ false → AllFit world.words.owners (window_uses (length (updates_in g.us) + 1) world.entries)
 window_fits S first world g h none =
-    let fits_so : AllFit world.words.owners (window_seats (h.from + length world.kept) world.entries) = rw none at (parts_of world h).2 in
+    let fits_so : AllFit world.words.owners (window_uses (h.from + length world.kept) world.entries) = rw none at (parts_of world h).2 in
     let swaps = no_swaps world.calls none in
     let same = same_length world.words h.cell g.tells.cell h.shows g.tells.shows in
     let total : h.from + length world.kept ≡ length (updates_in g.us) + 1 = omega (arith, h.kept_count, h.swapped, swaps, h.counted, same, g.tells.replays.counted) in
-    subst (λ n. AllFit world.words.owners (window_seats n world.entries)) total fits_so
+    subst (λ n. AllFit world.words.owners (window_uses n world.entries)) total fits_so
 
 -- there is a window where it has an entry
-some_window : (world : World) (front : List Entry) (entry : Entry) → Hands world → world.entries ≡ front ++ entry ∷ [] → 0 < world.window
+some_window : (world : World) (front : List Entry) (entry : Entry) → AllInUse world → world.entries ≡ front ++ entry ∷ [] → 0 < world.window
 some_window world front entry h is =
     elim (cases_Bool (nat_lt 0 world.window)) [
       | inl some ↦ ltb-true 0 world.window some
@@ -117,7 +117,7 @@ pub record Serials (first : Zone) (ups : List DynamicUpdate) (window : ℕ) (ent
   pub each : AreSerials first ups entries
   pub fit : fits window (serials_in entries) ≡ true
 
-pub serials_on : (S : Script) (first : Zone) (before after : World) (ups more : List DynamicUpdate) (us : List Placed) (g : Goes S first after) → Hands after → after.window ≡ before.window → updates_in g.us ≡ ups ++ more → updates_in us ≡ updates_in g.us → WindowComes first before us after
+pub serials_on : (S : Script) (first : Zone) (before after : World) (ups more : List DynamicUpdate) (us : List Placed) (g : Goes S first after) → AllInUse after → after.window ≡ before.window → updates_in g.us ≡ ups ++ more → updates_in us ≡ updates_in g.us → WindowComes first before us after
     → Serials first ups before.window before.entries → Serials first (updates_in g.us) after.window after.entries
 serials_on S first before after ups more us g h same_window grown same_us comes s =
     let each : AreSerials first (updates_in g.us) before.entries = subst (λ u. AreSerials first u before.entries) (sym grown) (serials_more first ups more before.entries s.each) in

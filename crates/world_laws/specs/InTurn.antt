@@ -27,7 +27,7 @@ abbrev pub EndsUnder : List WorldStep → List WorldReply → ℕ → List ℕ �
 EndsUnder lines replies place name answer =
     (slice_get lines place ≡ Some (Next name)) × (step : StepName) × (slice_get replies place ≡ Some (Last step answer))
 
--- the call that the line at a place put under way, under this name, is under way still in front of the line at a further place (own)
+-- the call that the line at a place put under way, under this name, is under way still before the line at a further place (own)
 pub record IsOpen (lines : List WorldStep) (replies : List WorldReply) (sent place : ℕ) (name : List ℕ) : Type 0 where
   pub call : Call
   pub line : slice_get lines sent ≡ Some (Begin name call)
@@ -46,7 +46,7 @@ GivesAt lines replies sent place answer =
     ((place ≡ sent) × (slice_get replies place ≡ Some (Answered answer)))
     ⊎ ((name : List ℕ) × IsOpen lines replies sent place name × EndsUnder lines replies place name answer)
 
--- the update that a line sends is told NOERROR at its end, or it is under way still behind all lines (RFC 2136, 3.8; own)
+-- the update that a line sends is told NOERROR at its end, or it is under way still after all lines (RFC 2136, 3.8; own)
 abbrev pub IsToldNoError : List WorldStep → List WorldReply → World → ℕ → DynamicUpdate → Type 0
 IsToldNoError lines replies world sent update =
     ((place : ℕ) × GivesAt lines replies sent place (code_reply (heading_of_update update) NoError))
@@ -60,7 +60,7 @@ LeavesPublished words later = (cell : Cell Numbered) → Shows words cell → (n
 -- as they were (RFC 2136, 3; own)
 pub record AreToldInTurn (first : List Record) (keep window : ℕ) (lines : List WorldStep) (replies : List WorldReply) (world : World) : Type 0 where
   pub replayed : IsReplayed first lines world
-  pub told : (k : ℕ) (update : DynamicUpdate) → slice_get replayed.updates k ≡ Some update → IsToldNoError lines replies world (replayed.in_turn.place k) update
+  pub reported : (k : ℕ) (update : DynamicUpdate) → slice_get replayed.updates k ≡ Some update → IsToldNoError lines replies world (replayed.in_turn.place k) update
   pub others : (place : ℕ) (line : WorldStep) (earlier : List WorldReply) (before : World) (reply : WorldReply) (after : World) → slice_get lines place ≡ Some line
       → play (started first keep window) (take place lines) ≡ Some (earlier, before) → turn before line ≡ Some (reply, after)
       → LeavesPublished before.words after.words ⊎ ((k : ℕ) × (k < length replayed.updates) × IsOfCall lines replies (replayed.in_turn.place k) place)

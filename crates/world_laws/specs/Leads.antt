@@ -47,7 +47,7 @@ records_of messages = map as_sent (flat_map (λ m. m.answer) messages)
 abbrev pub LeadFromAny : List Record → List DynamicUpdate → Numbered → List RawRecord → Type 0
 LeadFromAny first updates version records = (asker : ℕ) → asker ≤ length updates → taken_by (replay first (take asker updates)) records ≡ Ok version.zone
 
--- the zones of so many versions behind the one of a number
+-- the zones of so many versions after the one of a number
 abbrev pub zones_behind : List Record → List DynamicUpdate → ℕ → ℕ → List (List Record)
 zones_behind first updates number zero = []
 zones_behind first updates number (suc more) = replay first (take (number + 1) updates) ∷ zones_behind first updates (number + 1) more
@@ -66,15 +66,15 @@ pub record LeadFromAsker (first : List Record) (updates : List DynamicUpdate) (v
 abbrev pub IsBuriedIn : State Numbered → ℕ → Type 0
 IsBuriedIn words number = (cell : Cell Numbered) × Shows words cell × (cell.buried number ≡ true)
 
--- what changed since a serial up to a version isn't told: no entry of the window in front of that version has the serial, or one of the
--- versions behind that of an entry with the serial, up to that version, is buried (RFC 1995, 4; own)
+-- what changed since a serial up to a version isn't told: no entry of the window before that version has the serial, or one of the
+-- versions after that of an entry with the serial, up to that version, is buried (RFC 1995, 4; own)
 abbrev pub IsUntold : List Entry → State Numbered → Numbered → Serial → Type 0
 IsUntold entries words version serial =
     ((place : ℕ) (entry : Entry) → slice_get entries place ≡ Some entry → entry.number < version.number → entry.serial.0 ≢ serial.0)
     ⊎ ((place : ℕ) × (entry : Entry) × (number : ℕ) × (slice_get entries place ≡ Some entry) × (entry.serial.0 ≡ serial.0) × (entry.number < number) × (number ≤ version.number) × IsBuriedIn words number)
 
 -- the messages of an IXFR of a version: where the serial that it tells isn't less than that version's, its SOA alone; else what changed since
--- the version that is told, which leads there from that one; or, where that isn't told, by the window's entries and the words behind, the
+-- the version that is told, which leads there from that one; or, where that isn't told, by the window's entries and the words after, the
 -- version in whole, which leads there from any (RFC 1995, 2 and 4)
 pub record AnswerIxfr (first : List Record) (updates : List DynamicUpdate) (entries : List Entry) (words : State Numbered) (version : Numbered) (query : QueryAsked) (octets : List (List ℕ)) : Type 0 where
   pub served : version.zone ≡ replay first (take version.number updates)
@@ -86,14 +86,14 @@ pub record AnswerIxfr (first : List Record) (updates : List DynamicUpdate) (entr
       ⊎ (((records_of messages ≡ map as_sent (map (spelt query.question.name) (full version.zone))) × LeadFromAny first updates version (records_of messages) × IsUntold entries words version serial)
       ⊎ LeadFromAsker first updates version serial query.question.name (records_of messages))
 
--- an IXFR gets this of the version that a name holds, by the window then and the world behind its line (own)
+-- an IXFR gets this of the version that a name holds, by the window then and the world after its line (own)
 pub record AnswerFor (first : List Record) (lines : List WorldStep) (world after : World) (name : List ℕ) (query : QueryAsked) (octets : List (List ℕ)) : Type 0 where
   pub held : HoldVersions first lines world
   pub version : Numbered
   pub has : version_of name world ≡ Some version
   pub answer : AnswerIxfr first held.replayed.updates world.entries after.words version query octets
 
--- or of the version that the name held in front of the line at a place, by the window then (own)
+-- or of the version that the name held before the line at a place, by the window then (own)
 pub record AnswerSince (first : List Record) (keep window : ℕ) (lines : List WorldStep) (world after : World) (place : ℕ) (name : List ℕ) (query : QueryAsked) (octets : List (List ℕ)) : Type 0 where
   pub replayed : IsReplayed first lines world
   pub earlier : List WorldReply

@@ -1,4 +1,4 @@
--- The versions of a run: the first, and behind it one for each update that made its swap, in turn (RFC 2136, 3).
+-- The versions of a run: the first, and after it one for each update that made its swap, in turn (RFC 2136, 3).
 use Rattle.std.specs.Prelude.{◌≡◌, ◌≢◌, ℕ, ◌+◌, ◌<◌, true, List, length, take, Some, None}
 use Rattle.std.specs.List.{slice_get}
 use Rattle.dns_rdata.specs.Record.{Record}

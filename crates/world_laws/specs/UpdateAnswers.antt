@@ -1,7 +1,7 @@
 -- How an update is answered: by what it comes to, and by how its call ends (RFC 2136, 3.8).
 use Rattle.std.specs.Prelude.{◌≡◌, ℕ, ◌⊎◌, List, Option, None, Some}
 use Rattle.cell_core.specs.declared.words.WordEvent.{WordEvent}
-use Rattle.cell_core.specs.declared.words.WordEvent.TheVariants as told
+use Rattle.cell_core.specs.declared.words.WordEvent.TheVariants as reported
 use Rattle.serve_core.specs.declared.heading.Heading.{Heading}
 use Rattle.dns_message.specs.Octets.{fit}
 use Rattle.dns_rdata.specs.declared.numbers.Rcode.{Rcode}
@@ -50,8 +50,8 @@ heading_of (Free owner number for) = heading_for for
 -- an update keeps what its reply repeats of it from step to step, and ends where no slot was free, or with its version kept (own)
 abbrev pub KeepsHeading : Heading → WordEvent → Progress → Type 0
 KeepsHeading heading event (On next) = heading_of next ≡ Some heading
-KeepsHeading heading event (Done end) = ((end ≡ NoSlot heading) × (event ≡ told.NoSlot)) ⊎ ((owner : ℕ) × (entry : Option Entry) × (end ≡ Kept heading owner entry))
+KeepsHeading heading event (Done end) = ((end ≡ NoSlot heading) × (event ≡ reported.NoSlot)) ⊎ ((owner : ℕ) × (entry : Option Entry) × (end ≡ Kept heading owner entry))
 
--- a request gets a code, and this zone stands behind it (RFC 2136, 3.8)
+-- a request gets a code, and this zone stands after it (RFC 2136, 3.8)
 abbrev pub got_alone : Heading → Rcode → List Record → Got
 got_alone heading code zone = record { reply = Some (fit (coded heading code) (limit_of Udp None)); zone = zone }

@@ -11,7 +11,7 @@ ghost use Rattle.zone_tree.specs.Version.{Version as Numbered};
 ghost use Rattle.world_run.specs.Numbered.{first_version, changes_between};
 ghost use Rattle.world_run.specs.Phases.{after};
 ghost use Rattle.world_laws.specs.UpdateAnswers.{heading_of, KeepsHeading, got_alone};
-ghost use Rattle.world_run.specs.declared.judged.Judged.TheVariants.{Told, Makes};
+ghost use Rattle.world_run.specs.declared.judged.Judged.TheVariants.{Code, Makes};
 ghost use Rattle.world_run.specs.declared.phase.End.TheVariants.{NoSlot, Kept};
 ghost use Rattle.world_run.specs.declared.entries.Entry.{Entry};
 ghost use Rattle.world_run.specs.declared.phase.Phase.{Phase};
@@ -73,15 +73,15 @@ pub fn versions_are_replays()
 
 /// Whatever lines were played, each update that made a version is told NOERROR at its end, or it is under way still; and each line is of the
 /// call of one of these updates, or leaves the versions that are published as they were (RFC 2136, 3; own).
-pub fn updates_are_told_in_turn()
+pub fn updates_are_answered_in_turn()
     ensures { (first : List Record) (keep window : ℕ) (lines : List WorldStep) (replies : List WorldReply) (world : World)
         → play (started first keep window) lines ≡ Some (replies, world) → AreToldInTurn first keep window lines replies world }
 {}
 
 /// An update that is told a code at once, or makes a version, gets that code, or NOERROR and the version's zone, in the version that
 /// is last when it begins; one that makes a version ends with NOERROR, or with SERVFAIL where each of the 64 slots was seen in use.
-pub fn updates_are_told()
-    ensures told { (last : Numbered) (request : List ℕ) (heading : Heading) (code : Rcode) → judged last request ≡ Some (Told heading code)
+pub fn updates_are_answered()
+    ensures reported { (last : Numbered) (request : List ℕ) (heading : Heading) (code : Rcode) → judged last request ≡ Some (Code heading code)
         → got Udp true ForNothing last.zone request ≡ got_alone heading code last.zone }
     ensures made { (last : Numbered) (request : List ℕ) (heading : Heading) (version : Numbered) → judged last request ≡ Some (Makes heading version)
         → got Udp true ForNothing last.zone request ≡ got_alone heading NoError version.zone }
@@ -139,7 +139,7 @@ pub fn versions_before_the_kept_are_buried()
 
 /// Whatever lines were played from a zone on, an IXFR gets the SOA alone where its serial isn't less than that of the version which its
 /// name holds, or held where it was begun; else what changed since the version whose serial it tells, which leads there from that one; or,
-/// where no entry of the window tells of that serial, or a version behind it is buried, the version in whole, which leads there from any. So
+/// where no entry of the window tells of that serial, or a version after it is buried, the version in whole, which leads there from any. So
 /// it is where it is answered at once, in one line, or step by step. The window's entries have the serials of their versions (RFC 1995, 2
 /// to 5; RFC 5936, 2.2).
 pub fn transfers_lead_to_the_served()
@@ -159,7 +159,7 @@ pub fn transfers_lead_to_the_served()
 
 /// Whatever lines were played, at most one of them is told that it has buried a number; nobody owns that number then, and it isn't the
 /// last.
-pub fn burials_are_told_once()
+pub fn burials_are_reported_once()
     ensures once { (first : List Record) (keep window : ℕ) (lines : List WorldStep) (replies : List WorldReply) (world : World) (number : ℕ)
         → play (started first keep window) lines ≡ Some (replies, world) → length (filter (tells_buried number) replies) ≤ 1 }
     ensures gone { (first : List Record) (keep window : ℕ) (lines : List WorldStep) (replies : List WorldReply) (world : World) (number : ℕ)
@@ -170,5 +170,5 @@ pub fn burials_are_told_once()
 /// call takes none.
 pub fn lines_take_one_step()
     ensures next { (world after : World) (name : List ℕ) (reply : WorldReply) → turn world (Next name) ≡ Some (reply, after) → TakesOneStep world reply after }
-    ensures begin { (world after : World) (name : List ℕ) (call : Call) (reply : WorldReply) → turn world (Begin name call) ≡ Some (reply, after) → after.words ≡ world.words }
+    ensures begin_call { (world after : World) (name : List ℕ) (call : Call) (reply : WorldReply) → turn world (Begin name call) ≡ Some (reply, after) → after.words ≡ world.words }
 {}

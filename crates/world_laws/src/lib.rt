@@ -9,8 +9,8 @@
 mod laws;
 
 pub use laws::{
-    asks_are_answered_at_loaded, burials_are_told_once, examples, lines_take_one_step,
-    plays_are_runs, refused_lines_change_nothing, transfers_lead_to_the_served, updates_are_told,
-    updates_are_told_in_turn, versions_are_held, versions_are_replays,
+    asks_are_answered_at_loaded, burials_are_reported_once, examples, lines_take_one_step,
+    plays_are_runs, refused_lines_change_nothing, transfers_lead_to_the_served,
+    updates_are_answered, updates_are_answered_in_turn, versions_are_held, versions_are_replays,
     versions_before_the_kept_are_buried,
 };

@@ -27,7 +27,7 @@ use Rattle.zone_tree.specs.Change.{left_out}
 use Rattle.zone_tree.specs.Zone.{soa_of}
 use Rattle.world_run.specs.Numbered.{changes_between}
 use Rattle.world_run.specs.declared.judged.Judged.{Judged}
-use Rattle.world_run.specs.declared.judged.Judged.TheVariants.{Told, Makes}
+use Rattle.world_run.specs.declared.judged.Judged.TheVariants.{Code, Makes}
 use Rattle.world_run.specs.Judgements.{is_equal_record, is_equal_zone, made_of, judged_by, judged_said, judged}
 
 both : (a b : Bool) → (a && b) ≡ true → (a ≡ true) × (b ≡ true)
@@ -76,20 +76,20 @@ let_through : (last : Numbered) (next : List Record) (update : DynamicUpdate) �
 let_through last next update passed made = ap (judged_by last update) (no_code last.zone next update passed made) ∙ ap (made_of last (heading_of_update update)) made
 
 -- an update that changes nothing is told NOERROR
-told_unchanged : (version : Numbered) (update : DynamicUpdate) → verdict version.zone update true ≡ None → act version.zone update ≡ Some version.zone → Some (Told (heading_of_update update) NoError) ≡ judged_by version update (code_of version.zone update true)
+told_unchanged : (version : Numbered) (update : DynamicUpdate) → verdict version.zone update true ≡ None → act version.zone update ≡ Some version.zone → Some (Code (heading_of_update update) NoError) ≡ judged_by version update (code_of version.zone update true)
 told_unchanged version update passed made =
     let same : is_equal_zone version.zone version.zone ≡ true = (zones_told version.zone version.zone).1 refl in
     sym (let_through version version.zone update passed made ∙ rw same refl)
 
 -- an update that is refused, or changes nothing, is told its code
 pub told_by_code : (version : Numbered) (update : DynamicUpdate) (outcome : Outcome) (code : Rcode) → IsTold version update true outcome → code ≡ code_told outcome → ((said : Rcode) × outcome ≡ Refused said) ⊎ outcome ≡ Unchanged
-    → Some (Told (heading_of_update update) code) ≡ judged_by version update (code_of version.zone update true)
-told_by_code version update outcome code told is (inl refused) =
-    let coded : code_of version.zone update true ≡ Some refused.0 = subst (λ o. IsTold version update true o) refused.1 told in
-    ap (λ c. Some (Told (heading_of_update update) c)) (is ∙ ap code_told refused.1) ∙ sym (ap (judged_by version update) coded)
-told_by_code version update outcome code told is (inr unchanged) =
-    let passed : (verdict version.zone update true ≡ None) × act version.zone update ≡ Some version.zone = subst (λ o. IsTold version update true o) unchanged told in
-    ap (λ c. Some (Told (heading_of_update update) c)) (is ∙ ap code_told unchanged) ∙ told_unchanged version update passed.0 passed.1
+    → Some (Code (heading_of_update update) code) ≡ judged_by version update (code_of version.zone update true)
+told_by_code version update outcome code reported is (inl refused) =
+    let coded : code_of version.zone update true ≡ Some refused.0 = subst (λ o. IsTold version update true o) refused.1 reported in
+    ap (λ c. Some (Code (heading_of_update update) c)) (is ∙ ap code_told refused.1) ∙ sym (ap (judged_by version update) coded)
+told_by_code version update outcome code reported is (inr unchanged) =
+    let passed : (verdict version.zone update true ≡ None) × act version.zone update ≡ Some version.zone = subst (λ o. IsTold version update true o) unchanged reported in
+    ap (λ c. Some (Code (heading_of_update update) c)) (is ∙ ap code_told unchanged) ∙ told_unchanged version update passed.0 passed.1
 
 -- changes that are those between two zones
 same_changes : (before after : List Record) (changes : Changes) → AreChanges changes before after → changes ≡ changes_between before after
@@ -110,8 +110,8 @@ same_version before number made counted known =
 -- one that makes another zone makes the version of the next number
 pub told_next : (version made : Numbered) (update : DynamicUpdate) (outcome : Outcome) → IsTold version update true outcome → outcome ≡ Next made
     → Some (Makes (heading_of_update update) made) ≡ judged_by version update (code_of version.zone update true)
-told_next version made update outcome told is =
-    let next : IsTold version update true (Next made) = subst (λ o. IsTold version update true o) is told in
+told_next version made update outcome reported is =
+    let next : IsTold version update true (Next made) = subst (λ o. IsTold version update true o) is reported in
     let other : is_equal_zone version.zone made.zone ≡ false = zones_apart version.zone made.zone next.2 in
     let made_so : made_of version (heading_of_update update) (Some made.zone) ≡ Some (Makes (heading_of_update update) (record { number = version.number + 1; zone = made.zone; changes = Some (changes_between version.zone made.zone) })) = rw other refl in
     sym (let_through version made.zone update next.0 next.1 ∙ made_so ∙ ap (λ m. Some (Makes (heading_of_update update) m)) (sym (same_version version.zone (version.number + 1) made next.3 next.4)))
@@ -129,12 +129,12 @@ pub record MadeBy (last : Numbered) (request : List ℕ) (head : Heading) (versi
 
 abbrev version_of : Numbered → Option Judged → Numbered
 version_of other None = other
-version_of other (Some (Told head code)) = other
+version_of other (Some (Code head code)) = other
 version_of other (Some (Makes head version)) = version
 
 abbrev head_in : Heading → Option Judged → Heading
 head_in other None = other
-head_in other (Some (Told head code)) = head
+head_in other (Some (Code head code)) = head
 head_in other (Some (Makes head version)) = head
 
 passed_by : (zone : List Record) (update : DynamicUpdate) (v : Option Rcode) (rest : Option Rcode) → option_or v rest ≡ None → v ≡ None
@@ -142,7 +142,7 @@ passed_by zone update None rest e = refl
 passed_by zone update (Some code) rest e = absurd (let wrong = e in cc)
 
 makes_if : (last : Numbered) (zone : List Record) (head other : Heading) (version : Numbered) (test : Bool) → is_equal_zone last.zone zone ≡ test
-    → (if test then Some (Told head NoError) else Some (Makes head (record { number = last.number + 1; zone = zone; changes = Some (changes_between last.zone zone) }))) ≡ Some (Makes other version)
+    → (if test then Some (Code head NoError) else Some (Makes head (record { number = last.number + 1; zone = zone; changes = Some (changes_between last.zone zone) }))) ≡ Some (Makes other version)
     → (record { number = last.number + 1; zone = zone; changes = Some (changes_between last.zone zone) } ≡ version) × (zone ≢ last.zone) × (head ≡ other)
 makes_if last zone head other version true t e = absurd (let wrong = e in cc)
 makes_if last zone head other version false t e =
@@ -169,7 +169,7 @@ makes_by last request update head version (Some code) is read e = absurd (let wr
 makes_by last request update head version None is read e =
     makes_made last request update head version (act last.zone update) refl read (passed_by last.zone update (verdict last.zone update true) _ is) e
 
-makes_fault : (head other : Heading) (code : Rcode) (version : Numbered) (test : Bool) → (if test then Some (Told head code) else None) ≡ Some (Makes other version) → ⊥
+makes_fault : (head other : Heading) (code : Rcode) (version : Numbered) (test : Bool) → (if test then Some (Code head code) else None) ≡ Some (Makes other version) → ⊥
 makes_fault head other code version true e = let wrong = e in cc
 makes_fault head other code version false e = let wrong = e in cc
 

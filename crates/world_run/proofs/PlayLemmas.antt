@@ -33,30 +33,30 @@ line_due lines i line lt is = drop_more lines i line lt ∙ ap (λ (l : WorldSte
 -- one line more is played
 pub next_played : (lines : List WorldStep) (i : ℕ) (line : WorldStep) (replies : List WorldReply) (given : WorldReply) (first world after : World) → i < length lines → line ≡ get_or lines i line → turn world line ≡ Some (given, after)
     → play first lines ≡ behind replies (play world (drop i lines)) → play first lines ≡ behind (replies ++ given ∷ []) (play after (drop (i + 1) lines))
-next_played lines i line replies given first world after lt is told so_far =
+next_played lines i line replies given first world after lt is reported so_far =
     so_far ∙ ap (λ (l : List WorldStep). behind replies (play world l)) (line_due lines i line lt is)
-    ∙ ap (λ t. behind replies (option_and_then (λ told. onto_replies told.0 (play told.1 (drop (i + 1) lines))) t)) told
+    ∙ ap (λ t. behind replies (option_and_then (λ reported. onto_replies reported.0 (play reported.1 (drop (i + 1) lines))) t)) reported
     ∙ behind-one replies given (play after (drop (i + 1) lines))
 
 -- a reply behind those of the lines before it
 abbrev told_behind : List WorldReply → Option (WorldReply × World) → Option (List WorldReply × World)
-told_behind replies told = option_map (λ told. (replies ++ told.0 ∷ [], told.1)) told
+told_behind replies reported = option_map (λ reported. (replies ++ reported.0 ∷ [], reported.1)) reported
 
-some_is : (told other : List WorldReply × World) → Some told ≡ Some other → told ≡ other
-some_is told other e = cc
+some_is : (reported other : List WorldReply × World) → Some reported ≡ Some other → reported ≡ other
+some_is reported other e = cc
 
-none_is : (told : Option (List WorldReply × World)) (other : List WorldReply × World) → told ≡ None → told ≡ Some other → ⊥
-none_is told other none e = cc
+none_is : (reported : Option (List WorldReply × World)) (other : List WorldReply × World) → reported ≡ None → reported ≡ Some other → ⊥
+none_is reported other none e = cc
 
 -- one line more is played, whatever its reply is
 pub line_played : (lines : List WorldStep) (i : ℕ) (line : WorldStep) (replies now : List WorldReply) (first world after : World) → i < length lines → line ≡ get_or lines i line → told_behind replies (turn world line) ≡ Some (now, after)
     → play first lines ≡ behind replies (play world (drop i lines)) → play first lines ≡ behind now (play after (drop (i + 1) lines))
-line_played lines i line replies now first world after lt is told so_far = by (turn world line) refl
+line_played lines i line replies now first world after lt is reported so_far = by (turn world line) refl
   where
     by : (t : Option (WorldReply × World)) → turn world line ≡ t → play first lines ≡ behind now (play after (drop (i + 1) lines))
-    by None e = absurd (none_is (told_behind replies (turn world line)) (now, after) (ap (told_behind replies) e) told)
+    by None e = absurd (none_is (told_behind replies (turn world line)) (now, after) (ap (told_behind replies) e) reported)
     by (Some (given, next)) e =
-        let same = some_is (replies ++ given ∷ [], next) (now, after) (sym (ap (told_behind replies) e) ∙ told) in
+        let same = some_is (replies ++ given ∷ [], next) (now, after) (sym (ap (told_behind replies) e) ∙ reported) in
         next_played lines i line replies given first world next lt is e so_far ∙ (λ j. behind (same j).0 (play (same j).1 (drop (i + 1) lines)))
 
 -- all lines are played
@@ -70,7 +70,7 @@ pub limit_passed : (lines : List WorldStep) (i : ℕ) (line : WorldStep) (replie
     → play first lines ≡ behind replies (play world (drop i lines)) → option_map {U = List WorldReply} (λ played. played.0) (play first lines) ≡ None
 limit_passed lines i line replies first world lt is none so_far =
     ap (option_map (λ played. played.0)) (so_far ∙ ap (λ (l : List WorldStep). behind replies (play world l)) (line_due lines i line lt is)
-    ∙ ap (λ t. behind replies (option_and_then (λ told. onto_replies told.0 (play told.1 (drop (i + 1) lines))) t)) none)
+    ∙ ap (λ t. behind replies (option_and_then (λ reported. onto_replies reported.0 (play reported.1 (drop (i + 1) lines))) t)) none)
 
 -- what a call comes to doesn't go by the words before
 pub all_made_words : (world : World) (call : Call) (came : Progress) (words : State Numbered) → all_made (record world { words = words }) call (came, words) ≡ all_made world call (came, words)

@@ -25,10 +25,10 @@ step_made words new phase step event is m = makes_made words new (word_step phas
 
 -- the call's step by that of the words
 pub none_once : (words : State Numbered) (phase : Phase) → made words (word_step phase) ≡ None → step_once words phase ≡ None
-none_once words phase none = ap (option_map (λ told. (after told.1 phase told.0, told.1))) none
+none_once words phase none = ap (option_map (λ reported. (after reported.1 phase reported.0, reported.1))) none
 
 pub made_once : (words new : State Numbered) (phase : Phase) (event : WordEvent) (progress : Progress) → made words (word_step phase) ≡ Some (event, new) → progress ≡ after new phase event → step_once words phase ≡ Some (progress, new)
-made_once words new phase event progress is goes = ap (option_map (λ told. (after told.1 phase told.0, told.1))) is ∙ ap (λ (p : Progress). Some (p, new)) (sym goes)
+made_once words new phase event progress is goes = ap (option_map (λ reported. (after reported.1 phase reported.0, reported.1))) is ∙ ap (λ (p : Progress). Some (p, new)) (sym goes)
 
 pub stays_there : (left : ℕ) (words : State Numbered) (phase : Phase) → 0 < left → step_once words phase ≡ None → steps_up_to left words phase ≡ (On phase, words)
 unfolding steps_up_to

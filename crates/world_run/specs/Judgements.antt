@@ -15,7 +15,7 @@ use Rattle.update_core.specs.Act.{act}
 use Rattle.update_core.specs.Applied.{code_of}
 pub use Rattle.serve_core.specs.Served.{asks_update}
 use Rattle.world_run.specs.declared.judged.Judged.{Judged}
-use Rattle.world_run.specs.declared.judged.Judged.TheVariants.{Told, Makes}
+use Rattle.world_run.specs.declared.judged.Judged.TheVariants.{Code, Makes}
 use Rattle.zone_tree.specs.Version.{Version as Numbered}
 use Rattle.world_run.specs.Numbered.{changes_between}
 
@@ -32,19 +32,19 @@ is_equal_zone zone other = pointwise is_equal_record zone other
 abbrev pub made_of : Numbered → Heading → Option (List Record) → Option Judged
 made_of last heading None = None
 made_of last heading (Some zone) =
-    if is_equal_zone last.zone zone then Some (Told heading NoError)
+    if is_equal_zone last.zone zone then Some (Code heading NoError)
     else Some (Makes heading (record { number = last.number + 1; zone = zone; changes = Some (changes_between last.zone zone) }))
 
 -- the outcome of an update from a peer that may update, by the code that it gets where a rule or a limit refuses it (RFC 2136, 3)
 abbrev pub judged_by : Numbered → DynamicUpdate → Option Rcode → Option Judged
-judged_by last update (Some code) = Some (Told (heading_of_update update) code)
+judged_by last update (Some code) = Some (Code (heading_of_update update) code)
 judged_by last update None = made_of last (heading_of_update update) (act last.zone update)
 
 -- the outcome of a request that was read, where it is an update; else none (RFC 2136, 3)
 abbrev pub judged_said : Numbered → Parsed → Option Judged
 judged_said last Silent = None
-judged_said last (Fault head code) = if head.opcode == opcode_UPDATE then Some (Told (header_alone head) code) else None
-judged_said last (BadOpt head question code dnssec_ok) = if head.opcode == opcode_UPDATE then Some (Told (heading_of_bad head question dnssec_ok) code) else None
+judged_said last (Fault head code) = if head.opcode == opcode_UPDATE then Some (Code (header_alone head) code) else None
+judged_said last (BadOpt head question code dnssec_ok) = if head.opcode == opcode_UPDATE then Some (Code (heading_of_bad head question dnssec_ok) code) else None
 judged_said last (Query query) = None
 judged_said last (Update update) = judged_by last update (code_of last.zone update true)
 judged_said last (NoMemory head) = None

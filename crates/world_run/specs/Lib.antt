@@ -2,6 +2,6 @@ pub mod Entries
 pub mod Judgements
 pub mod Numbered
 pub mod Phases
-pub mod Told
+pub mod Words
 pub mod Transfers
 pub mod World

@@ -4,7 +4,7 @@ use Rattle.cell_core.specs.Words.{State, found_by}
 use Rattle.cell_core.specs.declared.words.WordStep.{WordStep}
 use Rattle.cell_core.specs.declared.words.WordStep.TheVariants as word
 use Rattle.cell_core.specs.declared.words.WordEvent.{WordEvent}
-use Rattle.cell_core.specs.declared.words.WordEvent.TheVariants as told
+use Rattle.cell_core.specs.declared.words.WordEvent.TheVariants as reported
 use Rattle.dns_rdata.specs.declared.numbers.Serial.{Serial}
 use Rattle.serve_core.specs.declared.heading.Heading.{Heading}
 use Rattle.world_run.specs.declared.phase.Keeping.{Keeping}
@@ -12,7 +12,7 @@ use Rattle.world_run.specs.declared.phase.Purpose.{Purpose}
 use Rattle.world_run.specs.declared.phase.Purpose.TheVariants as purpose
 use Rattle.world_run.specs.declared.phase.Phase.{Phase}
 use Rattle.world_run.specs.declared.phase.Phase.TheVariants.{Load, Look, Raise, Note, Probe, Prepare, Swap, Settle, Keep, Enter, Seek, Gain, Release, Bury, Fade, Reset, Free}
-use Rattle.world_run.specs.declared.phase.End.TheVariants.{Owned, OwnedWeakly, Told, NoSlot, Kept, Sent}
+use Rattle.world_run.specs.declared.phase.End.TheVariants.{Owned, OwnedWeakly, Replied, NoSlot, Kept, Sent}
 use Rattle.world_run.specs.declared.phase.Progress.{Progress}
 use Rattle.world_run.specs.declared.phase.Progress.TheVariants.{On, Done}
 use Rattle.world_run.specs.declared.entries.Entry.{Entry}
@@ -82,7 +82,7 @@ sent_after sending (owner ∷ owners) = On (Release owner (purpose.Sent sending 
 
 -- what follows once an owner is gone; a drop gives this answer (own)
 abbrev pub past : Purpose → Answer → Progress
-past purpose.Drop answer = Done (Told answer)
+past purpose.Drop answer = Done (Replied answer)
 past (purpose.Publish keeping kept entry) answer = oldest_after keeping.heading kept entry keeping.leaving keeping.oldest
 past (purpose.Oldest heading kept entry leaving) answer = leaving_after heading kept entry leaving
 past (purpose.Leaves heading kept entry leaving) answer = leaving_after heading kept entry leaving
@@ -90,41 +90,41 @@ past (purpose.Sent sending owners) answer = sent_after sending owners
 
 -- a load ends with an owner under its name (own)
 abbrev pub load_after : List ℕ → WordEvent → Progress
-load_after name (told.Loaded owner number) = Done (Owned name owner number)
+load_after name (reported.Loaded owner number) = Done (Owned name owner number)
 load_after name event = On (Load name)
 
 -- a look is followed by a raise, where the version isn't buried; else there is no owner (own)
 abbrev pub look_after : List ℕ → ℕ → WordEvent → Progress
-look_after name owner told.Alive = On (Raise name owner)
-look_after name owner told.Dead = Done (Told answer.Nothing)
+look_after name owner reported.Alive = On (Raise name owner)
+look_after name owner reported.Dead = Done (Replied answer.Nothing)
 look_after name owner event = On (Look name owner)
 
 -- a raise ends with an owner under its name, or with none, where the version is buried (own)
 abbrev pub raise_after : List ℕ → ℕ → WordEvent → Progress
-raise_after name owner (told.Raised next number) = Done (Owned name next number)
-raise_after name owner told.Dead = Done (Told answer.Nothing)
+raise_after name owner (reported.Raised next number) = Done (Owned name next number)
+raise_after name owner reported.Dead = Done (Replied answer.Nothing)
 raise_after name owner event = On (Raise name owner)
 
 -- a note ends with a weak owner under its name (own)
 abbrev pub note_after : List ℕ → ℕ → WordEvent → Progress
-note_after name owner (told.Noted next number) = Done (OwnedWeakly name next number)
+note_after name owner (reported.Noted next number) = Done (OwnedWeakly name next number)
 note_after name owner event = On (Note name owner)
 
 -- probes go on up to a slot that is free, or to the last slot, where the update ends (own)
 abbrev pub probe_after : Numbered → Keeping → WordEvent → Progress
-probe_after version keeping told.Taken = On (Prepare version keeping)
-probe_after version keeping told.NoSlot = Done (NoSlot keeping.heading)
+probe_after version keeping reported.Taken = On (Prepare version keeping)
+probe_after version keeping reported.NoSlot = Done (NoSlot keeping.heading)
 probe_after version keeping event = On (Probe version keeping)
 
 -- a settle is followed by a load of the version that was published (own)
 abbrev pub settle_after : Keeping → WordEvent → Progress
-settle_after keeping (told.Settled owner number) = On (Keep owner keeping)
+settle_after keeping (reported.Settled owner number) = On (Keep owner keeping)
 settle_after keeping event = On (Settle keeping)
 
 -- that load is followed by a note of the version, where it is entered in the window, and then by the release of the owner that the
 -- publication returned (own)
 abbrev pub keep_after : ℕ → Keeping → WordEvent → Progress
-keep_after given keeping (told.Loaded owner number) =
+keep_after given keeping (reported.Loaded owner number) =
     if is_some keeping.enters then On (Enter given owner keeping) else On (Release given (purpose.Publish keeping owner None))
 keep_after given keeping event = On (Keep given keeping)
 
@@ -134,7 +134,7 @@ entry_of None number owner = None
 entry_of (Some serial) number owner = Some (record { number = number; serial = serial; owner = owner })
 
 abbrev pub enter_after : ℕ → ℕ → Keeping → WordEvent → Progress
-enter_after given kept keeping (told.Noted owner number) = On (Release given (purpose.Publish keeping kept (entry_of keeping.enters number owner)))
+enter_after given kept keeping (reported.Noted owner number) = On (Release given (purpose.Publish keeping kept (entry_of keeping.enters number owner)))
 enter_after given kept keeping event = On (Enter given kept keeping)
 
 -- a transfer that has got each version that it asks for, and one that has got one more (own)
@@ -160,24 +160,24 @@ got_after owner seeking next (Some version) = gained_after (with_got next versio
 
 -- a look is followed by a raise, where the version isn't buried; else no further one is got (own)
 abbrev pub seek_after : ℕ → Seeking → WordEvent → Progress
-seek_after owner seeking told.Alive = On (Gain owner seeking)
-seek_after owner seeking told.Dead = sent_after seeking.sending seeking.owners
+seek_after owner seeking reported.Alive = On (Gain owner seeking)
+seek_after owner seeking reported.Dead = sent_after seeking.sending seeking.owners
 seek_after owner seeking event = On (Seek owner seeking)
 
 -- what follows that raise, by the version that its owner finds in the words (own)
 abbrev pub gain_after : State Numbered → ℕ → Seeking → WordEvent → Progress
-gain_after words owner seeking (told.Raised next number) = got_after owner seeking next (found_by words next)
-gain_after words owner seeking told.Dead = sent_after seeking.sending seeking.owners
+gain_after words owner seeking (reported.Raised next number) = got_after owner seeking next (found_by words next)
+gain_after words owner seeking reported.Dead = sent_after seeking.sending seeking.owners
 gain_after words owner seeking event = On (Gain owner seeking)
 
 -- a release is followed by a bury where no share is left (own)
 abbrev pub release_after : ℕ → Purpose → WordEvent → Progress
-release_after owner for told.Emptied = On (Bury owner for)
+release_after owner for reported.Emptied = On (Bury owner for)
 release_after owner for event = past for answer.Left
 
 -- a bury that won is followed by a fade (own)
 abbrev pub bury_after : ℕ → Purpose → WordEvent → Progress
-bury_after owner for (told.Buried number) = On (Fade owner (Some number) for)
+bury_after owner for (reported.Buried number) = On (Fade owner (Some number) for)
 bury_after owner for event = past for answer.Left
 
 -- the answer of a release that has buried a number, or of the release of a weak owner (own)
@@ -187,7 +187,7 @@ gone (Some number) = answer.Buried number
 
 -- a fade is followed by a reset where no other owner is yet to fade (own)
 abbrev pub fade_after : ℕ → Option ℕ → Purpose → WordEvent → Progress
-fade_after owner number for told.Closed = On (Reset owner number for)
+fade_after owner number for reported.Closed = On (Reset owner number for)
 fade_after owner number for event = past for (gone number)
 
 -- what follows a call's step, by the words after it and the event that it reported (own)

@@ -31,7 +31,7 @@ use Rattle.world_run.specs.declared.phase.Phase.{Phase}
 use Rattle.world_run.specs.declared.phase.Phase.TheVariants as phase
 use Rattle.world_run.specs.declared.phase.Purpose.TheVariants as purpose
 use Rattle.world_run.specs.declared.phase.End.{End}
-use Rattle.world_run.specs.declared.phase.End.TheVariants.{Owned, OwnedWeakly, Told, NoSlot, Kept, Sent}
+use Rattle.world_run.specs.declared.phase.End.TheVariants.{Owned, OwnedWeakly, Replied, NoSlot, Kept, Sent}
 use Rattle.world_run.specs.declared.phase.Progress.{Progress}
 use Rattle.world_run.specs.declared.phase.Progress.TheVariants.{On, Done}
 use Rattle.world_run.specs.declared.names.Named.{Named}
@@ -278,7 +278,7 @@ publication_start world heading version =
 -- an update by its outcome: it gets a code, or it makes a version (RFC 2136, 3; own)
 abbrev pub update_start : World → Option Judged → Start
 update_start world None = Refused
-update_start world (Some (judgement.Told heading code)) = Answers (code_reply heading code)
+update_start world (Some (judgement.Replied heading code)) = Answers (code_reply heading code)
 update_start world (Some (judgement.Makes heading version)) = publication_start world heading version
 
 -- how a call begins: a name that is in use isn't loaded, and one that isn't is neither dropped nor asked; an update is judged in
@@ -334,14 +334,14 @@ entries_at window end entries = entries
 abbrev pub answer_at : End → Answer
 answer_at (Owned name owner number) = Owner name number
 answer_at (OwnedWeakly name owner number) = Owner name number
-answer_at (Told answer) = answer
+answer_at (Replied answer) = answer
 answer_at (NoSlot heading) = code_reply heading ServFail
 answer_at (Kept heading owner entry) = code_reply heading NoError
 answer_at (Sent sending) = sent_answer sending
 
 -- the next step of a call on the words, and what follows it; none where the words have no such step (own)
 abbrev pub step_once : State Numbered → Phase → Option (Progress × State Numbered)
-step_once words phase = option_map (λ told. (after told.1 phase told.0, told.1)) (made words (word_step phase))
+step_once words phase = option_map (λ reported. (after reported.1 phase reported.0, reported.1)) (made words (word_step phase))
 
 -- the steps of a call on the words up to its end, but no more than so many; at a step that can't be made, it stops (own)
 abbrev pub go_on : (State Numbered → Phase → Progress × State Numbered) → State Numbered → Phase → Option (Progress × State Numbered) → Progress × State Numbered
@@ -371,15 +371,15 @@ whole world call (Takes phase) =
     if is_full world then None else Some (all_made world call (steps_up_to most_steps world.words phase))
 
 -- a call that begins under a name that no call under way has, by how it begins (own)
-abbrev pub begin : World → List ℕ → Call → Start → Option (WorldReply × World)
-begin world name call Refused = Some (NotEnabled, world)
-begin world name call (Answers answer) = if is_full world then None else Some (Answered answer, world)
-begin world name call (Takes phase) =
+abbrev pub begin_call : World → List ℕ → Call → Start → Option (WorldReply × World)
+begin_call world name call Refused = Some (NotEnabled, world)
+begin_call world name call (Answers answer) = if is_full world then None else Some (Answered answer, world)
+begin_call world name call (Takes phase) =
     if is_full world then None
     else Some (Begun, record world { names = given_up call world.names; weak_names = weak_given_up call world.weak_names; calls = world.calls ++ record { name = name; phase = phase } ∷ [] })
 
 abbrev pub begin_under : World → List ℕ → Call → Option UnderWay → Option (WorldReply × World)
-begin_under world name call None = begin world name call (start world call)
+begin_under world name call None = begin_call world name call (start world call)
 begin_under world name call (Some other) = Some (NotEnabled, world)
 
 -- a call under way that takes its next step (own)
@@ -412,7 +412,7 @@ onto_replies given more = option_map (λ rest. (given ∷ rest.0, rest.1)) more
 
 abbrev pub play : World → List WorldStep → Option (List WorldReply × World)
 play world [] = Some ([], world)
-play world (line ∷ lines) = option_and_then (λ told. onto_replies told.0 (play told.1 lines)) (turn world line)
+play world (line ∷ lines) = option_and_then (λ reported. onto_replies reported.0 (play reported.1 lines)) (turn world line)
 
 -- the replies to lines, from a first version on, with so many versions kept besides the last, and a window of this size (own)
 abbrev pub replies_of : List Record → ℕ → ℕ → List WorldStep → Option (List WorldReply)

@@ -1,6 +1,6 @@
 //! Why lines aren't executed.
 ghost use Rattle.std.specs.Prelude.{Some};
-ghost use Rattle.world_run.specs.Told.{world_words};
+ghost use Rattle.world_run.specs.Words.{world_words};
 
 use std::error::Error;
 use std::fmt;

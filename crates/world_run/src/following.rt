@@ -60,7 +60,7 @@ impl<'a> Purpose<'a> {
         ensures { result ≡ says_past self.entry answer }
     {
         match self {
-            Purpose::Drop => Progress::Done(End::Told(answer)),
+            Purpose::Drop => Progress::Done(End::Replied(answer)),
             Purpose::Publish(keeping, kept, entry) => {
                 mem::drop(answer);
                 after_published(keeping, kept, entry)
@@ -173,7 +173,7 @@ fn after_look<'a>(name: Handle<'a>, owner: usize, event: WordEvent) -> Progress<
 {
     match event {
         WordEvent::Alive => Progress::On(Phase::Raise(name, owner)),
-        WordEvent::Dead => Progress::Done(End::Told(Answer::Nothing)),
+        WordEvent::Dead => Progress::Done(End::Replied(Answer::Nothing)),
         _ => Progress::On(Phase::Look(name, owner)),
     }
 }
@@ -187,7 +187,7 @@ fn after_raise<'a>(name: Handle<'a>, owner: usize, event: WordEvent) -> Progress
             owner: next,
             number,
         } => Progress::Done(End::Owned(name, next, number)),
-        WordEvent::Dead => Progress::Done(End::Told(Answer::Nothing)),
+        WordEvent::Dead => Progress::Done(End::Replied(Answer::Nothing)),
         _ => Progress::On(Phase::Raise(name, owner)),
     }
 }

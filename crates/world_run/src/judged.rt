@@ -2,7 +2,7 @@
 ghost use Rattle.std.specs.Prelude.{◌≡◌, ◌+◌, ◌<◌, ◌^◌, true, IfOk, IfErr, ◌==◌, Some, None, if◌then◌else◌};
 ghost use Rattle.dns_message.specs.Message.{opcode_UPDATE};
 ghost use Rattle.world_run.specs.Judgements.{judged as says_judged, judged_by};
-ghost use Rattle.world_run.specs.declared.judged.Judged.TheVariants.{Told};
+ghost use Rattle.world_run.specs.declared.judged.Judged.TheVariants.{Code};
 ghost use Rattle.update_core.specs.Applied.{code_of};
 
 use crate::fault::WorldFault;
@@ -20,7 +20,7 @@ use zone_tree::Version;
 #[derive(Drop)]
 pub enum Judged {
     /// It gets this code, and changes nothing. The reply has this heading.
-    Told(Heading, Rcode),
+    Code(Heading, Rcode),
     /// It makes this version. The reply has this heading.
     Makes(Heading, Published),
 }
@@ -54,10 +54,10 @@ pub(crate) fn judge(
 
 /// The outcome of an update that can't be read, or whose OPT record is refused; None where the request is no update.
 fn judge_fault(heading: Heading, code: Rcode) -> Option<Judged>
-    ensures { result ≡ (if heading.head.opcode == opcode_UPDATE then Some (Told heading code) else None) }
+    ensures { result ≡ (if heading.head.opcode == opcode_UPDATE then Some (Code heading code) else None) }
 {
     if heading.head.opcode == OPCODE_UPDATE {
-        return Some(Judged::Told(heading, code));
+        return Some(Judged::Code(heading, code));
     }
     None
 }
@@ -76,7 +76,7 @@ fn judge_update(
     let outcome = apply(alloc, version, update, true);
     let code = outcome.code();
     match outcome {
-        Outcome::Refused(_) | Outcome::Unchanged => Ok(Some(Judged::Told(heading, code))),
+        Outcome::Refused(_) | Outcome::Unchanged => Ok(Some(Judged::Code(heading, code))),
         Outcome::Next(next) => match Published::new(alloc, next) {
             Ok(version) => Ok(Some(Judged::Makes(heading, version))),
             Err(fault) => {

@@ -90,7 +90,7 @@ pub enum End<'a> {
     /// The name is in use, for this weak owner, of the version of this number.
     OwnedWeakly(Handle<'a>, usize, u64),
     /// The call gives this answer.
-    Told(Answer),
+    Replied(Answer),
     /// An update has found no free slot; its reply has this heading.
     NoSlot(Heading),
     /// An update has made a version, which is kept under this owner, with this entry where it has one; its reply has this heading.

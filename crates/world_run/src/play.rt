@@ -2,7 +2,7 @@
 //! line at a time.
 ghost use Rattle.std.specs.Prelude.{◌≡◌, ◌++◌, ◌∷◌, [], nat_lt, if◌then◌else◌, IsTrue, IsFalse, Some, None, IfOk, IfErr, OnOk};
 ghost use Rattle.world_run.specs.declared.entries.Entry.{Entry as EntryRow};
-ghost use Rattle.world_run.specs.World.{World, started, most_steps, call_of, start as says_start, names_at, weak_names_at, kept_at, entries_at, answer_at, code_reply, steps_up_to, is_full as says_full, all_made as says_all_made, whole as says_whole, begin as says_begin, begin_under, gone_on, next as says_next, turn as says_turn};
+ghost use Rattle.world_run.specs.World.{World, started, most_steps, call_of, start as says_start, names_at, weak_names_at, kept_at, entries_at, answer_at, code_reply, steps_up_to, is_full as says_full, all_made as says_all_made, whole as says_whole, begin_call as says_begin, begin_under, gone_on, next as says_next, turn as says_turn};
 ghost use Rattle.dns_rdata.specs.declared.numbers.Rcode.TheVariants.{NoError};
 ghost use Rattle.world_run.specs.declared.phase.End.TheVariants.{Kept};
 ghost use Rattle.world_run.specs.declared.start.Start.TheVariants.{Takes};
@@ -133,7 +133,7 @@ impl<'a> Play<'a> {
     {
         match line {
             WorldStep::Whole(call) => self.whole(alloc, call),
-            WorldStep::Begin(name, call) => self.begin(alloc, name, call),
+            WorldStep::Begin(name, call) => self.begin_call(alloc, name, call),
             WorldStep::Next(name) => self.next(alloc, name),
         }
     }
@@ -186,7 +186,7 @@ impl<'a> Play<'a> {
     }
 
     /// Begins a call, to be made step by step.
-    fn begin(
+    fn begin_call(
         &mut self,
         alloc: Global,
         name: &Handle<'a>,
@@ -331,7 +331,7 @@ impl<'a> Play<'a> {
         ensures refused { IfErr result (λ fault. fault ≡ WorldFault.NoMemory) }
     {
         match end {
-            End::Told(answer) => Ok(answer),
+            End::Replied(answer) => Ok(answer),
             End::Owned(name, owner, number) => {
                 put_owner(alloc, &mut self.names, name, owner, number)
             }

@@ -198,7 +198,7 @@ impl<'a> Play<'a> {
         ensures refused { IfErr result (λ fault. fault ≡ WorldFault.NoMemory) }
     {
         match judged {
-            Judged::Told(heading, code) => match reply_with(alloc, &heading, code) {
+            Judged::Code(heading, code) => match reply_with(alloc, &heading, code) {
                 Ok(answer) => Ok(Start::Answers(answer)),
                 Err(fault) => Err(fault),
             },

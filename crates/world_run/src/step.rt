@@ -1,6 +1,6 @@
 //! The lines of a script and their replies.
 ghost use Rattle.std.specs.Prelude.{◌≡◌, Some};
-ghost use Rattle.world_run.specs.Told.{step_words};
+ghost use Rattle.world_run.specs.Words.{step_words};
 
 use crate::lent::{Handle, Request};
 use crate::message_list::MessageList;

@@ -27,7 +27,7 @@ pub(crate) fn make_step(
     machine: &mut WordMachine<Published>,
     phase: &Phase<'_>,
 ) -> Result<Option<WordEvent>, WorldFault>
-    ensures ok { IfOk result (λ told. MatchOption told
+    ensures ok { IfOk result (λ reported. MatchOption reported
         ((made machine.old (word_step phase.now) ≡ None) × (machine.new ≡ machine.old))
         (λ event. made machine.old (word_step phase.now) ≡ Some (event, machine.new))) }
     ensures refused { IfErr result (λ fault. fault ≡ WorldFault.NoMemory) }

@@ -21,7 +21,7 @@ pub fn run<'a>(
     options: Options,
     lines: &[WorldStep<'a>],
 ) -> Result<Vec<WorldReply>, WorldFault>
-    ensures told { IfOk result (λ replies. replies_of zone options.keep options.window lines.now ≡ Some replies.items) }
+    ensures reported { IfOk result (λ replies. replies_of zone options.keep options.window lines.now ≡ Some replies.items) }
     ensures limit { IfErr result (λ fault. fault ≡ WorldFault.Limit → replies_of zone options.keep options.window lines.now ≡ None) }
 {
     match Play::new(alloc, zone, options) {
@@ -36,7 +36,7 @@ fn play_lines<'a>(
     play: &mut Play<'a>,
     lines: &[WorldStep<'a>],
 ) -> Result<Vec<WorldReply>, WorldFault>
-    ensures told { IfOk result (λ replies. option_map {U = List Reply} (λ played. played.0) (says_play play.old lines.now) ≡ Some replies.items) }
+    ensures reported { IfOk result (λ replies. option_map {U = List Reply} (λ played. played.0) (says_play play.old lines.now) ≡ Some replies.items) }
     ensures limit { IfErr result (λ fault. fault ≡ WorldFault.Limit → option_map {U = List Reply} (λ played. played.0) (says_play play.old lines.now) ≡ None) }
 {
     let mut replies = Vec::new(alloc);
@@ -56,7 +56,7 @@ fn play_line<'a>(
     line: &WorldStep<'a>,
     replies: &mut Vec<WorldReply>,
 ) -> Result<(), WorldFault>
-    ensures ok { OnOk result (option_map {U = List Reply × World} (λ told. (replies.old.items ++ told.0 ∷ [], told.1)) (turn play.old line.now) ≡ Some (replies.new.items, play.new)) }
+    ensures ok { OnOk result (option_map {U = List Reply × World} (λ reported. (replies.old.items ++ reported.0 ∷ [], reported.1)) (turn play.old line.now) ≡ Some (replies.new.items, play.new)) }
     ensures limit { IfErr result (λ fault. fault ≡ WorldFault.Limit → turn play.old line.now ≡ None) }
 {
     if replies.reserve(1).is_err() {

@@ -42,7 +42,7 @@ some_of (r ∷ rs) h = (r, rs, refl)
 -- zones that share an NS
 can_step : (old next : List Record) → IsZone old → IsZone next → apex_of old ≡ apex_of next → serial_less (zone_serial old) (zone_serial next) ≡ true
     → (ns : Record) → is_of (apex_of next) type_NS ns ≡ true → IsIn ns old → IsIn ns next → CanStep old next
-can_step old next h k apex rises ns is_ns stands stays =
+can_step old next h k apex rises ns is_ns is_present stays =
     let own = one_of (soa_of old) h.rules.one_soa in
     let new = one_of (soa_of next) k.rules.one_soa in
     record {
@@ -56,7 +56,7 @@ can_step old next h k apex rises ns is_ns stands stays =
       rises = (λ i. serial_less (serial_of (first_data (sym own.1 i))) (serial_of (first_data (sym new.1 i)))) ∙ rises;
       ns = ns;
       is_ns = ap (λ rs. is_of (owner_of rs) type_NS ns) (sym new.1) ∙ is_ns;
-      stands = stands;
+      is_present = is_present;
       stays = stays;
     }
 

@@ -39,10 +39,10 @@ module _ (old : List Record) (rs : List RawRecord) (h : IsZone old) (passed : pr
   none_told (Some mid) code e = cc
 
   pub first_refused : (u : Update) (code : Rcode) → u ≡ update_from old rs → option_or (verdict old u true) (if is_some (act old u) then None else Some ServFail) ≡ Some code → effects old rs ≡ None
-  first_refused u code is told =
+  first_refused u code is reported =
       none_told (effects old rs) code
       (ap (λ v. option_or v (if is_some (act old (update_from old rs)) then None else Some ServFail)) (sym (taken_by old h rs passed))
-      ∙ ap (λ v. option_or (verdict old v true) (if is_some (act old v) then None else Some ServFail)) (sym is) ∙ told)
+      ∙ ap (λ v. option_or (verdict old v true) (if is_some (act old v) then None else Some ServFail)) (sym is) ∙ reported)
 
 -- a fault in place of one value is that in place of another
 pub err_again : {X Y E : Type 0} (f g : E) → IsErrOf {T = X} (Err f) g → IsErrOf {T = Y} (Err f) g

@@ -72,13 +72,13 @@ module _ (zone : List Record) (h : IsZone zone) where
     met : is_met zone (standing soa ∷ []) (standing soa) ≡ true
     met = (λ i. have_same_data (cond (gathered i) (standing soa ∷ []) []) (set i)) ∙ same_data
 
-    stands : prerequisites zone (standing soa ∷ []) ≡ None
-    stands = rw (alone, met) refl
+    is_present : prerequisites zone (standing soa ∷ []) ≡ None
+    is_present = rw (alone, met) refl
 
   pub taken_by : (rs : List RawRecord) → prescan zone rs ≡ None → verdict zone (update_from zone rs) true ≡ None
   taken_by rs passed =
       let own = one_of (soa_of zone) h.rules.one_soa in
-      let condition : prerequisites zone (map standing (soa_of zone)) ≡ None = ap (λ ss. prerequisites zone (map standing ss)) own.1 ∙ stands own.0 own.1 in
+      let condition : prerequisites zone (map standing (soa_of zone)) ≡ None = ap (λ ss. prerequisites zone (map standing ss)) own.1 ∙ is_present own.0 own.1 in
       (λ i. option_or (option_or (section i) (condition i)) (option_or None (passed i)))
 
   pub taken : (rs : List RawRecord) → AllByRecursion (Passes zone) rs → verdict zone (update_from zone rs) true ≡ None

@@ -25,11 +25,11 @@ same_head h = ap (λ (k : 5 < 16). record { id = 0; opcode = 5; rd = false; four
 -- an update of these parts is the one of the definition
 pub same_update : (old : List Record) (rs : List RawRecord) (h : 5 < 16) (name : Name) (ps us : List RawRecord) → name ≡ apex_of old → ps ≡ map standing (soa_of old) → us ≡ rs
     → record { head = record { id = 0; opcode = 5; rd = false; four_bits = h }; edns = None; zone = record { name = name; rtype = record { 0 = 6 }; class = record { 0 = 1 } }; prerequisites = ps; updates = us } ≡ update_from old rs
-same_update old rs h name ps us is stands are = λ i. record {
+same_update old rs h name ps us is is_present are = λ i. record {
   head = same_head h i;
   edns = None;
   zone = record { name = is i; rtype = record { 0 = 6 }; class = record { 0 = 1 } };
-  prerequisites = stands i;
+  prerequisites = is_present i;
   updates = are i;
 }
 

@@ -267,7 +267,7 @@ meant d s = by (is_of d.owner d.rtype s && bytes_eq d.rdata s.rdata) refl
         let rdata = (bytes_eq-Decides d.rdata s.rdata).1 is.rdata in
         true≢false (sym (λ i. (owner i && rtype i) && rdata i) ∙ e)))
 
-module _ (old : List Record) (h : IsPlain old) (soa : Record) (had : soa_of old ≡ soa ∷ []) (ns : Record) (is_ns : is_of soa.owner type_NS ns ≡ true) (stands : IsIn ns old) where
+module _ (old : List Record) (h : IsPlain old) (soa : Record) (had : soa_of old ≡ soa ∷ []) (ns : Record) (is_ns : is_of soa.owner type_NS ns ≡ true) (is_present : IsIn ns old) where
   -- a test that keeps an NS of the apex, and the SOA
   record Keeps (q : Record → Bool) : Type 0 where
     one : q ns ≡ true
@@ -308,7 +308,7 @@ module _ (old : List Record) (h : IsPlain old) (soa : Record) (had : soa_of old 
       let also : is_of d.owner type_NS ns ≡ true = ap (λ b. b && ns.rtype == type_NS) here ∙ ns_parts.1 in
       gone.other
       (only_one (is_of d.owner type_NS) (filter q old) d ns (eqb-true (length (rrset_of (filter q old) d.owner type_NS)) 1 of.1)
-      (kept_in q old d gone.there kept) own (kept_in q old ns stands k.one) also))
+      (kept_in q old d gone.there kept) own (kept_in q old ns is_present k.one) also))
 
   deleted : (q : Record → Bool) → Keeps q → (d : Record) → IsGone d → effect (filter q old) (taken_out d) ≡ Some (filter (λ s. q s && not (is_same_record d s)) old)
   deleted q k d gone =
@@ -343,7 +343,7 @@ module _ (old : List Record) (h : IsPlain old) (soa : Record) (had : soa_of old 
 
   keeps_on : (q : Record → Bool) → Keeps q → (d : Record) → IsGone d → Keeps (λ s. q s && not (is_same_record d s))
   keeps_on q k d gone = record {
-    one = rw (k.one, by_false (is_same_record d ns) (λ t. gone.other (is_one d ns t (lawful_in old h d gone.there) (lawful_in old h ns stands)))) refl;
+    one = rw (k.one, by_false (is_same_record d ns) (λ t. gone.other (is_one d ns t (lawful_in old h d gone.there) (lawful_in old h ns is_present)))) refl;
     soas = λ s e. rw (k.soas s e, by_false (is_same_record d s) (λ t. true≢false (sym e ∙ ap (λ x. x == type_SOA) (sym (same_type d s t)) ∙ gone.not_soa))) refl;
   }
 
@@ -378,7 +378,7 @@ pub record CanStep (old next : List Record) : Type 0 where
   pub rises : serial_less (serial_of old_soa.rdata) (serial_of soa.rdata) ≡ true
   pub ns : Record
   pub is_ns : is_of soa.owner type_NS ns ≡ true
-  pub stands : IsIn ns old
+  pub is_present : IsIn ns old
   pub stays : IsIn ns next
 
 module _ (old next : List Record) (c : CanStep old next) where
@@ -405,7 +405,7 @@ module _ (old next : List Record) (c : CanStep old next) where
   old_ns = ap (λ o. is_of o type_NS c.ns) c.apex ∙ c.is_ns
 
   abbrev Gone : Record → Type 0
-  Gone d = IsGone old c.old_zone c.old_soa c.had_soa c.ns old_ns c.stands d
+  Gone d = IsGone old c.old_zone c.old_soa c.had_soa c.ns old_ns c.is_present d
 
   all_gone : AllByRecursion Gone gone
   all_gone =
@@ -420,15 +420,15 @@ module _ (old next : List Record) (c : CanStep old next) where
       })
 
   abbrev left : Record → Bool
-  left = without old c.old_zone c.old_soa c.had_soa c.ns old_ns c.stands (λ s. true) gone
+  left = without old c.old_zone c.old_soa c.had_soa c.ns old_ns c.is_present (λ s. true) gone
 
   left_is : (s : Record) → IsIn s old → left s ≡ not (not (s.rtype == type_SOA) && not (is_among next s))
-  left_is s m = without_is old c.old_zone c.old_soa c.had_soa c.ns old_ns c.stands (λ y. true) gone s ∙ ap not (any_left_out old next c.old_zone s m)
+  left_is s m = without_is old c.old_zone c.old_soa c.had_soa c.ns old_ns c.is_present (λ y. true) gone s ∙ ap not (any_left_out old next c.old_zone s m)
 
   first : effects old (steps old next) ≡ effects (filter left old) (map put_in (soa_of next) ++ map put_in come)
   first =
       ap (λ z. effects z (steps old next)) (sym (all_kept (λ s. true) old (each_from (λ s. true ≡ true) old (λ s m. refl))))
-      ∙ all_deleted old c.old_zone c.old_soa c.had_soa c.ns old_ns c.stands (λ s. true) (record { one = refl; soas = λ s e. refl }) gone all_gone (map put_in (soa_of next) ++ map put_in come)
+      ∙ all_deleted old c.old_zone c.old_soa c.had_soa c.ns old_ns c.is_present (λ s. true) (record { one = refl; soas = λ s e. refl }) gone all_gone (map put_in (soa_of next) ++ map put_in come)
 
   -- the SOA
   soa_type : c.soa.rtype ≡ 6

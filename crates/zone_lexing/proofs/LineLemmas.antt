@@ -31,11 +31,11 @@ nested-lines f g ((Comment, octets) ∷ is) n m h = nested-lines f g is n m h
 nested-lines f g ((Close, octets) ∷ is) n m h = nested-lines f g is n m h
 nested-lines f g ((Unclosed, octets) ∷ is) n m h = nested-lines f g is n m h
 
-told-lines : (f g : ℕ → ℕ) (o p : Option ℕ) (n m : ℕ) → option_map g p ≡ option_map f o → g m ≡ f n → g (unwrap_or p m) ≡ f (unwrap_or o n)
-told-lines f g None None n m e h = h
-told-lines f g (Some x) (Some y) n m e h = cc
-told-lines f g (Some x) None n m e h = let no : ⊥ = cc in absurd no
-told-lines f g None (Some y) n m e h = let no : ⊥ = cc in absurd no
+reported-lines : (f g : ℕ → ℕ) (o p : Option ℕ) (n m : ℕ) → option_map g p ≡ option_map f o → g m ≡ f n → g (unwrap_or p m) ≡ f (unwrap_or o n)
+reported-lines f g None None n m e h = h
+reported-lines f g (Some x) (Some y) n m e h = cc
+reported-lines f g (Some x) None n m e h = let no : ⊥ = cc in absurd no
+reported-lines f g None (Some y) n m e h = let no : ⊥ = cc in absurd no
 
 abbrev made : ℕ → Bool → List Written → Option ℕ → List Entry
 made line indented words unclosed = record { line = line; indented = indented; words = words; unclosed = unclosed } ∷ []
@@ -80,7 +80,7 @@ entries-lines f g ((LineEnd, octets) ∷ is) start other words false n m same h 
 entries-lines f g ((Open, octets) ∷ is) start other words true n m same h = faulty-lines f g start other words n m same (here f g n m h)
 entries-lines f g ((Open, octets) ∷ is) start other words false n m same h =
     open-lines f g (closes is) (closes is) _ _ _ _ refl (entries-lines f g is start other words true n m same h)
-    (faulty-lines f g start other words (unwrap_or (nested n is) n) (unwrap_or (nested m is) m) same (told-lines f g (nested n is) (nested m is) n m (nested-lines f g is n m h) (here f g n m h)))
+    (faulty-lines f g start other words (unwrap_or (nested n is) n) (unwrap_or (nested m is) m) same (reported-lines f g (nested n is) (nested m is) n m (nested-lines f g is n m h) (here f g n m h)))
 entries-lines f g ((Close, octets) ∷ is) start other words true n m same h = entries-lines f g is start other words false n m same h
 entries-lines f g ((Close, octets) ∷ is) start other words false n m same h = faulty-lines f g start other words n m same (here f g n m h)
 entries-lines f g ((Unclosed, octets) ∷ is) start other words inside n m same h = faulty-lines f g start other words n m same (here f g n m h)
@@ -160,7 +160,7 @@ module _ (f g : ℕ → ℕ) (n : ℕ) (last : Bool) (xs ys : List Item) (alike 
   entries-front ((Open, octets) ∷ is) start words true line e is_last h = faulty-lines f g start start words line line (start_same start (omega arith)) (alike.same line (omega arith))
   entries-front ((Open, octets) ∷ is) start words false line e is_last h =
       open-lines f g (closes (is ++ xs)) (closes (is ++ ys)) _ _ _ _ (closes-front is xs ys alike.closing) (entries-front is start words true line (omega arith) is_last h)
-      (faulty-lines f g start start words _ _ (start_same start (omega arith)) (told-lines f g (nested line (is ++ xs)) (nested line (is ++ ys)) line line (nested-front is line (omega arith)) (alike.same line (omega arith))))
+      (faulty-lines f g start start words _ _ (start_same start (omega arith)) (reported-lines f g (nested line (is ++ xs)) (nested line (is ++ ys)) line line (nested-front is line (omega arith)) (alike.same line (omega arith))))
   entries-front ((Close, octets) ∷ is) start words true line e is_last h = entries-front is start words false line (omega arith) is_last h
   entries-front ((Close, octets) ∷ is) start words false line e is_last h = faulty-lines f g start start words line line (start_same start (omega arith)) (alike.same line (omega arith))
   entries-front ((Unclosed, octets) ∷ is) start words inside line e is_last h = faulty-lines f g start start words line line (start_same start (omega arith)) (alike.same line (omega arith))

@@ -46,9 +46,9 @@ open_unclosed_by : (start : Start) (words : List Written) (line : ℕ) (octets :
 open_unclosed_by start words line octets behind e = rw (e, entries_from) refl
 
 -- one that isn't closed
-pub open_unclosed : (start : Start) (words : List Written) (inside : Bool) (line told : ℕ) (octets : List ℕ) (behind : List Item) → inside ≡ false → closes behind ≡ false → told ≡ unwrap_or (nested line behind) line → entries_from start words inside line ((Open, octets) ∷ behind) ≡ faulty start words told
-open_unclosed start words true line told octets behind e none is = cc
-open_unclosed start words false line told octets behind e none is = open_unclosed_by start words line octets behind none ∙ ap (faulty start words) (sym is)
+pub open_unclosed : (start : Start) (words : List Written) (inside : Bool) (line reported : ℕ) (octets : List ℕ) (behind : List Item) → inside ≡ false → closes behind ≡ false → reported ≡ unwrap_or (nested line behind) line → entries_from start words inside line ((Open, octets) ∷ behind) ≡ faulty start words reported
+open_unclosed start words true line reported octets behind e none is = cc
+open_unclosed start words false line reported octets behind e none is = open_unclosed_by start words line octets behind none ∙ ap (faulty start words) (sym is)
 
 -- a closing parenthesis where none is open
 pub close_outside : (start : Start) (words : List Written) (inside : Bool) (line : ℕ) (octets : List ℕ) (behind : List Item) → inside ≡ false → entries_from start words inside line ((Close, octets) ∷ behind) ≡ faulty start words line

@@ -63,7 +63,7 @@ nested line (_ ∷ items) = nested line items
 
 -- the entries of the items that are left, in an entry with this start and these words so far, inside parentheses or not;
 -- the line that the items begin on is given. Between parentheses a line's end is a blank, and they don't nest
--- (RFC 1035, 5.1). The words behind an opening parenthesis that isn't closed are not the entry's: it is the fault, or
+-- (RFC 1035, 5.1). The words after an opening parenthesis that isn't closed are not the entry's: it is the fault, or
 -- the next opening one is, where there is one (own)
 abbrev pub entries_from : Start → List Written → Bool → ℕ → List Item → List Entry
 entries_from start words inside line [] = whole start words

@@ -41,7 +41,7 @@ run_len run escaped (c ∷ text) =
     else if ends run escaped c then 0
     else suc (run_len run (escapes escaped c) text)
 
--- what a quote opens in front of a text: a string with its two quotes, on one line, else a quote without its end
+-- what a quote opens before a text: a string with its two quotes, on one line, else a quote without its end
 abbrev pub string_at : List ℕ → Token × ℕ
 string_at text =
     let len = run_len OfString false text in
@@ -67,7 +67,7 @@ item_at (c ∷ text) = Some (token_at c text)
 abbrev pub Item : Type 0
 Item = Token × List ℕ
 
--- the items of the text behind its first k octets, in order
+-- the items of the text after its first k octets, in order
 abbrev pub items : ℕ → List ℕ → List Item
 items k [] = []
 items zero (c ∷ text) = ((token_at c text).0, take (token_at c text).1 (c ∷ text)) ∷ items ((token_at c text).1 - 1) text

@@ -6,7 +6,7 @@ use Rattle.zone_lexing.specs.Entries.{Entry}
 abbrev pub on_lines : (ℕ → ℕ) → Entry → Entry
 on_lines change entry = record entry { line = change entry.line; unclosed = option_map change entry.unclosed }
 
--- a line where one more line stands behind the first n of the text
+-- a line where one more line stands after the first n of the text
 abbrev pub lowered : ℕ → ℕ → ℕ
 lowered n line = if nat_lt n line then line + 1 else line
 

@@ -9,7 +9,7 @@ use Rattle.zone_lexing.specs.declared.item.Run.{Run}
 use Rattle.zone_lexing.specs.declared.item.Run.TheVariants.{OfWord, OfString}
 
 -- whether octets are a run to their end: no LF or CR is among them, nothing ends them, and no backslash at their end takes
--- along what stands behind; whether a backslash takes the first of them along
+-- along what stands after; whether a backslash takes the first of them along
 abbrev pub is_run : Run → Bool → List ℕ → Bool
 is_run run escaped [] = not escaped
 is_run run escaped (c ∷ octets) = not (c == 10 || c == 13) && (not (ends run escaped c) && is_run run (escapes escaped c) octets)

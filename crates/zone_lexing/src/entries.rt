@@ -39,7 +39,7 @@ impl<'a> Entries<'a> {
         }
     }
 
-    /// The next entry, with its words in the list that is given, whose own are dropped first; None behind the last.
+    /// The next entry, with its words in the list that is given, whose own are dropped first; None after the last.
     ///
     /// The fault is a growth that was refused, only where the list has no room for a word: the entry is still the next
     /// one then.

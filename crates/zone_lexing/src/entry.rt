@@ -8,6 +8,6 @@ pub struct EntryHead {
     /// Whether that line begins with a blank: the entry then takes the owner before it (RFC 1035, 5.1).
     pub indented: bool,
     /// The line of a quote or a parenthesis without its other one, or of a parenthesis inside others; it ends the entry,
-    /// and nothing behind it is read.
+    /// and nothing after it is read.
     pub unclosed: Option<u64>,
 }

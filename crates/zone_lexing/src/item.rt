@@ -90,7 +90,7 @@ fn run_len(run: Run, text: &[u8]) -> usize
     text.len()
 }
 
-/// What a quote opens in front of a text, and how many octets spell it with its quotes.
+/// What a quote opens before a text, and how many octets spell it with its quotes.
 fn string_at(text: &[u8]) -> (Token, usize)
     ensures string { result ≡ string_at text.now }
     ensures within { result.1 ≤ length text.now + 1 }

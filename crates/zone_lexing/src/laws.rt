@@ -27,7 +27,7 @@ pub fn lines_are_read_back()
     ensures { (lines : List (List Written)) → are_spelt lines ≡ true → entries_of (spell lines) ≡ one_a_line 1 lines }
 {}
 
-/// A comment changes no entry: from a semicolon that stands outside quotes, and behind no backslash, up to its line's end
+/// A comment changes no entry: from a semicolon that stands outside quotes, and after no backslash, up to its line's end
 /// (RFC 1035, 5.1). The line may be the last, without an end.
 pub fn comments_change_nothing()
     ensures line { (text remark more : List ℕ) → ends_outside text ≡ true → is_remark remark ≡ true
@@ -36,7 +36,7 @@ pub fn comments_change_nothing()
         → entries_of (text ++ 59 ∷ remark) ≡ entries_of text }
 {}
 
-/// A blank line, behind a line or in front of the first, changes nothing but the lines that entries below it are on: each
+/// A blank line, after a line or before the first, changes nothing but the lines that entries below it are on: each
 /// is one more (RFC 1035, 5.1).
 pub fn blank_lines_change_nothing()
     ensures behind { (text blanks more : List ℕ) → list_all is_blank blanks ≡ true
@@ -45,7 +45,7 @@ pub fn blank_lines_change_nothing()
         → entries_of (blanks ++ 10 ∷ more) ≡ map (on_lines (lowered 0)) (entries_of more) }
 {}
 
-/// A line that ends by CR and LF is the line that ends by the LF, wherever it ends: in a comment, in quotes, behind a
+/// A line that ends by CR and LF is the line that ends by the LF, wherever it ends: in a comment, in quotes, after a
 /// backslash (RFC 1035, 5.1).
 pub fn line_ends_are_alike()
     ensures { (text more : List ℕ) → ends_in 13 text ≡ false → entries_of (text ++ 13 ∷ 10 ∷ more) ≡ entries_of (text ++ 10 ∷ more) }

@@ -1,4 +1,4 @@
-//! What stands behind an opening parenthesis (RFC 1035, 5.1).
+//! What stands after an opening parenthesis (RFC 1035, 5.1).
 ghost use Rattle.std.specs.Prelude.{◌≡◌, ◌+◌, ◌^◌, ◌<◌, length};
 ghost use Rattle.zone_lexing.specs.Items.{items};
 ghost use Rattle.zone_lexing.specs.Entries.{closes, nested};

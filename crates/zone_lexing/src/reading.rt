@@ -27,7 +27,7 @@ pub(crate) struct Reading<'a> {
     some: bool,
     ghost small: { lines + length rest.now < 2 ^ 64 },
     ghost from: { start ≤ lines },
-    ghost told: { some ≡ true → start + 1 + length rest.now < 2 ^ 64 },
+    ghost reported: { some ≡ true → start + 1 + length rest.now < 2 ^ 64 },
 }
 
 /// What an item makes of the entry.
@@ -103,7 +103,7 @@ impl<'a> Reading<'a> {
         }
     }
 
-    /// The entry goes on behind an item.
+    /// The entry goes on after an item.
     fn on(&mut self, behind: &'a [u8]) -> Step<'a>
         requires { length behind.now < length self.old.rest.now }
         ensures { (words : List Written) → self.old.some ≡ has_word words
@@ -113,7 +113,7 @@ impl<'a> Reading<'a> {
         Step::On
     }
 
-    /// The entry goes on behind a word.
+    /// The entry goes on after a word.
     fn word(&mut self, word: Word<'a>, behind: &'a [u8]) -> Step<'a>
         requires { length behind.now < length self.old.rest.now }
         ensures { (words : List Written) → self.old.some ≡ has_word words
@@ -142,7 +142,7 @@ impl<'a> Reading<'a> {
         Step::On
     }
 
-    /// The entry goes on behind a closing parenthesis, where one is open.
+    /// The entry goes on after a closing parenthesis, where one is open.
     fn close(&mut self, behind: &'a [u8]) -> Step<'a>
         requires { length behind.now < length self.old.rest.now }
         ensures { (words : List Written) (octets : List ℕ) → self.old.some ≡ has_word words
@@ -187,7 +187,7 @@ impl<'a> Reading<'a> {
         self.whole(&[], lines)
     }
 
-    /// The entry ends as it should; so many lines end before the text behind it.
+    /// The entry ends as it should; so many lines end before the text after it.
     fn whole(&mut self, behind: &'a [u8], lines: u64) -> Step<'a>
         requires some { self.old.some ≡ true }
         requires small { lines + length behind.now < 2 ^ 64 }

@@ -47,30 +47,30 @@ meets_taken first before after number one meets is same = record {
 }
 
 -- what is told is what is written
-pub told_written : (peer : Peer) (place : Place) (done : UpdateResult) (told : UpdateOutcome) (octets : List ℕ) → IsToldAt place done told
-    → octets ≡ fit (coded (heading_of_update done.asked.update) told.code) (limit_of peer.transport None) → IsWritten peer place done octets
-told_written peer place done told octets (inl own) is =
+pub told_written : (peer : Peer) (place : Place) (done : UpdateResult) (reported : UpdateOutcome) (octets : List ℕ) → IsToldAt place done reported
+    → octets ≡ fit (coded (heading_of_update done.asked.update) reported.code) (limit_of peer.transport None) → IsWritten peer place done octets
+told_written peer place done reported octets (inl own) is =
     inl (own.0, is ∙ ap (λ (r : Rcode). fit (coded (heading_of_update done.asked.update) r) (limit_of peer.transport None)) own.1)
-told_written peer place done told octets (inr late) is =
+told_written peer place done reported octets (inr late) is =
     inr (late.0, is ∙ ap (λ (r : Rcode). fit (coded (heading_of_update done.asked.update) r) (limit_of peer.transport None)) late.1)
 
 module _ (first : List Record) (peer : Peer) (taken : List (Option PendingState)) (before after : ReaderState Version) (key number : ℕ) (place : Place) (done : UpdateResult) (request out : List ℕ) (len : ℕ) where
   -- what is written of an update that was taken up is its reply
   by_one : (one : PendingState) → IsTakenUp before one → one.number ≡ place.number → MeetsAt first before after number → IsDone first after.seen done → reads request ≡ SaysUpdate done.asked.update → done.asked.may ≡ peer.may_update
       → IsWritten peer place done (take len out) → IsReplied first peer (learned_by one.known) (learned_by after) request (take len out ∷ [])
-  by_one one is same meets told reading may (inl written) =
-      done_replied first peer (learned_by one.known) (learned_by after) request out len done told (omega (arith, is.number, same, written.0)) reading may written.1
-  by_one one is same meets told reading may (inr late) =
+  by_one one is same meets reported reading may (inl written) =
+      done_replied first peer (learned_by one.known) (learned_by after) request out len done reported (omega (arith, is.number, same, written.0)) reading may written.1
+  by_one one is same meets reported reading may (inr late) =
       still_replied first peer (learned_by one.known) (learned_by before) (learned_by after) request (take len out ∷ []) is.grown
       (unheard_replied first peer before after meets.0 request out done.asked.update len meets.1 reading late.1)
 
   pub taken_replied : AreTakenUp taken before → place_in taken key ≡ Some place → MeetsAt first before after number → IsDone first after.seen done → done.asked.octets.items ≡ request → done.asked.may ≡ true → peer.may_update ≡ true
       → IsWritten peer place done (take len out) → IsReplied first peer (known_at taken before key) (learned_by after) request (take len out ∷ [])
-  taken_replied all here meets told octets may permitted written =
+  taken_replied all here meets reported octets may permitted written =
       let one = place_known taken before key place all here in
       let reading : reads request ≡ SaysUpdate done.asked.update = subst (λ (o : List ℕ). reads o ≡ SaysUpdate done.asked.update) octets done.asked.read in
       subst (λ (l : Learned Version). IsReplied first peer l (learned_by after) request (take len out ∷ [])) (sym one.1)
-      (by_one one.0 one.2 one.3 meets told reading (may ∙ sym permitted) written)
+      (by_one one.0 one.2 one.3 meets reported reading (may ∙ sym permitted) written)
 
 module _ (first : List Record) (peer : Peer) (taken : List (Option PendingState)) (before after : ReaderState Version) (key : ℕ) (request : List ℕ) where
   -- a reply where none is taken up

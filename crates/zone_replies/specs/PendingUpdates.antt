@@ -58,8 +58,8 @@ IsLater peer request = (is_update request ≡ true) × (peer.may_update ≡ true
 -- the outcome of a pending update: the code and the serials of its result, or SERVFAIL and no serials where it was judged in a version older than the last
 -- that was published when it was submitted
 abbrev pub IsToldAt : Place → UpdateResult → UpdateOutcome → Type 0
-IsToldAt place done told =
-    ((place.number ≤ done.least) × (told.code ≡ done.code) × (told.serials ≡ done.serials)) ⊎ ((done.least < place.number) × (told.code ≡ ServFail) × (told.serials ≡ None))
+IsToldAt place done reported =
+    ((place.number ≤ done.least) × (reported.code ≡ done.code) × (reported.serials ≡ done.serials)) ⊎ ((done.least < place.number) × (reported.code ≡ ServFail) × (reported.serials ≡ None))
 
 -- the octets of the reply to a pending update: its heading with the code of its result, or with SERVFAIL where it was judged in a version older than the last
 -- that was published when it was submitted

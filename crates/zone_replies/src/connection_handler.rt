@@ -17,7 +17,7 @@ ghost use Rattle.requests.specs.Served.{Grows};
 ghost use Rattle.zone_server.specs.Known.{learned_by, HasTooFew};
 ghost use Rattle.zone_replies.specs.PendingUpdates.{known_at, place_in, IsLater, IsWritten};
 
-use crate::pending_updates::{PendingUpdate, PendingUpdates, Place, told_at};
+use crate::pending_updates::{PendingUpdate, PendingUpdates, Place, outcome_at};
 use crate::transfer::Transfer;
 use dns_engine::{FirstZone, SharedVersion, VersionChain, VersionOwner, VersionReader};
 use dns_message::{Query, is_update};
@@ -193,26 +193,26 @@ impl<'a, 's, Z: FirstZone, N: ServerName, L: ServiceLog> ConnectionHandler<'a, '
         let Some(place) = self.taken.at(self.asker) else {
             return;
         };
-        let is_handed = self.sender_for(request).is_some();
-        if is_handed && place.from == self.from {
+        let has_sender = self.sender_for(request).is_some();
+        if has_sender && place.from == self.from {
             return;
         }
         self.server.leave(rt, place.ticket);
         self.taken.remove(self.asker);
     }
 
-    /// Writes the reply to a pending update at the front of `out`, with the code of [`told_at`], and logs it. Gives its length in octets.
+    /// Writes the reply to a pending update at the front of `out`, with the code of [`outcome_at`], and logs it. Gives its length in octets.
     fn reply_done<R: Wait>(&self, rt: &R, place: Place, done: UpdateResult, out: &mut [u8]) -> usize
         requires room { message_limit ≤ length out.old }
         ensures bound { (result ≤ message_limit) × (result ≤ length out.new) }
         ensures octets { IsWritten self.now.peer place done (take result out.new) }
     {
-        let told = told_at(place, &done);
-        tell_update(rt, self.log, self.peer, self.from, told);
+        let outcome = outcome_at(place, &done);
+        tell_update(rt, self.log, self.peer, self.from, outcome);
         write_done(
             &mut NameWriter::new(),
             &done.asked,
-            told.code,
+            outcome.code,
             self.peer,
             out,
         )
@@ -255,8 +255,8 @@ impl<'a, 's, Z: FirstZone, N: ServerName, L: ServiceLog> ConnectionHandler<'a, '
             request,
             out,
         ) {
-            Submitted::Told(len, told) => {
-                tell_update(rt, self.log, peer, self.from, told);
+            Submitted::Replied(len, outcome) => {
+                tell_update(rt, self.log, peer, self.from, outcome);
                 Reply::One(len)
             }
             Submitted::Waits {
@@ -327,7 +327,7 @@ impl<'a, 's, Z: FirstZone, N: ServerName, L: ServiceLog> ConnectionHandler<'a, '
     {
         let peer = self.peer;
         tell_signed(rt, self.log, self.from, request);
-        let (len, told) = serve_update(
+        let (len, outcome) = serve_update(
             rt,
             self.alloc,
             self.server,
@@ -336,7 +336,7 @@ impl<'a, 's, Z: FirstZone, N: ServerName, L: ServiceLog> ConnectionHandler<'a, '
             request,
             out,
         );
-        tell_update(rt, self.log, peer, self.from, told);
+        tell_update(rt, self.log, peer, self.from, outcome);
         len
     }
 

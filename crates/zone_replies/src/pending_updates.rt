@@ -24,7 +24,6 @@ pub(crate) struct PendingUpdate<N: Naming> {
     pub known: Snapshot<VersionReader<N>>,
 }
 
-// By hand: a derived drop is proved once more in each crate that lets such a value go.
 impl<N: Naming> Drop for PendingUpdate<N> {
     fn drop(self) {
         let PendingUpdate {
@@ -57,7 +56,7 @@ pub(crate) struct Place {
 
 /// The outcome of a pending update: that of its result, or SERVFAIL where it was judged in a version older than the last that was published when it was
 /// submitted, which never happens.
-pub(crate) fn told_at(place: Place, done: &UpdateResult) -> UpdateOutcome
+pub(crate) fn outcome_at(place: Place, done: &UpdateResult) -> UpdateOutcome
     ensures { IsToldAt place done.now result }
 {
     if place.number <= done.least {

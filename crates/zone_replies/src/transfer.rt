@@ -27,7 +27,6 @@ pub struct Transfer {
     place: Place,
 }
 
-// By hand: a derived drop is proved once more in each crate that lets such a value go.
 impl Drop for Transfer {
     fn drop(self) {
         let Transfer {

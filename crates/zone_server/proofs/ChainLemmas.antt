@@ -8,7 +8,7 @@ use Rattle.dns_rdata.specs.declared.numbers.Serial.{Serial}
 use Rattle.dns_message.specs.declared.query.Query.{Query as QueryAsked}
 use Rattle.zone_tree.specs.Zone.{soa_of}
 use Rattle.zone_tree.specs.Version.{Version, zone_serial}
-use Rattle.transfer_core.specs.Chain.{told}
+use Rattle.transfer_core.specs.Chain.{reported}
 use Rattle.cell_core.specs.declared.words.Version.{Version as Numbered}
 use Rattle.counted_handles.specs.History.{IsHistory}
 use Rattle.counted_handles.specs.Ruled.{Begins}
@@ -75,7 +75,7 @@ module _ (first : List Record) (query : QueryAsked) (serial : Serial) (version :
   told_by after chain changes saw sunk tells list = record {
     grown = record { published = (begun.0, saw ∙ sym begun.1); buried = sunk };
     changes = changes;
-    told = subst (λ (l : List Version). TellsSince first l after.gone version query.serial changes) (sym saw) (record { here = here; told = tells });
+    reported = subst (λ (l : List Version). TellsSince first l after.gone version query.serial changes) (sym saw) (record { here = here; reported = tells });
     list = list;
   }
 
@@ -92,9 +92,9 @@ module _ (first : List Record) (query : QueryAsked) (serial : Serial) (version :
       told_by after chain changes (owned_seen later met after owners owned) (owned_gone later met after owners owned) (inl refl) (list_current version.zone (changes_by (soa_of version.zone) chain) changes query serial asks current.0)
   whole_tells after owners chain later owned copied (inr b) =
       let versions : versions_of owners ≡ b.behind = ap versions_of (owned.versions ∙ ap versions_in b.entries) ∙ versions_entered b.behind in
-      let by : changes_by (soa_of version.zone) chain ≡ Some (told (soa_of version.zone) b.behind) =
-      ap (changes_by (soa_of version.zone)) copied ∙ ap (λ (l : List Version). Some (told (soa_of version.zone) l)) versions in
-      told_by after chain (Some (told (soa_of version.zone) b.behind)) (owned_seen later met after owners owned) (owned_gone later met after owners owned)
+      let by : changes_by (soa_of version.zone) chain ≡ Some (reported (soa_of version.zone) b.behind) =
+      ap (changes_by (soa_of version.zone)) copied ∙ ap (λ (l : List Version). Some (reported (soa_of version.zone) l)) versions in
+      told_by after chain (Some (reported (soa_of version.zone) b.behind)) (owned_seen later met after owners owned) (owned_gone later met after owners owned)
       (inl (sym (ap (changes_told (latest.before ++ version ∷ []) begun.0) asks ∙ told_behind first published latest.before begun.0 version history place latest.number serial.0 later b)))
       (ap (λ (c : Option (List Record)). list_for version.zone c query) by)
 
@@ -119,9 +119,9 @@ pub none_tells : (first : List Record) (query : QueryAsked) (version : Version) 
 none_tells first query version reader chain none latest copied = record {
   grown = grows_itself (learned_by reader);
   changes = None;
-  told = record {
+  reported = record {
     here = record { before = latest.before; newer = []; history = latest.history; place = latest.ends ∙ sym (append-nil (latest.before ++ version ∷ [])); number = latest.number };
-    told = inl (sym (ap (changes_told (latest.before ++ version ∷ []) []) none));
+    reported = inl (sym (ap (changes_told (latest.before ++ version ∷ []) []) none));
   };
   list = ap (λ (c : ChainState). list_for version.zone (changes_by (soa_of version.zone) c) query) copied;
 }

@@ -7,9 +7,9 @@ use Rattle.dns_rdata.specs.declared.numbers.Rcode.{Rcode}
 use Rattle.dns_rdata.specs.declared.numbers.Rcode.TheVariants.{ServFail}
 use Rattle.dns_message.specs.declared.update.Update.{Update}
 use Rattle.dns_engine.specs.declared.judged.Judged.{Judged}
-use Rattle.dns_engine.specs.declared.judged.Judged.TheVariants.{Told, Made, Starved}
+use Rattle.dns_engine.specs.declared.judged.Judged.TheVariants.{Code, Made, Starved}
 use Rattle.dns_engine.specs.Held.{EngineState, IsLatest, state_with}
-use Rattle.dns_engine.specs.Told.{IsTold, IsJudged, made, refused, unchanged, full, starved}
+use Rattle.dns_engine.specs.Outcomes.{IsTold, IsJudged, made, refused, unchanged, full, starved}
 use Rattle.zone_server.specs.Right.{AreCounted}
 use Rattle.zone_server.proofs.StateLemmas.{latest_length}
 
@@ -18,14 +18,14 @@ counted_same old new published reserved same is = subst (λ (s : EngineState). A
 
 -- an update that is judged in the last version, and of which nothing is published
 abbrev pub code_here : Judged → Rcode
-code_here (Told code) = code
+code_here (Code code) = code
 code_here (Made next) = ServFail
 code_here Starved = ServFail
 
 pub judged_here : (engine : EngineState) (update : Update) (may : Bool) (judged : Judged) (code : Rcode) → IsJudged engine.held.last update may judged → code ≡ code_here judged → IsTold engine update may code engine
-judged_here engine update may (Told told) code (inl coded) same = refused (coded ∙ ap Some (sym same)) refl
-judged_here engine update may (Told told) code (inr (inl is)) same = unchanged is.0 is.1 (same ∙ is.2) refl
-judged_here engine update may (Told told) code (inr (inr is)) same = full is.0 (same ∙ is.1) refl
+judged_here engine update may (Code reported) code (inl coded) same = refused (coded ∙ ap Some (sym same)) refl
+judged_here engine update may (Code reported) code (inr (inl is)) same = unchanged is.0 is.1 (same ∙ is.2) refl
+judged_here engine update may (Code reported) code (inr (inr is)) same = full is.0 (same ∙ is.1) refl
 judged_here engine update may (Made next) code is same = starved is.0 same refl
 judged_here engine update may Starved code is same = starved is same refl
 
@@ -40,10 +40,10 @@ counted_with old new version published reserved later fewer same more less is =
 pub counted_told : (first : List Record) (old new : EngineState) (update : Update) (may : Bool) (code : Rcode) (before after published reserved later none : ℕ) → IsTold old update may code new
     → IsLatest first old.held.published old.held.last → IsLatest first new.held.published new.held.last → before ≡ old.held.last.number → after ≡ new.held.last.number → later ≡ published + (after - before) → none ≡ 0
     → AreCounted old published reserved → AreCounted new later none
-counted_told first old new update may code before after published reserved later none told was is number_before number_after more nothing counted =
+counted_told first old new update may code before after published reserved later none reported was is number_before number_after more nothing counted =
     let long : length old.held.published ≡ before + 1 = latest_length first old.held.published old.held.last was ∙ ap (λ (n : ℕ). n + 1) (sym number_before) in
     let longer : length new.held.published ≡ after + 1 = latest_length first new.held.published new.held.last is ∙ ap (λ (n : ℕ). n + 1) (sym number_after) in
-    let grown : length old.held.published ≤ length new.held.published = grows told in
+    let grown : length old.held.published ≤ length new.held.published = grows reported in
     record { published_is = omega (arith, long, longer, grown, more, counted.published_is); reserved_fit = omega (arith, nothing) }
   where
     same_long : new ≡ old → length old.held.published ≤ length new.held.published

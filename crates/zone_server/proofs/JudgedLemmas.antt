@@ -15,7 +15,7 @@ use Rattle.dns_engine.specs.Versions.{IsFirst, IsNext, Makes}
 use Rattle.dns_engine.specs.Held.{IsLatest}
 use Rattle.dns_engine.specs.Chain.{IsPublished}
 use Rattle.dns_engine.specs.Replayed.{IsReplay}
-use Rattle.dns_engine.specs.Told.{Tells}
+use Rattle.dns_engine.specs.Outcomes.{Tells}
 use Rattle.dns_engine.proofs.OwnedLemmas.{goes_on}
 use Rattle.dns_engine.proofs.ReplayLemmas.{number_of}
 use Rattle.update_batches.specs.Verdict.{serials_from, serials_with}
@@ -58,7 +58,7 @@ module _ (first : List Record) (published : List Version) (version : Version) (l
     replayed = replayed;
     least = least;
     here = latest_here first published version latest;
-    told = inl (
+    reported = inl (
       sym (ap (λ (o : Option Rcode). unwrap_or o NoError) coded),
       λ zone taken acts changed. no_two (code_of version.zone one.update one.may) code coded (no_code version.zone zone one.update one.may taken acts),
     );
@@ -69,7 +69,7 @@ module _ (first : List Record) (published : List Version) (version : Version) (l
     replayed = replayed;
     least = least;
     here = latest_here first published version latest;
-    told = inl (
+    reported = inl (
       stays.2 ∙ sym (ap (λ (o : Option Rcode). unwrap_or o NoError) (no_code version.zone version.zone one.update one.may stays.0 stays.1)),
       λ zone taken acts changed. absurd (changed (no_other (act version.zone one.update) zone stays.1 acts)),
     );
@@ -80,7 +80,7 @@ module _ (first : List Record) (published : List Version) (version : Version) (l
     replayed = replayed;
     least = least;
     here = latest_here first published version latest;
-    told = inr full.1;
+    reported = inr full.1;
     own = subst (λ (r : Rcode). AreOwn version one.update r (serials_with (serial_in version) r)) (sym full.1)
         (own_other version one.update (serial_in version) ServFail not_done);
   }
@@ -92,7 +92,7 @@ module _ (first : List Record) (published : List Version) (version : Version) (l
     replayed = replayed;
     least = least;
     here = latest_here first published version latest;
-    told = inr refl;
+    reported = inr refl;
     own = not_done;
   }
 
@@ -104,7 +104,7 @@ module _ (first : List Record) (published : List Version) (version : Version) (l
     replayed = replayed;
     least = least;
     here = record { before = latest.before; newer = next ∷ []; history = history; place = ap (λ (l : List Version). l ++ next ∷ []) latest.ends; number = latest.number };
-    told = inl (
+    reported = inl (
       sym (ap (λ (o : Option Rcode). unwrap_or o NoError) (no_code version.zone next.zone one.update one.may lets is.zone)),
       λ zone taken acts changed. (next, [], refl, same_zone (act version.zone one.update) zone is.zone acts),
     );

@@ -6,7 +6,7 @@ use Rattle.cell_core.specs.declared.words.Version.{Version as Numbered}
 use Rattle.snapshot_cell.specs.Tokens.{ReaderState, IsLoad}
 use Rattle.dns_engine.specs.Versions.{IsFirst, IsNext}
 use Rattle.notify.specs.Notified.{Notified}
-use Rattle.notify.specs.Told.{due_in, soonest}
+use Rattle.notify.specs.Copies.{due_in, soonest}
 use Rattle.notify.specs.Turns.{GoesOn}
 use Rattle.notify.specs.declared.due.Due.{Due as Duty}
 use Rattle.zone_server.specs.Notified.{TakesTurn, GoesOnBy}

@@ -53,15 +53,15 @@ met_grows first engine before after m = record {
 updated_grows : (first : List Record) (update : Update) (may : _) (before after : ReaderState Version) (code : _) (serials : _) → IsUpdated first update may before after code serials → Grows (learned_by after) (learned_by before)
 updated_grows first update may before after code serials u = grows_more (learned_by before) (learned_by u.met) (learned_by after) (met_grows first u.old before u.met u.meets) (met_grows first u.new u.met after u.meets_again)
 
-judged_grows : (first : List Record) (update : Update) (may : _) (before after : ReaderState Version) (told : UpdateOutcome) → IsJudged first update may before after told → Grows (learned_by after) (learned_by before)
-judged_grows first update may before after told (judged_by_engine serials asks is updated) = updated_grows first update may before after told.code serials updated
-judged_grows first update may before after told (in_version version stranger replayed load gives none) = load_grows first before after version load
+judged_grows : (first : List Record) (update : Update) (may : _) (before after : ReaderState Version) (reported : UpdateOutcome) → IsJudged first update may before after reported → Grows (learned_by after) (learned_by before)
+judged_grows first update may before after reported (judged_by_engine serials asks is updated) = updated_grows first update may before after reported.code serials updated
+judged_grows first update may before after reported (in_version version stranger replayed load gives none) = load_grows first before after version load
 
-pub told_grows : (first : List Record) (may : _) (request : List ℕ) (before after : ReaderState Version) (heading : Heading) (told : UpdateOutcome) → IsToldOf first may request before after heading told → Grows (learned_by after) (learned_by before)
-told_grows first may request before after heading told (read update reading repeats judged) = judged_grows first update may before after told judged
-told_grows first may request before after heading told (unread head reading alone none same) = same_grows before after same
-told_grows first may request before after heading told (bad_opt head question dnssec_ok reading repeats none same) = same_grows before after same
-told_grows first may request before after heading told (starved head want alone code none same) = same_grows before after same
+pub told_grows : (first : List Record) (may : _) (request : List ℕ) (before after : ReaderState Version) (heading : Heading) (reported : UpdateOutcome) → IsToldOf first may request before after heading reported → Grows (learned_by after) (learned_by before)
+told_grows first may request before after heading reported (read update reading repeats judged) = judged_grows first update may before after reported judged
+told_grows first may request before after heading reported (unread head reading alone none same) = same_grows before after same
+told_grows first may request before after heading reported (bad_opt head question dnssec_ok reading repeats none same) = same_grows before after same
+told_grows first may request before after heading reported (starved head want alone code none same) = same_grows before after same
 
 -- a reader that has too few grants has learned more
 pub few_grows : (first : List Record) (query : QueryAsked) (version : Version) (before after : ReaderState Version) → HasTooFew first query version before after → Grows (learned_by after) (learned_by before)

@@ -60,17 +60,17 @@ module _ (first : List Record) (published : List Version) (latest_version : Vers
   put_behind front newer version place = subst (IsHistory (IsFirst first) IsNext) (place ∙ sym (append_assoc front (version ∷ []) newer)) latest.history
 
   told_done : (waiting : QueuedUpdate) (verdict : Verdict) → IsToldIn published (number + 1) waiting verdict → IsDoneBy first published waiting.request number verdict.code verdict.serials
-  told_done waiting verdict told =
-      let history = put_behind told.front told.newer told.version told.place in
-      let here = front_latest first told.front told.newer told.version history in
-      let late : number ≤ told.version.number = omega (arith, told.late, number_of first told.front told.version (front_history first told.front told.newer told.version history)) in
-      let done = tells_done first (told.front ++ told.version ∷ []) told.version here (latest_replay first _ told.version here) number late waiting.request told.code told.tells_it in
-      let own : Verdict = told_verdict (serial_in told.version) told.code in
+  told_done waiting verdict reported =
+      let history = put_behind reported.front reported.newer reported.version reported.place in
+      let here = front_latest first reported.front reported.newer reported.version history in
+      let late : number ≤ reported.version.number = omega (arith, reported.late, number_of first reported.front reported.version (front_history first reported.front reported.newer reported.version history)) in
+      let done = tells_done first (reported.front ++ reported.version ∷ []) reported.version here (latest_replay first _ reported.version here) number late waiting.request reported.code reported.tells_it in
+      let own : Verdict = told_verdict (serial_in reported.version) reported.code in
       let given : IsDoneBy first published waiting.request number own.code own.serials =
-      subst (λ (l : List Version). IsDoneBy first l waiting.request number told.code (serials_with (serial_in told.version) told.code))
-      (append_assoc told.front (told.version ∷ []) told.newer ∙ sym told.place)
-      (done_grows first (told.front ++ told.version ∷ []) told.newer history _ done) in
-      subst (λ (v : Verdict). IsDoneBy first published waiting.request number v.code v.serials) (sym told.told) given
+      subst (λ (l : List Version). IsDoneBy first l waiting.request number reported.code (serials_with (serial_in reported.version) reported.code))
+      (append_assoc reported.front (reported.version ∷ []) reported.newer ∙ sym reported.place)
+      (done_grows first (reported.front ++ reported.version ∷ []) reported.newer history _ done) in
+      subst (λ (v : Verdict). IsDoneBy first published waiting.request number v.code v.serials) (sym reported.reported) given
 
   made_in : (waiting : QueuedUpdate) (verdict : Verdict) → IsMadeIn published (number + 1) waiting verdict → IsDoneBy first published waiting.request number verdict.code verdict.serials
   made_in waiting verdict made =
@@ -86,14 +86,14 @@ module _ (first : List Record) (published : List Version) (latest_version : Vers
       subst (λ (l : List Version). IsDoneBy first l waiting.request number NoError own.serials)
       (longer ∙ append_assoc made.front (made.version ∷ []) (made.next ∷ made.newer) ∙ sym made.place)
       (done_grows first (front ++ made.next ∷ []) made.newer behind _ done) in
-      subst (λ (v : Verdict). IsDoneBy first published waiting.request number v.code v.serials) (sym made.told) given
+      subst (λ (v : Verdict). IsDoneBy first published waiting.request number v.code v.serials) (sym made.reported) given
 
   failed_done : (waiting : QueuedUpdate) → IsDoneBy first published waiting.request number failed.code failed.serials
   failed_done waiting = starved_done first published latest_version latest (latest_replay first published latest_version latest) number least waiting.request
 
   -- a verdict holds for the versions that are published
   pub queued_done : (waiting : QueuedUpdate) (verdict : Verdict) → IsDoneIn published (number + 1) waiting verdict → IsDoneBy first published waiting.request number verdict.code verdict.serials
-  queued_done waiting verdict (inl told) = told_done waiting verdict told
+  queued_done waiting verdict (inl reported) = told_done waiting verdict reported
   queued_done waiting verdict (inr (inl made)) = made_in waiting verdict made
   queued_done waiting verdict (inr (inr fails)) =
       subst (λ (v : Verdict). IsDoneBy first published waiting.request number v.code v.serials) (sym fails) (failed_done waiting)

@@ -14,7 +14,7 @@ use Rattle.wire_names.specs.contracts.write.NameWriter as names
 use Rattle.zone_server.specs.declared.right.ServerName as server_names
 use Rattle.zone_server.proofs.ServerSendLemmas.{server_sync}
 use Rattle.zone_server.specs.contracts.right.PublishRight as right
-use Rattle.zone_server.specs.contracts.server_publisher.ServerPublisher as teller
+use Rattle.zone_server.specs.contracts.server_publisher.ServerPublisher as publisher
 use Rattle.zone_server.specs.contracts.server_publisher.ServerPublisher.TheInside as inside
 use Rattle.zone_server.specs.declared.reply_sender.ReplySender as replying
 use Rattle.zone_server.proofs.StateSendLemmas.{raw_send}
@@ -40,5 +40,5 @@ module _ (a b : NamedLft) (T N L P : RattleType) (g : Ghosts T.Denot) (n : namin
       (struct_send (shape (inside.the_type a b T N L P n g s r))
       (shr_send _ _ _ (server_sync b T N g n s), (search (cell.crosses, crossing.crosses, sendable) depth 60 fits 20000, (search (right_send, sendable) depth 60 fits 20000, (search (crossing.crosses, sendable) depth 60 fits 20000, (brings, (search (crossing.crosses, sendable) depth 60 fits 20000, (search (names_send, sendable) depth 60 fits 20000, (search (crossing.crosses, sendable) depth 60 fits 20000, (search (crossing.crosses, sendable) depth 60 fits 20000, (search (engine.shared_send, crossing.crosses, sendable) depth 60 fits 20000, (search (result_send, crossing.crosses, sendable) depth 60 fits 20000, (search (outgoing_send, crossing.crosses, sendable) depth 60 fits 20000, (search (crossing.crosses, sendable) depth 60 fits 20000, tt))))))))))))))
 
-  pub publisher_send : IsSync L → IsSend P → IsSend (teller.the_row a b T N L P n g s r)
+  pub publisher_send : IsSync L → IsSend P → IsSend (publisher.the_row a b T N L P n g s r)
   publisher_send hears brings = let inside = inside_send hears brings in search sendable depth 60 fits 20000

@@ -46,7 +46,7 @@ answered_reply transport heading zone next None = refl
 pub done_replied : (first : List Record) (peer : Peer) (known later : Learned Version) (request out : List ℕ) (len : ℕ) (done : UpdateResult) → IsDone first later.published done → length known.published ≤ done.least + 1
     → reads request ≡ SaysUpdate done.asked.update → done.asked.may ≡ peer.may_update → take len out ≡ fit (coded (heading_of_update done.asked.update) done.code) (limit_of peer.transport None)
     → IsReplied first peer known later request (take len out ∷ [])
-done_replied first peer known later request out len done is fresh reading may written = by is.told
+done_replied first peer known later request out len done is fresh reading may written = by is.reported
   where
     older : IsNoOlder known.published is.version
     older = omega (arith, fresh, is.least)
@@ -62,10 +62,10 @@ done_replied first peer known later request out len done is fresh reading may wr
         (subst (λ (m : Bool). (got_of peer.transport m want is.version.zone (SaysUpdate done.asked.update)).reply ≡ Some (take len out)) same gets)
 
     by : IsToldIn is.version is.here.newer done.asked.update done.asked.may done.code → IsReplied first peer known later request (take len out ∷ [])
-    by (inl told) =
-        in_want ForNothing (older, is.here, told.1)
+    by (inl reported) =
+        in_want ForNothing (older, is.here, reported.1)
         (answered_reply peer.transport (heading_of_update done.asked.update) is.version.zone (act is.version.zone done.asked.update) (code_of is.version.zone done.asked.update done.asked.may)
-        ∙ ap (λ (c : Rcode). Some (fit (coded (heading_of_update done.asked.update) c) (limit_of peer.transport None))) (sym told.0) ∙ ap Some (sym written))
+        ∙ ap (λ (c : Rcode). Some (fit (coded (heading_of_update done.asked.update) c) (limit_of peer.transport None))) (sym reported.0) ∙ ap Some (sym written))
     by (inr failed) =
         in_want ForMaking (older, is.here)
         (ap (λ (c : Rcode). Some (fit (coded (heading_of_update done.asked.update) c) (limit_of peer.transport None))) (sym failed) ∙ ap Some (sym written))
@@ -105,11 +105,11 @@ refused_at_once first peer before after number request out update heading len ou
 }
 
 -- and what is told of one that can't be read
-pub unread_at_once : (first : List Record) (peer : Peer) (reader : ReaderState Version) (request out : List ℕ) (heading : Heading) (told : UpdateOutcome) (len : ℕ) → is_update request ≡ true → IsToldUnread request heading told
-    → take len out ≡ fit (coded heading told.code) (limit_of peer.transport None) → len ≤ limit_of peer.transport None → IsRepliedAtOnce first peer request reader reader out len told
-unread_at_once first peer reader request out heading told len asks unread written short = record {
+pub unread_at_once : (first : List Record) (peer : Peer) (reader : ReaderState Version) (request out : List ℕ) (heading : Heading) (reported : UpdateOutcome) (len : ℕ) → is_update request ≡ true → IsToldUnread request heading reported
+    → take len out ≡ fit (coded heading reported.code) (limit_of peer.transport None) → len ≤ limit_of peer.transport None → IsRepliedAtOnce first peer request reader reader out len reported
+unread_at_once first peer reader request out heading reported len asks unread written short = record {
   bound = subst (λ (n : ℕ). len ≤ n) (sym (update_limit peer.transport request asks)) short;
-  replied = told_replied first peer reader reader request out len short heading told (unread first peer.may_update reader) written;
+  replied = told_replied first peer reader reader request out len short heading reported (unread first peer.may_update reader) written;
   outcome = (heading, written, inl unread);
   grows = grows_itself (learned_by reader);
 }

@@ -30,7 +30,7 @@ use Rattle.dns_rdata.specs.Numbers.{type_IXFR}
 use Rattle.zone_tree.specs.Zone.{soa_of}
 use Rattle.requests.specs.Served.{Learned, Grows, BeginsWith}
 use Rattle.requests.proofs.TurnLemmas.{grows_itself}
-use Rattle.dns_engine.specs.Told.{IsTold, made, refused, unchanged, full, starved}
+use Rattle.dns_engine.specs.Outcomes.{IsTold, made, refused, unchanged, full, starved}
 use Rattle.serve_core.specs.declared.transport.Transport.{Transport}
 use Rattle.serve_core.specs.declared.transport.Transport.TheVariants.{Udp, Tcp}
 use Rattle.serve_core.specs.Transport.{limit_of, room_of}
@@ -39,7 +39,7 @@ use Rattle.serve_core.specs.Heading.{header_alone, heading_of_update, heading_of
 use Rattle.serve_core.specs.declared.peer.Peer.{Peer}
 use Rattle.serve_core.specs.Transfers.{is_permitted, reply_to_peer, list_for, messages_to}
 use Rattle.serve_core.specs.Replies.{replies_to, IsNoTransfer}
-use Rattle.serve_core.specs.Served.{Got, Want, ForNothing, ForReading, ForMaking, got_of, told, answered, limit_for}
+use Rattle.serve_core.specs.Served.{Got, Want, ForNothing, ForReading, ForMaking, got_of, reported, answered, limit_for}
 use Rattle.dns_message.proofs.ReadLemmas.{judged}
 use Rattle.serve_core.proofs.WantLemmas.{reads-want}
 use Rattle.zone_server.specs.declared.answer.UpdateOutcome.{UpdateOutcome}
@@ -104,7 +104,7 @@ got_replied first peer known later version request messages wants replayed plain
   version = version;
   replayed = replayed;
   changes = None;
-  told = no_query_told first peer known later version (reads request) plain;
+  reported = no_query_told first peer known later version (reads request) plain;
   want = wants;
   about = about;
   reply = gets ∙ no_query_replies version.zone None peer wants (reads request) plain;
@@ -165,7 +165,7 @@ transferred_by first peer known before after version request query chain true ix
         version = version;
         replayed = replayed;
         changes = t.changes;
-        told = subst (TellsFor first peer known (learned_by after) version t.changes) (sym asked) (λ e. (fresh, t.told), no_other (asks_changes version.zone peer query) asks);
+        reported = subst (TellsFor first peer known (learned_by after) version t.changes) (sym asked) (λ e. (fresh, t.reported), no_other (asks_changes version.zone peer query) asks);
         want = ForNothing;
         about = subst (TellsAbout first peer known (learned_by after) version ForNothing) (sym asked) tt;
         reply = messages_same version.zone (changes_by (soa_of version.zone) chain) t.changes peer query t.list
@@ -185,7 +185,7 @@ transferred_by first peer known before after version request query chain false o
         version = version;
         replayed = replayed;
         changes = None;
-        told = subst (TellsFor first peer known (learned_by after) version None) (sym asked)
+        reported = subst (TellsFor first peer known (learned_by after) version None) (sym asked)
             (no_changes (asks_changes version.zone peer query) asks, λ e. subst (λ (r : ReaderState Version). IsLatest first r.seen version) (sym none.0) latest);
         want = ForNothing;
         about = subst (TellsAbout first peer known (learned_by after) version ForNothing) (sym asked) tt;
@@ -244,10 +244,10 @@ no_code zone after update may taken acts =
 
 module _ (transport : Transport) (update : Update) (may : Bool) (out : List ℕ) (len : ℕ) where
   -- an update that is taken gets NOERROR
-  taken_got : (zone after : List Record) → verdict zone update may ≡ None → act zone update ≡ Some after → got_of transport may ForNothing zone (SaysUpdate update) ≡ told transport (heading_of_update update) NoError after
+  taken_got : (zone after : List Record) → verdict zone update may ≡ None → act zone update ≡ Some after → got_of transport may ForNothing zone (SaysUpdate update) ≡ reported transport (heading_of_update update) NoError after
   taken_got zone after taken acts =
       ap (λ c. answered transport (heading_of_update update) zone (act zone update) c) (no_code zone after update may taken acts)
-      ∙ ap (λ (o : Option (List Record)). told transport (heading_of_update update) NoError (unwrap_or o zone)) acts
+      ∙ ap (λ (o : Option (List Record)). reported transport (heading_of_update update) NoError (unwrap_or o zone)) acts
 
   said : (old : Version) (code : Rcode) → take len out ≡ fit (coded (heading_of_update update) code) (limit_of transport None) → (other : Rcode) → code ≡ other → Some (take len out) ≡ Some (fit (coded (heading_of_update update) other) (limit_of transport None))
   said old code written other same = ap Some (written ∙ ap (λ c. fit (coded (heading_of_update update) c) (limit_of transport None)) same)
@@ -432,7 +432,7 @@ told_starved first may request reader heard head heading t asks tells is alone s
 
 -- an update of a peer that may not update is judged by the first rule that it breaks
 judged_got : (transport : Transport) (zone : List Record) (update : Update) (may : Bool) (code : Rcode) → may ≡ false → verdict zone update false ≡ Some code
-    → got_of transport may ForNothing zone (SaysUpdate update) ≡ told transport (heading_of_update update) code zone
+    → got_of transport may ForNothing zone (SaysUpdate update) ≡ reported transport (heading_of_update update) code zone
 judged_got transport zone update may code is gives =
     ap (λ m. got_of transport m ForNothing zone (SaysUpdate update)) is
     ∙ ap (λ v. answered transport (heading_of_update update) zone (act zone update) (option_or v (if is_some (act zone update) then None else Some ServFail))) gives
@@ -454,7 +454,7 @@ module _ (first : List Record) (peer : Peer) (before after : ReaderState Version
   judged_replied : (update : Update) (t : UpdateOutcome) → reads request ≡ SaysUpdate update → IsJudged first update peer.may_update before after t → take len out ≡ fit (coded (heading_of_update update) t.code) (limit_of peer.transport None) → IsReplied first peer (learned_by before) (learned_by after) request (take len out ∷ [])
   judged_replied update t reading (by_engine serials asks is updated) written =
       let s = told_said peer.transport update peer.may_update out len first before.seen after.seen updated.old updated.new t.code written updated.meets.latest updated.meets_again.latest (met_seen updated.met updated.new.held.published updated.meets_again.seen)
-      (no_older first before.seen updated.old.held.published updated.old.held.last updated.meets.begun updated.meets.latest) updated.told in
+      (no_older first before.seen updated.old.held.published updated.old.held.last updated.meets.begun updated.meets.latest) updated.reported in
       update_replied first peer (learned_by before) (learned_by after) updated.old.held.last request out update len s.0 updated.meets.replayed reading s.1 s.2
   judged_replied update t reading (in_version version may replayed loaded gives none) written =
       update_replied first peer (learned_by before) (learned_by after) version request out update len ForNothing replayed reading
@@ -463,7 +463,7 @@ module _ (first : List Record) (peer : Peer) (before after : ReaderState Version
 
   -- a request that can't be read as an update gets a code, whatever version is served
   said_as : (saying : Parsed) (heading other : Heading) (code : Rcode) → Tells request saying → IsCodeAlone saying → heading ≡ other
-      → got_of peer.transport peer.may_update ForNothing first saying ≡ told peer.transport other code first → take len out ≡ fit (coded heading code) (limit_of peer.transport None) → IsReplied first peer (learned_by before) (learned_by after) request (take len out ∷ [])
+      → got_of peer.transport peer.may_update ForNothing first saying ≡ reported peer.transport other code first → take len out ≡ fit (coded heading code) (limit_of peer.transport None) → IsReplied first peer (learned_by before) (learned_by after) request (take len out ∷ [])
   said_as saying heading other code tells alone same gets written =
       same_replied first peer (learned_by before) (learned_by after) (first_version first) request out (fit (coded other code) (limit_of peer.transport None)) saying len (first_replay first) tells alone (written ∙ ap (λ (h : Heading). fit (coded h code) (limit_of peer.transport None)) same) gets
 
@@ -474,7 +474,7 @@ module _ (first : List Record) (peer : Peer) (before after : ReaderState Version
   told_replied heading t (bad_opt head question dnssec_ok reading same none stays) written =
       said_as (BadOpt head question t.code dnssec_ok) heading (heading_of_bad head question dnssec_ok) t.code (inl (sym reading)) tt same refl written
   told_replied heading t (starved_reading head want same code none stays) written =
-      said_as (NoMemory head) heading (header_alone head) t.code (inr want) tt same (ap (λ c. told peer.transport (header_alone head) c first) (sym code)) written
+      said_as (NoMemory head) heading (header_alone head) t.code (inr want) tt same (ap (λ c. reported peer.transport (header_alone head) c first) (sym code)) written
 
 -- octets that get no reply
 pub silent_replied : (first : List Record) (peer : Peer) (known later : Learned Version) (request : List ℕ) → reads request ≡ IsSilent → IsReplied first peer known later request []
@@ -482,7 +482,7 @@ silent_replied first peer known later request silent = record {
   version = first_version first;
   replayed = first_replay first;
   changes = None;
-  told = subst (TellsFor first peer known later (first_version first) None) (sym silent) tt;
+  reported = subst (TellsFor first peer known later (first_version first) None) (sym silent) tt;
   want = ForNothing;
   about = subst (TellsAbout first peer known later (first_version first) ForNothing) (sym silent) tt;
   reply = ap (replies_to first None peer ForNothing) (sym silent);
@@ -521,7 +521,7 @@ room_most peer = by peer.transport
 
 -- what is answered at once without a version
 pub code_now : (first : List Record) (peer : Peer) (reader : ReaderState Version) (request out : List ℕ) (saying : Parsed) (heading own : Heading) (code : Rcode) (len : ℕ) → is_update request ≡ false → reads request ≡ saying → IsCodeAlone saying → len ≤ limit_of peer.transport None
-    → limit_for peer.transport saying ≡ limit_of peer.transport None → heading ≡ own → got_of peer.transport peer.may_update ForNothing first saying ≡ told peer.transport own code first → ((zone : List Record) → IsNoTransfer zone peer saying)
+    → limit_for peer.transport saying ≡ limit_of peer.transport None → heading ≡ own → got_of peer.transport peer.may_update ForNothing first saying ≡ reported peer.transport own code first → ((zone : List Record) → IsNoTransfer zone peer saying)
     → ((version : Version) → LoadsFor first reader reader version saying) → take len out ≡ fit (coded heading code) (limit_of peer.transport None)
     → (len ≤ limit_for peer.transport (reads request)) × (replied : IsReplied first peer (learned_by reader) (learned_by reader) request (take len out ∷ [])) × IsAtOnce peer request replied.version × LoadsFor first reader reader replied.version (reads request)
 code_now first peer reader request out saying heading own code len other reading plain short limit same gets none stays written =
@@ -545,7 +545,7 @@ query_now first peer before after version request out query len replayed latest 
         version = version;
         replayed = replayed;
         changes = None;
-        told = subst (TellsFor first peer (learned_by before) (learned_by after) version None) (sym asked) (no_changes (asks_changes version.zone peer query) plain, λ e. latest);
+        reported = subst (TellsFor first peer (learned_by before) (learned_by after) version None) (sym asked) (no_changes (asks_changes version.zone peer query) plain, λ e. latest);
         want = ForNothing;
         about = subst (TellsAbout first peer (learned_by before) (learned_by after) version ForNothing) (sym asked) tt;
         reply = gets ∙ ap (replies_to version.zone None peer ForNothing) (sym asked);
@@ -589,7 +589,7 @@ still_replied first peer shorter longer later request messages grown r = record 
   version = r.version;
   replayed = r.replayed;
   changes = r.changes;
-  told = tells_older first peer shorter longer later r.version r.changes (reads request) grown r.told;
+  reported = tells_older first peer shorter longer later r.version r.changes (reads request) grown r.reported;
   want = r.want;
   about = about_older first peer shorter longer later r.version r.want (reads request) grown r.about;
   reply = r.reply;

@@ -48,7 +48,7 @@ served_silent first peer request later silent = ⊎_elim (λ (asks : IsUpdate re
 -- an update is answered, and the reader stays as it was before that
 pub served_update : (first : List Record) (peer : Peer) (request : List ℕ) (before mid after : ReaderState Version) (out : List ℕ) (len : ℕ) (outcome : UpdateOutcome) → mid ≡ before → len ≤ limit_for peer.transport (reads request)
     → IsReplied first peer (learned_by mid) (learned_by after) request (take len out ∷ []) → IsUpdateTold first peer request mid after (take len out) outcome → IsServed first peer request before after out (Updated len outcome)
-served_update first peer request before mid after out len outcome same bound replied told = subst (λ (r : ReaderState Version). IsServed first peer request r after out (Updated len outcome)) same (bound, replied, told)
+served_update first peer request before mid after out len outcome same bound replied reported = subst (λ (r : ReaderState Version). IsServed first peer request r after out (Updated len outcome)) same (bound, replied, reported)
 
 -- no load is left for a transfer
 pub served_gone : (first : List Record) (peer : Peer) (request : List ℕ) (before after : ReaderState Version) (out : List ℕ) → IsUpdate request ⊎ IsTransfer first peer request → IsQuery request → HasGone before after

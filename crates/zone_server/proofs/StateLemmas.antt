@@ -14,7 +14,7 @@ use Rattle.counted_handles.specs.Ruled.{Begins}
 use Rattle.dns_engine.specs.Versions.{IsFirst, IsNext}
 use Rattle.dns_engine.specs.Held.{EngineState, IsLatest, state_with}
 use Rattle.dns_engine.specs.Chain.{IsPublished}
-use Rattle.dns_engine.specs.Told.{IsTold, made, refused, unchanged, full, starved}
+use Rattle.dns_engine.specs.Outcomes.{IsTold, made, refused, unchanged, full, starved}
 use Rattle.zone_server.specs.declared.update_result.UpdateResult.{UpdateResult}
 use Rattle.zone_server.specs.declared.update_result.Poll.{Poll}
 use Rattle.zone_server.specs.declared.pending_replies.Ticket.{Ticket}
@@ -38,7 +38,7 @@ module _ (first : List Record) (published more : List Version) (history : IsHist
       let next = behind zone taken acts changed in (next.0, next.1 ++ more, ap (λ (l : List Version). l ++ more) next.2, next.3)
 
   still_told : (version : Version) (newer : List Version) (update : Update) (may : Bool) (code : Rcode) → IsToldIn version newer update may code → IsToldIn version (newer ++ more) update may code
-  still_told version newer update may code (inl told) = inl (told.0, still_behind version newer update may told.1)
+  still_told version newer update may code (inl reported) = inl (reported.0, still_behind version newer update may reported.1)
   still_told version newer update may code (inr failed) = inr failed
 
   -- what is told about it
@@ -49,7 +49,7 @@ module _ (first : List Record) (published more : List Version) (history : IsHist
     replayed = is.replayed;
     least = is.least;
     here = still_published is.version is.here;
-    told = still_told is.version is.here.newer done.asked.update done.asked.may done.code is.told;
+    reported = still_told is.version is.here.newer done.asked.update done.asked.may done.code is.reported;
     own = is.own;
   }
 

@@ -23,9 +23,9 @@ starved_update head (Some (Err bad)) kept e =
     rw is_update refl
 
 -- a request for which there is no memory is told as such, whatever it says
-starved_request : (msg : List ℕ) (told : Parsed) → IsWant msg told → without_memory (reads msg) ≡ told
-starved_request msg told want =
-    ap without_memory (reads-want msg told want) ∙ starved_update (header_of msg) (update_in (header_of msg) msg) (head_kept (header_of msg) msg) want.update ∙ sym want.is
+starved_request : (msg : List ℕ) (reported : Parsed) → IsWant msg reported → without_memory (reads msg) ≡ reported
+starved_request msg reported want =
+    ap without_memory (reads-want msg reported want) ∙ starved_update (header_of msg) (update_in (header_of msg) msg) (head_kept (header_of msg) msg) want.update ∙ sym want.is
 
 told_already : (transport : Transport) (may : Bool) (want : Want) (zone : List Record) (head : Head) → got_of transport may want zone (NoMemory head) ≡ got_for transport may zone (NoMemory head)
 told_already transport may ForNothing zone head = refl
@@ -33,9 +33,9 @@ told_already transport may ForReading zone head = refl
 told_already transport may ForMaking zone head = refl
 
 -- and gets what is got for want of memory in reading it
-pub wanted_got : (transport : Transport) (may : Bool) (wants : Want) (zone : List Record) (msg : List ℕ) (told : Parsed) → IsWant msg told → got_of transport may wants zone told ≡ got_of transport may ForReading zone (reads msg)
-wanted_got transport may wants zone msg told want =
+pub wanted_got : (transport : Transport) (may : Bool) (wants : Want) (zone : List Record) (msg : List ℕ) (reported : Parsed) → IsWant msg reported → got_of transport may wants zone reported ≡ got_of transport may ForReading zone (reads msg)
+wanted_got transport may wants zone msg reported want =
     ap (got_of transport may wants zone) want.is
     ∙ told_already transport may wants zone (header_of msg)
     ∙ ap (got_for transport may zone) (sym want.is)
-    ∙ ap (got_for transport may zone) (sym (starved_request msg told want))
+    ∙ ap (got_for transport may zone) (sym (starved_request msg reported want))

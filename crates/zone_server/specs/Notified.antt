@@ -3,7 +3,7 @@ use Rattle.std.specs.Prelude.{◌≡◌, ℕ, List, map, None, Some}
 use Rattle.zone_tree.specs.Version.{Version}
 use Rattle.snapshot_cell.specs.Tokens.{IsLastOf}
 use Rattle.notify.specs.Notified.{Notified}
-use Rattle.notify.specs.Told.{due_in, soonest}
+use Rattle.notify.specs.Copies.{due_in, soonest}
 use Rattle.notify.specs.Turns.{GoesOn}
 use Rattle.zone_server.specs.declared.notifying.NextTurn.{NextTurn}
 use Rattle.zone_server.specs.declared.notifying.NextTurn.TheVariants.{Due, Look}

@@ -18,9 +18,9 @@ use Rattle.requests.specs.Served.{Learned, Grows}
 use Rattle.zone_server.specs.Known.{learned_by, HasMet}
 use Rattle.zone_server.specs.Replied.{IsReplied}
 use Rattle.zone_server.specs.declared.submit.Submitted.{Submitted}
-use Rattle.zone_server.specs.declared.submit.Submitted.TheVariants.{Told as AtOnce, Waits as IsPut}
+use Rattle.zone_server.specs.declared.submit.Submitted.TheVariants.{Replied as AtOnce, Waits as IsPut}
 use Rattle.zone_server.specs.declared.submit.DatagramSubmitted.{DatagramSubmitted}
-use Rattle.zone_server.specs.declared.submit.DatagramSubmitted.TheVariants.{Told as AtOnceByDatagram, Waits as IsPutByDatagram}
+use Rattle.zone_server.specs.declared.submit.DatagramSubmitted.TheVariants.{Replied as AtOnceByDatagram, Waits as IsPutByDatagram}
 use Rattle.zone_server.specs.declared.answer.UpdateOutcome.{UpdateOutcome}
 use Rattle.zone_server.specs.Updated.{IsToldUnread}
 
@@ -44,10 +44,10 @@ IsRefusedWith peer request octets outcome =
     (heading : Heading) × (octets ≡ fit (coded heading outcome.code) (limit_of peer.transport None)) × (IsToldUnread request heading outcome ⊎ ((outcome.code ≡ ServFail) × (outcome.serials ≡ None)))
 
 -- an update gets a reply of so many octets at once, with this outcome, and its reader forgets nothing that it had seen (own)
-pub record IsRepliedAtOnce (first : List Record) (peer : Peer) (request : List ℕ) (before after : ReaderState Version) (out : List ℕ) (len : ℕ) (told : UpdateOutcome) : Type 0 where
+pub record IsRepliedAtOnce (first : List Record) (peer : Peer) (request : List ℕ) (before after : ReaderState Version) (out : List ℕ) (len : ℕ) (reported : UpdateOutcome) : Type 0 where
   pub bound : len ≤ limit_for peer.transport (reads request)
   pub replied : IsReplied first peer (learned_by before) (learned_by after) request (take len out ∷ [])
-  pub outcome : IsRefusedWith peer request (take len out) told
+  pub outcome : IsRefusedWith peer request (take len out) reported
   pub grows : Grows (learned_by after) (learned_by before)
 
 -- the result of submitting an update: it gets a reply at once, or it is queued, and the reader has met everything published until then, whose last version has this number

@@ -56,7 +56,7 @@ pub record IsReplied (first : List Record) (peer : Peer) (known later : Learned 
   pub version : Version
   pub replayed : IsReplay first version
   pub changes : Option (List Record)
-  pub told : TellsFor first peer known later version changes (reads request)
+  pub reported : TellsFor first peer known later version changes (reads request)
   pub want : Want
   pub about : TellsAbout first peer known later version want (reads request)
   pub reply : messages ≡ replies_to version.zone changes peer want (reads request)
@@ -66,7 +66,7 @@ pub record IsReplied (first : List Record) (peer : Peer) (known later : Learned 
 pub record TellsBy (first : List Record) (query : QueryAsked) (version : Version) (before after : ReaderState Version) (chain : ChainState) : Type 0 where
   pub grown : Grows (learned_by after) (learned_by before)
   pub changes : Option (List Record)
-  pub told : TellsSince first after.seen after.gone version query.serial changes
+  pub reported : TellsSince first after.seen after.gone version query.serial changes
   pub list : list_for version.zone (changes_by (soa_of version.zone) chain) query ≡ list_for version.zone changes query
 
 -- the chain for a query: for IXFR one that gives what changed, for any other query none, and its reader is unchanged (own)

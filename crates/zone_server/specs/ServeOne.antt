@@ -33,9 +33,9 @@ abbrev pub IsServed : List Record → Peer → List ℕ → ReaderState Version 
 IsServed first peer request before after out (Reply len) =
     (len ≤ limit_for peer.transport (reads request)) × (replied : IsReplied first peer (learned_by before) (learned_by after) request (take len out ∷ [])) × IsQuery request
     × HasLoaded first before after replied.version
-IsServed first peer request before after out (Updated len told) =
+IsServed first peer request before after out (Updated len reported) =
     (len ≤ limit_for peer.transport (reads request)) × IsReplied first peer (learned_by before) (learned_by after) request (take len out ∷ [])
-    × IsUpdateTold first peer request before after (take len out) told
+    × IsUpdateTold first peer request before after (take len out) reported
 IsServed first peer request before after out (Transfer version chain query) =
     (is_permitted version.zone peer query ≡ true)
     × ((replied : IsReplied first peer (learned_by before) (learned_by after) request (messages_to version.zone (changes_by (soa_of version.zone) chain) peer query)) × (replied.version ≡ version))

@@ -50,7 +50,7 @@ pub record IsDone (first : List Record) (published : List Version) (done : Updat
   pub replayed : IsReplay first version
   pub least : done.least ≤ version.number
   pub here : IsPublished first published version
-  pub told : IsToldIn version here.newer done.asked.update done.asked.may done.code
+  pub reported : IsToldIn version here.newer done.asked.update done.asked.may done.code
   pub own : AreOwn version done.asked.update done.code done.serials
 
 -- the result at a ticket holds for the versions known to be published

@@ -16,7 +16,7 @@ use Rattle.update_core.specs.Act.{act}
 use Rattle.snapshot_cell.specs.Tokens.{ReaderState}
 use Rattle.dns_engine.specs.Held.{EngineState}
 use Rattle.dns_engine.specs.Chain.{IsPublished}
-use Rattle.dns_engine.specs.Told.{IsTold}
+use Rattle.dns_engine.specs.Outcomes.{IsTold}
 use Rattle.dns_engine.specs.Replayed.{IsReplay}
 use Rattle.serve_core.specs.declared.peer.Peer.{Peer}
 use Rattle.serve_core.specs.declared.heading.Heading.{Heading}
@@ -34,7 +34,7 @@ pub record IsUpdated (first : List Record) (update : Update) (may : Bool) (befor
   pub new : EngineState
   pub met : ReaderState Version
   pub meets : HasMet first old before met
-  pub told : IsTold old update may code new
+  pub reported : IsTold old update may code new
   pub meets_again : HasMet first new met after
   pub serial_before : serials.before.0 ≡ zone_serial old.held.last.zone
   pub serial_after : serials.after.0 ≡ zone_serial new.held.last.zone
@@ -59,27 +59,27 @@ told_with code serials = if rcode_number code == rcode_number NoError then Some 
 -- the result of an update that was read, by whether its peer may update, and by how the reader changes. If the peer may update, or no load is left, it is the code that an
 -- engine gives, if that is NOERROR with the serials of that engine's last version before and after it, and everything that the engine has then published is seen. Otherwise it
 -- is the code of the first rule that it breaks in the version loaded for it, which is the first zone with updates replayed, and no serials
-pub data IsJudged (first : List Record) (update : Update) (may : Bool) (before after : ReaderState Version) (told : UpdateOutcome) : Type 0 where
-  by_engine : (serials : Serials) → (may ≡ true) ⊎ (before.left ≡ 0) → told.serials ≡ told_with told.code serials → IsUpdated first update may before after told.code serials → IsJudged first update may before after told
-  in_version : (version : Version) → may ≡ false → IsReplay first version → HasLoaded first before after version → verdict version.zone update false ≡ Some told.code → told.serials ≡ None → IsJudged first update may before after told
+pub data IsJudged (first : List Record) (update : Update) (may : Bool) (before after : ReaderState Version) (reported : UpdateOutcome) : Type 0 where
+  by_engine : (serials : Serials) → (may ≡ true) ⊎ (before.left ≡ 0) → reported.serials ≡ told_with reported.code serials → IsUpdated first update may before after reported.code serials → IsJudged first update may before after reported
+  in_version : (version : Version) → may ≡ false → IsReplay first version → HasLoaded first before after version → verdict version.zone update false ≡ Some reported.code → reported.serials ≡ None → IsJudged first update may before after reported
 
 -- the result of a request that asks for an update, and what its reply repeats of it: of one that is read, the result of that update; of one that cannot be parsed, or whose OPT
 -- is not obeyed, its code; and SERVFAIL if memory ran short while it was read. Only an update that is read can have serials, and for any other request nothing is loaded
-pub data IsToldOf (first : List Record) (may : Bool) (request : List ℕ) (before after : ReaderState Version) (heading : Heading) (told : UpdateOutcome) : Type 0 where
-  read : (update : Update) → reads request ≡ SaysUpdate update → heading ≡ heading_of_update update → IsJudged first update may before after told → IsToldOf first may request before after heading told
-  unread : (head : Head) → reads request ≡ Fault head told.code → heading ≡ header_alone head → told.serials ≡ None → after ≡ before → IsToldOf first may request before after heading told
-  bad_opt : (head : Head) (question : Question) (dnssec_ok : Bool) → reads request ≡ BadOpt head question told.code dnssec_ok → heading ≡ heading_of_bad head question dnssec_ok → told.serials ≡ None → after ≡ before
-      → IsToldOf first may request before after heading told
-  starved : (head : Head) → IsWant request (NoMemory head) → heading ≡ header_alone head → told.code ≡ ServFail → told.serials ≡ None → after ≡ before → IsToldOf first may request before after heading told
+pub data IsToldOf (first : List Record) (may : Bool) (request : List ℕ) (before after : ReaderState Version) (heading : Heading) (reported : UpdateOutcome) : Type 0 where
+  read : (update : Update) → reads request ≡ SaysUpdate update → heading ≡ heading_of_update update → IsJudged first update may before after reported → IsToldOf first may request before after heading reported
+  unread : (head : Head) → reads request ≡ Fault head reported.code → heading ≡ header_alone head → reported.serials ≡ None → after ≡ before → IsToldOf first may request before after heading reported
+  bad_opt : (head : Head) (question : Question) (dnssec_ok : Bool) → reads request ≡ BadOpt head question reported.code dnssec_ok → heading ≡ heading_of_bad head question dnssec_ok → reported.serials ≡ None → after ≡ before
+      → IsToldOf first may request before after heading reported
+  starved : (head : Head) → IsWant request (NoMemory head) → heading ≡ header_alone head → reported.code ≡ ServFail → reported.serials ≡ None → after ≡ before → IsToldOf first may request before after heading reported
 
 -- the result of a request that asks for an update and is not read, and what its reply repeats of it, whatever is known: the code of one that cannot be parsed, or whose OPT is
 -- not obeyed, and SERVFAIL if memory ran short while it was read (own)
 abbrev pub IsToldUnread : List ℕ → Heading → UpdateOutcome → Type 0
-IsToldUnread request heading told = (first : List Record) (may : Bool) (reader : ReaderState Version) → IsToldOf first may request reader reader heading told
+IsToldUnread request heading reported = (first : List Record) (may : Bool) (reader : ReaderState Version) → IsToldOf first may request reader reader heading reported
 
 -- a request asks for an update, and its reply has no record but an OPT, and the code given to it (RFC 2136, 3.8; RFC 6891, 6.1.1)
-pub record IsUpdateTold (first : List Record) (peer : Peer) (request : List ℕ) (before after : ReaderState Version) (octets : List ℕ) (told : UpdateOutcome) : Type 0 where
+pub record IsUpdateTold (first : List Record) (peer : Peer) (request : List ℕ) (before after : ReaderState Version) (octets : List ℕ) (reported : UpdateOutcome) : Type 0 where
   pub asks : is_update request ≡ true
   pub heading : Heading
-  pub tells : IsToldOf first peer.may_update request before after heading told
-  pub reply : octets ≡ fit (coded heading told.code) (limit_of peer.transport None)
+  pub tells : IsToldOf first peer.may_update request before after heading reported
+  pub reply : octets ≡ fit (coded heading reported.code) (limit_of peer.transport None)

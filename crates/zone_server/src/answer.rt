@@ -130,15 +130,15 @@ pub fn serve_update<R: Wait, Z: FirstZone, N: ServerName>(
     requires room { room_of peer.transport ≤ length out.old }
     ensures bound { result.0 ≤ limit_for peer.transport (reads request.now) }
     ensures replied { IsReplied Z.zone peer (learned_by reader.old) (learned_by reader.new) request.now (take result.0 out.new ∷ []) }
-    ensures told { IsUpdateTold Z.zone peer request.now reader.old reader.new (take result.0 out.new) result.1 }
+    ensures reported { IsUpdateTold Z.zone peer request.now reader.old reader.new (take result.0 out.new) result.1 }
 {
-    let (heading, told) = told_of(rt, alloc, server, reader, peer.may_update, request);
-    let len = write_code(&heading, told.code, peer.transport, out);
-    (len, told)
+    let (heading, reported) = outcome_of(rt, alloc, server, reader, peer.may_update, request);
+    let len = write_code(&heading, reported.code, peer.transport, out);
+    (len, reported)
 }
 
 /// The outcome of a request that asks for an update, and what its reply repeats of it: the judged outcome of one that is read, otherwise what [`read_update`] gives.
-fn told_of<R: Wait, Z: FirstZone, N: ServerName>(
+fn outcome_of<R: Wait, Z: FirstZone, N: ServerName>(
     rt: &R,
     alloc: Global,
     server: &Server<'_, Z, N>,
@@ -154,7 +154,7 @@ fn told_of<R: Wait, Z: FirstZone, N: ServerName>(
             let heading = Heading::of_update(&update);
             (heading, judge(rt, alloc, server, reader, may, &update))
         }
-        Err(told) => told,
+        Err(reported) => reported,
     }
 }
 
@@ -162,7 +162,7 @@ fn told_of<R: Wait, Z: FirstZone, N: ServerName>(
 /// obeyed (RFC 6891, 6.1.1 and 6.1.3), and SERVFAIL if there is no memory to read it (own).
 pub(crate) fn read_update(alloc: Global, request: &[u8]) -> Result<Update, (Heading, UpdateOutcome)>
     requires { IsUpdate request.now }
-    ensures { MatchResult result (λ update. reads request.now ≡ SaysUpdate update) (λ told. IsToldUnread request.now told.0 told.1) }
+    ensures { MatchResult result (λ update. reads request.now ≡ SaysUpdate update) (λ reported. IsToldUnread request.now reported.0 reported.1) }
 {
     match parse(alloc, request) {
         Parsed::Update(update) => Ok(update),

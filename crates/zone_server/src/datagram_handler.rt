@@ -120,8 +120,8 @@ impl<'a, 's, Z: FirstZone, N: ServerName, L: ServiceLog> DatagramHandler<'a, 's,
             out,
         );
         match submitted {
-            DatagramSubmitted::Told(len, told) => {
-                tell_update(rt, self.log, peer, from, told);
+            DatagramSubmitted::Replied(len, outcome) => {
+                tell_update(rt, self.log, peer, from, outcome);
                 Some(len)
             }
             DatagramSubmitted::Waits(_put) => None,
@@ -152,7 +152,7 @@ impl<'a, 's, Z: FirstZone, N: ServerName, L: ServiceLog> DatagramHandler<'a, 's,
                 return self.submit_datagram(rt, sender, peer, request, out);
             }
         }
-        let (len, told) = serve_update(
+        let (len, outcome) = serve_update(
             rt,
             self.alloc,
             self.server,
@@ -161,7 +161,7 @@ impl<'a, 's, Z: FirstZone, N: ServerName, L: ServiceLog> DatagramHandler<'a, 's,
             request,
             out,
         );
-        tell_update(rt, self.log, peer, self.from, told);
+        tell_update(rt, self.log, peer, self.from, outcome);
         Some(len)
     }
 }

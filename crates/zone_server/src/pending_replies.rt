@@ -27,7 +27,6 @@ pub struct AtTicket {
     outcome: UpdateOutcome,
 }
 
-// By hand: a derived drop is proved once more in each crate that lets such a value go.
 impl Drop for AtTicket {
     fn drop(self) {
         let AtTicket {
@@ -44,7 +43,6 @@ pub(crate) struct PendingReplies {
     free: Option<usize>,
 }
 
-// By hand: a derived drop is proved once more in each crate that lets such a value go.
 impl Drop for PendingReplies {
     fn drop(self) {
         let PendingReplies {
@@ -159,7 +157,7 @@ impl PendingReplies {
 
     /// Puts a result at a ticket whose reply is pending, and gives the receipt for it. A ticket that was abandoned becomes free instead.
     pub fn tell(&mut self, at: usize, done: UpdateResult) -> AtTicket
-        ensures told { TellsOf (slice_get self.old.tickets.items at) self.old.tickets.items at done self.new.tickets.items }
+        ensures reported { TellsOf (slice_get self.old.tickets.items at) self.old.tickets.items at done self.new.tickets.items }
         ensures receipt { result ≡ receipt_for at done }
     {
         let outcome = UpdateOutcome::of(&done);

@@ -12,7 +12,7 @@ pub trait ReplySender {
     ghost brought: { Self → Option (List Brought) };
 
     /// Gives a worker the key of a connection whose result is at its ticket, and wakes the worker.
-    fn tell<R: Wait>(&mut self, rt: &R, worker: usize, key: usize, told: AtTicket)
+    fn tell<R: Wait>(&mut self, rt: &R, worker: usize, key: usize, reported: AtTicket)
         ensures { brought self.new ≡ brought_after (brought self.old) (key_to worker key ∷ []) };
 
     /// Sends a datagram from a worker's socket. A datagram that cannot be sent is lost.

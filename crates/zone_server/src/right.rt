@@ -74,7 +74,6 @@ pub struct PublishRight<N: ServerName> {
     ghost is: { reserved.amount ≡ room },
 }
 
-// By hand: a derived drop is proved once more in each crate that lets such a value go.
 impl<N: ServerName> Drop for PublishRight<N> {
     fn drop(self) {
         let PublishRight {

@@ -22,7 +22,7 @@ use crate::right::{PublishRight, ServerLedgers, ServerName};
 use crate::server_state::{BatchStart, ServerState};
 use crate::update_result::{Poll, QueuedResult};
 use dns_engine::{
-    Engine, FirstZone, NoEngine, SharedVersion, ToldChain, VersionCell, VersionPublisher,
+    Engine, FirstZone, NoEngine, SharedChain, SharedVersion, VersionCell, VersionPublisher,
     VersionReader,
 };
 use dns_message::Update;
@@ -37,7 +37,6 @@ pub struct Server<'a, Z: FirstZone, N: ServerName> {
     state: Mutex<ServerState<'a, Z, N>>,
 }
 
-// By hand: a derived drop is proved once more in each crate that lets such a value go.
 impl<'a, Z: FirstZone, N: ServerName> Drop for Server<'a, Z, N> {
     fn drop(self) {
         let Server { cell: _, state: _ } = self;
@@ -155,7 +154,7 @@ impl<'a, Z: FirstZone, N: ServerName> Server<'a, Z, N> {
         reader: &mut VersionReader<N>,
         from: Serial,
         upto: u64,
-    ) -> ToldChain<'a, Z, N>
+    ) -> SharedChain<'a, Z, N>
         ensures { MeetsAndAsks Z.zone from.0 upto reader.old reader.new result }
     {
         let mut state = self.state.lock(rt);

@@ -174,7 +174,6 @@ pub struct ServerPublisher<'a, 's, Z: FirstZone, N: ServerName, L, P: ReplySende
     replied: ReplyList,
 }
 
-// By hand: a derived drop is proved once more in each crate that lets such a value go.
 impl<'a, 's, Z: FirstZone, N: ServerName, L, P: ReplySender + Drop> Drop
     for ServerPublisher<'a, 's, Z, N, L, P> {
     fn drop(self) {

@@ -5,7 +5,7 @@ ghost use Rattle.counted_handles.specs.Ruled.{Begins};
 ghost use Rattle.weak_history.specs.Owned.{IsChain};
 ghost use Rattle.dns_engine.specs.Held.{IsLatest, state_for};
 ghost use Rattle.dns_engine.specs.Replayed.{IsReplay};
-ghost use Rattle.dns_engine.specs.Told.{IsTold};
+ghost use Rattle.dns_engine.specs.Outcomes.{IsTold};
 ghost use Rattle.dns_engine.specs.Entries.{entries_of};
 ghost use Rattle.update_batches.specs.Batch.{versions_in};
 ghost use Rattle.zone_server.specs.Brought.{brought_for, brought_from, outgoing_for};
@@ -20,7 +20,7 @@ use crate::pending_replies::PendingReplies;
 use crate::right::{PublishRight, Published, Reserved, ServerLedgers, ServerName};
 use crate::update_result::{Poll, QueuedResult};
 use dns_engine::{
-    Engine, FirstZone, Judged, SharedVersion, ToldChain, VersionCell, VersionReader, judge,
+    Engine, FirstZone, Judged, SharedChain, SharedVersion, VersionCell, VersionReader, judge,
 };
 use dns_message::Update;
 use dns_rdata::{Rcode, Serial};
@@ -44,7 +44,6 @@ pub struct ServerState<'a, Z: FirstZone, N: ServerName> {
     right: Option<PublishRight<N>>,
 }
 
-// By hand: a derived drop is proved once more in each crate that lets such a value go.
 impl<'a, Z: FirstZone, N: ServerName> Drop for ServerState<'a, Z, N> {
     fn drop(self) {
         let ServerState {
@@ -186,7 +185,7 @@ impl<'a, Z: FirstZone, N: ServerName> ServerState<'a, Z, N> {
     /// Judges an update and publishes the version it makes, as [`Engine::update`] does, if this state has the right to publish. Otherwise an update that would change the zone
     /// gets SERVFAIL. It does not block.
     pub fn update(&mut self, alloc: Global, update: &Update, may: bool) -> Rcode
-        ensures told { IsTold self.old update.now may result self.new }
+        ensures reported { IsTold self.old update.now may result self.new }
     {
         let Some(mut right) = self.right.take() else {
             return self.code_here(alloc, update, may);
@@ -202,7 +201,7 @@ impl<'a, Z: FirstZone, N: ServerName> ServerState<'a, Z, N> {
     {
         learn_latest(&self.engine);
         match judge(alloc, self.engine.last_shared(), update, may) {
-            Judged::Told(code) => code,
+            Judged::Code(code) => code,
             Judged::Made(_) => Rcode::ServFail,
             Judged::Starved => Rcode::ServFail,
         }
@@ -241,7 +240,7 @@ impl<'a, Z: FirstZone, N: ServerName> ServerState<'a, Z, N> {
         from: Serial,
         upto: u64,
         reader: &mut VersionReader<N>,
-    ) -> ToldChain<'a, Z, N>
+    ) -> SharedChain<'a, Z, N>
         ensures chain { IsChain (entries_of self.old.held.published) from.0 upto reader.old reader.new result }
         ensures same { self.new ≡ self.old }
     {
@@ -257,7 +256,7 @@ impl<'a, Z: FirstZone, N: ServerName> ServerState<'a, Z, N> {
 
     /// The result at a ticket, if it is there yet. The ticket is then free.
     pub fn fetch(&mut self, ticket: usize) -> Poll
-        ensures told { IsFetched Z.zone self.old.held.published result }
+        ensures reported { IsFetched Z.zone self.old.held.published result }
         ensures same { self.new ≡ self.old }
     {
         self.replies.fetch(ticket)

@@ -73,7 +73,7 @@ pub enum Event {
         secondary: SocketAddr,
     },
     /// The thread that notifies secondaries has ended.
-    Untold {
+    Unlogged {
         /// The reason why it ended.
         end: JobEnd,
     },
@@ -176,9 +176,9 @@ impl Display for Event {
             Event::Again { secondary } => {
                 write!(f, "secondary {secondary} answers NOTIFY again")
             }
-            Event::Untold { end } => {
+            Event::Unlogged { end } => {
                 f.write_str("notify thread exited: ")?;
-                write_untold(f, *end)
+                write_unlogged(f, *end)
             }
         }
     }
@@ -245,7 +245,7 @@ fn write_end<W: fmt::Write>(f: &mut Formatter<W>, end: JobEnd) -> fmt::Result {
 }
 
 /// Writes the reason why notifying of secondaries ended.
-fn write_untold<W: fmt::Write>(f: &mut Formatter<W>, end: JobEnd) -> fmt::Result {
+fn write_unlogged<W: fmt::Write>(f: &mut Formatter<W>, end: JobEnd) -> fmt::Result {
     match end {
         JobEnd::Done(count) => write!(f, "{count} NOTIFYs sent"),
         other => write_end(f, other),

@@ -35,7 +35,7 @@ pub struct UpdateSender<'a> {
 #[derive(Drop)]
 pub enum Submitted {
     /// It has a reply at once, of so many bytes and with this outcome.
-    Told(usize, UpdateOutcome),
+    Replied(usize, UpdateOutcome),
     /// It waits in the queue, and its result will be at this ticket. This is the number of the version published last.
     Waits {
         /// The ticket.
@@ -51,7 +51,7 @@ pub enum Submitted {
 #[derive(Drop)]
 pub enum DatagramSubmitted {
     /// It has a reply at once, of so many bytes and with this outcome.
-    Told(usize, UpdateOutcome),
+    Replied(usize, UpdateOutcome),
     /// It waits in the queue, of which this is the receipt: the update thread sends the reply.
     Waits(Put),
 }
@@ -110,8 +110,11 @@ fn refuse(heading: &Heading, peer: Peer, out: &mut [u8]) -> (usize, UpdateOutcom
     ensures code { result.1.code ≡ ServFail }
     ensures serials { result.1.serials ≡ None }
 {
-    let told = UpdateOutcome::code(Rcode::ServFail);
-    (write_code(heading, told.code, peer.transport, out), told)
+    let outcome = UpdateOutcome::code(Rcode::ServFail);
+    (
+        write_code(heading, outcome.code, peer.transport, out),
+        outcome,
+    )
 }
 
 /// Submits an update of a peer that may update, for the connection with this key. It is answered at once, and not judged, with an error if it cannot be read, and with SERVFAIL
@@ -134,15 +137,18 @@ pub fn submit_stream<R: Wait, Z: FirstZone, N: ServerName>(
 {
     let update = match read_update(alloc, request) {
         Ok(update) => update,
-        Err((heading, told)) => {
-            return Submitted::Told(write_code(&heading, told.code, peer.transport, out), told);
+        Err((heading, outcome)) => {
+            return Submitted::Replied(
+                write_code(&heading, outcome.code, peer.transport, out),
+                outcome,
+            );
         }
     };
     let heading = Heading::of_update(&update);
     let Some(sender) = sender else {
         server.meet(rt, reader);
-        let (len, told) = refuse(&heading, peer, out);
-        return Submitted::Told(len, told);
+        let (len, outcome) = refuse(&heading, peer, out);
+        return Submitted::Replied(len, outcome);
     };
     let (number, opened) = server.open(rt, reader);
     if let Some(opened) = opened {
@@ -162,8 +168,8 @@ pub fn submit_stream<R: Wait, Z: FirstZone, N: ServerName>(
         }
         server.close(rt, opened);
     }
-    let (len, told) = refuse(&heading, peer, out);
-    Submitted::Told(len, told)
+    let (len, outcome) = refuse(&heading, peer, out);
+    Submitted::Replied(len, outcome)
 }
 
 /// Submits an update of a peer that may update, which came by datagram. It is answered at once in the same cases as by [`submit_stream`].
@@ -185,9 +191,9 @@ pub fn submit_datagram<R: Wait, Z: FirstZone, N: ServerName>(
 {
     let update = match read_update(alloc, request) {
         Ok(update) => update,
-        Err((heading, told)) => {
-            let len = write_code(&heading, told.code, peer.transport, out);
-            return DatagramSubmitted::Told(len, told);
+        Err((heading, outcome)) => {
+            let len = write_code(&heading, outcome.code, peer.transport, out);
+            return DatagramSubmitted::Replied(len, outcome);
         }
     };
     let heading = Heading::of_update(&update);
@@ -197,8 +203,8 @@ pub fn submit_datagram<R: Wait, Z: FirstZone, N: ServerName>(
         return DatagramSubmitted::Waits(put);
     }
     server.meet(rt, reader);
-    let (len, told) = refuse(&heading, peer, out);
-    DatagramSubmitted::Told(len, told)
+    let (len, outcome) = refuse(&heading, peer, out);
+    DatagramSubmitted::Replied(len, outcome)
 }
 
 /// Writes the reply to an update that has waited to the front of `out`, with a name writer that the caller keeps, and gives its length in bytes (RFC 2136, 3.8).

@@ -19,8 +19,8 @@ use wire_names::Message;
 const REFUSED: u8 = 5;
 
 /// The event of a peer's update from an address: its code and its serials if the peer may update, otherwise that it was refused (own).
-fn event_of(peer: Peer, from: SocketAddr, told: UpdateOutcome) -> Event
-    ensures { result ≡ (if peer.may_update then UpdateEvent from told.code told.serials else RefusedEvent from AnUpdate) }
+fn event_of(peer: Peer, from: SocketAddr, reported: UpdateOutcome) -> Event
+    ensures { result ≡ (if peer.may_update then UpdateEvent from reported.code reported.serials else RefusedEvent from AnUpdate) }
 {
     if !peer.may_update {
         return Event::Refused {
@@ -30,8 +30,8 @@ fn event_of(peer: Peer, from: SocketAddr, told: UpdateOutcome) -> Event
     }
     Event::Update {
         from,
-        code: told.code,
-        serials: told.serials,
+        code: reported.code,
+        serials: reported.serials,
     }
 }
 
@@ -41,9 +41,9 @@ pub fn tell_update<R: Wait, L: ServiceLog>(
     log: &L,
     peer: Peer,
     from: SocketAddr,
-    told: UpdateOutcome,
+    reported: UpdateOutcome,
 ) {
-    log.tell(rt, event_of(peer, from, told));
+    log.tell(rt, event_of(peer, from, reported));
 }
 
 /// Logs a peer's query for a transfer from an address, if the reply refuses it because the peer may not have transfers (own).

@@ -52,6 +52,6 @@ fn chain_for<R: Wait, Z: FirstZone, N: ServerName>(
     let Some(serial) = query.serial else {
         return Ok(VersionChain::none());
     };
-    let told = server.chain(rt, reader, serial, strong.number());
-    VersionChain::of(rt, told)
+    let reported = server.chain(rt, reader, serial, strong.number());
+    VersionChain::of(rt, reported)
 }

@@ -17,7 +17,6 @@ pub struct UpdateResult {
     pub serials: Option<Serials>,
 }
 
-// By hand: a derived drop is proved once more in each crate that lets such a value go.
 impl Drop for UpdateResult {
     fn drop(self) {
         let UpdateResult {

@@ -56,44 +56,44 @@ other_upto Greater e = refl
 
 module _ (owner : List (List ℕ)) (rtype : ℕ) where
   -- whether the owner and the type stand at a set's or before them, and whether the type alone does
-  abbrev pub stands : List Record → Bool
-  stands set = is_le (ordering_then (canonical_cmp owner (owner_of set)) (nat_cmp rtype (rtype_of set)))
+  abbrev pub is_present : List Record → Bool
+  is_present set = is_le (ordering_then (canonical_cmp owner (owner_of set)) (nat_cmp rtype (rtype_of set)))
 
   abbrev pub of_type : List Record → Bool
   of_type set = is_le (nat_cmp rtype (rtype_of set))
 
   -- the sets of one owner, by where the owner that is asked for stands to it
-  at_name : (name : List (List ℕ)) (o : Ordering) (set : List Record) → canonical_cmp owner name ≡ o → owner_of set ≡ name → stands set ≡ is_le (ordering_then o (nat_cmp rtype (rtype_of set)))
+  at_name : (name : List (List ℕ)) (o : Ordering) (set : List Record) → canonical_cmp owner name ≡ o → owner_of set ≡ name → is_present set ≡ is_le (ordering_then o (nat_cmp rtype (rtype_of set)))
   at_name name o set e own = ap (λ n. is_le (ordering_then (canonical_cmp owner n) (nat_cmp rtype (rtype_of set)))) own ∙ ap (λ c. is_le (ordering_then c (nat_cmp rtype (rtype_of set)))) e
 
-  own_less : (name : List (List ℕ)) (sets : List (List Record)) → canonical_cmp owner name ≡ Less → AllByRecursion (λ set. owner_of set ≡ name) sets → filter stands sets ≡ sets
-  own_less name sets e h = filter_alike stands true sets (each_weaker (λ set. owner_of set ≡ name) (λ set. stands set ≡ true) (λ set o. at_name name Less set e o) sets h)
+  own_less : (name : List (List ℕ)) (sets : List (List Record)) → canonical_cmp owner name ≡ Less → AllByRecursion (λ set. owner_of set ≡ name) sets → filter is_present sets ≡ sets
+  own_less name sets e h = filter_alike is_present true sets (each_weaker (λ set. owner_of set ≡ name) (λ set. is_present set ≡ true) (λ set o. at_name name Less set e o) sets h)
 
-  own_greater : (name : List (List ℕ)) (sets : List (List Record)) → canonical_cmp owner name ≡ Greater → AllByRecursion (λ set. owner_of set ≡ name) sets → filter stands sets ≡ []
-  own_greater name sets e h = filter_alike stands false sets (each_weaker (λ set. owner_of set ≡ name) (λ set. stands set ≡ false) (λ set o. at_name name Greater set e o) sets h)
+  own_greater : (name : List (List ℕ)) (sets : List (List Record)) → canonical_cmp owner name ≡ Greater → AllByRecursion (λ set. owner_of set ≡ name) sets → filter is_present sets ≡ []
+  own_greater name sets e h = filter_alike is_present false sets (each_weaker (λ set. owner_of set ≡ name) (λ set. is_present set ≡ false) (λ set o. at_name name Greater set e o) sets h)
 
-  own_equal : (name : List (List ℕ)) (sets : List (List Record)) → canonical_cmp owner name ≡ Equal → AllByRecursion (λ set. owner_of set ≡ name) sets → filter stands sets ≡ filter of_type sets
+  own_equal : (name : List (List ℕ)) (sets : List (List Record)) → canonical_cmp owner name ≡ Equal → AllByRecursion (λ set. owner_of set ≡ name) sets → filter is_present sets ≡ filter of_type sets
   own_equal name [] e h = refl
   own_equal name (set ∷ sets) e h =
-      let same : stands set ≡ of_type set = at_name name Equal set e h.0 in
+      let same : is_present set ≡ of_type set = at_name name Equal set e h.0 in
       let more = own_equal name sets e h.1 in
       λ i. cond (same i) (set ∷ more i) (more i)
 
   abbrev From : List Filed → Type 0
-  From pairs = filter stands (sets_under pairs) ≡ filter of_type (items_of (value_at canonical_cmp owner pairs)) ++ sets_under (pairs_above canonical_cmp owner pairs)
+  From pairs = filter is_present (sets_under pairs) ≡ filter of_type (items_of (value_at canonical_cmp owner pairs)) ++ sets_under (pairs_above canonical_cmp owner pairs)
 
   from_by : (o : Ordering) (pair : Filed) (pairs : List Filed) → canonical_cmp owner pair.0 ≡ o → IsFiled pair → AllByRecursion (λ other. canonical_cmp pair.0 other.0 ≡ Less) pairs → From pairs → From (pair ∷ pairs)
   from_by Less pair pairs e filed before more =
       let none : pair_at canonical_cmp owner pairs ≡ None = none_at_below canonical_cmp owner pairs (each_weaker (λ other. canonical_cmp pair.0 other.0 ≡ Less) (λ other. canonical_cmp owner other.0 ≡ Less) (λ other f. canonical_total.trans owner pair.0 other.0 e f) pairs before) in
       let own = own_less pair.0 pair.1.items e filed.own in
-      filter-append stands pair.1.items (sets_under pairs) ∙ (λ i. own i ++ more i) ∙ rw (e, none) refl
+      filter-append is_present pair.1.items (sets_under pairs) ∙ (λ i. own i ++ more i) ∙ rw (e, none) refl
   from_by Equal pair pairs e filed before more =
       let none : pair_at canonical_cmp owner pairs ≡ None = none_at_below canonical_cmp owner pairs (each_weaker (λ other. canonical_cmp pair.0 other.0 ≡ Less) (λ other. canonical_cmp owner other.0 ≡ Less) (λ other f. canonical_total.congr owner pair.0 other.0 e ∙ f) pairs before) in
       let own = own_equal pair.0 pair.1.items e filed.own in
-      filter-append stands pair.1.items (sets_under pairs) ∙ (λ i. own i ++ more i) ∙ rw (e, none) refl
+      filter-append is_present pair.1.items (sets_under pairs) ∙ (λ i. own i ++ more i) ∙ rw (e, none) refl
   from_by Greater pair pairs e filed before more =
       let own = own_greater pair.0 pair.1.items e filed.own in
-      filter-append stands pair.1.items (sets_under pairs) ∙ (λ i. own i ++ more i) ∙ rw e refl
+      filter-append is_present pair.1.items (sets_under pairs) ∙ (λ i. own i ++ more i) ∙ rw e refl
 
   from_owners : (pairs : List Filed) → AllByRecursion IsFiled pairs → IsAscending canonical_cmp pairs → From pairs
   from_owners [] h k = refl
@@ -103,27 +103,27 @@ module _ (owner : List (List ℕ)) (rtype : ℕ) where
   abbrev key : List Record
   key = record { owner = owner; rtype = rtype; ttl = 0; rdata = [] } ∷ []
 
-  pub records_of_from : (sets : List (List Record)) → AreAscending sets → records_in (filter stands sets) ≡ records_from (records_in sets) owner rtype
+  pub records_of_from : (sets : List (List Record)) → AreAscending sets → records_in (filter is_present sets) ≡ records_from (records_in sets) owner rtype
   records_of_from sets h = sym (filter_by_sets (λ o t. is_le (ordering_then (canonical_cmp owner o) (nat_cmp rtype t))) sets h.each)
 
-  pub sets_of_from : (sets : List (List Record)) → AreAscending sets → filter stands sets ≡ sets_in (records_from (records_in sets) owner rtype)
-  sets_of_from sets h = sym (sets_from_whole (records_in sets) (filter stands sets) (kept_whole sets h stands)) ∙ ap sets_in (records_of_from sets h)
+  pub sets_of_from : (sets : List (List Record)) → AreAscending sets → filter is_present sets ≡ sets_in (records_from (records_in sets) owner rtype)
+  sets_of_from sets h = sym (sets_from_whole (records_in sets) (filter is_present sets) (kept_whole sets h is_present)) ∙ ap sets_in (records_of_from sets h)
 
 -- of sets that ascend, those from one of them on
-from_one : (front rest : List (List Record)) (set : List Record) → Rises IsSetBefore (front ++ set ∷ rest) → filter (stands (owner_of set) (rtype_of set)) (front ++ set ∷ rest) ≡ set ∷ rest
+from_one : (front rest : List (List Record)) (set : List Record) → Rises IsSetBefore (front ++ set ∷ rest) → filter (is_present (owner_of set) (rtype_of set)) (front ++ set ∷ rest) ≡ set ∷ rest
 from_one [] rest set h =
-    filter_alike (stands (owner_of set) (rtype_of set)) true (set ∷ rest)
-    (ap is_le (tied_itself set_total set), each_weaker (IsSetBefore set) (λ other. stands (owner_of set) (rtype_of set) other ≡ true) (λ other k. ap is_le (less (set_cmp set other) k)) rest h.0)
+    filter_alike (is_present (owner_of set) (rtype_of set)) true (set ∷ rest)
+    (ap is_le (tied_itself set_total set), each_weaker (IsSetBefore set) (λ other. is_present (owner_of set) (rtype_of set) other ≡ true) (λ other k. ap is_le (less (set_cmp set other) k)) rest h.0)
 from_one (first ∷ front) rest set h =
     let before = (each_behind (IsSetBefore first) front (set ∷ rest) h.0).0 in
-    let passed : stands (owner_of set) (rtype_of set) first ≡ false = ap is_le (set_total.antisymm set first ∙ ap ordering_reverse (less (set_cmp first set) before)) in
+    let passed : is_present (owner_of set) (rtype_of set) first ≡ false = ap is_le (set_total.antisymm set first ∙ ap ordering_reverse (less (set_cmp first set) before)) in
     rw passed (from_one front rest set h.1)
 
-pub rest_of_from : (owner : List (List ℕ)) (rtype : ℕ) (sets : List (List Record)) → AreAscending sets → (front rest : List (List Record)) (set : List Record) → filter (stands owner rtype) sets ≡ front ++ set ∷ rest
+pub rest_of_from : (owner : List (List ℕ)) (rtype : ℕ) (sets : List (List Record)) → AreAscending sets → (front rest : List (List Record)) (set : List Record) → filter (is_present owner rtype) sets ≡ front ++ set ∷ rest
     → records_from (records_in sets) (owner_of set) (rtype_of set) ≡ records_in (set ∷ rest)
 rest_of_from owner rtype sets h front rest set is =
-    let p = stands owner rtype in
-    let q = stands (owner_of set) (rtype_of set) in
+    let p = is_present owner rtype in
+    let q = is_present (owner_of set) (rtype_of set) in
     let here : p set ≡ true = (each_behind (λ s. p s ≡ true) front (set ∷ rest) (subst (AllByRecursion (λ s. p s ≡ true)) is (each_passes p sets))).0 in
     let sub : (other : List Record) → q other ≡ true → p other ≡ true =
     λ other e. upto_from (set_cmp (key owner rtype) other) (upto set_total (key owner rtype) set other (not_gt (set_cmp (key owner rtype) set) here) (not_gt (set_cmp set other) e)) in
@@ -133,7 +133,7 @@ rest_of_from owner rtype sets h front rest set is =
 
 -- the same by the name that is sought, which stands to all owners as the owner does
 module _ (sought owner : List (List ℕ)) (rtype : ℕ) (alike : (other : List (List ℕ)) → canonical_cmp sought other ≡ canonical_cmp owner other) (pairs : List Filed) (h : AreFiled pairs) where
-  walked : filter (of_type sought rtype) (items_of (value_at canonical_cmp sought pairs)) ++ sets_under (pairs_above canonical_cmp sought pairs) ≡ filter (stands owner rtype) (sets_under pairs)
+  walked : filter (of_type sought rtype) (items_of (value_at canonical_cmp sought pairs)) ++ sets_under (pairs_above canonical_cmp sought pairs) ≡ filter (is_present owner rtype) (sets_under pairs)
   walked = sym (from_owners sought rtype pairs h.each h.ascends) ∙ (λ i. filter (λ (set : List Record). is_le (ordering_then (alike (owner_of set) i) (nat_cmp rtype (rtype_of set)))) (sets_under pairs))
 
   pub walked_sets : filter (of_type sought rtype) (items_of (value_at canonical_cmp sought pairs)) ++ sets_under (pairs_above canonical_cmp sought pairs) ≡ sets_in (records_from (records_under pairs) owner rtype)

@@ -54,20 +54,20 @@ any_folded name [] = refl
 any_folded name (other ∷ names) = λ i. pointwise bytes_eq (fold_name name) (fold_name-fold_name other i) || any_folded name names i
 
 -- whether data are told, and records without those told
-abbrev pub told : List Data → Record → Bool
-told ds r = list_any (λ d. bytes_eq d.octets r.rdata) ds
+abbrev pub reported : List Data → Record → Bool
+reported ds r = list_any (λ d. bytes_eq d.octets r.rdata) ds
 
 abbrev pub untold : List Data → List Record → List Record
-untold ds rs = filter (λ r. not (told ds r)) rs
+untold ds rs = filter (λ r. not (reported ds r)) rs
 
 untold_more : (d : Data) (ds : List Data) (rs : List Record) → untold (d ∷ ds) rs ≡ untold ds (without_data rs d.octets)
 untold_more d ds [] = refl
 untold_more d ds (r ∷ rs) = by (bytes_eq d.octets r.rdata) (untold_more d ds rs)
   where
     by : (b : Bool) → untold (d ∷ ds) rs ≡ untold ds (without_data rs d.octets)
-        → cond (not (b || told ds r)) (r ∷ untold (d ∷ ds) rs) (untold (d ∷ ds) rs) ≡ untold ds (cond (not b) (r ∷ without_data rs d.octets) (without_data rs d.octets))
+        → cond (not (b || reported ds r)) (r ∷ untold (d ∷ ds) rs) (untold (d ∷ ds) rs) ≡ untold ds (cond (not b) (r ∷ without_data rs d.octets) (without_data rs d.octets))
     by true e = e
-    by false e = ap (λ l. cond (not (told ds r)) (r ∷ l) l) e
+    by false e = ap (λ l. cond (not (reported ds r)) (r ∷ l) l) e
 
 pub untold_next : (ds : List Data) (i : ℕ) (d : Data) (left next : List Record) → i < length ds → d ≡ get_or ds i d → next ≡ without_data left d.octets → untold (drop i ds) left ≡ untold (drop (i + 1) ds) next
 untold_next [] i d left next l e f = absurd (omega arith)
@@ -117,7 +117,7 @@ same_data r s o t l =
     let tie : nat_cmp r.rtype s.rtype ≡ Equal = ap (λ u. nat_cmp u s.rtype) t ∙ tied_itself nat_cmp_total s.rtype in
     rw (o, tie, eq-eqb r.ttl s.ttl l) (and_true (is_eq (slice_cmp nat_cmp r.rdata s.rdata)) ∙ is_eq-slice_cmp r.rdata s.rdata ∙ flip r.rdata s.rdata)
 
-any_told : (r : Record) (o : List (List ℕ)) (t l : ℕ) → canonical_cmp r.owner o ≡ Equal → r.rtype ≡ t → r.ttl ≡ l → (ds : List Data) → list_any (is_same_record r) (records_with o t l ds) ≡ told ds r
+any_told : (r : Record) (o : List (List ℕ)) (t l : ℕ) → canonical_cmp r.owner o ≡ Equal → r.rtype ≡ t → r.ttl ≡ l → (ds : List Data) → list_any (is_same_record r) (records_with o t l ds) ≡ reported ds r
 any_told r o t l e f g [] = refl
 any_told r o t l e f g (d ∷ ds) = λ i. same_data r (record { owner = o; rtype = t; ttl = l; rdata = d.octets }) e f g i || any_told r o t l e f g ds i
 
@@ -129,8 +129,8 @@ filter_same p q (x ∷ xs) h = λ i. cond (h.0 i) (x ∷ filter_same p q xs h.1 
 pub lacking_told : (set other : List Record) (ds : List Data) → IsRRset set → other ≡ records_with (owner_of other) (rtype_of other) (ttl_of other) ds → is_same (owner_of set) (owner_of other) ≡ true → rtype_of set ≡ rtype_of other → ttl_of set ≡ ttl_of other → lacking set other ≡ untold ds set
 lacking_told set other ds h e names types ttls =
     let tie = tie_from_same (owner_of set) (owner_of other) names in
-    filter_same (λ r. not (list_any (is_same_record r) other)) (λ r. not (told ds r)) set
-    (each_weaker (IsOf set) (λ r. not (list_any (is_same_record r) other) ≡ not (told ds r))
+    filter_same (λ r. not (list_any (is_same_record r) other)) (λ r. not (reported ds r)) set
+    (each_weaker (IsOf set) (λ r. not (list_any (is_same_record r) other) ≡ not (reported ds r))
     (λ r m. ap (λ l. not (list_any (is_same_record r) l)) e ∙ ap not (any_told r (owner_of other) (rtype_of other) (ttl_of other) (ap (λ n. canonical_cmp n (owner_of other)) m.owner ∙ tie) (m.rtype ∙ types) (m.ttl ∙ ttls) ds))
     set (recursion_from_All (IsOf set) set h.shared))
 

@@ -29,7 +29,7 @@ some_set (r ∷ rs) = (r ∷ rs) ∷ []
 abbrev pub sets_left_out : List (List Record) → List Record → List (List Record)
 sets_left_out sets other = flat_map (λ set. some_set (left_out set other)) sets
 
--- a zone's sets at owners, one owner's behind another's
+-- a zone's sets at owners, one owner's after another's
 abbrev pub sets_of : List Record → List Name → List (List Record)
 sets_of zone owners = flat_map (λ owner. sets_in (rrsets_of zone owner)) owners
 

@@ -8,7 +8,7 @@ use Rattle.dns_rdata.specs.Record.{Record, owner_of, rtype_of}
 use Rattle.zone_tree.specs.Sets.{records_in, AreAscending}
 use Rattle.zone_tree.specs.Filed.{Filed, Owned, AreFiled, records_under}
 
--- a list with others in place of what stands at one place: what comes before that place, the others, and what comes behind it
+-- a list with others in place of what stands at one place: what comes before that place, the others, and what comes after it
 abbrev pub put_at : {X : Type 0} → (X → Ordering) → List X → List X → List X
 put_at beside others xs = filter (λ x. is_lt (beside x)) xs ++ others ++ filter (λ x. is_gt (beside x)) xs
 

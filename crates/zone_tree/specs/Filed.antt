@@ -20,7 +20,7 @@ Filed = Name × Own
 abbrev pub Owned : Type 0
 Owned = Name × Vec (List Record)
 
--- the sets of all owners, one owner's behind another's, and their records
+-- the sets of all owners, one owner's after another's, and their records
 abbrev pub sets_under : List Filed → List (List Record)
 sets_under pairs = flat_map (λ pair. pair.1.items) pairs
 
@@ -49,7 +49,7 @@ pub record AreGathered (pairs : List Filed) (sets : List (List Record)) : Type 0
 abbrev pub AreBefore : Name → List Filed → Type 0
 AreBefore name pairs = AllByRecursion (λ pair. canonical_cmp pair.0 name ≡ Less) pairs
 
--- a set comes behind all others
+-- a set comes after all others
 abbrev pub IsBehind : List Record → List (List Record) → Type 0
 IsBehind set sets = AllByRecursion (λ other. IsSetBefore other set) sets
 

@@ -72,7 +72,7 @@ pub record AreJudged (sets : List (List Record)) (at : Name) (count : ℕ) : Typ
   pub counted : count ≡ length (records_in sets)
   pub lawful : IsZone (records_in sets)
 
--- a record in front of sets: in the first one where it has its owner and type, and else in a set of its own
+-- a record before sets: in the first one where it has its owner and type, and else in a set of its own
 abbrev pub in_front : Record → List (List Record) → List (List Record)
 in_front r [] = (r ∷ []) ∷ []
 in_front r (set ∷ sets) = if is_of (owner_of set) (rtype_of set) r then (r ∷ set) ∷ sets else (r ∷ []) ∷ set ∷ sets

@@ -22,7 +22,6 @@ pub struct Delta {
     additions: Vec<RRset>,
 }
 
-// By hand: a derived drop is proved once more in each crate that lets such a value go.
 impl Drop for Delta {
     fn drop(self) {
         let Delta {

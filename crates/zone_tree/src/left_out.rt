@@ -78,7 +78,7 @@ fn set_left_out(alloc: Global, set: &RRset, other: &Zone) -> Result<Option<RRset
     }
 }
 
-// What sets have that a zone hasn't, set by set, behind others.
+// What sets have that a zone hasn't, set by set, after others.
 fn put_left_out(
     alloc: Global,
     to: &mut Vec<RRset>,

@@ -23,7 +23,7 @@ pub(crate) fn count_of(set: Option<&RRset>) -> usize
     }
 }
 
-// Copies of the sets of lower types, behind others.
+// Copies of the sets of lower types, after others.
 fn put_lower(alloc: Global, to: &mut Own, own: &[RRset], rtype: RType) -> Result<(), AllocError>
     ensures { OnOk result (to.new.items ≡ to.old.items ++ filter (λ set. is_lt (nat_cmp (rtype_of set) rtype.0)) own.now) }
 {
@@ -35,7 +35,7 @@ fn put_lower(alloc: Global, to: &mut Own, own: &[RRset], rtype: RType) -> Result
     Ok(())
 }
 
-// Copies of the sets of higher types, behind others.
+// Copies of the sets of higher types, after others.
 fn put_higher(alloc: Global, to: &mut Own, own: &[RRset], rtype: RType) -> Result<(), AllocError>
     ensures { OnOk result (to.new.items ≡ to.old.items ++ filter (λ set. is_gt (nat_cmp (rtype_of set) rtype.0)) own.now) }
 {

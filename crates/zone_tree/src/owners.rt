@@ -46,7 +46,7 @@ pub(crate) fn under_owners(alloc: Global, sets: Vec<RRset>) -> Result<Vec<Owned>
     Ok(pairs)
 }
 
-/// Puts a set that comes behind all others under its owner, which is the last one or a new one.
+/// Puts a set that comes after all others under its owner, which is the last one or a new one.
 fn put_behind(alloc: Global, pairs: &mut Vec<Owned>, set: RRset) -> Result<(), AllocError>
     ensures { OnOk result ((sets : List (List Record)) → AreGathered pairs.old.items sets → IsBehind set sets → AreGathered pairs.new.items (sets ++ set ∷ [])) }
 {
@@ -64,7 +64,7 @@ fn put_behind(alloc: Global, pairs: &mut Vec<Owned>, set: RRset) -> Result<(), A
     }
 }
 
-/// Puts a set under a new owner, which comes behind all others.
+/// Puts a set under a new owner, which comes after all others.
 fn put_new(alloc: Global, pairs: &mut Vec<Owned>, set: RRset) -> Result<(), AllocError>
     ensures { OnOk result ((sets : List (List Record)) → AreGathered pairs.old.items sets → AreBefore (owner_of set) pairs.old.items → AreGathered pairs.new.items (sets ++ set ∷ [])) }
 {

@@ -1,4 +1,4 @@
-//! Versions of a zone: the zones that it becomes, one behind the other.
+//! Versions of a zone: the zones that it becomes, one after the other.
 ghost use Rattle.std.specs.Prelude.{◌≡◌, ◌+◌, ◌<◌, ◌^◌, length, Some, None};
 ghost use Rattle.std.specs.Option.{option_copied};
 ghost use Rattle.dns_rdata.specs.Numbers.{type_SOA};
@@ -21,7 +21,6 @@ pub struct Version {
     delta: Option<Delta>,
 }
 
-// By hand: a derived drop is proved once more in each crate that lets such a value go.
 impl Drop for Version {
     fn drop(self) {
         let Version {

@@ -12,7 +12,7 @@ use std::marker::Model;
 /// The owners of a zone that are left, with their sets.
 type OwnersLeft<'a> = shared_tree::Walk<'a, OwnerKey, Own>;
 
-/// The sets of a zone that are left, in canonical order (RFC 4034, 6.1): one owner's behind another's. It takes no memory.
+/// The sets of a zone that are left, in canonical order (RFC 4034, 6.1): one owner's after another's. It takes no memory.
 /// Contracts see the list of the sets that are left.
 #[derive(Drop)]
 pub struct Walk<'a> {
@@ -42,7 +42,7 @@ impl<'a> Walk<'a> {
         Walk { rest: &[], owners }
     }
 
-    /// Sets of one owner, and all sets of the owners behind it.
+    /// Sets of one owner, and all sets of the owners after it.
     pub(crate) fn within(rest: &'a [RRset], owners: OwnersLeft<'a>) -> Walk<'a>
         requires { AllByRecursion IsFiled owners }
         ensures { result ≡ rest.now ++ sets_under owners.entry }

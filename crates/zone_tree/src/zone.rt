@@ -38,7 +38,6 @@ pub struct Zone {
     owners: Owners,
 }
 
-// By hand: a derived drop is proved once more in each crate that lets such a value go.
 impl Drop for Zone {
     fn drop(self) {
         let Zone {
@@ -233,7 +232,7 @@ fn first_sets(owners: &Owners) -> &[RRset]
     }
 }
 
-/// The first owner behind a name, with its sets.
+/// The first owner after a name, with its sets.
 fn owner_behind<'a>(owners: &'a Owners, name: &SoughtName) -> Option<&'a Owned>
     ensures { option_copied result ≡ pair_after canonical_cmp name.now owners.now.pairs }
 {

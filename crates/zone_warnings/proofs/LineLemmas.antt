@@ -8,7 +8,7 @@ use Rattle.record_text.specs.declared.cause.Cause.TheVariants.{Limit}
 use Rattle.master_file.specs.declared.fault.FileFault.{FileFault}
 use Rattle.master_file.specs.Fault.{no_memory}
 use Rattle.master_file.specs.Records.{Read, records_of, faulty}
-use Rattle.master_file.specs.ZoneText.{told, first_line, is_too_many, zone_of_all, zone_of_text}
+use Rattle.master_file.specs.ZoneText.{reported, first_line, is_too_many, zone_of_all, zone_of_text}
 
 -- six texts, one behind the other
 pub six_parts : (text a b c d e f : List ℕ) → (((((text ++ a) ++ b) ++ c) ++ d) ++ e) ++ f ≡ text ++ (a ++ (b ++ (c ++ (d ++ (e ++ (f ++ []))))))
@@ -21,7 +21,7 @@ six_parts text a b c d e f =
     ∙ ap (λ (os : List ℕ). text ++ (a ++ (b ++ (c ++ (d ++ (e ++ os)))))) (sym (append-nil f))
 
 -- where a text is a zone, no fault is told of it
-told_ok : (line : Option ℕ) (next : Result (List Record) FileFault) (zone : List Record) → told Limit line next ≡ Ok zone → next ≡ Ok zone
+told_ok : (line : Option ℕ) (next : Result (List Record) FileFault) (zone : List Record) → reported Limit line next ≡ Ok zone → next ≡ Ok zone
 told_ok None next zone e = e
 told_ok (Some line) next zone e = cc
 

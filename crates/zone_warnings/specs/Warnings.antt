@@ -72,7 +72,7 @@ abbrev pub lacks_glue : HostState → Bool
 lacks_glue NoGlue = true
 lacks_glue state = false
 
--- whether a name ends with another twice, one behind the other; all names end so with the root
+-- whether a name ends with another twice, one after the other; all names end so with the root
 abbrev pub ends_twice : Name → Name → Bool
 ends_twice apex name = not (length apex == 0) && is_under name (apex ++ apex)
 

@@ -41,7 +41,7 @@ fn write_all(alloc: Global, text: &[u8], origin: &Name, zone: &Zone) -> Result<S
     Ok(lines)
 }
 
-/// Puts the lines of a record behind others.
+/// Puts the lines of a record after others.
 fn put_warnings(
     alloc: Global,
     lines: &mut String,
@@ -59,7 +59,7 @@ fn put_warnings(
     Ok(())
 }
 
-/// Puts the line of a warning behind others, where the record shows it.
+/// Puts the line of a warning after others, where the record shows it.
 fn put_shown(
     alloc: Global,
     lines: &mut String,
@@ -75,7 +75,7 @@ fn put_shown(
     put_line(lines, zone, rr, warning)
 }
 
-/// Puts the line of a warning behind others.
+/// Puts the line of a warning after others.
 fn put_line(
     lines: &mut String,
     zone: &Zone,
@@ -90,7 +90,7 @@ fn put_line(
     lines.push('\n')
 }
 
-/// Puts the words of a warning behind others.
+/// Puts the words of a warning after others.
 fn put_words(
     lines: &mut String,
     zone: &Zone,
@@ -112,7 +112,7 @@ fn put_words(
     }
 }
 
-/// Puts a record's type, the name in its data and words behind others.
+/// Puts a record's type, the name in its data and words after others.
 fn put_of_name(lines: &mut String, rr: &RecordEntry, words: &str) -> Result<(), AllocError>
     ensures { OnOk result (string_bytes lines.new ≡ string_bytes lines.old ++ (type_and_name (record_in rr.now) ++ words.now)) }
 {
@@ -121,7 +121,7 @@ fn put_of_name(lines: &mut String, rr: &RecordEntry, words: &str) -> Result<(), 
     write!(lines, " {name}{words}")
 }
 
-/// Puts a record's owner and type, its TTL and that of its set behind others.
+/// Puts a record's owner and type, its TTL and that of its set after others.
 fn put_ttls(lines: &mut String, zone: &Zone, rr: &RecordEntry) -> Result<(), AllocError>
     ensures { OnOk result (string_bytes lines.new ≡ string_bytes lines.old ++ words_of zone.now (record_in rr.now) Warning.OtherTtl) }
 {

@@ -6,7 +6,7 @@ ghost use Rattle.zone_warnings.specs.Warnings.{ends_twice, one_ends_twice};
 use dns_name::Name;
 use std::alloc::{AllocError, Global};
 
-/// A name twice, one behind the other; None where that has more than 255 octets. An `Err` only where a growth was refused.
+/// A name twice, one after the other; None where that has more than 255 octets. An `Err` only where a growth was refused.
 fn doubled(alloc: Global, name: &Name) -> Result<Option<Name>, AllocError>
     ensures { IfOk result (λ both. both
         ≡ (if nat_le (length (wire_of (name.now ++ name.now))) 255 then Some (name.now ++ name.now) else None)) }

@@ -9,7 +9,7 @@ returns-in_default-clause-text c = c.new.ensures.bytes ∙ sym (same_hex c.args.
 
 pub returns-clause-text : goal.returns-clause-text
 returns-clause-text c =
-    let told = rw c.in-Some.is at c.in_ok-update.ensures.update in
+    let reported = rw c.in-Some.is at c.in_ok-update.ensures.update in
     c.in_ok-line.ensures
-    ∙ ap (λ os. encode_lower os ++ 10 ∷ []) (c.as_slice.ensures.value ∙ c.in_ok-message.ensures.octets ∙ ap message_octets told.0)
-    ∙ sym (other_hex c.args.old.now c.args.next.now told.1)
+    ∙ ap (λ os. encode_lower os ++ 10 ∷ []) (c.as_slice.ensures.value ∙ c.in_ok-message.ensures.octets ∙ ap message_octets reported.0)
+    ∙ sym (other_hex c.args.old.now c.args.next.now reported.1)

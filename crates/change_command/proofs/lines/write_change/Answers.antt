@@ -11,7 +11,7 @@ pub returns-clause-text : goal.returns-clause-text
 returns-clause-text c =
     let f = signed_line (codes "- ") in
     let g = signed_line (codes "+ ") in
-    let told = rw c.in-Some.is at c.in_ok-change.ensures.change in
+    let reported = rw c.in-Some.is at c.in_ok-change.ensures.change in
     c.in_ok-put_change.ensures
-    ∙ (λ i. c.new-text.ensures.bytes i ++ (flat_map f (soa_of c.args.old.now ++ told.0.deletions i) ++ flat_map g (told.1 i ++ told.0.additions i)))
-    ∙ sym (other_text c.args.old.now c.args.next.now told.2)
+    ∙ (λ i. c.new-text.ensures.bytes i ++ (flat_map f (soa_of c.args.old.now ++ reported.0.deletions i) ++ flat_map g (reported.1 i ++ reported.0.additions i)))
+    ∙ sym (other_text c.args.old.now c.args.next.now reported.2)

@@ -11,5 +11,5 @@ pub returns-clause-ok : goal.returns-clause-ok
 returns-clause-ok g c =
     text_taken (g.R.Read.remaining c.args.reader.now) c.args.zone.now c.in_ok-next.next (g.W.Write.contents c.args.writer.now) (g.W.Write.contents c.write_text.new.writer) c.in_ok-next.ensures.zone c.in_ok-write_text.ensures
 
-pub returns-clause-told : goal.returns-clause-told
-returns-clause-told g c = told_taken (g.R.Read.remaining c.args.reader.now) c.args.zone.now c.in_ok-next.next c.in_ok-next.ensures.zone
+pub returns-clause-reported : goal.returns-clause-reported
+returns-clause-reported g c = told_taken (g.R.Read.remaining c.args.reader.now) c.args.zone.now c.in_ok-next.next c.in_ok-next.ensures.zone

@@ -24,20 +24,20 @@ split_seat-share-requires g c =
     let idle = c.requires.idle in
     let fits = c.requires.fits in
     let me = c.join_seat.ensures.2 ∙ (λ i. (lodging (idle.2.0 i).0 (idle.3.0 i).0, (idle.2.0 i).1)) in
-    let told = subst (λ v. NewestTells g.C.Names.begins g.C.Follows.follows v c.fetch_add-found.result c.fetch_add-found.new.seat.me) (λ i. (me i).0) c.fetch_add-found.ensures.2 in
-    (c.fetch_add-found.ensures.0 ∙ c.join_seat.ensures.0 ∙ fits.1, omega (arith, fits.0.0), share_splits_publisher g.C.Names.begins g.C.Follows.follows c.args.words.now.key.places.items c.fetch_add-found.new.seat.id c.fetch_add-found.new.seat.me.0 _ told.0 (λ i. (told.1 i).0) refl)
+    let reported = subst (λ v. NewestTells g.C.Names.begins g.C.Follows.follows v c.fetch_add-found.result c.fetch_add-found.new.seat.me) (λ i. (me i).0) c.fetch_add-found.ensures.2 in
+    (c.fetch_add-found.ensures.0 ∙ c.join_seat.ensures.0 ∙ fits.1, omega (arith, fits.0.0), share_splits_publisher g.C.Names.begins g.C.Follows.follows c.args.words.now.key.places.items c.fetch_add-found.new.seat.id c.fetch_add-found.new.seat.me.0 _ reported.0 (λ i. (reported.1 i).0) refl)
 
 pub split_seat-reader-requires : goal.split_seat-reader-requires
 split_seat-reader-requires g c =
     let idle = c.requires.idle in
     let fits = c.requires.fits in
     let me = c.join_seat.ensures.2 ∙ (λ i. (lodging (idle.2.0 i).0 (idle.3.0 i).0, (idle.2.0 i).1)) in
-    let told = subst (λ v. NewestTells g.C.Names.begins g.C.Follows.follows v c.fetch_add-found.result c.fetch_add-found.new.seat.me) (λ i. (me i).0) c.fetch_add-found.ensures.2 in
-    let kept = c.split_seat-share.ensures.2 ∙ ap (λ m. (kept_share m.0, m.1)) told.1 in
+    let reported = subst (λ v. NewestTells g.C.Names.begins g.C.Follows.follows v c.fetch_add-found.result c.fetch_add-found.new.seat.me) (λ i. (me i).0) c.fetch_add-found.ensures.2 in
+    let kept = c.split_seat-share.ensures.2 ∙ ap (λ m. (kept_share m.0, m.1)) reported.1 in
     (c.split_seat-share.ensures.0 ∙ c.fetch_add-found.ensures.0 ∙ c.join_seat.ensures.0 ∙ fits.1, omega (arith, fits.0.0), met_splits g.C.Names.begins g.C.Follows.follows c.args.words.now.key.places.items c.split_seat-share.new.seat.id c.split_seat-share.new.seat.me.0 _ (λ i. (kept i).0) refl)
 
 pub returns-clause-newest : goal.returns-clause-newest
 returns-clause-newest g c p r idle guest =
     let me = c.join_seat.ensures.2 ∙ (λ i. (lodging (idle.0 i).0 (guest.0 i).0, (idle.0 i).1)) in
-    let told = subst (λ v. NewestTells g.C.Names.begins g.C.Follows.follows v c.fetch_add-found.result c.fetch_add-found.new.seat.me) (λ i. (me i).0) c.fetch_add-found.ensures.2 in
-    newest_of g.C.Names.begins g.C.Follows.follows c.args.words.now.key.places.items p r c.fetch_add-found.result c.fetch_add-found.new.seat.me c.split_seat-share.new.seat.me c.split_seat-share.result.me c.split_seat-reader.new.seat.me c.split_seat-reader.result.me idle.1 idle.2 guest.2 told c.split_seat-share.ensures.2 c.split_seat-share.ensures.4 c.split_seat-reader.ensures.2 c.split_seat-reader.ensures.4
+    let reported = subst (λ v. NewestTells g.C.Names.begins g.C.Follows.follows v c.fetch_add-found.result c.fetch_add-found.new.seat.me) (λ i. (me i).0) c.fetch_add-found.ensures.2 in
+    newest_of g.C.Names.begins g.C.Follows.follows c.args.words.now.key.places.items p r c.fetch_add-found.result c.fetch_add-found.new.seat.me c.split_seat-share.new.seat.me c.split_seat-share.result.me c.split_seat-reader.new.seat.me c.split_seat-reader.result.me idle.1 idle.2 guest.2 reported c.split_seat-share.ensures.2 c.split_seat-share.ensures.4 c.split_seat-reader.ensures.2 c.split_seat-reader.ensures.4

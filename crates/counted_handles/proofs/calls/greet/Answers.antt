@@ -23,11 +23,11 @@ split_seat-requires g c =
     let idle = c.requires.idle in
     let fits = c.requires.fits in
     let me = c.join_seat.ensures.2 ∙ (λ i. (lodging (idle.2.0 i).0 (idle.3.0 i).0, (idle.2.0 i).1)) in
-    let told = subst (λ v. GreetTells v c.load.new.seat.me) (λ i. (me i).0) c.load.ensures.2 in
-    (c.load.ensures.0 ∙ c.join_seat.ensures.0 ∙ fits.1, omega (arith, fits.0.0), met_splits g.C.Names.begins g.C.Follows.follows c.args.words.now.key.places.items c.load.new.seat.id c.load.new.seat.me.0 (greeted_as g.C.Names.begins g.C.Follows.follows c.args.words.now.key.places.items idle.0 idle.1) (λ i. (told.0 i).0) idle.2.1)
+    let reported = subst (λ v. GreetTells v c.load.new.seat.me) (λ i. (me i).0) c.load.ensures.2 in
+    (c.load.ensures.0 ∙ c.join_seat.ensures.0 ∙ fits.1, omega (arith, fits.0.0), met_splits g.C.Names.begins g.C.Follows.follows c.args.words.now.key.places.items c.load.new.seat.id c.load.new.seat.me.0 (greeted_as g.C.Names.begins g.C.Follows.follows c.args.words.now.key.places.items idle.0 idle.1) (λ i. (reported.0 i).0) idle.2.1)
 
 pub returns-clause-greeted : goal.returns-clause-greeted
 returns-clause-greeted g c p r idle guest =
     let me = c.join_seat.ensures.2 ∙ (λ i. (lodging (idle.0 i).0 (guest.0 i).0, (idle.0 i).1)) in
-    let told = subst (λ v. GreetTells v c.load.new.seat.me) (λ i. (me i).0) c.load.ensures.2 in
-    greeted_of g.C.Names.begins g.C.Follows.follows c.args.words.now.key.places.items p r c.load.new.seat.me c.split_seat.new.seat.me c.split_seat.result.me idle.2 told c.split_seat.ensures.2 c.split_seat.ensures.4
+    let reported = subst (λ v. GreetTells v c.load.new.seat.me) (λ i. (me i).0) c.load.ensures.2 in
+    greeted_of g.C.Names.begins g.C.Follows.follows c.args.words.now.key.places.items p r c.load.new.seat.me c.split_seat.new.seat.me c.split_seat.result.me idle.2 reported c.split_seat.ensures.2 c.split_seat.ensures.4

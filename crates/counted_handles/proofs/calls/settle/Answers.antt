@@ -11,5 +11,5 @@ fetch_sub-requires g c =
 
 pub returns-clause-settled : goal.returns-clause-settled
 returns-clause-settled g c p number due =
-    let told = subst (λ (m : Sat g.row.T.Denot). SettleTells m.0 c.fetch_sub.new.seat.me) due.me_is c.fetch_sub.ensures.2 in
-    subst (λ q. SettleAt p q c.fetch_sub.new.seat.me) due.how told
+    let reported = subst (λ (m : Sat g.row.T.Denot). SettleTells m.0 c.fetch_sub.new.seat.me) due.me_is c.fetch_sub.ensures.2 in
+    subst (λ q. SettleAt p q c.fetch_sub.new.seat.me) due.how reported

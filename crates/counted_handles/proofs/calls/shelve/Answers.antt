@@ -11,5 +11,5 @@ store-requires g c =
 
 pub returns-clause-lies : goal.returns-clause-lies
 returns-clause-lies g c p value room ready =
-    let told = subst (λ (m : Sat g.row.T.Denot). PrepareTells m c.store.new.seat.me) ready.me_is c.store.ensures.2 in
-    subst (λ v. Prepared p c.args.slot v c.store.new.seat.me) (prepared_value told.0 value (sym told.1 ∙ ready.version)) told.2
+    let reported = subst (λ (m : Sat g.row.T.Denot). PrepareTells m c.store.new.seat.me) ready.me_is c.store.ensures.2 in
+    subst (λ v. Prepared p c.args.slot v c.store.new.seat.me) (prepared_value reported.0 value (sym reported.1 ∙ ready.version)) reported.2

@@ -11,5 +11,5 @@ swap-requires g c =
 
 pub returns-clause-published : goal.returns-clause-published
 returns-clause-published g c p value due =
-    let told = subst (λ (m : Sat g.row.T.Denot). SwapTells m.0 c.swap.result c.swap.new.seat.me) due.me_is c.swap.ensures.2 in
-    subst (λ v. Swapped p v c.swap.result c.swap.new.seat.me) (let e : Some told.0 ≡ Some value = sym told.1 ∙ due.next in cc) told.2
+    let reported = subst (λ (m : Sat g.row.T.Denot). SwapTells m.0 c.swap.result c.swap.new.seat.me) due.me_is c.swap.ensures.2 in
+    subst (λ v. Swapped p v c.swap.result c.swap.new.seat.me) (let e : Some reported.0 ≡ Some value = sym reported.1 ∙ due.next in cc) reported.2

@@ -35,8 +35,8 @@ loop-slot-preserved g c =
         c.scan.ensures.seat.1 ∙ inv.3,
         λ p due.
             let look = inv.4 p due in
-            let told = w.if-scan.ensures.scanned (record p { how = Probing (wrapped slot); found = look.0 }) (looking_due p slot count before l look) in
-            subst (λ n. Looking p (slot + 1) n after) (sym w.count-is) (looking_more p slot count before after look.0 l look.2 look.3 told),
+            let reported = w.if-scan.ensures.scanned (record p { how = Probing (wrapped slot); found = look.0 }) (looking_due p slot count before l look) in
+            subst (λ n. Looking p (slot + 1) n after) (sym w.count-is) (looking_more p slot count before after look.0 l look.2 look.3 reported),
       )
       | else-scan w ↦ (
         omega arith,
@@ -45,8 +45,8 @@ loop-slot-preserved g c =
         c.scan.ensures.seat.1 ∙ inv.3,
         λ p due.
             let look = inv.4 p due in
-            let told = w.if-scan.ensures.scanned (record p { how = Probing (wrapped slot); found = look.0 }) (looking_due p slot count before l look) in
-            subst (λ n. Looking p (slot + 1) n after) (sym w.count-is) (looking_on p slot count before after look.0 l look.2 look.3 told),
+            let reported = w.if-scan.ensures.scanned (record p { how = Probing (wrapped slot); found = look.0 }) (looking_due p slot count before l look) in
+            subst (λ n. Looking p (slot + 1) n after) (sym w.count-is) (looking_on p slot count before after look.0 l look.2 look.3 reported),
       )
     ]
 

@@ -23,20 +23,20 @@ split_seat-share-requires g c =
     let has = c.requires.has in
     let fits = c.requires.fits in
     let me = c.join_seat.ensures.2 ∙ (λ i. (hosting (has.2.0 i).0 (has.3 i).0, (has.2.0 i).1)) in
-    let told = subst (λ v. RaiseTells v c.fetch_add.result c.fetch_add.new.seat.me) (λ i. (me i).0) c.fetch_add.ensures.2 in
-    (c.fetch_add.ensures.0 ∙ c.join_seat.ensures.0 ∙ fits.1, omega (arith, fits.0.0), gain_splits g.C.Names.begins g.C.Follows.follows c.args.words.now.key.places.items c.fetch_add.new.seat.id c.fetch_add.new.seat.me.0 (with_grant_less has.0) has.1 (λ i. (told i).0))
+    let reported = subst (λ v. RaiseTells v c.fetch_add.result c.fetch_add.new.seat.me) (λ i. (me i).0) c.fetch_add.ensures.2 in
+    (c.fetch_add.ensures.0 ∙ c.join_seat.ensures.0 ∙ fits.1, omega (arith, fits.0.0), gain_splits g.C.Names.begins g.C.Follows.follows c.args.words.now.key.places.items c.fetch_add.new.seat.id c.fetch_add.new.seat.me.0 (with_grant_less has.0) has.1 (λ i. (reported i).0))
 
 pub split_seat-owner-requires : goal.split_seat-owner-requires
 split_seat-owner-requires g c =
     let has = c.requires.has in
     let fits = c.requires.fits in
     let me = c.join_seat.ensures.2 ∙ (λ i. (hosting (has.2.0 i).0 (has.3 i).0, (has.2.0 i).1)) in
-    let told = subst (λ v. RaiseTells v c.fetch_add.result c.fetch_add.new.seat.me) (λ i. (me i).0) c.fetch_add.ensures.2 in
-    let kept = c.split_seat-share.ensures.2 ∙ ap (λ m. (kept_gain m.0, m.1)) told in
+    let reported = subst (λ v. RaiseTells v c.fetch_add.result c.fetch_add.new.seat.me) (λ i. (me i).0) c.fetch_add.ensures.2 in
+    let kept = c.split_seat-share.ensures.2 ∙ ap (λ m. (kept_gain m.0, m.1)) reported in
     (c.split_seat-share.ensures.0 ∙ c.fetch_add.ensures.0 ∙ c.join_seat.ensures.0 ∙ fits.1, omega (arith, fits.0.0), depart_splits g.C.Names.begins g.C.Follows.follows c.args.words.now.key.places.items c.split_seat-share.new.seat.id c.split_seat-share.new.seat.me.0 (with_grant_less has.0) has.1 (λ i. (kept i).0))
 
 pub returns-clause-cloned : goal.returns-clause-cloned
 returns-clause-cloned g c r mark guest owner =
     let me = c.join_seat.ensures.2 ∙ (λ i. (hosting (guest.0 i).0 (owner i).0, (guest.0 i).1)) in
-    let told = subst (λ v. RaiseTells v c.fetch_add.result c.fetch_add.new.seat.me) (λ i. (me i).0) c.fetch_add.ensures.2 in
-    cloned_of r mark c.fetch_add.new.seat.me c.split_seat-share.new.seat.me c.split_seat-share.result.me c.split_seat-owner.new.seat.me c.split_seat-owner.result.me told c.split_seat-share.ensures.2 c.split_seat-share.ensures.4 c.split_seat-owner.ensures.2 c.split_seat-owner.ensures.4
+    let reported = subst (λ v. RaiseTells v c.fetch_add.result c.fetch_add.new.seat.me) (λ i. (me i).0) c.fetch_add.ensures.2 in
+    cloned_of r mark c.fetch_add.new.seat.me c.split_seat-share.new.seat.me c.split_seat-share.result.me c.split_seat-owner.new.seat.me c.split_seat-owner.result.me reported c.split_seat-share.ensures.2 c.split_seat-share.ensures.4 c.split_seat-owner.ensures.2 c.split_seat-owner.ensures.4

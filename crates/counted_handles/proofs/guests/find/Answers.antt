@@ -22,11 +22,11 @@ split_seat-requires g c =
     let has = c.requires.has in
     let fits = c.requires.fits in
     let me = c.join_seat.ensures.2 ∙ (λ i. (hosting (has.2.0 i).0 (has.3 i).0, (has.2.0 i).1)) in
-    let told = subst (λ v. SeeTells v c.load.result c.load.new.seat.me) (λ i. (me i).0) c.load.ensures.2 in
-    (c.load.ensures.0 ∙ c.join_seat.ensures.0 ∙ fits.1, omega (arith, fits.0.0), depart_splits g.C.Names.begins g.C.Follows.follows c.args.words.now.key.places.items c.load.new.seat.id c.load.new.seat.me.0 has.0 has.1 (λ i. (told.0 i).0))
+    let reported = subst (λ v. SeeTells v c.load.result c.load.new.seat.me) (λ i. (me i).0) c.load.ensures.2 in
+    (c.load.ensures.0 ∙ c.join_seat.ensures.0 ∙ fits.1, omega (arith, fits.0.0), depart_splits g.C.Names.begins g.C.Follows.follows c.args.words.now.key.places.items c.load.new.seat.id c.load.new.seat.me.0 has.0 has.1 (λ i. (reported.0 i).0))
 
 pub returns-clause-found : goal.returns-clause-found
 returns-clause-found g c r mark whole owner =
     let me = c.join_seat.ensures.2 ∙ (λ i. (hosting (whole.0 i).0 (owner i).0, (whole.0 i).1)) in
-    let told = subst (λ v. SeeTells v c.load.result c.load.new.seat.me) (λ i. (me i).0) c.load.ensures.2 in
-    found_of r mark c.load.new.seat.me c.split_seat.new.seat.me c.split_seat.result.me told c.split_seat.ensures.2 c.split_seat.ensures.4
+    let reported = subst (λ v. SeeTells v c.load.result c.load.new.seat.me) (λ i. (me i).0) c.load.ensures.2 in
+    found_of r mark c.load.new.seat.me c.split_seat.new.seat.me c.split_seat.result.me reported c.split_seat.ensures.2 c.split_seat.ensures.4

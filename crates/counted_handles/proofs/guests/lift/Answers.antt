@@ -24,24 +24,24 @@ split_seat-weak-requires g c =
     let has = c.requires.has in
     let fits = c.requires.fits in
     let me = c.join_seat.ensures.2 ∙ (λ i. (hosting (has.2.0 i).0 (has.3 i).0, (has.2.0 i).1)) in
-    let told = (subst (λ v. SeeTells v c.load.result c.load.new.seat.me) (λ i. (me i).0) c.load.ensures.2).1 (omega arith) in
-    (c.load.ensures.0 ∙ c.join_seat.ensures.0 ∙ fits.1, omega (arith, fits.0.0), depart_weak_splits g.C.Names.begins g.C.Follows.follows c.args.words.now.key.places.items c.load.new.seat.id c.load.new.seat.me.0 (with_gone has.1.number has.0) has.1 (λ i. (told i).0))
+    let reported = (subst (λ v. SeeTells v c.load.result c.load.new.seat.me) (λ i. (me i).0) c.load.ensures.2).1 (omega arith) in
+    (c.load.ensures.0 ∙ c.join_seat.ensures.0 ∙ fits.1, omega (arith, fits.0.0), depart_weak_splits g.C.Names.begins g.C.Follows.follows c.args.words.now.key.places.items c.load.new.seat.id c.load.new.seat.me.0 (with_gone has.1.number has.0) has.1 (λ i. (reported i).0))
 
 pub fetch_add-requires : goal.fetch_add-requires
 fetch_add-requires g c =
     let has = c.requires.has in
     let fits = c.requires.fits in
     let me = c.join_seat.ensures.2 ∙ (λ i. (hosting (has.2.0 i).0 (has.3 i).0, (has.2.0 i).1)) in
-    let told = (subst (λ v. SeeTells v c.load.result c.load.new.seat.me) (λ i. (me i).0) c.load.ensures.2).0 (omega arith) in
-    (c.load.ensures.0 ∙ c.join_seat.ensures.0 ∙ fits.1, omega (arith, fits.0.0, fits.3), lift_allowed g.C.Names.begins g.C.Follows.follows c.args.words.now.key.places.items _ c.load.new.seat.id _ c.load.new.seat.me has.0 has.1 fits.0.1 (omega (arith, has.4)) told has.2.2)
+    let reported = (subst (λ v. SeeTells v c.load.result c.load.new.seat.me) (λ i. (me i).0) c.load.ensures.2).0 (omega arith) in
+    (c.load.ensures.0 ∙ c.join_seat.ensures.0 ∙ fits.1, omega (arith, fits.0.0, fits.3), lift_allowed g.C.Names.begins g.C.Follows.follows c.args.words.now.key.places.items _ c.load.new.seat.id _ c.load.new.seat.me has.0 has.1 fits.0.1 (omega (arith, has.4)) reported has.2.2)
 
 pub split_seat-weak-requires-then-fetch_add-ge-DEAD : goal.split_seat-weak-requires-then-fetch_add-ge-DEAD
 split_seat-weak-requires-then-fetch_add-ge-DEAD g c =
     let has = c.requires.has in
     let fits = c.requires.fits in
     let me = c.join_seat.ensures.2 ∙ (λ i. (hosting (has.2.0 i).0 (has.3 i).0, (has.2.0 i).1)) in
-    let told = (subst (λ v. SeeTells v c.load.result c.load.new.seat.me) (λ i. (me i).0) c.load.ensures.2).0 (omega arith) in
-    let raised = (subst (λ v. RaiseTells v c.fetch_add.result c.fetch_add.new.seat.me) (λ i. (told i).0) c.fetch_add.ensures.2).1 (omega arith) in
+    let reported = (subst (λ v. SeeTells v c.load.result c.load.new.seat.me) (λ i. (me i).0) c.load.ensures.2).0 (omega arith) in
+    let raised = (subst (λ v. RaiseTells v c.fetch_add.result c.fetch_add.new.seat.me) (λ i. (reported i).0) c.fetch_add.ensures.2).1 (omega arith) in
     (c.fetch_add.ensures.0 ∙ c.load.ensures.0 ∙ c.join_seat.ensures.0 ∙ fits.1, omega (arith, fits.0.0), depart_weak_splits g.C.Names.begins g.C.Follows.follows c.args.words.now.key.places.items c.fetch_add.new.seat.id c.fetch_add.new.seat.me.0 (with_gone has.1.number (with_grant_less has.0)) has.1 (λ i. (raised i).0))
 
 pub split_seat-share-requires : goal.split_seat-share-requires
@@ -49,8 +49,8 @@ split_seat-share-requires g c =
     let has = c.requires.has in
     let fits = c.requires.fits in
     let me = c.join_seat.ensures.2 ∙ (λ i. (hosting (has.2.0 i).0 (has.3 i).0, (has.2.0 i).1)) in
-    let told = (subst (λ v. SeeTells v c.load.result c.load.new.seat.me) (λ i. (me i).0) c.load.ensures.2).0 (omega arith) in
-    let raised = (subst (λ v. RaiseTells v c.fetch_add.result c.fetch_add.new.seat.me) (λ i. (told i).0) c.fetch_add.ensures.2).0 (omega arith) in
+    let reported = (subst (λ v. SeeTells v c.load.result c.load.new.seat.me) (λ i. (me i).0) c.load.ensures.2).0 (omega arith) in
+    let raised = (subst (λ v. RaiseTells v c.fetch_add.result c.fetch_add.new.seat.me) (λ i. (reported i).0) c.fetch_add.ensures.2).0 (omega arith) in
     (c.fetch_add.ensures.0 ∙ c.load.ensures.0 ∙ c.join_seat.ensures.0 ∙ fits.1, omega (arith, fits.0.0), gain_weak_splits g.C.Names.begins g.C.Follows.follows c.args.words.now.key.places.items c.fetch_add.new.seat.id c.fetch_add.new.seat.me.0 (with_grant_less has.0) raised.0 has.1 (λ i. (raised.2 i).0))
 
 pub split_seat-weak-requires-2 : goal.split_seat-weak-requires-2
@@ -58,14 +58,14 @@ split_seat-weak-requires-2 g c =
     let has = c.requires.has in
     let fits = c.requires.fits in
     let me = c.join_seat.ensures.2 ∙ (λ i. (hosting (has.2.0 i).0 (has.3 i).0, (has.2.0 i).1)) in
-    let told = (subst (λ v. SeeTells v c.load.result c.load.new.seat.me) (λ i. (me i).0) c.load.ensures.2).0 (omega arith) in
-    let raised = (subst (λ v. RaiseTells v c.fetch_add.result c.fetch_add.new.seat.me) (λ i. (told i).0) c.fetch_add.ensures.2).0 (omega arith) in
+    let reported = (subst (λ v. SeeTells v c.load.result c.load.new.seat.me) (λ i. (me i).0) c.load.ensures.2).0 (omega arith) in
+    let raised = (subst (λ v. RaiseTells v c.fetch_add.result c.fetch_add.new.seat.me) (λ i. (reported i).0) c.fetch_add.ensures.2).0 (omega arith) in
     let kept = c.split_seat-share.ensures.2 ∙ ap (λ m. (kept_gain m.0, m.1)) raised.2 in
     (c.split_seat-share.ensures.0 ∙ c.fetch_add.ensures.0 ∙ c.load.ensures.0 ∙ c.join_seat.ensures.0 ∙ fits.1, omega (arith, fits.0.0), depart_weak_splits g.C.Names.begins g.C.Follows.follows c.args.words.now.key.places.items c.split_seat-share.new.seat.id c.split_seat-share.new.seat.me.0 (with_grant_less has.0) has.1 (λ i. (kept i).0))
 
 pub returns-clause-lifted : goal.returns-clause-lifted
 returns-clause-lifted g c r tie guest weak =
     let me = c.join_seat.ensures.2 ∙ (λ i. (hosting (guest.0 i).0 (weak i).0, (guest.0 i).1)) in
-    let told = (subst (λ v. SeeTells v c.load.result c.load.new.seat.me) (λ i. (me i).0) c.load.ensures.2).0 (omega arith) in
-    let raised = (subst (λ v. RaiseTells v c.fetch_add.result c.fetch_add.new.seat.me) (λ i. (told i).0) c.fetch_add.ensures.2).0 (omega arith) in
+    let reported = (subst (λ v. SeeTells v c.load.result c.load.new.seat.me) (λ i. (me i).0) c.load.ensures.2).0 (omega arith) in
+    let raised = (subst (λ v. RaiseTells v c.fetch_add.result c.fetch_add.new.seat.me) (λ i. (reported i).0) c.fetch_add.ensures.2).0 (omega arith) in
     lifted_of r tie c.fetch_add.new.seat.me c.split_seat-share.new.seat.me c.split_seat-share.result.me c.split_seat-weak-2.new.seat.me raised c.split_seat-share.ensures.2 c.split_seat-share.ensures.4 c.split_seat-weak-2.ensures.2

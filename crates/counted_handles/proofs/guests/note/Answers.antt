@@ -24,20 +24,20 @@ split_seat-weak-requires g c =
     let has = c.requires.has in
     let fits = c.requires.fits in
     let me = c.join_seat.ensures.2 ∙ (λ i. (sharing (has.2 i).0 (has.5 i).0, (has.2 i).1)) in
-    let told = subst (λ v. NoteTells v c.fetch_add.new.seat.me) (λ i. (me i).0) c.fetch_add.ensures.2 in
-    (c.fetch_add.ensures.0 ∙ c.join_seat.ensures.0 ∙ fits.1, omega (arith, fits.0.0), untie_splits g.C.Names.begins g.C.Follows.follows c.args.words.now.key.places.items c.fetch_add.new.seat.id c.fetch_add.new.seat.me.0 (noted_as has.0 has.1) has.1 (tie_of has.1) (λ i. (told i).0) refl)
+    let reported = subst (λ v. NoteTells v c.fetch_add.new.seat.me) (λ i. (me i).0) c.fetch_add.ensures.2 in
+    (c.fetch_add.ensures.0 ∙ c.join_seat.ensures.0 ∙ fits.1, omega (arith, fits.0.0), untie_splits g.C.Names.begins g.C.Follows.follows c.args.words.now.key.places.items c.fetch_add.new.seat.id c.fetch_add.new.seat.me.0 (noted_as has.0 has.1) has.1 (tie_of has.1) (λ i. (reported i).0) refl)
 
 pub split_seat-owner-requires : goal.split_seat-owner-requires
 split_seat-owner-requires g c =
     let has = c.requires.has in
     let fits = c.requires.fits in
     let me = c.join_seat.ensures.2 ∙ (λ i. (sharing (has.2 i).0 (has.5 i).0, (has.2 i).1)) in
-    let told = subst (λ v. NoteTells v c.fetch_add.new.seat.me) (λ i. (me i).0) c.fetch_add.ensures.2 in
-    let kept = c.split_seat-weak.ensures.2 ∙ ap (λ m. (kept_untied m.0, m.1)) told in
+    let reported = subst (λ v. NoteTells v c.fetch_add.new.seat.me) (λ i. (me i).0) c.fetch_add.ensures.2 in
+    let kept = c.split_seat-weak.ensures.2 ∙ ap (λ m. (kept_untied m.0, m.1)) reported in
     (c.split_seat-weak.ensures.0 ∙ c.fetch_add.ensures.0 ∙ c.join_seat.ensures.0 ∙ fits.1, omega (arith, fits.0.0), share_splits_publisher g.C.Names.begins g.C.Follows.follows c.args.words.now.key.places.items c.split_seat-weak.new.seat.id c.split_seat-weak.new.seat.me.0 (noted_once has.0 has.1) has.1 (λ i. (kept i).0) refl)
 
 pub returns-clause-noted : goal.returns-clause-noted
 returns-clause-noted g c p mark is whole owner =
     let me = c.join_seat.ensures.2 ∙ (λ i. (sharing (is i).0 (owner i).0, (is i).1)) in
-    let told = subst (λ v. NoteTells v c.fetch_add.new.seat.me) (λ i. (me i).0) c.fetch_add.ensures.2 in
-    noted_of p mark c.fetch_add.new.seat.me c.split_seat-weak.new.seat.me c.split_seat-weak.result.me c.split_seat-owner.new.seat.me c.split_seat-owner.result.me whole told c.split_seat-weak.ensures.2 c.split_seat-weak.ensures.4 c.split_seat-owner.ensures.2 c.split_seat-owner.ensures.4
+    let reported = subst (λ v. NoteTells v c.fetch_add.new.seat.me) (λ i. (me i).0) c.fetch_add.ensures.2 in
+    noted_of p mark c.fetch_add.new.seat.me c.split_seat-weak.new.seat.me c.split_seat-weak.result.me c.split_seat-owner.new.seat.me c.split_seat-owner.result.me whole reported c.split_seat-weak.ensures.2 c.split_seat-weak.ensures.4 c.split_seat-owner.ensures.2 c.split_seat-owner.ensures.4

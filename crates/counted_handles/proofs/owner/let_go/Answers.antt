@@ -13,15 +13,15 @@ lower-released-requires-clause-has g c =
 pub returns-then-not-is_due : goal.returns-then-not-is_due
 returns-then-not-is_due g c =
     let has = c.requires.has in
-    let told = c.lower-released.ensures.lowered has.0 (c.stand-seat.ensures.has has.0 has.1) in
-    ends_there g.C.Names.begins g.C.Follows.follows has.0 c.lower-released.result c.lower-released.new.seat.me (λ e. let no = c.if-not-is_due.ensures.1 e in cc) told
+    let reported = c.lower-released.ensures.lowered has.0 (c.stand-seat.ensures.has has.0 has.1) in
+    ends_there g.C.Names.begins g.C.Follows.follows has.0 c.lower-released.result c.lower-released.new.seat.me (λ e. let no = c.if-not-is_due.ensures.1 e in cc) reported
 
 pub bury-requires-clause-due : goal.bury-requires-clause-due
 bury-requires-clause-due g c =
     let has = c.requires.has in
-    let told = c.lower-released.ensures.lowered has.0 (c.stand-seat.ensures.has has.0 has.1) in
+    let reported = c.lower-released.ensures.lowered has.0 (c.stand-seat.ensures.has has.0 has.1) in
     let one = c.if-not-is_due.ensures.0 refl in
-    let due = is_due has.0 c.lower-released.result c.lower-released.new.seat.me one told in
+    let due = is_due has.0 c.lower-released.result c.lower-released.new.seat.me one reported in
     (one, due ∙ (λ i. (Buries (has.2 i) (has.3 i), [])), c.requires.fits.1)
 
 pub returns-then-not-bury : goal.returns-then-not-bury

@@ -1,7 +1,7 @@
 use Rattle.std.proofs.Common.{sym, ap, subst, inl}
 use Rattle.update_core.specs.declared.outcome.Outcome.{Outcome}
 use Rattle.dns_engine.specs.declared.judged.Judged.TheVariants.{Made}
-use Rattle.dns_engine.specs.Told.{IsJudgedAs}
+use Rattle.dns_engine.specs.Outcomes.{IsJudgedAs}
 use Rattle.dns_engine.proofs.judged.judged_of.Goals as goal
 
 pub returns-in-Some : goal.returns-in-Some

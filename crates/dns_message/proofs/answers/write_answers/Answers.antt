@@ -35,4 +35,4 @@ returns-clause-count g c =
     let asked : c.from-asked.result ≡ length (questions question) = search rules in
     let opts : c.from.result ≡ opt_count c.args.opt = search rules in
     let counts : c.from-asked.result ∷ count ∷ 0 ∷ c.from.result ∷ [] ≡ length (questions question) ∷ count ∷ 0 ∷ opt_count c.args.opt ∷ [] = ap (λ (n : ℕ). n ∷ count ∷ 0 ∷ c.from.result ∷ []) asked ∙ ap (λ (n : ℕ). length (questions question) ∷ count ∷ 0 ∷ n ∷ []) opts in
-    (wrote c.args.head question c.args.opt _ _ _ _ _ _ _ _ _ _ _ c.requires.least c.requires.most c.put_body-at.auto.out c.put_body-at.ensures opt counts c.put_header.ensures).told
+    (wrote c.args.head question c.args.opt _ _ _ _ _ _ _ _ _ _ _ c.requires.least c.requires.most c.put_body-at.auto.out c.put_body-at.ensures opt counts c.put_header.ensures).reported

@@ -10,8 +10,8 @@ pub returns-then-ne : goal.returns-then-ne
 returns-then-ne c = HearsAt-other _ _ _ _ _ (IsPassed-at _ _ _ _ _ c.type_at.ensures c.in_ok-rtype.was) (sym c.ne.ensures ∙ c.if-ne.true)
 
 pub returns-in-None : goal.returns-in-None
-returns-in-None c = HearsAt-found _ _ _ _ _ _ (IsPassed-at _ _ _ _ _ c.type_at.ensures c.in_ok-rtype.was) (sym c.ne.ensures ∙ c.if-ne.false) (sym c.told_do.ensures ∙ c.in-None.is) c.heard_first.ensures
+returns-in-None c = HearsAt-found _ _ _ _ _ _ (IsPassed-at _ _ _ _ _ c.type_at.ensures c.in_ok-rtype.was) (sym c.ne.ensures ∙ c.if-ne.false) (sym c.do_bit_of.ensures ∙ c.in-None.is) c.heard_first.ensures
 
 pub returns-in-Some : goal.returns-in-Some
 returns-in-Some c =
-    HearsAt-more _ _ _ _ _ _ _ (IsPassed-at _ _ _ _ _ c.type_at.ensures c.in_ok-rtype.was) (sym c.ne.ensures ∙ c.if-ne.false) (sym c.told_do.ensures ∙ c.in-Some.is) c.too_many.ensures
+    HearsAt-more _ _ _ _ _ _ _ (IsPassed-at _ _ _ _ _ c.type_at.ensures c.in_ok-rtype.was) (sym c.ne.ensures ∙ c.if-ne.false) (sym c.do_bit_of.ensures ∙ c.in-Some.is) c.too_many.ensures

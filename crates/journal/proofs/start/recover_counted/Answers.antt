@@ -40,11 +40,11 @@ returns-clause-recovered c =
     let all = (c.in_ok-updates.ensures).ok in
     let are : AreBatches bodies all.0 = subst (λ (xs : List (Bor (List ℕ))). AreBatches (map (λ (b : Bor (List ℕ)). b.now) xs) all.0) c.deref.ensures.value all.1 in
     let says : Tail → Type 0 = λ t. IsTail c.in_ok-head.salt c.len-number.result c.in_ok-bodies.rest.now t in
-    let told : (torn : Bool) → c.match-tail_of.torn ≡ torn → says (if torn then Torn else Blank) → says (if c.match-tail_of.torn then Torn else Blank) =
+    let reported : (torn : Bool) → c.match-tail_of.torn ≡ torn → says (if torn then Torn else Blank) → says (if c.match-tail_of.torn then Torn else Blank) =
     λ torn e is. subst (λ (b : Bool). says (if b then Torn else Blank)) (sym e) is in
     let tail : says (if c.match-tail_of.torn then Torn else Blank) = elim c.match-tail_of.branch [
-      | in-Blank w ↦ told false w.torn-is (subst says w.in-Blank.is c.tail_of.ensures.tail)
-      | in-Torn w ↦ told true w.torn-is (subst says w.in-Torn.is c.tail_of.ensures.tail)
+      | in-Blank w ↦ reported false w.torn-is (subst says w.in-Blank.is c.tail_of.ensures.tail)
+      | in-Torn w ↦ reported true w.torn-is (subst says w.in-Torn.is c.tail_of.ensures.tail)
     ] in (
       head.1,
       recovered_from c.args.text.now c.args.journal.now c.in_ok-head.head c.in_ok-head.salt c.in_ok-head.behind.now bodies c.in_ok-bodies.rest.now all.0 updates
@@ -59,11 +59,11 @@ returns-in_err-updates-clause-refused c =
     let count : c.len-number.result ≡ length c.in_ok-bodies.bodies.items = omega (arith, c.len-number.ensures, c.in_ok-bodies.bodies.ok.0) in
     let same : IsText c.in_ok-head.head.text c.args.text.now = search rules in
     let says : Tail → Type 0 = λ t. IsTail c.in_ok-head.salt c.len-number.result c.in_ok-bodies.rest.now t in
-    let told : (torn : Bool) → c.match-tail_of.torn ≡ torn → says (if torn then Torn else Blank) → says (if c.match-tail_of.torn then Torn else Blank) =
+    let reported : (torn : Bool) → c.match-tail_of.torn ≡ torn → says (if torn then Torn else Blank) → says (if c.match-tail_of.torn then Torn else Blank) =
     λ torn e is. subst (λ (b : Bool). says (if b then Torn else Blank)) (sym e) is in
     let tail : says (if c.match-tail_of.torn then Torn else Blank) = elim c.match-tail_of.branch [
-      | in-Blank w ↦ told false w.torn-is (subst says w.in-Blank.is c.tail_of.ensures.tail)
-      | in-Torn w ↦ told true w.torn-is (subst says w.in-Torn.is c.tail_of.ensures.tail)
+      | in-Blank w ↦ reported false w.torn-is (subst says w.in-Blank.is c.tail_of.ensures.tail)
+      | in-Torn w ↦ reported true w.torn-is (subst says w.in-Torn.is c.tail_of.ensures.tail)
     ] in
     let why = subst (λ (xs : List (Bor (List ℕ))). IsRefusedBatch (map (λ (b : Bor (List ℕ)). b.now) xs) c.in_err-updates.field-0.0) c.deref.ensures.value (c.in_err-updates.ensures).refused in
     let p = err_from_is_err_and c.from_residual-in_err-updates.result c.from_residual-in_err-updates.ensures.1 in

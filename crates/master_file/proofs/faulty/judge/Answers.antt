@@ -18,21 +18,21 @@ returns-in-Err c =
     let is : records_in c.deref-2.result.now ≡ zone_records c.args.records.now = ap records_in c.deref-2.ensures.value ∙ c.requires.sets in
     told_none read c.deref-2.result.now is refl c.requires.few
     (none_by c.in-Err.field-0 c.deref-2.result.now (rw c.deref-2.ensures.value c.requires.rising.ascending) (rw c.deref-2.ensures.value c.requires.small) c.in-Err.ensures.fault c.in-Err.ensures.early (rw c.deref-2.ensures.value one))
-    ∙ ap Err (sym c.told-in-Err.ensures)
+    ∙ ap Err (sym c.fault_at-in-Err.ensures)
 
 pub returns-then-not-apex : goal.returns-then-not-apex
 returns-then-not-apex c =
     let read : Read = record { rrs = c.args.records.now; fault = None } in
     let is : records_in c.deref-2.result.now ≡ zone_records c.args.records.now = ap records_in c.deref-2.ensures.value ∙ c.requires.sets in
     told_unserved read c.deref-2.result.now is refl c.requires.few c.in-Ok.ensures.one (rw c.if-not-apex.true at c.in-Ok.ensures.unserved)
-    ∙ ap Err (sym c.told-then-not-apex.ensures)
+    ∙ ap Err (sym c.fault_at-then-not-apex.ensures)
 
 pub returns-in-Some : goal.returns-in-Some
 returns-in-Some c =
     let read : Read = record { rrs = c.args.records.now; fault = None } in
     let is : records_in c.deref-2.result.now ≡ zone_records c.args.records.now = ap records_in c.deref-2.ensures.value ∙ c.requires.sets in
     told_outside read c.deref-2.result.now is refl c.requires.few c.in-Ok.ensures.one (rw c.if-not-apex.false at c.in-Ok.ensures.served) c.in-Ok.apex.name c.in-Ok.ensures.apex c.in-Some.line (sym c.in-Some.is ∙ c.first_outside.ensures)
-    ∙ ap Err (sym c.told-in-Some.ensures)
+    ∙ ap Err (sym c.fault_at-in-Some.ensures)
 
 pub first_conflict-requires-clause-shown : goal.first_conflict-requires-clause-shown
 first_conflict-requires-clause-shown c = λ none.
@@ -46,4 +46,4 @@ returns c =
     let read : Read = record { rrs = c.args.records.now; fault = None } in
     let is : records_in c.deref-2.result.now ≡ zone_records c.args.records.now = ap records_in c.deref-2.ensures.value ∙ c.requires.sets in
     told_conflict read c.deref-2.result.now is refl c.requires.few c.in-Ok.ensures.one (rw c.if-not-apex.false at c.in-Ok.ensures.served) c.in-Ok.apex.name c.in-Ok.ensures.apex (Some c.in_ok-line-2.line) c.in_ok-line-2.ensures (sym c.in_default.is ∙ c.first_outside.ensures)
-    ∙ ap Err (sym c.told-2.ensures)
+    ∙ ap Err (sym c.fault_at-2.ensures)

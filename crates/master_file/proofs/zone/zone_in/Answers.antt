@@ -29,5 +29,5 @@ returns-in-Err-Broken-clause-refused c = λ zone e.
     let small : All (λ octet. octet < 256) text = λ k d within. omega (arith, c.type_inv.text k, get_or_default_zero text k d within) in
     let is = read_is_zone read zone (records_readable c.args.origin.now text c.wire-wire.ensures.lawful c.wire-wire.ensures.bytes small) e in
     let same = read_records read zone e ∙ ap zone_records (sym kept) ∙ sym sets in
-    let told : AreUnsplit c.in-Some.sets.items → IsZone (records_in c.in-Some.sets.items) → ⊥ = rw c.in-Err-Broken.field-0-is at c.in-Err-Broken.ensures.refused in
-    told unsplit (subst (λ (all : List Record). IsZone all) same is)
+    let reported : AreUnsplit c.in-Some.sets.items → IsZone (records_in c.in-Some.sets.items) → ⊥ = rw c.in-Err-Broken.field-0-is at c.in-Err-Broken.ensures.refused in
+    reported unsplit (subst (λ (all : List Record). IsZone all) same is)

@@ -6,5 +6,5 @@ use Rattle.master_file.proofs.zone_laws.text_without_a_fault_is_a_zone.Goals as 
 pub returns-clause-is_zone : goal.returns-clause-is_zone
 returns-clause-is_zone c = λ origin text zone name octets small e. read_is_zone (records_of origin text) zone (records_readable origin text name octets small) e
 
-pub returns-clause-told : goal.returns-clause-told
-returns-clause-told c = λ origin text none is. zone_is_read (records_of origin text) none is
+pub returns-clause-reported : goal.returns-clause-reported
+returns-clause-reported c = λ origin text none is. zone_is_read (records_of origin text) none is

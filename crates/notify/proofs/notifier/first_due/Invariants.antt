@@ -1,6 +1,6 @@
 use Rattle.std.proofs.Common.{◌≡◌, true}
 use Rattle.std.specs.List.{AllWithin}
-use Rattle.notify.specs.Told.{is_due}
+use Rattle.notify.specs.Copies.{is_due}
 use Rattle.notify.proofs.notifier.first_due.Given as goal
 
 abbrev pub invariant-loop-index : goal.invariant-loop-index

@@ -1,5 +1,5 @@
 use Rattle.std.proofs.Common.{◌≡◌, map, drop}
-use Rattle.notify.specs.Told.{due_in, sooner, soonest}
+use Rattle.notify.specs.Copies.{due_in, sooner, soonest}
 use Rattle.notify.proofs.notifier.soonest_due.Given as goal
 
 abbrev pub invariant-loop-secondary : goal.invariant-loop-secondary

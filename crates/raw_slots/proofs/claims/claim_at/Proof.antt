@@ -63,11 +63,11 @@ claim_at_spec 𝓤 𝓛 𝓜 𝓡 wired T U Q P Mv L _ _ _ _ g d g' d' _ _ =
     fsplit3 ! $ move ! (2 ∷ []) $ fsplit ! $ move ! (1 ∷ []) $ give_at ! 5 $ lands_last ! refl (tt, record { fits = fits }) $ exec ! 𝓣.C 𝓣.Λ Ev (tail (tail fn.body)) (at_ret Ev Post) $
     sets ! (agg ! (no_more !)) refl (tt, tt) $ sets ! (agg ! (and_then ! (get ! refl) (and_then ! (get ! refl) (no_more !)))) refl (fields.word_good at) $
     -- [the claim; two tokens; the badge's field; its cell; three of its borrow; the open token; the table's fields; the others]
-    fpick ! (λ got. fsplit ! $ fpick ! (λ told. drop ! $ move ! (1 ∷ 2 ∷ []) $ use2 𝓛 (‵ (flft α s)) (𝓛.lfts.lft_join α s) $ move ! (7 ∷ 0 ∷ []) $ obor_close ! tt $ drop ! $
+    fpick ! (λ got. fsplit ! $ fpick ! (λ reported. drop ! $ move ! (1 ∷ 2 ∷ []) $ use2 𝓛 (‵ (flft α s)) (𝓛.lfts.lft_join α s) $ move ! (7 ∷ 0 ∷ []) $ obor_close ! tt $ drop ! $
     let h' : Br.Denot = record { marker = h.marker; table_id = h.table_id; id = id; views = [] } in let r : (held.the_row T₀ W).Denot = record { at = at; marker = record {}; value = got.1; stake = got.0; id = id } in
     let Told : Type 0 = (h'.views ≡ []) × (at ≡ at) × (h.views ≡ got.0.key ∷ []) × (got.0.views ≡ z.views_name) × (id ≡ id) × g'.tells got.0.key got.0 got.1 in
     move ! (2 ∷ []) $ nothing ! $ move ! (1 ∷ 0 ∷ []) $ fjoin ! $ move ! (3 ∷ 0 ∷ 4 ∷ 5 ∷ 6 ∷ []) $ closes ! tt Br h' ts b' o' $ feq_i ! (List Val) (vptr b' o' ∷ []) (vptr b' o' ∷ []) refl $ fjoin3 ! $
     nothing ! $ nothing ! $ fjoin ! $ nothing ! $ fjoin ! $ move ! (1 ∷ 0 ∷ []) $ fjoin ! $ nothing ! $ fjoin ! $ move ! (1 ∷ 5 ∷ []) $ join ! $ move ! (2 ∷ 0 ∷ []) $ join ! $
     move ! (2 ∷ []) $ use0 𝓛 (‵ ((fields.HeldData T₀ W).own_val (at, (tt, tt)) (fields.word at ∷ []))) (fields.held_made T₀ W 𝓛 at) $ fjoin ! $
-    use0 𝓛 (raw (fact 𝓤 Told)) (fact_i 𝓤 Told (emp 𝓤) (refl, refl, asked.2.1 ∙ ap (λ (u : U.Denot). u ∷ []) (sym told.0), told.1, refl, subst (λ (u : U.Denot). g'.tells u got.0 got.1) (sym told.0) told.2)) $
+    use0 𝓛 (raw (fact 𝓤 Told)) (fact_i 𝓤 Told (emp 𝓤) (refl, refl, asked.2.1 ∙ ap (λ (u : U.Denot). u ∷ []) (sym reported.0), reported.1, refl, subst (λ (u : U.Denot). g'.tells u got.0 got.1) (sym reported.0) reported.2)) $
     returns ! (look_at ! 0 refl) $ free_all ! refl $ keep ! (2 ∷ 3 ∷ 1 ∷ 0 ∷ []) $ by ! (leaves 𝓛 En hs c y (fields.word at) r (tt, (h', (tt, (tt, tt)))) (tt, (tt, (tt, (tt, tt))))))))))))))

@@ -25,5 +25,5 @@ returns-clause-octets g c =
     (ap any (sym c.as_slice-2.ensures.value) ∙ sym c.may_name_hosts-else-may_name_hosts.ensures ∙ c.if-may_name_hosts-2.false)
     in
     let octets = rw (c.limit-limit.ensures.limit, c.reply_opt.ensures, c.as_slice.ensures.value, c.as_slice-2.ensures.value) at c.write_reply_by.ensures.octets in
-    let told = subst (λ (more : List Record). take c.write_reply_by.result c.write_reply_by.new.out ≡ fit (record (answered query (front_shown zone front)) { additional = more }) limit) (sym none) octets in
-    subst (λ (sections : Sections). take c.write_reply_by.result c.write_reply_by.new.out ≡ fit (answered query sections) limit) c.fill_front.ensures told
+    let reported = subst (λ (more : List Record). take c.write_reply_by.result c.write_reply_by.new.out ≡ fit (record (answered query (front_shown zone front)) { additional = more }) limit) (sym none) octets in
+    subst (λ (sections : Sections). take c.write_reply_by.result c.write_reply_by.new.out ≡ fit (answered query sections) limit) c.fill_front.ensures reported

@@ -16,8 +16,8 @@ pub invariant_of-push_reserved : goal.invariant_of-push_reserved
 invariant_of-push_reserved g c =
     let begun = c.requires.begun in
     let d = c.loop-dealt.invariant.dealing begun.0 begun.1 in
-    let told = c.deal-badge.ensures.dealt d.publishing d.views_are in
-    dealt_reader begun.0 c.loop-dealt.dealt c.args.grants c.args.words.now.table_id c.deal-badge.result.table_id c.loop-dealt.badge.views c.deal-badge.result.views d (c.deal-badge.ensures.badges.2 ∙ c.loop-dealt.invariant.cell ∙ c.requires.fits.1) told.1
+    let reported = c.deal-badge.ensures.dealt d.publishing d.views_are in
+    dealt_reader begun.0 c.loop-dealt.dealt c.args.grants c.args.words.now.table_id c.deal-badge.result.table_id c.loop-dealt.badge.views c.deal-badge.result.views d (c.deal-badge.ensures.badges.2 ∙ c.loop-dealt.invariant.cell ∙ c.requires.fits.1) reported.1
 
 pub loop-dealt-preserved : goal.loop-dealt-preserved
 loop-dealt-preserved g c =
@@ -32,14 +32,14 @@ loop-dealt-preserved g c =
       id = c.deal-badge.ensures.badges.1 ∙ inv.id;
       dealing = λ value begun.
           let d = inv.dealing value begun in
-          let told = c.deal-badge.ensures.dealt d.publishing d.views_are in
+          let reported = c.deal-badge.ensures.dealt d.publishing d.views_are in
           let enough = enough_left value table.views_name c.loop-dealt.dealt each c.loop-dealt.badge.views d few c.requires.grants in
-          dealing_next value table.views_name c.loop-dealt.dealt each c.loop-dealt.badge.views c.deal-badge.new.badge.views d enough told.0;
+          dealing_next value table.views_name c.loop-dealt.dealt each c.loop-dealt.badge.views c.deal-badge.new.badge.views d enough reported.0;
       readers = λ value begun.
           let d = inv.dealing value begun in
-          let told = c.deal-badge.ensures.dealt d.publishing d.views_are in
+          let reported = c.deal-badge.ensures.dealt d.publishing d.views_are in
           subst (All (λ r. r ≡ limited_reader each table value)) (sym c.push_reserved.ensures.items)
-          (All-push (λ r. r ≡ limited_reader each table value) c.loop-dealt.readers.items _ (inv.readers value begun) (dealt_state value c.loop-dealt.dealt each table c.deal-badge.result.table_id c.loop-dealt.badge.views c.deal-badge.result.views d same told.1));
+          (All-push (λ r. r ≡ limited_reader each table value) c.loop-dealt.readers.items _ (inv.readers value begun) (dealt_state value c.loop-dealt.dealt each table c.deal-badge.result.table_id c.loop-dealt.badge.views c.deal-badge.result.views d same reported.1));
       count = c.push_reserved.ensures.len ∙ ap (λ n. n + 1) inv.count;
       room = c.push_reserved.ensures.capacity ∙ inv.room;
     }

@@ -11,8 +11,8 @@ use Rattle.store_compaction.specs.TextWriter.{wanted_of}
 use Rattle.store_compaction.proofs.KeptLemmas.{begun_stands}
 use Rattle.store_compaction.proofs.next_due.begin_next.Goals as goal
 
-pub returns-in-Ok-clause-stands : goal.returns-in-Ok-clause-stands
-returns-in-Ok-clause-stands g c text batches zone updates k =
+pub returns-in-Ok-clause-is_present : goal.returns-in-Ok-clause-is_present
+returns-in-Ok-clause-is_present g c text batches zone updates k =
     let old = c.args.writer.now in
     let new = c.begin_compaction.new.self in
     let next = c.in-Ok-Some.next in
@@ -23,8 +23,8 @@ returns-in-Ok-clause-stands g c text batches zone updates k =
     c.begin_compaction.ensures.trail c.begin_compaction.ensures.head c.begin_compaction.ensures.log begins text batches zone updates k
     (marked text (head_of old) batches zone updates k)
 
-pub returns-in-Err-clause-stands : goal.returns-in-Err-clause-stands
-returns-in-Err-clause-stands g c text batches zone updates k =
+pub returns-in-Err-clause-is_present : goal.returns-in-Err-clause-is_present
+returns-in-Err-clause-is_present g c text batches zone updates k =
     let old = c.args.writer.now in
     let new = c.begin_compaction.new.self in
     let next = c.in-Ok-Some.next in

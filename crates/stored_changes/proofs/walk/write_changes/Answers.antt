@@ -5,8 +5,8 @@ use Rattle.store_recovery.proofs.ReplayLemmas.{now_of}
 use Rattle.stored_changes.specs.StoredChanges.{AreTold}
 use Rattle.stored_changes.proofs.walk.write_changes.Goals as goal
 
-pub returns-clause-told : goal.returns-clause-told
-returns-clause-told c =
+pub returns-clause-reported : goal.returns-clause-reported
+returns-clause-reported c =
     let text : List ℕ = c.args.text.now in
     let found = c.in_ok-found.found in
     let zone = c.in_ok-zone.zone in
@@ -21,5 +21,5 @@ returns-clause-told c =
         is_zone = is_zone;
         serial = serial;
       };
-      changes = subst (λ (messages : List (Bor (List ℕ))). AreTold zone (now_of messages) (string_bytes c.in_ok-told.told)) c.deref.ensures.value c.in_ok-told.ensures.told;
+      changes = subst (λ (messages : List (Bor (List ℕ))). AreTold zone (now_of messages) (string_bytes c.in_ok-reported.reported)) c.deref.ensures.value c.in_ok-reported.ensures.reported;
     }

@@ -1,7 +1,7 @@
 -- One write behind the other.
 use Rattle.std.proofs.Common.{ℕ, refl, ◌∙◌, subst}
-use Rattle.tcp_connections.specs.Told.{EndCounted}
-use Rattle.tcp_connections.proofs.ToldLemmas.{stays_itself, stays_more, writes_itself, writes_more, ends_stay}
+use Rattle.tcp_connections.specs.StreamOctets.{EndCounted}
+use Rattle.tcp_connections.proofs.StreamOctetLemmas.{stays_itself, stays_more, writes_itself, writes_more, ends_stay}
 use Rattle.tcp_connections.proofs.serve.flush.Goals as goal
 
 pub loop-written-init : goal.loop-written-init

@@ -1,7 +1,7 @@
 -- The stream with what is to be written is told as it was.
 use Rattle.std.proofs.Common.{◌≡◌}
 use Rattle.tcp_connections.specs.Kept.{told_by}
-use Rattle.tcp_connections.specs.Told.{Stays, Writes}
+use Rattle.tcp_connections.specs.StreamOctets.{Stays, Writes}
 use Rattle.tcp_connections.proofs.serve.flush.Given as goal
 
 abbrev pub invariant-loop-written : goal.invariant-loop-written

@@ -2,7 +2,7 @@
 use Rattle.std.proofs.Common.{take, [], rules}
 use Rattle.requests.specs.declared.stream_end.StreamEnd.TheVariants.{Device}
 use Rattle.tcp_connections.specs.Kept.{told_by}
-use Rattle.tcp_connections.proofs.ToldLemmas.{stays_read, stays_unread, writes_given, ends_here, ends_read, ends_stay, ends_clean, ends_torn}
+use Rattle.tcp_connections.proofs.StreamOctetLemmas.{stays_read, stays_unread, writes_given, ends_here, ends_read, ends_stay, ends_clean, ends_torn}
 use Rattle.tcp_connections.proofs.serve.read_some.Goals as goal
 
 pub returns-in-Err-Blocked-clause-stays : goal.returns-in-Err-Blocked-clause-stays

@@ -1,9 +1,9 @@
 -- One turn behind the other, each by the rights of the peer that asks.
 use Rattle.std.proofs.Common.{ℕ, refl, ap, ◌∙◌, subst, Ok}
 use Rattle.tcp_connections.specs.Kept.{told_by}
-use Rattle.tcp_connections.specs.Told.{EndCounted}
+use Rattle.tcp_connections.specs.StreamOctets.{EndCounted}
 use Rattle.tcp_connections.proofs.AskedLemmas.{each_itself, each_more, waits_as}
-use Rattle.tcp_connections.proofs.ToldLemmas.{writes_itself, writes_more, ends_lacking, counted_lacking}
+use Rattle.tcp_connections.proofs.StreamOctetLemmas.{writes_itself, writes_more, ends_lacking, counted_lacking}
 use Rattle.tcp_connections.proofs.GoingLemmas.{goes_itself, goes_more, stops_more}
 use Rattle.tcp_connections.proofs.OwnLemmas.{goes_turned, stops_turned}
 use Rattle.tcp_connections.proofs.serve.serve_some.Goals as goal

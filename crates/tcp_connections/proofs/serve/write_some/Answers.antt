@@ -3,7 +3,7 @@ use Rattle.std.proofs.Common.{take, subst}
 use Rattle.requests.specs.Octets.{Takes}
 use Rattle.requests.specs.declared.stream_end.StreamEnd.TheVariants.{Device}
 use Rattle.tcp_connections.specs.Kept.{told_by}
-use Rattle.tcp_connections.proofs.ToldLemmas.{stays_kept, stays_more, stays_written, stays_unwritten, writes_itself, writes_taken, ends_here, ends_stay}
+use Rattle.tcp_connections.proofs.StreamOctetLemmas.{stays_kept, stays_more, stays_written, stays_unwritten, writes_itself, writes_taken, ends_here, ends_stay}
 use Rattle.tcp_connections.proofs.serve.write_some.Goals as goal
 
 pub returns-in-Err-clause-ends : goal.returns-in-Err-clause-ends

@@ -2,7 +2,7 @@
 use Rattle.std.proofs.Common.{◌≡◌}
 use Rattle.tcp_connections.specs.Asked.{EachGrows}
 use Rattle.tcp_connections.specs.Kept.{told_by}
-use Rattle.tcp_connections.specs.Told.{Writes}
+use Rattle.tcp_connections.specs.StreamOctets.{Writes}
 use Rattle.tcp_connections.specs.Going.{Goes}
 use Rattle.tcp_connections.proofs.stream.serve_stream.Given as goal
 

@@ -18,7 +18,7 @@ use Rattle.test_cell.specs.contracts.jobs.Back as back
 use Rattle.test_cell.specs.contracts.jobs.Copier as copier
 use Rattle.test_cell.specs.contracts.jobs.Job as job
 use Rattle.test_cell.specs.contracts.jobs.Raiser as raiser
-use Rattle.test_cell.specs.contracts.named.Teller as teller
+use Rattle.test_cell.specs.contracts.named.CellWriter as writer
 use Rattle.test_cell.proofs.jobs.run_all.Goals as goal
 
 tally_send : IsSend tally.the_row
@@ -35,11 +35,11 @@ counted_sync = search (tally_send, tally_sync, crossing.crosses, sendable) depth
 
 module _ (N : RattleType) (n : naming.Ghosts N.Denot) where
   module _ (a : NamedLft) where
-    teller_send : IsSend (teller.the_field a N n).row
-    teller_send = search (counted_send, counted_sync, tally_send, tally_sync, option.the_field_send, producer.the_field_send, producer.the_send, cell.crosses, crossing.crosses, sendable) depth 60 fits 20000
+    writer_send : IsSend (writer.the_field a N n).row
+    writer_send = search (counted_send, counted_sync, tally_send, tally_sync, option.the_field_send, producer.the_field_send, producer.the_send, cell.crosses, crossing.crosses, sendable) depth 60 fits 20000
 
     back_send : IsSend (back.the_row a N n)
-    back_send = search (teller_send, counted_send, counted_sync, cell.crosses, sendable) depth 60 fits 20000
+    back_send = search (writer_send, counted_send, counted_sync, cell.crosses, sendable) depth 60 fits 20000
 
     ran_send : IsSend (Option.the_row (back.the_row a N n))
     ran_send = search (back_send, option.the_send, sendable) depth 60 fits 20000
@@ -51,7 +51,7 @@ module _ (N : RattleType) (n : naming.Ghosts N.Denot) where
     raiser_send = search (counted_send, counted_sync, tally_send, tally_sync, consumer.the_field_send, cell.crosses, crossing.crosses, sendable) depth 60 fits 20000
 
     jobs_send : IsSend (job.the_row a N n)
-    jobs_send = search (copier_send, raiser_send, teller_send, counted_send, counted_sync, tally_send, tally_sync, cell.crosses, crossing.crosses, sendable) depth 60 fits 20000
+    jobs_send = search (copier_send, raiser_send, writer_send, counted_send, counted_sync, tally_send, tally_sync, cell.crosses, crossing.crosses, sendable) depth 60 fits 20000
 
 pub map_vec-requires-send-J : goal.map_vec-requires-send-J
 map_vec-requires-send-J g c κs within = param_send _ _ (arg_send _ no _ (jobs_send (param 1 g.row.N) g.N.Naming _))

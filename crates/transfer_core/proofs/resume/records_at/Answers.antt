@@ -11,7 +11,7 @@ returns-in-InZone g c =
     c.behind.ensures ∙ ap (drop c.in-InZone.at.sent) c.zone_from.ensures ∙ ap (left_at c.args.zone.now (g.C.VersionList.versions c.args.chain.now)) (sym c.in-InZone.is)
 
 pub returns-in-ChangesStart : goal.returns-in-ChangesStart
-returns-in-ChangesStart g c = c.steps.ensures.told ∙ ap (left_at c.args.zone.now (g.C.VersionList.versions c.args.chain.now)) (sym c.in-ChangesStart.is)
+returns-in-ChangesStart g c = c.steps.ensures.reported ∙ ap (left_at c.args.zone.now (g.C.VersionList.versions c.args.chain.now)) (sym c.in-ChangesStart.is)
 
 pub returns-in-InChanges : goal.returns-in-InChanges
 returns-in-InChanges g c =

@@ -1,4 +1,4 @@
 use Rattle.transfer_in.proofs.reading.add.Goals as goal
 
-pub returns-then-not-is_soa-clause-told : goal.returns-then-not-is_soa-clause-told
-returns-then-not-is_soa-clause-told c = c.add_one.ensures.told c.args.first.now
+pub returns-then-not-is_soa-clause-reported : goal.returns-then-not-is_soa-clause-reported
+returns-then-not-is_soa-clause-reported c = c.add_one.ensures.reported c.args.first.now

@@ -3,22 +3,22 @@ use Rattle.zone_tree.specs.Version.{Version}
 use Rattle.dns_message.specs.declared.update.Update.{Update}
 use Rattle.update_core.specs.Verdict.{verdict}
 use Rattle.dns_engine.specs.Versions.{Makes}
-use Rattle.dns_engine.specs.Told.{Tells}
+use Rattle.dns_engine.specs.Outcomes.{Tells}
 use Rattle.update_batches.specs.Batch.{newest_of, versions_in}
 use Rattle.update_batches.specs.UpdateRequest.{serial_in}
 use Rattle.update_batches.specs.Verdict.{told_verdict, made_verdict}
 use Rattle.update_batches.proofs.BatchLemmas.{same_three, told_more, starved_more, changed_more}
 use Rattle.update_batches.proofs.judged.judge_one.Goals as goal
 
-pub returns-in-Told : goal.returns-in-Told
-returns-in-Told c requests verdicts so_far =
+pub returns-in-Code : goal.returns-in-Code
+returns-in-Code c requests verdicts so_far =
     let first = c.args.first.now in
     let updates = c.args.updates.now.items in
-    let code = c.in-Told.code in
+    let code = c.in-Code.code in
     let newest = c.newest_of-newest.ensures ∙ ap (λ us. newest_of first (versions_in us)) c.deref.ensures.value in
-    told_more first c.args.room requests verdicts updates c.args.one.now code c.told.result so_far
-    (same_three (λ (v : Version) (u : Update) (m : Bool). Tells v u m code) _ _ _ _ _ _ newest c.update.ensures.update c.may.ensures c.in-Told.ensures)
-    (c.told.ensures ∙ ap (λ n. told_verdict n code) (c.serial-before.ensures ∙ ap (λ v. serial_in v) (c.get.ensures ∙ newest)))
+    told_more first c.args.room requests verdicts updates c.args.one.now code c.with_code.result so_far
+    (same_three (λ (v : Version) (u : Update) (m : Bool). Tells v u m code) _ _ _ _ _ _ newest c.update.ensures.update c.may.ensures c.in-Code.ensures)
+    (c.with_code.ensures ∙ ap (λ n. told_verdict n code) (c.serial-before.ensures ∙ ap (λ v. serial_in v) (c.get.ensures ∙ newest)))
 
 pub returns-in-Starved : goal.returns-in-Starved
 returns-in-Starved c requests verdicts so_far =

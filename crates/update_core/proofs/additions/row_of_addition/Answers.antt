@@ -16,11 +16,11 @@ pub returns-then-is_lesser_soa-clause-row : goal.returns-then-is_lesser_soa-clau
 returns-then-is_lesser_soa-clause-row c =
     effect_lesser c.args.zone.now.made c.args.raw.now c.requires.class (sym c.is_beside_alias.ensures ∙ c.if-is_beside_alias.false) (sym c.is_lesser_soa.ensures ∙ c.if-is_lesser_soa.true)
 
-pub returns-then-stands-clause-row : goal.returns-then-stands-clause-row
-returns-then-stands-clause-row c =
+pub returns-then-is_present-clause-row : goal.returns-then-is_present-clause-row
+returns-then-is_present-clause-row c =
     nothing_from c.args.zone.now.made c.args.raw.now c.requires.lawful
     (stands_of c.args.zone.now.made c.args.raw.now c.requires.lawful c.requires.class (sym c.is_beside_alias.ensures ∙ c.if-is_beside_alias.false) (sym c.is_lesser_soa.ensures ∙ c.if-is_lesser_soa.false)
-    c.in_ok-rdata.ensures.short c.if-stands.ensures.some c.if-stands.ensures.same c.if-stands.ensures.few [] refl)
+    c.in_ok-rdata.ensures.short c.if-is_present.ensures.some c.if-is_present.ensures.same c.if-is_present.ensures.few [] refl)
 
 pub returns-clause-row : goal.returns-clause-row
 returns-clause-row c =

@@ -5,7 +5,7 @@ use Rattle.dns_rdata.specs.Record.{owner_of, rtype_of, ttl_of}
 use Rattle.dns_rdata.specs.Raw.{RawRecord}
 use Rattle.zone_tree.specs.Zone.{rrset_of}
 use Rattle.update_core.specs.Ordered.{is_sought, is_of_whole}
-use Rattle.update_core.proofs.LeadLemmas.{lacks_data, told}
+use Rattle.update_core.proofs.LeadLemmas.{lacks_data, reported}
 use Rattle.update_core.proofs.ordered.leads_on.Goals as goal
 
 -- the set hasn't the record's data
@@ -31,6 +31,6 @@ returns g c =
     let said = c.is_sent.ensures ∙ ap (λ (r : RawRecord). list_any (is_sought r.owner r.rtype c.octets.result.now) list) c.raw.view_is
     ∙ ap (λ own. list_any (is_sought c.args.raw.now.owner c.args.raw.now.rtype own) list) c.octets.ensures.octets
     in
-    told (owner_of set) (rtype_of set) (ttl_of set) c.data-all.result.now c.data-all.ensures.lawful.ascending list c.args.raw.now c.in-Some-place_of.at c.place_behind.result next
+    reported (owner_of set) (rtype_of set) (ttl_of set) c.data-all.result.now c.data-all.ensures.lawful.ascending list c.args.raw.now c.in-Some-place_of.at c.place_behind.result next
     c.in-Some-place_of.ensures.0 (λ d. c.in-Some-place_of.ensures.1 d ∙ sym octets) c.place_behind.ensures.value c.place_behind.ensures.within c.index-all-place_behind.is
     c.is_sent.result said (rrset_of zone c.args.raw.now.owner c.args.raw.now.rtype) found

@@ -9,5 +9,5 @@ invariant-loop-one g l = record {
   left : l.yielded ++ into_iter_items l.one-iterator ≡ l.fn.begun.items;
   count : vec_len l.returned + into_iter_len l.one-iterator ≡ vec_len l.fn.begun;
   room : vec_len l.fn.begun ≤ vec_capacity l.returned;
-  ended : Each (λ one back. MatchResult one (λ handle. IsReturned g.W.Task.number g.W.Task.seen g.W.Task.is_done handle.promise.may.now.id handle.promise.work.value back.told.of back.told.value back.work) (λ given. back ≡ given)) l.yielded l.returned.items;
+  ended : Each (λ one back. MatchResult one (λ handle. IsReturned g.W.Task.number g.W.Task.seen g.W.Task.is_done handle.promise.may.now.id handle.promise.work.value back.reported.of back.reported.value back.work) (λ given. back ≡ given)) l.yielded l.returned.items;
 }

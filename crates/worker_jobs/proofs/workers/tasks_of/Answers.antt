@@ -12,19 +12,19 @@ loop-back-init g c = record {
   left = c.into_iter-back-iterator.ensures.into_iter_gives.0;
   count = search rules;
   room = search rules;
-  told = All-same (λ (back : Returned g.row.W.Denot). back.told.of ≡ c.args.told.now.of) _ _ c.into_iter-back-iterator.ensures.into_iter_gives.0 c.requires.told;
+  reported = All-same (λ (back : Returned g.row.W.Denot). back.reported.of ≡ c.args.reported.now.of) _ _ c.into_iter-back-iterator.ensures.into_iter_gives.0 c.requires.reported;
   works = subst (Each _ _) (sym c.requires.empty) none;
 }
 
 pub agrees-requires : goal.agrees-requires
-agrees-requires g c = All-head (λ (back : Returned g.row.W.Denot). back.told.of ≡ c.args.told.now.of) _ _ (All-same (λ (back : Returned g.row.W.Denot). back.told.of ≡ c.args.told.now.of) _ _ (sym c.in-Some.ensures.steps.0) c.loop-back.invariant.told)
+agrees-requires g c = All-head (λ (back : Returned g.row.W.Denot). back.reported.of ≡ c.args.reported.now.of) _ _ (All-same (λ (back : Returned g.row.W.Denot). back.reported.of ≡ c.args.reported.now.of) _ _ (sym c.in-Some.ensures.steps.0) c.loop-back.invariant.reported)
 
 pub loop-back-preserved : goal.loop-back-preserved
 loop-back-preserved g c = record {
   left = append_assoc c.loop-back.yielded (c.in-Some.back ∷ []) (into_iter_items c.next.new.self) ∙ ap (λ rest. c.loop-back.yielded ++ rest) (sym c.in-Some.ensures.steps.0) ∙ c.loop-back.invariant.left;
   count = search rules;
   room = search rules;
-  told = All-rest (λ (back : Returned g.row.W.Denot). back.told.of ≡ c.args.told.now.of) _ _ _ c.in-Some.ensures.steps.0 c.loop-back.invariant.told;
+  reported = All-rest (λ (back : Returned g.row.W.Denot). back.reported.of ≡ c.args.reported.now.of) _ _ _ c.in-Some.ensures.steps.0 c.loop-back.invariant.reported;
   works = subst (Each _ _) (sym c.push_reserved.ensures.items) (each_push _ _ _ _ _ c.loop-back.invariant.works (c.agrees.ensures, refl));
 }
 

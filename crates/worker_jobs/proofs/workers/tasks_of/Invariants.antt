@@ -9,6 +9,6 @@ invariant-loop-back g l = record {
   left : l.yielded ++ into_iter_items l.back-iterator ≡ l.fn.returned.items;
   count : vec_len l.done + into_iter_len l.back-iterator ≡ vec_len l.fn.returned;
   room : vec_len l.fn.returned ≤ vec_capacity l.done;
-  told : All (λ back. back.told.of ≡ l.told.of) (into_iter_items l.back-iterator);
-  works : Each (λ back work. (back.told.value ≡ l.told.value) × (work ≡ back.work)) l.yielded l.done.items;
+  reported : All (λ back. back.reported.of ≡ l.reported.of) (into_iter_items l.back-iterator);
+  works : Each (λ back work. (back.reported.value ≡ l.reported.value) × (work ≡ back.work)) l.yielded l.done.items;
 }

@@ -46,12 +46,12 @@ weak_loaded first = record {
 -- the replies to both, to an update by what it comes to, and to further lines
 abbrev behind_weak : List Record → List ℕ → List WorldStep → Option Judged → Option (List WorldReply)
 behind_weak first request lines what =
-    option_map (λ played. played.0) (onto_replies (Answered (Owner (codes "a") 0)) (onto_replies (Answered (Owner (codes "w") 0)) (option_and_then (λ told. onto_replies told.0 (play told.1 lines)) (whole (weak_loaded first) (Update request) (update_start (weak_loaded first) what)))))
+    option_map (λ played. played.0) (onto_replies (Answered (Owner (codes "a") 0)) (onto_replies (Answered (Owner (codes "w") 0)) (option_and_then (λ reported. onto_replies reported.0 (play reported.1 lines)) (whole (weak_loaded first) (Update request) (update_start (weak_loaded first) what)))))
 
 -- the replies to `load a`, to an update by what it comes to, and to further lines
 abbrev behind_update : List Record → List ℕ → List WorldStep → Option Judged → Option (List WorldReply)
 behind_update first request lines what =
-    option_map (λ played. played.0) (onto_replies (Answered (Owner (codes "a") 0)) (option_and_then (λ told. onto_replies told.0 (play told.1 lines)) (whole (a_loaded first) (Update request) (update_start (a_loaded first) what))))
+    option_map (λ played. played.0) (onto_replies (Answered (Owner (codes "a") 0)) (option_and_then (λ reported. onto_replies reported.0 (play reported.1 lines)) (whole (a_loaded first) (Update request) (update_start (a_loaded first) what))))
 
 pub returns-clause-two_versions : goal.returns-clause-two_versions
 unfolding steps_up_to

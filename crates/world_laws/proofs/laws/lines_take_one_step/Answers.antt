@@ -5,5 +5,5 @@ use Rattle.world_laws.proofs.laws.lines_take_one_step.Goals as goal
 pub returns-clause-next : goal.returns-clause-next
 returns-clause-next c = next_takes_one
 
-pub returns-clause-begin : goal.returns-clause-begin
-returns-clause-begin c = begin_takes_none
+pub returns-clause-begin_call : goal.returns-clause-begin_call
+returns-clause-begin_call c = begin_takes_none

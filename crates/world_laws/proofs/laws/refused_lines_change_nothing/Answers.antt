@@ -1,5 +1,5 @@
 -- Each call that begins can be carried to its end.
-use Rattle.world_laws.proofs.HandPlay.{played_refusal}
+use Rattle.world_laws.proofs.UsePlay.{played_refusal}
 use Rattle.world_laws.proofs.laws.refused_lines_change_nothing.Goals as goal
 
 pub returns : goal.returns

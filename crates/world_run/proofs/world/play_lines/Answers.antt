@@ -10,5 +10,5 @@ pub returns-in-Err-clause-limit : goal.returns-in-Err-clause-limit
 returns-in-Err-clause-limit c =
     λ passed. limit_passed c.args.lines.now c.loop-line.line-index c.line-item.result c.loop-line.replies.items c.args.play.now c.loop-line.play (omega arith) c.line-item.is (c.in-Err.ensures.limit passed) c.loop-line.invariant
 
-pub returns-clause-told : goal.returns-clause-told
-returns-clause-told c = all_played c.args.play.now c.args.lines.now c.loop-line.line-index c.loop-line.replies.items c.loop-line.play (omega arith) c.loop-line.invariant
+pub returns-clause-reported : goal.returns-clause-reported
+returns-clause-reported c = all_played c.args.play.now c.args.lines.now c.loop-line.line-index c.loop-line.replies.items c.loop-line.play (omega arith) c.loop-line.invariant

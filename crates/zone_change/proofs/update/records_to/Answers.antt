@@ -40,9 +40,9 @@ returns-in_err-between-clause-room c =
     let e = by_false (list_any (is_among old) (servers_of next)) (λ t. true≢false (c.in-Some.ensures.none.1 t)) in
     let p = err_from_is_err_and c.from_residual-in_err-between.result c.from_residual-in_err-between.ensures.1 in
     rw (p.1, p.2)
-    (λ told room.
+    (λ reported room.
     has_effect old next c.requires.zones.0 c.requires.zones.1 c.requires.apex c.requires.apart e room
-    (subst (λ ns. effects old (map put_in (take 1 ns)) ≡ None) c.in-Some.ensures.set (c.in_err-between.ensures.room (err_again c.in_err-between.field-0.0 NoRoom told))))
+    (subst (λ ns. effects old (map put_in (take 1 ns)) ≡ None) c.in-Some.ensures.set (c.in_err-between.ensures.room (err_again c.in_err-between.field-0.0 NoRoom reported))))
 
 pub returns-clause-records : goal.returns-clause-records
 returns-clause-records c =

@@ -15,7 +15,7 @@ returns-in-Next-clause-left c =
     let u = c.in_ok-update.update in
     let is = c.in_ok-update.ensures ∙ ap (update_from old) (c.in_ok-put_first.ensures ∙ ap (λ l. l ++ rs) c.new-first.ensures.items) in
     let same = ap (λ (v : Version). v.zone) c.first-version.ensures ∙ c.in_ok-same_zone.ensures in
-    first_makes old rs c.requires.zone c.requires.passed c.requires.sent u c.in-Next.next.zone is (ap (λ z. act z u) (sym same) ∙ c.in-Next.ensures.told.1)
+    first_makes old rs c.requires.zone c.requires.passed c.requires.sent u c.in-Next.next.zone is (ap (λ z. act z u) (sym same) ∙ c.in-Next.ensures.reported.1)
 
 pub returns-in-Unchanged-clause-left : goal.returns-in-Unchanged-clause-left
 returns-in-Unchanged-clause-left c =
@@ -24,7 +24,7 @@ returns-in-Unchanged-clause-left c =
     let u = c.in_ok-update.update in
     let is = c.in_ok-update.ensures ∙ ap (update_from old) (c.in_ok-put_first.ensures ∙ ap (λ l. l ++ rs) c.new-first.ensures.items) in
     let same = ap (λ (v : Version). v.zone) c.first-version.ensures ∙ c.in_ok-same_zone.ensures in
-    first_makes old rs c.requires.zone c.requires.passed c.requires.sent u c.first-version.result.zone is (ap (λ z. act z u) (sym same) ∙ c.in-Unchanged.ensures.told.1)
+    first_makes old rs c.requires.zone c.requires.passed c.requires.sent u c.first-version.result.zone is (ap (λ z. act z u) (sym same) ∙ c.in-Unchanged.ensures.reported.1)
 
 pub returns-in-Refused-clause-room : goal.returns-in-Refused-clause-room
 returns-in-Refused-clause-room c = λ _.
@@ -34,4 +34,4 @@ returns-in-Refused-clause-room c = λ _.
     let is = c.in_ok-update.ensures ∙ ap (update_from old) (c.in_ok-put_first.ensures ∙ ap (λ l. l ++ rs) c.new-first.ensures.items) in
     let same = ap (λ (v : Version). v.zone) c.first-version.ensures ∙ c.in_ok-same_zone.ensures in
     first_refused old rs c.requires.zone c.requires.passed c.requires.sent u c.in-Refused.field-0 is
-    ((λ i. option_or (verdict (sym same i) u true) (if is_some (act (sym same i) u) then None else Some ServFail)) ∙ c.in-Refused.ensures.told)
+    ((λ i. option_or (verdict (sym same i) u true) (if is_some (act (sym same i) u) then None else Some ServFail)) ∙ c.in-Refused.ensures.reported)

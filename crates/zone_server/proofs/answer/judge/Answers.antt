@@ -23,8 +23,8 @@ returns g c =
     let serials = c.update-code.result.1 in
     let seen = λ (r : ReaderState Version). IsUpdated g.Z.FirstZone.zone c.args.update.now c.args.may r c.update-code.new.reader c.update-code.result.0 serials in
     let coded = λ (k : Rcode). IsUpdated g.Z.FirstZone.zone c.args.update.now c.args.may c.args.reader.now c.update-code.new.reader k serials in
-    let told : c.with.result.serials ≡ told_with c.with.result.code serials = c.with.ensures.serials ∙ ap (λ (k : Rcode). told_with k serials) (sym c.with.ensures.code) in
+    let reported : c.with.result.serials ≡ told_with c.with.result.code serials = c.with.ensures.serials ∙ ap (λ (k : Rcode). told_with k serials) (sym c.with.ensures.code) in
     elim c.if-not-may.branch [
-      | then-not-may+in-Err w ↦ by_engine serials (inr w.in-Err.ensures.spent.0) told (subst coded (sym c.with.ensures.code) (subst seen (w.reader-is ∙ w.in-Err.ensures.spent.1) c.update-code.ensures))
-      | else-not-may w ↦ let may : c.args.may ≡ true = search rules in by_engine serials (inl may) told (subst coded (sym c.with.ensures.code) (subst seen w.reader-is c.update-code.ensures))
+      | then-not-may+in-Err w ↦ by_engine serials (inr w.in-Err.ensures.spent.0) reported (subst coded (sym c.with.ensures.code) (subst seen (w.reader-is ∙ w.in-Err.ensures.spent.1) c.update-code.ensures))
+      | else-not-may w ↦ let may : c.args.may ≡ true = search rules in by_engine serials (inl may) reported (subst coded (sym c.with.ensures.code) (subst seen w.reader-is c.update-code.ensures))
     ]

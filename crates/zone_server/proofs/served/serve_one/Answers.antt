@@ -13,7 +13,7 @@ unreachable-requires g c = served_silent g.Z.FirstZone.zone c.args.peer c.args.r
 pub returns-in-Update : goal.returns-in-Update
 returns-in-Update g c =
     served_update g.Z.FirstZone.zone c.args.peer c.args.request.now c.args.reader.now c.answer_request.new.reader c.serve_update-len.new.reader c.serve_update-len.new.out c.serve_update-len.result.0 c.serve_update-len.result.1
-    c.in-Update.ensures.answer.1 c.serve_update-len.ensures.bound c.serve_update-len.ensures.replied c.serve_update-len.ensures.told
+    c.in-Update.ensures.answer.1 c.serve_update-len.ensures.bound c.serve_update-len.ensures.replied c.serve_update-len.ensures.reported
 
 pub start_transfer-requires : goal.start_transfer-requires
 start_transfer-requires g c =

@@ -4,7 +4,7 @@ use Rattle.zone_server.proofs.submit.submit_datagram.Goals as goal
 
 pub returns-in-Err : goal.returns-in-Err
 returns-in-Err g c =
-    unread_at_once g.Z.FirstZone.zone c.args.peer c.args.reader.now c.args.request.now c.write_code-len.new.out c.in-Err.heading c.in-Err.told c.write_code-len.result c.requires.update c.in-Err.ensures c.write_code-len.ensures.octets c.write_code-len.ensures.len
+    unread_at_once g.Z.FirstZone.zone c.args.peer c.args.reader.now c.args.request.now c.write_code-len.new.out c.in-Err.heading c.in-Err.outcome c.write_code-len.result c.requires.update c.in-Err.ensures c.write_code-len.ensures.octets c.write_code-len.ensures.len
 
 pub returns : goal.returns
 returns g c =

@@ -4,7 +4,7 @@ use Rattle.zone_server.proofs.submit.submit_stream.Goals as goal
 
 pub returns-in-Err : goal.returns-in-Err
 returns-in-Err g c =
-    unread_at_once g.Z.FirstZone.zone c.args.peer c.args.reader.now c.args.request.now c.write_code.new.out c.in-Err.heading c.in-Err.told c.write_code.result c.requires.update c.in-Err.ensures c.write_code.ensures.octets c.write_code.ensures.len
+    unread_at_once g.Z.FirstZone.zone c.args.peer c.args.reader.now c.args.request.now c.write_code.new.out c.in-Err.heading c.in-Err.outcome c.write_code.result c.requires.update c.in-Err.ensures c.write_code.ensures.octets c.write_code.ensures.len
 
 pub returns-in_default : goal.returns-in_default
 returns-in_default g c =

@@ -9,11 +9,11 @@ returns-clause-chained g c =
     let query = c.args.query.now in
     let version = c.args.strong.now.value in
     let ixfr : (query.question.rtype.0 == type_IXFR) ≡ true = search rules in
-    chained_of c.of.result g.Z.FirstZone.zone query c.in-Some.serial version c.number.result c.args.reader.now c.chain-told.new.reader c.chain-told.result c.in-Some.is ixfr c.requires.0 (c.number.ensures ∙ sym c.requires.1) c.chain-told.ensures c.of.ensures.copied
+    chained_of c.of.result g.Z.FirstZone.zone query c.in-Some.serial version c.number.result c.args.reader.now c.chain-reported.new.reader c.chain-reported.result c.in-Some.is ixfr c.requires.0 (c.number.ensures ∙ sym c.requires.1) c.chain-reported.ensures c.of.ensures.copied
 
 pub returns-clause-spent : goal.returns-clause-spent
 returns-clause-spent g c =
     let query = c.args.query.now in
     let version = c.args.strong.now.value in
     let ixfr : (query.question.rtype.0 == type_IXFR) ≡ true = search rules in
-    few_of c.of.result g.Z.FirstZone.zone query c.in-Some.serial version c.number.result c.args.reader.now c.chain-told.new.reader c.chain-told.result c.in-Some.is ixfr (c.number.ensures ∙ sym c.requires.1) c.chain-told.ensures c.of.ensures.spent
+    few_of c.of.result g.Z.FirstZone.zone query c.in-Some.serial version c.number.result c.args.reader.now c.chain-reported.new.reader c.chain-reported.result c.in-Some.is ixfr (c.number.ensures ∙ sym c.requires.1) c.chain-reported.ensures c.of.ensures.spent

@@ -31,8 +31,8 @@ own-requires-clause-has g c =
     let can = c.requires.can in
     let guest = guest_seat can.0 c.args.reader.now.views c.into_seat-seat.result.me (sym (ap (λ b. b.views) c.replace-2.ensures.value) ∙ c.into_seat-seat.ensures.2) c.into_seat-seat.ensures.3 can.1 in
     let weak = weak_seat inv.tie c.self.inside.badge.views c.into_seat-weak.result.me (sym (ap (λ b. b.views) c.replace.ensures.value) ∙ c.into_seat-weak.ensures.2) c.into_seat-weak.ensures.3 inv.views_are in
-    let told = if_ok_at (λ share. (r : Reading g.row.T.Denot) (tie : Tie g.row.T.Denot) → IsGuest r c.into_seat-seat.result.me → c.into_seat-weak.result.me ≡ (HasWeakly tie, []) → IsLifted r tie c.lift-share.new.seat.me share.me) c.lift-share.result.0 c.in-Ok.share c.in-Ok.is c.lift-share.ensures.lifted in
-    let is = told can.0 inv.tie guest weak in
+    let reported = if_ok_at (λ share. (r : Reading g.row.T.Denot) (tie : Tie g.row.T.Denot) → IsGuest r c.into_seat-seat.result.me → c.into_seat-weak.result.me ≡ (HasWeakly tie, []) → IsLifted r tie c.lift-share.new.seat.me share.me) c.lift-share.result.0 c.in-Ok.share c.in-Ok.is c.lift-share.ensures.lifted in
+    let is = reported can.0 inv.tie guest weak in
     (is.mark, is.share_is, is.of.slot_is ∙ inv.slot_is, is.of.name_is ∙ inv.name_is, inv.within)
 
 pub invariant_of-self : goal.invariant_of-self
@@ -59,11 +59,11 @@ returns-clause-owner g c =
     let guest : (r : Reading g.row.T.Denot) → CanRead r c.args.reader.now.views → IsGuest r c.into_seat-seat.result.me = λ r may. guest_seat r c.args.reader.now.views c.into_seat-seat.result.me (sym (ap (λ b. b.views) c.replace-2.ensures.value) ∙ c.into_seat-seat.ensures.2) c.into_seat-seat.ensures.3 may in
     elim c.match-share.branch [
       | in-Ok w ↦
-          let told = if_ok_at (λ share. (r : Reading g.row.T.Denot) (tie : Tie g.row.T.Denot) → IsGuest r c.into_seat-seat.result.me → c.into_seat-weak.result.me ≡ (HasWeakly tie, []) → IsLifted r tie c.lift-share.new.seat.me share.me) c.lift-share.result.0 w.in-Ok.share w.in-Ok.is c.lift-share.ensures.lifted in
-          let is = told can.0 inv.tie (guest can.0 can.1) weak in
+          let reported = if_ok_at (λ share. (r : Reading g.row.T.Denot) (tie : Tie g.row.T.Denot) → IsGuest r c.into_seat-seat.result.me → c.into_seat-weak.result.me ≡ (HasWeakly tie, []) → IsLifted r tie c.lift-share.new.seat.me share.me) c.lift-share.result.0 w.in-Ok.share w.in-Ok.is c.lift-share.ensures.lifted in
+          let is = reported can.0 inv.tie (guest can.0 can.1) weak in
           subst (λ x. IfOk x (λ strong. (strong ≡ c.args.self.now) × ((r : Reading g.row.T.Denot) → CanRead r c.args.reader.now.views → c.into_badge.result.views ≡ Reads (with_grant_less r) ∷ []))) (sym w.result-is) (
             w.own.ensures is.mark is.share_is ∙ (λ i. record { version = (lifted_version inv.tie is.mark is.of ∙ inv.version_is) i; table = c.self.inside.words.now.table_id }) ∙ c.self.view_is,
-            λ r may. c.into_badge.ensures.2 ∙ ap (λ m. m.0 ∷ []) (told r inv.tie (guest r may) weak).me_is,
+            λ r may. c.into_badge.ensures.2 ∙ ap (λ m. m.0 ∷ []) (reported r inv.tie (guest r may) weak).me_is,
           )
       | in-Err w ↦ subst (λ x. IfOk x (λ strong. (strong ≡ c.args.self.now) × ((r : Reading g.row.T.Denot) → CanRead r c.args.reader.now.views → c.into_badge.result.views ≡ Reads (with_grant_less r) ∷ []))) (sym w.result-is) tt
     ]

@@ -6,9 +6,9 @@ use Rattle.dns_rdata.proofs.InsertLemmas.{has-from_same, has_not-from_insert, re
 use Rattle.dns_rdata.proofs.rrset.RRset.insert.Goals as goal
 
 -- what is so where there is a value
-told : {T E P : Type 0} (r : Result T E) → OnOk r P → is_ok r ≡ true → P
-told (Ok v) is ok = is
-told (Err e) is ok = absurd (let wrong : false ≡ true = ok in cc)
+reported : {T E P : Type 0} (r : Result T E) → OnOk r P → is_ok r ≡ true → P
+reported (Ok v) is ok = is
+reported (Err e) is ok = absurd (let wrong : false ≡ true = ok in cc)
 
 pub returns-in_default-clause-ok : goal.returns-in_default-clause-ok
 returns-in_default-clause-ok c =
@@ -59,7 +59,7 @@ invariant_of-self-2 c =
     let set = c.self.inside in
     let place = rw c.deref.ensures at c.in-Err.ensures.place in
     let ok : is_ok c.insert.result ≡ true = sym c.in_ok-map_err.ensures.variant in
-    let items : c.insert.new.self.items ≡ insert set.rdata.items c.in-Err.place c.args.rdata = told c.insert.result c.insert.ensures.ok ok in
+    let items : c.insert.new.self.items ≡ insert set.rdata.items c.in-Err.place c.args.rdata = reported c.insert.result c.insert.ensures.ok ok in
     let typed : c.args.rdata.rtype ≡ rtype_of (records_with set.owner set.rtype.0 set.ttl.0 set.rdata.items) = rw (← c.self.view_is) at c.requires in
     let own = rtype_of-records_with set.owner set.rtype.0 set.ttl.0 set.rdata.items c.self.invariant.some in
     let count : c.len.result ≡ length set.rdata.items = search rules in
@@ -72,7 +72,7 @@ returns-clause-ok c =
     let set = c.self.inside in
     let place = rw c.deref.ensures at c.in-Err.ensures.place in
     let ok : is_ok c.insert.result ≡ true = sym c.in_ok-map_err.ensures.variant in
-    let items : c.insert.new.self.items ≡ insert set.rdata.items c.in-Err.place c.args.rdata = told c.insert.result c.insert.ensures.ok ok in
+    let items : c.insert.new.self.items ≡ insert set.rdata.items c.in-Err.place c.args.rdata = reported c.insert.result c.insert.ensures.ok ok in
     let typed : c.args.rdata.rtype ≡ rtype_of (records_with set.owner set.rtype.0 set.ttl.0 set.rdata.items) = rw (← c.self.view_is) at c.requires in
     let more = records_with-with_data set.owner set.rtype.0 set.ttl.0 c.args.rdata set.rdata.items c.self.invariant.some typed in
     rw (items, ← c.self.view_is) (ap (records_with set.owner set.rtype.0 set.ttl.0) (sym place.1) ∙ more)

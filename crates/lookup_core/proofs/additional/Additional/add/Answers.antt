@@ -12,8 +12,8 @@ returns-then-not-has c =
     let sets = λ (shown : Shown). shown.sets.now in
     let count : length c.args.self.now ≡ length c.self.inside.shown.items = ap length (sym c.self.view_is) ∙ count_of_sets c.self.inside.shown.items c.self.invariant in
     let room : length c.args.self.now < 32 = grind (arith, count, c.is_full.ensures.value, c.is_full.ensures.fits, c.if-not-is_full.true) in
-    ap (flat_map sets) c.push.ensures.items ∙ flat_map-append sets c.self.inside.shown.items (c.standing.result ∷ [])
-    ∙ ap (λ l. l ++ flat_map sets (c.standing.result ∷ [])) c.self.view_is ∙ ap (λ l. c.args.self.now ++ l) (append-nil (sets c.standing.result) ∙ c.standing.ensures.sets)
+    ap (flat_map sets) c.push.ensures.items ∙ flat_map-append sets c.self.inside.shown.items (c.unchanged_set.result ∷ [])
+    ∙ ap (λ l. l ++ flat_map sets (c.unchanged_set.result ∷ [])) c.self.view_is ∙ ap (λ l. c.args.self.now ++ l) (append-nil (sets c.unchanged_set.result) ∙ c.unchanged_set.ensures.sets)
     ∙ sym (with_more-new c.args.self.now c.args.set.now room (sym c.has.ensures ∙ c.if-not-has.true))
 
 -- it is there already, or there is no room for it

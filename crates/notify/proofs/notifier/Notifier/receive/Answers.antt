@@ -1,6 +1,6 @@
 use Rattle.std.proofs.Common.{Some, sym, subst}
 use Rattle.notify.specs.Notified.{Notified}
-use Rattle.notify.specs.Told.{as_answered}
+use Rattle.notify.specs.Copies.{as_answered}
 use Rattle.notify.specs.Turns.{Hears, heard_of}
 use Rattle.notify.specs.declared.due.Heard.{Heard}
 use Rattle.notify.specs.declared.secondary.Secondary.{Secondary}
@@ -18,5 +18,5 @@ returns c =
     let new : Secondary → Notified = λ later. record { secondaries = slice_set xs at later; time = c.self.inside.time; clock = c.self.inside.clock } in
     let s = c.index-secondary.result.now in
     let heard : Hears apex from octets c.args.self.now (Some (heard_of s.silent)) (new (as_answered s)) = hears c.args.self.now xs _ c.self.inside.time c.self.inside.clock apex from octets s _ at c.self.view_is c.in_ok-index.was c.as_slice.ensures.value c.first_answering.ensures c.index-secondary.ensures in
-    let told = subst (λ (h : Heard). Hears apex from octets c.args.self.now (Some h) (new (as_answered s))) (sym c.heard_of.ensures) heard in
-    subst (λ (later : Secondary). Hears apex from octets c.args.self.now (Some c.heard_of.result) (new later)) (sym c.as_answered.ensures) told
+    let reported = subst (λ (h : Heard). Hears apex from octets c.args.self.now (Some h) (new (as_answered s))) (sym c.heard_of.ensures) heard in
+    subst (λ (later : Secondary). Hears apex from octets c.args.self.now (Some c.heard_of.result) (new later)) (sym c.as_answered.ensures) reported

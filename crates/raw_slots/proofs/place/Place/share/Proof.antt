@@ -26,9 +26,9 @@ share_spec 𝓤 𝓛 𝓜 𝓡 wired T U Q P A Mv L _ _ _ _ _ g d g' d' _ _ =
     let H = 𝓛.H in let 𝓣 = tables 𝓤 H 𝓜 𝓡 𝓡.env in let R : RattleType = param 0 T in let W : RattleType = param 1 U in let X : RattleType = param 2 Q in let Y : RattleType = param 3 P in let Z : RattleType = param 4 A in let En = ended T U Q P A Mv g d g' d' in
     let LT = param_laws 0 T L in let Pr : RattleType = place.the_row R W in let Row : RattleType = table.the_row Pr W X Y g in let cv : Coded U.Denot = W.coded in
     let inst = bounded (a_type ∷ a_type ∷ a_type ∷ a_type ∷ a_type ∷ a_type ∷ []) (T, (U, (Q, (P, (A, (Mv, tt)))))) (dcons d (dcons d' dnil)) in let fn = inst_fn inst code.function in
-    let mine = plain (λ _. Pr) in let there = RefOf (1 ∷ []) tt (plain (λ _. Row)) (λ _. tt) in let told = RefOf (2 ∷ []) tt (plain (λ _. Z)) (λ _. tt) in
-    let hs : Stays En.signature.params En.kept = (stay_ref (0 ∷ []) tt mine, (stay_dropped there yes, (stay_dropped told yes, tt))) in let c = clauses T U Q P A Mv g d g' d' 𝓛 𝓜.mem 𝓡.returns in
-    proved 𝓛 En hs c 𝓜 𝓡 (Goes-ref 𝓛 9 0 tt mine, (Goes-dropped 𝓛 9 there yes (λ κs x f. refl), (Goes-dropped 𝓛 9 told yes (λ κs x f. refl), tt))) (#self inst) fn (code.unfolded 𝓤 H 𝓜 𝓡 wired (T, (U, (Q, (P, (A, (Mv, tt)))))) d d')
+    let mine = plain (λ _. Pr) in let there = RefOf (1 ∷ []) tt (plain (λ _. Row)) (λ _. tt) in let reported = RefOf (2 ∷ []) tt (plain (λ _. Z)) (λ _. tt) in
+    let hs : Stays En.signature.params En.kept = (stay_ref (0 ∷ []) tt mine, (stay_dropped there yes, (stay_dropped reported yes, tt))) in let c = clauses T U Q P A Mv g d g' d' 𝓛 𝓜.mem 𝓡.returns in
+    proved 𝓛 En hs c 𝓜 𝓡 (Goes-ref 𝓛 9 0 tt mine, (Goes-dropped 𝓛 9 there yes (λ κs x f. refl), (Goes-dropped 𝓛 9 reported yes (λ κs x f. refl), tt))) (#self inst) fn (code.unfolded 𝓤 H 𝓜 𝓡 wired (T, (U, (Q, (P, (A, (Mv, tt)))))) d d')
     (λ κs. (mut_vals, (shr_vals, (shr_vals, tt)))) (λ κs. (mut_Tells (named 0) κs.0 Pr, (shr_Tells (named 1) κs.1.0 Row, (shr_Tells (named 2) κs.1.1.0 Z, tt)))) (λ κs qs bounds a gh are.
     let b : ℕ = a.0.ref_ptr.0 in let o : ℕ = a.0.ref_ptr.1 in let h : Pr.Denot = a.0.now in let p : Ptr = h.at in let x : T.Denot = h.value in let z : TableId = a.1.0.now.table_id in let γ : ℕ = z.views_name in
     let b₁ : ℕ = a.1.0.ref_ptr.0 in let o₁ : ℕ = a.1.0.ref_ptr.1 in let b₂ : ℕ = a.1.1.0.ref_ptr.0 in let o₂ : ℕ = a.1.1.0.ref_ptr.1 in

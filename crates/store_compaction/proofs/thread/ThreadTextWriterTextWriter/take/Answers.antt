@@ -7,6 +7,6 @@ use Rattle.store_compaction.proofs.thread.ThreadTextWriterTextWriter.take.Goals 
 
 pub returns-then-load : goal.returns-then-load
 returns-then-load g c = record {
-  told = taken_told text_of c.args.self.now.text c.take.new.self (Begun c.in-Some-Begun.writing) c.told_by.result (sym c.take.ensures.value ∙ (c.in-Some-Begun.is ∙ ap Some c.in-Some-Begun.field-0-is))
+  reported = taken_told text_of c.args.self.now.text c.take.new.self (Begun c.in-Some-Begun.writing) c.told_by.result (sym c.take.ensures.value ∙ (c.in-Some-Begun.is ∙ ap Some c.in-Some-Begun.field-0-is))
       c.take.ensures.after c.told_by.ensures;
 }

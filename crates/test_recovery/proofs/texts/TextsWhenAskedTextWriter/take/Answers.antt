@@ -7,6 +7,6 @@ use Rattle.test_recovery.proofs.texts.TextsWhenAskedTextWriter.take.Goals as goa
 
 pub returns-in-Some : goal.returns-in-Some
 returns-in-Some g c = record {
-  told = taken_told (λ (order : Order). wanted_of order.next order.before) c.args.self.now.order c.take.new.self c.in-Some.order c.write.result (sym c.take.ensures.value ∙ c.in-Some.is)
+  reported = taken_told (λ (order : Order). wanted_of order.next order.before) c.args.self.now.order c.take.new.self c.in-Some.order c.write.result (sym c.take.ensures.value ∙ c.in-Some.is)
       c.take.ensures.after c.write.ensures;
 }

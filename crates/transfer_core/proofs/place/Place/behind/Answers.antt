@@ -21,7 +21,7 @@ returns-in-InZone g c =
 pub returns-in-ChangesStart : goal.returns-in-ChangesStart
 returns-in-ChangesStart g c =
     let versions = g.C.VersionList.versions c.args.chain.now in
-    c.in_told.ensures ∙ ap (λ place. drop c.args.count (left_at c.args.zone.now versions place)) (sym c.in-ChangesStart.is)
+    c.in_list.ensures ∙ ap (λ place. drop c.args.count (left_at c.args.zone.now versions place)) (sym c.in-ChangesStart.is)
 
 pub returns-in-InChanges : goal.returns-in-InChanges
 returns-in-InChanges g c =

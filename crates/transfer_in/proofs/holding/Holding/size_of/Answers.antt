@@ -6,7 +6,7 @@ use Rattle.transfer_in.proofs.holding.Holding.size_of.Goals as goal
 
 pub returns-clause-small : goal.returns-clause-small
 returns-clause-small c =
-    let told : c.unwrap_or.result ≡ size_in c.self.inside.sizes c.args.key.now = search rules in
+    let reported : c.unwrap_or.result ≡ size_in c.self.inside.sizes c.args.key.now = search rules in
     let least : length (rrset_of c.self.inside.records.keys c.args.key.now.owner c.args.key.now.rtype) ≤ length c.self.inside.records.keys = no_more (is_of c.args.key.now.owner c.args.key.now.rtype) c.self.inside.records.keys in
     let sized = c.self.invariant c.args.key.now in
-    omega (arith, told, least, sized, c.learn_order.ensures.small)
+    omega (arith, reported, least, sized, c.learn_order.ensures.small)

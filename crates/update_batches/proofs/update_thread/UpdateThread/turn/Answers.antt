@@ -75,7 +75,7 @@ returns-clause-turned g c =
       many = taken_many count (min (max room 1) 64) waiting c.finish.new.requests.items counted c.finish.ensures.rest;
       left = omega (arith, left, ap length from);
       verdicts = verdicts;
-      told = told_tended has leaves fault old new batch verdicts c.args.self.now.store c.tend.new.self c.keep-updates.new.store c.tend-2.new.self
+      reported = told_tended has leaves fault old new batch verdicts c.args.self.now.store c.tend.new.self c.keep-updates.new.store c.tend-2.new.self
           (subst (λ s. (zone : List Record) (versions : List Version) (updates : List (List ℕ)) → has zone s versions updates → has zone c.tend.new.self versions updates)
           same.1 c.tend.ensures.kept)
           (subst (λ s. (zone : List Record) (versions : List Version) (updates : List (List ℕ)) → has zone s versions updates → leaves zone s c.tend.new.self updates)

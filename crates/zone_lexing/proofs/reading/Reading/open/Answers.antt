@@ -12,6 +12,6 @@ pub returns-then-not-closes : goal.returns-then-not-closes
 returns-then-not-closes c = λ words octets same.
     let line = c.args.self.now.lines + 1 in
     let none = sym c.closes.ensures ∙ c.if-not-closes.true in
-    let told = c.unwrap_or.ensures ∙ ap (λ (o : Option ℕ). unwrap_or o line) c.nested.ensures in
+    let reported = c.unwrap_or.ensures ∙ ap (λ (o : Option ℕ). unwrap_or o line) c.nested.ensures in
     Steps-same _ _ c.args.self.now c.unclosed-then-not-closes.new.self words c.unclosed-then-not-closes.result
-    (open_unclosed _ words c.args.self.now.inside line c.unwrap_or.result octets (items 0 c.args.behind.now) c.if-self.false none told) (c.unclosed-then-not-closes.ensures words)
+    (open_unclosed _ words c.args.self.now.inside line c.unwrap_or.result octets (items 0 c.args.behind.now) c.if-self.false none reported) (c.unclosed-then-not-closes.ensures words)

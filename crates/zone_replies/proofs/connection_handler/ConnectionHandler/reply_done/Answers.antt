@@ -9,4 +9,4 @@ use Rattle.zone_replies.proofs.connection_handler.ConnectionHandler.reply_done.G
 pub returns-clause-octets : goal.returns-clause-octets
 returns-clause-octets g c =
     subst (λ (s : HandlerState). IsWritten s.peer c.args.place c.args.done (take c.write_done.result c.write_done.new.out)) c.self.view_is
-    (told_written c.self.inside.peer c.args.place c.args.done c.told_at-told.result (take c.write_done.result c.write_done.new.out) c.told_at-told.ensures c.write_done.ensures.octets)
+    (told_written c.self.inside.peer c.args.place c.args.done c.outcome_at-outcome.result (take c.write_done.result c.write_done.new.out) c.outcome_at-outcome.ensures c.write_done.ensures.octets)

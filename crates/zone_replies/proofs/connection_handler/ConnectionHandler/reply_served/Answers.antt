@@ -10,12 +10,12 @@ use Rattle.zone_replies.proofs.connection_handler.ConnectionHandler.reply_served
 
 pub invariant_of-self : goal.invariant_of-self
 invariant_of-self g c =
-    let told = c.serve_update-len.ensures.told in
+    let reported = c.serve_update-len.ensures.reported in
     taken_grow c.self.inside.taken c.self.inside.reader c.serve_update-len.new.reader
-    (told_grows g.Z.FirstZone.zone c.self.inside.peer.may_update c.args.request.now c.self.inside.reader c.serve_update-len.new.reader told.heading c.serve_update-len.result.1 told.tells) c.self.invariant
+    (told_grows g.Z.FirstZone.zone c.self.inside.peer.may_update c.args.request.now c.self.inside.reader c.serve_update-len.new.reader reported.heading c.serve_update-len.result.1 reported.tells) c.self.invariant
 
 pub returns-clause-grows : goal.returns-clause-grows
 returns-clause-grows g c =
-    let told = c.serve_update-len.ensures.told in
+    let reported = c.serve_update-len.ensures.reported in
     subst (λ (s : HandlerState). Grows {T = Version} (learned_by c.serve_update-len.new.reader) (learned_by s.reader)) c.self.view_is
-    (told_grows g.Z.FirstZone.zone c.self.inside.peer.may_update c.args.request.now c.self.inside.reader c.serve_update-len.new.reader told.heading c.serve_update-len.result.1 told.tells)
+    (told_grows g.Z.FirstZone.zone c.self.inside.peer.may_update c.args.request.now c.self.inside.reader c.serve_update-len.new.reader reported.heading c.serve_update-len.result.1 reported.tells)

@@ -13,5 +13,5 @@ returns g c =
     let again = c.deref_mut-2.ensures.value ∙ c.meet_last.ensures.same in
     record {
       met = (c.deref_mut.result.now, met, ap (λ (s : EngineState). s.held.last.number) (sym same) ∙ sym c.number-number.ensures.number);
-      fetched = subst (λ (l : List Version). IsFetched g.Z.FirstZone.zone l c.fetch.result) (ap (λ (s : EngineState). s.held.published) again ∙ sym (ap (λ (r : ReaderState Version). r.seen) met.seen)) c.fetch.ensures.told;
+      fetched = subst (λ (l : List Version). IsFetched g.Z.FirstZone.zone l c.fetch.result) (ap (λ (s : EngineState). s.held.published) again ∙ sym (ap (λ (r : ReaderState Version). r.seen) met.seen)) c.fetch.ensures.reported;
     }

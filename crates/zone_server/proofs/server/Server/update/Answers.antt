@@ -2,7 +2,7 @@
 use Rattle.std.proofs.Common.{ap, ◌∙◌, subst}
 use Rattle.zone_tree.specs.Version.{zone_serial}
 use Rattle.dns_engine.specs.Held.{EngineState}
-use Rattle.dns_engine.specs.Told.{IsTold}
+use Rattle.dns_engine.specs.Outcomes.{IsTold}
 use Rattle.zone_server.specs.Known.{HasMet}
 use Rattle.zone_server.proofs.server.Server.update.Goals as goal
 
@@ -16,7 +16,7 @@ returns g c =
       new = new;
       met = c.meet_last-before.new.reader;
       meets = c.meet_last-before.ensures.met;
-      told = subst (λ (s : EngineState). IsTold s c.args.update.now c.args.may c.update-code.result new) same c.update-code.ensures.told;
+      reported = subst (λ (s : EngineState). IsTold s c.args.update.now c.args.may c.update-code.result new) same c.update-code.ensures.reported;
       meets_again = subst (λ (s : EngineState). HasMet g.Z.FirstZone.zone s c.meet_last-before.new.reader c.meet_last-after.new.reader) c.deref_mut-3.ensures.value c.meet_last-after.ensures.met;
       serial_before = c.meet_last-before.ensures.serial;
       serial_after = c.meet_last-after.ensures.serial ∙ ap (λ (s : EngineState). zone_serial s.held.last.zone) c.deref_mut-3.ensures.value;

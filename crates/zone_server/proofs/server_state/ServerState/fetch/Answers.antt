@@ -11,8 +11,8 @@ invariant_of-self g c =
     let tickets = c.self.inside.replies.tickets.items in
     (fetched g.Z.FirstZone.zone c.self.inside.engine.held.published (slice_get tickets c.args.ticket) tickets c.args.ticket c.fetch.result c.fetch.new.self.tickets.items c.fetch.ensures c.self.invariant.0, c.self.invariant.1)
 
-pub returns-clause-told : goal.returns-clause-told
-returns-clause-told g c =
+pub returns-clause-reported : goal.returns-clause-reported
+returns-clause-reported g c =
     let tickets = c.self.inside.replies.tickets.items in
     subst (λ (s : EngineState). IsFetched g.Z.FirstZone.zone s.held.published c.fetch.result) c.self.view_is
     (fetched_told g.Z.FirstZone.zone c.self.inside.engine.held.published (slice_get tickets c.args.ticket) tickets c.args.ticket c.fetch.result c.fetch.new.self.tickets.items refl c.fetch.ensures c.self.invariant.0)
