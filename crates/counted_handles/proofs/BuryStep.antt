@@ -50,7 +50,7 @@ hold_counted {T} (Once its) mark e = counted_once mark.number mark.slot (Holding
 hold_counted {T} (Double its) mark e =
     let same : its.number ≡ mark.number = ap (λ (x : Mark T). x.number) (let f : its ≡ mark = cc in f) in
     subst (λ n. 0 < holds n (Twice its.number its.slot)) same (elim (eqb_tells its.number its.number) [ inl is ↦ rw is.0 (omega arith) | inr other ↦ absurd (other.1 refl) ])
-hold_counted (Loose tie) mark e = absurd (let wrong = e in cc)
+hold_counted (Loose tie seen) mark e = absurd (let wrong = e in cc)
 hold_counted {T} (Mixed its tie) mark e =
     let same : its.number ≡ mark.number = ap (λ (x : Mark T). x.number) (let f : its ≡ mark = cc in f) in
     subst (λ n. 0 < holds n (Both its.number its.slot)) same (let one = one_at_itself its.number in omega (arith, one))

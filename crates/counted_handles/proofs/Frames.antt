@@ -30,7 +30,7 @@ use Rattle.counted_handles.proofs.FreeSlots.{all_free}
 abbrev pub hold_mark : {T : Type 0} → Hold T → Option (Mark T)
 hold_mark (Once mark) = Some mark
 hold_mark (Double mark) = Some mark
-hold_mark (Loose tie) = None
+hold_mark (Loose tie seen) = None
 hold_mark (Mixed mark tie) = Some mark
 
 abbrev pub held_mark : {T : Type 0} → Option (Hold T) → Option (Mark T)
@@ -74,7 +74,7 @@ tie_kept {T} name published longer tie begins is = (is.0, ap (λ (l : List T). s
 pub hold_kept : {T : Type 0} (homes later : List (maybe.Option (Room T))) (name : ℕ) (published longer : List T) (hold : Hold T) → ((mark : Mark T) → hold_mark hold ≡ Some mark → MarkIs homes name mark → MarkIs later name mark) → Begins published longer → HoldIs homes name published hold → HoldIs later name longer hold
 hold_kept homes later name published longer (Once mark) keeps begins is = keeps mark refl is
 hold_kept homes later name published longer (Double mark) keeps begins is = keeps mark refl is
-hold_kept homes later name published longer (Loose tie) keeps begins is = tie_kept name published longer tie begins is
+hold_kept homes later name published longer (Loose tie seen) keeps begins is = tie_kept name published longer tie begins is
 hold_kept homes later name published longer (Mixed mark tie) keeps begins is = (keeps mark refl is.0, tie_kept name published longer tie begins is.1, is.2)
 
 pub held_kept : {T : Type 0} (homes later : List (maybe.Option (Room T))) (name : ℕ) (published longer : List T) (held : Option (Hold T)) → ((mark : Mark T) → held_mark held ≡ Some mark → MarkIs homes name mark → MarkIs later name mark) → Begins published longer → HeldIs homes name published held → HeldIs later name longer held

@@ -1,5 +1,5 @@
 -- What the rule allows a reader that takes an owner in, and a publisher that notes one, for seats whose view is known by an equation.
-use Rattle.std.proofs.Common.{◌≡◌, refl, sym, ap, ◌∙◌, subst, ℕ, suc, ◌+◌, ◌-◌, ◌%◌, ◌^◌, ◌<◌, List, [], Option, Some, None}
+use Rattle.std.proofs.Common.{◌≡◌, refl, sym, ap, ◌∙◌, subst, ℕ, suc, ◌+◌, ◌-◌, ◌%◌, ◌^◌, ◌<◌, true, false, List, [], Option, Some, None}
 use Rattle.atomic_table.specs.Table.{Allows, Splits, Joins, carried_after}
 use Rattle.cell_core.specs.Words.{slots, notes}
 use Rattle.counted_handles.specs.declared.view.Mark.{Mark}
@@ -33,7 +33,7 @@ module _ {T : Type 0} (begins : T → Type 0) (follows : T → T → Type 0) (sp
   receive_weak_allowed id other view guest r tie is is_guest whole =
       subst (λ v. Joins (Ruled begins follows spots) id v other guest (hosting v guest) Gone) (sym is)
       (subst (λ w. Joins (Ruled begins follows spots) id (Reads r) other w (hosting (Reads r) w) Gone) (sym is_guest)
-      (joins_later begins follows spots id other (Reads r) (HasWeakly tie) (Hosts r (Loose tie)) Gone tt (receives_loose begins follows spots id other r tie whole)))
+      (joins_later begins follows spots id other (Reads r) (HasWeakly tie) (Hosts r (Loose tie false)) Gone tt (receives_loose begins follows spots id other r tie whole)))
 
   pub borrow_allowed : (id other : ℕ) (view guest : View T) (p : Publishing T) (mark : Mark T) → view ≡ Publishes p → guest ≡ Has mark → p.share ≡ None → Joins (Ruled begins follows spots) id view other guest (sharing view guest) Gone
   borrow_allowed id other view guest p mark is is_guest whole =
@@ -46,20 +46,20 @@ module _ {T : Type 0} (begins : T → Type 0) (follows : T → T → Type 0) (sp
       subst (λ j. Allows (Ruled begins follows spots) n id me j (λ k. (k + 1) % 2 ^ 64) (λ found new. RaiseTells me.0 found new)) (sym index)
       (at_seat begins follows spots n id id (suc (mark.slot + mark.slot)) me (Hosts r (Once mark), []) (λ k. (k + 1) % 2 ^ 64) (λ m found new. RaiseTells m.0 found new) count refl is tt (clones begins follows spots id r mark some_left))
 
-  pub lift_allowed : (n id i : ℕ) (me : Sat T) (r : Reading T) (tie : Tie T) → n ≡ slots → i ≡ suc (tie.slot + tie.slot) → me ≡ (Hosts r (Loose tie), []) → 0 < r.left → Allows (Ruled begins follows spots) n id me i (λ k. (k + 1) % 2 ^ 64) (λ found new. RaiseTells me.0 found new)
+  pub lift_allowed : (n id i : ℕ) (me : Sat T) (r : Reading T) (tie : Tie T) → n ≡ slots → i ≡ suc (tie.slot + tie.slot) → me ≡ (Hosts r (Loose tie true), []) → 0 < r.left → Allows (Ruled begins follows spots) n id me i (λ k. (k + 1) % 2 ^ 64) (λ found new. RaiseTells me.0 found new)
   lift_allowed n id i me r tie count index is some_left =
       subst (λ j. Allows (Ruled begins follows spots) n id me j (λ k. (k + 1) % 2 ^ 64) (λ found new. RaiseTells me.0 found new)) (sym index)
-      (at_seat begins follows spots n id id (suc (tie.slot + tie.slot)) me (Hosts r (Loose tie), []) (λ k. (k + 1) % 2 ^ 64) (λ m found new. RaiseTells m.0 found new) count refl is tt (lifts begins follows spots id r tie some_left))
+      (at_seat begins follows spots n id id (suc (tie.slot + tie.slot)) me (Hosts r (Loose tie true), []) (λ k. (k + 1) % 2 ^ 64) (λ m found new. RaiseTells m.0 found new) count refl is tt (lifts begins follows spots id r tie some_left))
 
   pub find_allowed : (n id i : ℕ) (me : Sat T) (r : Reading T) (mark : Mark T) → n ≡ slots → i ≡ suc (mark.slot + mark.slot) → me ≡ (Hosts r (Once mark), []) → Allows (Ruled begins follows spots) n id me i (λ k. k) (λ found new. SeeTells me.0 found new)
   find_allowed n id i me r mark count index is =
       subst (λ j. Allows (Ruled begins follows spots) n id me j (λ k. k) (λ found new. SeeTells me.0 found new)) (sym index)
       (at_seat begins follows spots n id id (suc (mark.slot + mark.slot)) me (Hosts r (Once mark), []) (λ k. k) (λ m found new. SeeTells m.0 found new) count refl is tt (finds begins follows spots id r mark))
 
-  pub see_allowed : (n id i : ℕ) (me : Sat T) (r : Reading T) (tie : Tie T) → n ≡ slots → i ≡ suc (tie.slot + tie.slot) → me ≡ (Hosts r (Loose tie), []) → Allows (Ruled begins follows spots) n id me i (λ k. k) (λ found new. SeeTells me.0 found new)
+  pub see_allowed : (n id i : ℕ) (me : Sat T) (r : Reading T) (tie : Tie T) → n ≡ slots → i ≡ suc (tie.slot + tie.slot) → me ≡ (Hosts r (Loose tie false), []) → Allows (Ruled begins follows spots) n id me i (λ k. k) (λ found new. SeeTells me.0 found new)
   see_allowed n id i me r tie count index is =
       subst (λ j. Allows (Ruled begins follows spots) n id me j (λ k. k) (λ found new. SeeTells me.0 found new)) (sym index)
-      (at_seat begins follows spots n id id (suc (tie.slot + tie.slot)) me (Hosts r (Loose tie), []) (λ k. k) (λ m found new. SeeTells m.0 found new) count refl is tt (sees begins follows spots id r tie))
+      (at_seat begins follows spots n id id (suc (tie.slot + tie.slot)) me (Hosts r (Loose tie false), []) (λ k. k) (λ m found new. SeeTells m.0 found new) count refl is tt (sees begins follows spots id r tie false))
 
   pub note_allowed : (n id i : ℕ) (me : Sat T) (p : Publishing T) (mark : Mark T) → n ≡ slots → id ≡ 0 → i ≡ suc (suc (mark.slot + mark.slot)) → me ≡ (Publishes p, []) → p.share ≡ Some (Once mark) → p.noted < notes → Allows (Ruled begins follows spots) n id me i (λ k. (k + 1) % 2 ^ 64) (λ _ new. NoteTells me.0 new)
   note_allowed n id i me p mark count seat index is share few =
@@ -83,17 +83,17 @@ module _ {T : Type 0} (begins : T → Type 0) (follows : T → T → Type 0) (sp
   pub gain_weak_splits : (id : ℕ) (view : View T) (r : Reading T) (mark : Mark T) (tie : Tie T) → view ≡ Hosts r (Mixed mark tie) → Splits (Ruled begins follows spots) id view (kept_gain view) (given_gain view)
   gain_weak_splits id view r mark tie is =
       subst (λ v. Splits (Ruled begins follows spots) id v (kept_gain v) (given_gain v)) (sym is)
-      (splits_later begins follows spots id (Hosts r (Mixed mark tie)) (Hosts r (Loose tie)) (Has mark) tt (splits_mixed begins follows spots id r mark tie))
+      (splits_later begins follows spots id (Hosts r (Mixed mark tie)) (Hosts r (Loose tie false)) (Has mark) tt (splits_mixed begins follows spots id r mark tie))
 
   pub depart_splits : (id : ℕ) (view : View T) (r : Reading T) (mark : Mark T) → view ≡ Hosts r (Once mark) → Splits (Ruled begins follows spots) id view (kept_reader view) (given_owner view)
   depart_splits id view r mark is =
       subst (λ v. Splits (Ruled begins follows spots) id v (kept_reader v) (given_owner v)) (sym is)
       (splits_later begins follows spots id (Hosts r (Once mark)) (Reads r) (Has mark) tt (splits_once begins follows spots id r mark))
 
-  pub depart_weak_splits : (id : ℕ) (view : View T) (r : Reading T) (tie : Tie T) → view ≡ Hosts r (Loose tie) → Splits (Ruled begins follows spots) id view (kept_reader view) (given_owner view)
+  pub depart_weak_splits : (id : ℕ) (view : View T) (r : Reading T) (tie : Tie T) → view ≡ Hosts r (Loose tie false) → Splits (Ruled begins follows spots) id view (kept_reader view) (given_owner view)
   depart_weak_splits id view r tie is =
       subst (λ v. Splits (Ruled begins follows spots) id v (kept_reader v) (given_owner v)) (sym is)
-      (splits_later begins follows spots id (Hosts r (Loose tie)) (Reads r) (HasWeakly tie) tt (splits_loose begins follows spots id r tie))
+      (splits_later begins follows spots id (Hosts r (Loose tie false)) (Reads r) (HasWeakly tie) tt (splits_loose begins follows spots id r tie false))
 
   pub untie_splits : (id : ℕ) (view : View T) (p : Publishing T) (mark : Mark T) (tie : Tie T) → view ≡ Publishes p → p.share ≡ Some (Mixed mark tie) → Splits (Ruled begins follows spots) id view (kept_untied view) (given_tie view)
   untie_splits id view p mark tie is share =

@@ -1,5 +1,5 @@
 -- What a reader that has taken an owner in sees and gains keeps the rule.
-use Rattle.std.proofs.Common.{◌≡◌, ◌≢◌, refl, sym, ap, ◌∙◌, subst, ℕ, zero, suc, ◌+◌, ◌-◌, ◌%◌, ◌^◌, ◌<◌, inl, inr, Bool, true, true≢false, List, [], ◌∷◌, get_or, set, arith, Some}
+use Rattle.std.proofs.Common.{◌≡◌, ◌≢◌, refl, sym, ap, ◌∙◌, subst, ℕ, zero, suc, ◌+◌, ◌-◌, ◌%◌, ◌^◌, ◌<◌, inl, inr, Bool, true, false, true≢false, List, [], ◌∷◌, get_or, set, arith, Some}
 use Rattle.std.specs.Prelude.{Contains}
 use Rattle.std.specs.List.{slice_get, slice_set}
 use Rattle.std.proofs.lemmas.List.{set-get_or}
@@ -119,14 +119,14 @@ module _ {T : Type 0} (begins : T → Type 0) (follows : T → T → Type 0) (sp
   not_free_weak s h id tie there seat free = (keeps_slot (shown s) h.cell id tie.number tie.slot there.there h.shows seat there.at).0 (found_shares s tie.slot there ∙ free.shares)
 
   -- a step up of a weak owner that was taken in: an owner's share, or DEAD
-  pub lifts : (id : ℕ) (r : Reading T) (tie : Tie T) → 0 < r.left → Allows (Holds begins follows spots) slots id (Hosts r (Loose tie), []) (suc (tie.slot + tie.slot)) (λ n. (n + 1) % 2 ^ 64) (λ found me. Lifted r tie found me)
+  pub lifts : (id : ℕ) (r : Reading T) (tie : Tie T) → 0 < r.left → Allows (Holds begins follows spots) slots id (Hosts r (Loose tie true), []) (suc (tie.slot + tie.slot)) (λ n. (n + 1) % 2 ^ 64) (λ found me. Lifted r tie found me)
   lifts id r tie some_left s h size at bound =
       let st : State T = shown s in
       let number : ℕ = tie.number in
       let place : ℕ = tie.slot in
       let word : ℕ = fetch_add (get_or s.words (suc (place + place)) 0) 1 in
       let words : List ℕ = set s.words (suc (place + place)) word in
-      let old : View T = Hosts r (Loose tie) in
+      let old : View T = Hosts r (Loose tie true) in
       let known = h.knows id old at in
       let seat : slice_get st.owners id ≡ Some (Weakly number place) = got_map owner_of s.views id old at in
       let of = h.shows.owner_is id (Weakly number place) seat in
@@ -174,7 +174,7 @@ module _ {T : Type 0} (begins : T → Type 0) (follows : T → T → Type 0) (sp
             )
             )
         | inr gone ↦ (
-            let new : View T = Hosts (with_gone number (record r { left = r.left - 1 })) (Loose tie) in
+            let new : View T = Hosts (with_gone number (record r { left = r.left - 1 })) (Loose tie false) in
             let kept = late_keeps st h.cell number place gone.late gone.rest there.there h.shows there.at gone.phase room in
             let after : State T = shown (record { words = words; homes = s.homes; views = set s.views id new }) in
             let same : after ≡ more = shown_raise s h place there id old new at first (omega (arith, some_left)) ∙ ap (λ l. record more { owners = l }) (sym (set_there st.owners id (Weakly number place) seat)) in (
@@ -207,17 +207,17 @@ module _ {T : Type 0} (begins : T → Type 0) (follows : T → T → Type 0) (sp
       ]
 
   -- a seat that has seen more of what is buried
-  seen_more : (s : Board T) (h : Holds begins follows spots s) (id i : ℕ) (r seen : Reading T) (hold : Hold T) → get_elem? s.views id ≡ some (Hosts r hold) → seen.left ≡ r.left → Knows spots h.name h.cell s.homes (Hosts seen hold)
-      → Holds begins follows spots (record { words = set s.words i (get_or s.words i 0); homes = s.homes; views = set s.views id (Hosts seen hold) })
-  seen_more s h id i r seen hold at left knows =
+  seen_more : (s : Board T) (h : Holds begins follows spots s) (id i : ℕ) (r seen : Reading T) (hold its : Hold T) → get_elem? s.views id ≡ some (Hosts r hold) → hold_owner its ≡ hold_owner hold → seen.left ≡ r.left → Knows spots h.name h.cell s.homes (Hosts seen its)
+      → Holds begins follows spots (record { words = set s.words i (get_or s.words i 0); homes = s.homes; views = set s.views id (Hosts seen its) })
+  seen_more s h id i r seen hold its at owns left knows =
       let st : State T = shown s in
       let old : View T = Hosts r hold in
-      let new : View T = Hosts seen hold in
+      let new : View T = Hosts seen its in
       let first = not_first s h id old at (λ p e. cc) in
       let seat : slice_get st.owners id ≡ Some (hold_owner hold) = got_map owner_of s.views id old at in
       let sums = sum_set left_of s.views id old new at in
       let after : State T = shown (record { words = s.words; homes = s.homes; views = set s.views id new }) in
-      let same : after ≡ st = state_is _ _ refl refl (publisher_else s.views id new first) (map_set owner_of s.views id new ∙ sym (set_there st.owners id (hold_owner hold) seat))
+      let same : after ≡ st = state_is _ _ refl refl (publisher_else s.views id new first) (map_set owner_of s.views id new ∙ ap (set st.owners id) owns ∙ sym (set_there st.owners id (hold_owner hold) seat))
       (ap (λ k. grants - k) (let e : lefts (set s.views id new) ≡ lefts s.views = omega (arith, sums, left) in e))
       (noted_else s.views id new first) in
       subst (λ w. Holds begins follows spots (record { words = w; homes = s.homes; views = set s.views id new })) (sym (set-get_or s.words i 0))
@@ -243,13 +243,13 @@ module _ {T : Type 0} (begins : T → Type 0) (follows : T → T → Type 0) (sp
       }))
 
   -- a look at the slot of a weak owner that was taken in
-  pub sees : (id : ℕ) (r : Reading T) (tie : Tie T) → Allows (Holds begins follows spots) slots id (Hosts r (Loose tie), []) (suc (tie.slot + tie.slot)) (λ n. n) (λ found me. SeenBy r tie found me)
-  sees id r tie s h size at bound =
+  pub sees : (id : ℕ) (r : Reading T) (tie : Tie T) (seen : Bool) → Allows (Holds begins follows spots) slots id (Hosts r (Loose tie seen), []) (suc (tie.slot + tie.slot)) (λ n. n) (λ found me. SeenBy r tie found me)
+  sees id r tie seen s h size at bound =
       let st : State T = shown s in
       let number : ℕ = tie.number in
       let place : ℕ = tie.slot in
       let i : ℕ = suc (place + place) in
-      let old : View T = Hosts r (Loose tie) in
+      let old : View T = Hosts r (Loose tie seen) in
       let known = h.knows id old at in
       let seat : slice_get st.owners id ≡ Some (Weakly number place) = got_map owner_of s.views id old at in
       let of = h.shows.owner_is id (Weakly number place) seat in
@@ -257,17 +257,17 @@ module _ {T : Type 0} (begins : T → Type 0) (follows : T → T → Type 0) (sp
       let shares = found_shares s place there in
       elim (weak_sees st h.cell h.shows id number place there.there seat there.at) [
         | inl open_still ↦ (
-          old,
+          Hosts r (Loose tie true),
           keeps,
           tt,
-          seen_more s h id i r r (Loose tie) at refl known,
+          seen_more s h id i r r (Loose tie seen) (Loose tie true) at refl refl known,
           (λ little. refl, λ great. absurd (omega (arith, great, shares, open_still.little))),
         )
         | inr gone ↦ (
-          Hosts (with_gone number r) (Loose tie),
+          Hosts (with_gone number r) (Loose tie false),
           keeps,
           tt,
-          seen_more s h id i r (with_gone number r) (Loose tie) at refl (known.0, known.1, known.2, (gone.buried, known.3), known.4),
+          seen_more s h id i r (with_gone number r) (Loose tie seen) (Loose tie false) at refl refl (known.0, known.1, known.2, (gone.buried, known.3), known.4),
           (λ little. absurd (omega (arith, little, shares, gone.great)), λ great. refl),
         )
       ]
@@ -283,6 +283,6 @@ module _ {T : Type 0} (begins : T → Type 0) (follows : T → T → Type 0) (sp
         old,
         keeps,
         tt,
-        seen_more s h id (suc (mark.slot + mark.slot)) r r (Once mark) at refl known,
+        seen_more s h id (suc (mark.slot + mark.slot)) r r (Once mark) (Once mark) at refl refl known,
         (refl, λ has. true≢false (sym (gone_has h.cell.buried r.gone mark.number known.3 has) ∙ lies.unburied)),
       )

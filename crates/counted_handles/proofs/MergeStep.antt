@@ -1,5 +1,5 @@
 -- A seat that takes an owner in keeps the rule.
-use Rattle.std.proofs.Common.{◌≡◌, ◌≢◌, refl, sym, ap, ◌∙◌, subst, ℕ, zero, suc, ◌-◌, ⊎_elim, Bool, List, [], ◌∷◌, map, get_or, set, arith, Option, Some, None}
+use Rattle.std.proofs.Common.{◌≡◌, ◌≢◌, refl, sym, ap, ◌∙◌, subst, ℕ, zero, suc, ◌-◌, ⊎_elim, Bool, false, List, [], ◌∷◌, map, get_or, set, arith, Option, Some, None}
 use Rattle.std.specs.List.{slice_get, slice_set}
 use mathlib.Core.Option.{some, some-injective, some-ne-none}
 use lib.ListN.{get_elem?}
@@ -152,8 +152,8 @@ module _ {T : Type 0} (begins : T → Type 0) (follows : T → T → Type 0) (sp
   pub receives_once : (id other : ℕ) (r : Reading T) (mark : Mark T) → r.share ≡ None → Joins (Holds begins follows spots) id (Reads r) other (Has mark) (Hosts r (Once mark)) Gone
   receives_once id other r mark whole = receives id other r (Has mark) (Once mark) whole (λ p e. cc) refl refl refl (record { unburying = λ slot e. cc; uncharged = refl }) (λ s h is. is)
 
-  pub receives_loose : (id other : ℕ) (r : Reading T) (tie : Tie T) → r.share ≡ None → Joins (Holds begins follows spots) id (Reads r) other (HasWeakly tie) (Hosts r (Loose tie)) Gone
-  receives_loose id other r tie whole = receives id other r (HasWeakly tie) (Loose tie) whole (λ p e. cc) refl refl refl (record { unburying = λ slot e. cc; uncharged = refl }) (λ s h is. is)
+  pub receives_loose : (id other : ℕ) (r : Reading T) (tie : Tie T) → r.share ≡ None → Joins (Holds begins follows spots) id (Reads r) other (HasWeakly tie) (Hosts r (Loose tie false)) Gone
+  receives_loose id other r tie whole = receives id other r (HasWeakly tie) (Loose tie false) whole (λ p e. cc) refl refl refl (record { unburying = λ slot e. cc; uncharged = refl }) (λ s h is. is)
 
   -- the publisher takes an owner in
   pub shares : (id other : ℕ) (p : Publishing T) (mark : Mark T) → p.share ≡ None → Joins (Holds begins follows spots) id (Publishes p) other (Has mark) (Publishes (record p { share = Some (Once mark) })) Gone

@@ -1,5 +1,5 @@
 -- A seat that is cut in two keeps the rule.
-use Rattle.std.proofs.Common.{◌≡◌, ◌≢◌, refl, sym, ap, ◌∙◌, subst, ℕ, zero, suc, ◌+◌, ◌-◌, ◌≤◌, ⊎_elim, Bool, List, [], ◌∷◌, ◌++◌, map, set, drop, arith, Option, Some, None, append-nil}
+use Rattle.std.proofs.Common.{◌≡◌, ◌≢◌, refl, sym, ap, ◌∙◌, subst, ℕ, zero, suc, ◌+◌, ◌-◌, ◌≤◌, ⊎_elim, Bool, false, List, [], ◌∷◌, ◌++◌, map, set, drop, arith, Option, Some, None, append-nil}
 use Rattle.std.specs.List.{slice_get, slice_set}
 use Rattle.std.proofs.lemmas.List.Sums.{sum_by_push}
 use mathlib.Core.Option.{some, some-injective, some-ne-none}
@@ -266,12 +266,12 @@ module _ {T : Type 0} (begins : T → Type 0) (follows : T → T → Type 0) (sp
         only_right = λ p e. cc;
       })
 
-  pub splits_mixed : (id : ℕ) (r : Reading T) (mark : Mark T) (tie : Tie T) → Splits (Holds begins follows spots) id (Hosts r (Mixed mark tie)) (Hosts r (Loose tie)) (Has mark)
+  pub splits_mixed : (id : ℕ) (r : Reading T) (mark : Mark T) (tie : Tie T) → Splits (Holds begins follows spots) id (Hosts r (Mixed mark tie)) (Hosts r (Loose tie false)) (Has mark)
   splits_mixed id r mark tie s h at =
       let known = h.knows id (Hosts r (Mixed mark tie)) at in
       let first = not_first s h id (Hosts r (Mixed mark tie)) at (λ p e. cc) in
       let has : HoldIs s.homes h.name h.cell.published (Mixed mark tie) = known.4 in
-      cut s h id (Hosts r (Mixed mark tie)) (Hosts r (Loose tie)) (Has mark) (record {
+      cut s h id (Hosts r (Mixed mark tie)) (Hosts r (Loose tie false)) (Has mark) (record {
         at = at;
         how = refl;
         noted = refl;
@@ -279,7 +279,7 @@ module _ {T : Type 0} (begins : T → Type 0) (follows : T → T → Type 0) (sp
         parting = parting_both mark.number mark.slot tie.number tie.slot has.2.0 has.2.1;
         left_knows = (known.0, known.1, known.2, known.3, has.1);
         right_knows = has.0;
-        first = first_beside s h id (Hosts r (Mixed mark tie)) (Hosts r (Loose tie)) (Has mark) at first refl;
+        first = first_beside s h id (Hosts r (Mixed mark tie)) (Hosts r (Loose tie false)) (Has mark) at first refl;
         only_left = λ p e. absurd (let wrong = e in cc);
         only_right = λ p e. cc;
       })
@@ -307,5 +307,5 @@ module _ {T : Type 0} (begins : T → Type 0) (follows : T → T → Type 0) (sp
   pub splits_once : (id : ℕ) (r : Reading T) (mark : Mark T) → Splits (Holds begins follows spots) id (Hosts r (Once mark)) (Reads r) (Has mark)
   splits_once id r mark = splits_owner id r (Once mark) (Has mark) (λ s h is. is) refl refl (passing _ _ _ refl refl (record { unburying = λ slot e. cc; uncharged = refl })) (λ p e. cc)
 
-  pub splits_loose : (id : ℕ) (r : Reading T) (tie : Tie T) → Splits (Holds begins follows spots) id (Hosts r (Loose tie)) (Reads r) (HasWeakly tie)
-  splits_loose id r tie = splits_owner id r (Loose tie) (HasWeakly tie) (λ s h is. is) refl refl (passing _ _ _ refl refl (record { unburying = λ slot e. cc; uncharged = refl })) (λ p e. cc)
+  pub splits_loose : (id : ℕ) (r : Reading T) (tie : Tie T) (seen : Bool) → Splits (Holds begins follows spots) id (Hosts r (Loose tie seen)) (Reads r) (HasWeakly tie)
+  splits_loose id r tie seen = splits_owner id r (Loose tie seen) (HasWeakly tie) (λ s h is. is) refl refl (passing _ _ _ refl refl (record { unburying = λ slot e. cc; uncharged = refl })) (λ p e. cc)

@@ -1,5 +1,5 @@
 -- How views are cut in two, and made one (own).
-use Rattle.std.specs.Prelude.{ℕ, ◌+◌, ◌-◌, ◌^◌, List, [], ◌∷◌, drop, Option, None, Some}
+use Rattle.std.specs.Prelude.{false, ℕ, ◌+◌, ◌-◌, ◌^◌, List, [], ◌∷◌, drop, Option, None, Some}
 use Rattle.counted_handles.specs.declared.view.Mark.{Mark}
 use Rattle.counted_handles.specs.declared.view.Publishing.{Publishing}
 use Rattle.counted_handles.specs.declared.view.Reading.{Reading}
@@ -18,7 +18,7 @@ abbrev pub once_view : {T : Type 0} → Option (Hold T) → View T
 once_view None = Gone
 once_view (Some (Once mark)) = Has mark
 once_view (Some (Double mark)) = Gone
-once_view (Some (Loose tie)) = Gone
+once_view (Some (Loose tie seen)) = Gone
 once_view (Some (Mixed mark tie)) = Gone
 
 -- a share goes to a seat of its own: what the reader or the publisher keeps, and what the new seat has (own)
@@ -115,20 +115,20 @@ handed_met view = Gone
 -- a reader takes an owner in, weak or strong (own)
 abbrev pub hosting : {T : Type 0} → View T → View T → View T
 hosting (Reads r) (Has mark) = Hosts r (Once mark)
-hosting (Reads r) (HasWeakly tie) = Hosts r (Loose tie)
+hosting (Reads r) (HasWeakly tie) = Hosts r (Loose tie false)
 hosting view guest = view
 
 -- what it has gained goes off: what it keeps, and what the new seat has (own)
 abbrev pub less : {T : Type 0} → Hold T → Hold T
 less (Once mark) = Once mark
 less (Double mark) = Once mark
-less (Loose tie) = Loose tie
-less (Mixed mark tie) = Loose tie
+less (Loose tie seen) = Loose tie seen
+less (Mixed mark tie) = Loose tie false
 
 abbrev pub gained : {T : Type 0} → Hold T → View T
 gained (Once mark) = Gone
 gained (Double mark) = Has mark
-gained (Loose tie) = Gone
+gained (Loose tie seen) = Gone
 gained (Mixed mark tie) = Has mark
 
 abbrev pub kept_gain : {T : Type 0} → View T → View T
@@ -143,7 +143,7 @@ given_gain view = Gone
 abbrev pub lone_view : {T : Type 0} → Hold T → View T
 lone_view (Once mark) = Has mark
 lone_view (Double mark) = Gone
-lone_view (Loose tie) = HasWeakly tie
+lone_view (Loose tie seen) = HasWeakly tie
 lone_view (Mixed mark tie) = Gone
 
 abbrev pub kept_reader : {T : Type 0} → View T → View T
@@ -164,14 +164,14 @@ abbrev pub untied : {T : Type 0} → Option (Hold T) → Option (Hold T)
 untied None = None
 untied (Some (Once mark)) = Some (Once mark)
 untied (Some (Double mark)) = Some (Double mark)
-untied (Some (Loose tie)) = Some (Loose tie)
+untied (Some (Loose tie seen)) = Some (Loose tie seen)
 untied (Some (Mixed mark tie)) = Some (Once mark)
 
 abbrev pub tie_view : {T : Type 0} → Option (Hold T) → View T
 tie_view None = Gone
 tie_view (Some (Once mark)) = Gone
 tie_view (Some (Double mark)) = Gone
-tie_view (Some (Loose tie)) = Gone
+tie_view (Some (Loose tie seen)) = Gone
 tie_view (Some (Mixed mark tie)) = HasWeakly tie
 
 abbrev pub kept_untied : {T : Type 0} → View T → View T

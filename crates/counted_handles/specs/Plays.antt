@@ -1,5 +1,5 @@
 -- What each step tells, by the view of the seat that makes it; nothing is told of a step that the seat doesn't make (own).
-use Rattle.std.specs.Prelude.{◌≡◌, ℕ, [], ◌∷◌, length, Option, Some, None}
+use Rattle.std.specs.Prelude.{◌≡◌, true, false, ℕ, [], ◌∷◌, length, Option, Some, None}
 use Rattle.cell_core.specs.declared.words.Publisher.{Publisher}
 use Rattle.cell_core.specs.declared.words.Publisher.TheVariants.{Probing, Preparing, Swapping, Settling}
 use Rattle.counted_handles.specs.declared.view.Publishing.{Publishing}
@@ -139,7 +139,7 @@ OfferTells before me = ⊥
 abbrev pub NoteOf : {T : Type 0} → Publishing T → Option (Hold T) → Sat T → Type 0
 NoteOf p (Some (Once mark)) me = Noted p mark me
 NoteOf p (Some (Double mark)) me = ⊥
-NoteOf p (Some (Loose tie)) me = ⊥
+NoteOf p (Some (Loose tie seen)) me = ⊥
 NoteOf p (Some (Mixed mark tie)) me = ⊥
 NoteOf p None me = ⊥
 
@@ -147,10 +147,11 @@ abbrev pub NoteTells : {T : Type 0} → View T → Sat T → Type 0
 NoteTells (Publishes p) me = NoteOf p p.share me
 NoteTells view me = ⊥
 
--- raise, of what a reader has taken in (own)
+-- raise, of what a reader has taken in: of a weak owner only behind a look that has found its version there (own)
 abbrev pub RaiseOf : {T : Type 0} → Reading T → Hold T → ℕ → Sat T → Type 0
 RaiseOf r (Once mark) found me = Cloned r mark me
-RaiseOf r (Loose tie) found me = Lifted r tie found me
+RaiseOf r (Loose tie true) found me = Lifted r tie found me
+RaiseOf r (Loose tie false) found me = ⊥
 RaiseOf r (Double mark) found me = ⊥
 RaiseOf r (Mixed mark tie) found me = ⊥
 
@@ -161,7 +162,7 @@ RaiseTells view found me = ⊥
 -- look, of what a reader has taken in (own)
 abbrev pub SeeOf : {T : Type 0} → Reading T → Hold T → ℕ → Sat T → Type 0
 SeeOf r (Once mark) found me = SeenAlive r mark me
-SeeOf r (Loose tie) found me = SeenBy r tie found me
+SeeOf r (Loose tie seen) found me = SeenBy r tie found me
 SeeOf r (Double mark) found me = ⊥
 SeeOf r (Mixed mark tie) found me = ⊥
 

@@ -77,7 +77,7 @@ TieIs name published tie = (tie.name ≡ name) × (slice_get published tie.numbe
 abbrev pub HoldIs : {T : Type 0} → List (maybe.Option (Room T)) → ℕ → List T → Hold T → Type 0
 HoldIs homes name published (Once mark) = MarkIs homes name mark
 HoldIs homes name published (Double mark) = MarkIs homes name mark
-HoldIs homes name published (Loose tie) = TieIs name published tie
+HoldIs homes name published (Loose tie seen) = TieIs name published tie
 HoldIs homes name published (Mixed mark tie) = MarkIs homes name mark × TieIs name published tie × ((tie.number ≡ mark.number) × (tie.slot ≡ mark.slot))
 
 abbrev pub HeldIs : {T : Type 0} → List (maybe.Option (Room T)) → ℕ → List T → Option (Hold T) → Type 0

@@ -52,7 +52,7 @@ holder (Some mark) = Holding mark.number mark.slot
 abbrev pub hold_owner : {T : Type 0} → Hold T → Owner
 hold_owner (Once mark) = Holding mark.number mark.slot
 hold_owner (Double mark) = Twice mark.number mark.slot
-hold_owner (Loose tie) = Weakly tie.number tie.slot
+hold_owner (Loose tie seen) = Weakly tie.number tie.slot
 hold_owner (Mixed mark tie) = Both mark.number mark.slot
 
 abbrev pub held_by : {T : Type 0} → Option (Hold T) → Owner

@@ -1,5 +1,5 @@
 -- What each step tells the seat that makes it (own).
-use Rattle.std.specs.Prelude.{◌≡◌, ℕ, ◌+◌, ◌-◌, ◌<◌, ◌≤◌, Contains, List, [], ◌∷◌, length, ◌==◌, Some, None, MatchBool, if◌then◌else◌, ◌++◌, Option}
+use Rattle.std.specs.Prelude.{◌≡◌, true, false, ℕ, ◌+◌, ◌-◌, ◌<◌, ◌≤◌, Contains, List, [], ◌∷◌, length, ◌==◌, Some, None, MatchBool, if◌then◌else◌, ◌++◌, Option}
 use Rattle.std.specs.List.{slice_get}
 use Rattle.atomic_table.specs.Table.{Me}
 use Rattle.cell_core.specs.Words.{slots, grants, bulk, slot_of, given_of, free_word, dead_word}
@@ -164,13 +164,13 @@ pub record IsOfTie {T : Type 0} (tie : Tie T) (mark : Mark T) : Type 0 where
 abbrev pub Lifted : {T : Type 0} → Reading T → Tie T → ℕ → Sat T → Type 0
 Lifted {T} r tie found me =
     (found < dead_word → (mark : Mark T) × IsOfTie tie mark × (me ≡ (Hosts (record r { left = r.left - 1 }) (Mixed mark tie), [])))
-    × (dead_word ≤ found → me ≡ (Hosts (with_gone tie.number (record r { left = r.left - 1 })) (Loose tie), []))
+    × (dead_word ≤ found → me ≡ (Hosts (with_gone tie.number (record r { left = r.left - 1 })) (Loose tie false), []))
 
--- look, of a weak owner that a reader has taken in: where S is DEAD or more its version is buried (own)
+-- look, of a weak owner that a reader has taken in: where S is DEAD or more its version is buried, else a raise may follow (own)
 abbrev pub SeenBy : {T : Type 0} → Reading T → Tie T → ℕ → Sat T → Type 0
 SeenBy r tie found me =
-    (found < dead_word → me ≡ (Hosts r (Loose tie), []))
-    × (dead_word ≤ found → me ≡ (Hosts (with_gone tie.number r) (Loose tie), []))
+    (found < dead_word → me ≡ (Hosts r (Loose tie true), []))
+    × (dead_word ≤ found → me ≡ (Hosts (with_gone tie.number r) (Loose tie false), []))
 
 -- look, of an owner that a reader has taken in: its version isn't buried (own)
 abbrev pub SeenAlive : {T : Type 0} → Reading T → Mark T → Sat T → Type 0

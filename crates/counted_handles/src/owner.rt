@@ -12,7 +12,7 @@ ghost use Rattle.counted_handles.specs.Ruled.{stake_of, version_of};
 
 use crate::calls::{Words, give_up, hold, load_last};
 use crate::names::Names;
-use crate::released::Released;
+use crate::released::{Released, Releasing};
 use crate::rule::{Room, Spots};
 use crate::view::View;
 use atomic_table::{Badge, Seat};
@@ -70,20 +70,20 @@ fn let_go<T: Drop, C: Names<T>>(
     ensures { IsReleased C.begins C.follows result }
 {
     let mut seat = stand(words, held, slot);
-    let mut released = Released::lower(words, &mut seat, slot);
-    if !released.is_due() {
-        return released;
+    let mut releasing = Releasing::lower(words, &mut seat, slot);
+    if !releasing.is_due() {
+        return releasing.end::<T, C>();
     }
-    if !released.bury(words, &mut seat, slot) {
-        return released;
+    if !releasing.bury(words, &mut seat, slot) {
+        return releasing.end::<T, C>();
     }
-    released.empty(words, &mut seat, slot);
-    if !released.fade(words, &mut seat, slot) {
-        return released;
+    releasing.empty(words, &mut seat, slot);
+    if !releasing.fade(words, &mut seat, slot) {
+        return releasing.end::<T, C>();
     }
-    released.reset(words, &mut seat, slot);
-    released.free(words, &mut seat, slot);
-    released
+    releasing.reset(words, &mut seat, slot);
+    releasing.free(words, &mut seat, slot);
+    releasing.end::<T, C>()
 }
 
 // The version that is claimed.

@@ -6,7 +6,7 @@ ghost use Rattle.counted_handles.specs.declared.released.Steps.TheVariants.{Lowe
 ghost use Rattle.counted_handles.specs.declared.view.Mark.{Mark};
 ghost use Rattle.counted_handles.specs.declared.view.View.TheVariants.{Has, Buries, Resets, Frees, Gone};
 ghost use Rattle.counted_handles.specs.Calls.{Fits, IsOut, IsEmptied};
-ghost use Rattle.counted_handles.specs.Releases.{IsLowered, HasLost, LiesIn, IsOutlived, buried_in};
+ghost use Rattle.counted_handles.specs.Releases.{IsReleased, IsLowered, HasLost, LiesIn, IsOutlived, buried_in};
 
 use crate::calls::{Words, bury, fade, free, lower, reset};
 use crate::names::Names;
@@ -41,14 +41,27 @@ pub enum Steps {
     Freed(u64),
 }
 
-/// What an owner's release did. Contracts see its steps. Nothing but a subtraction makes one, and nothing but the exchange and the
-/// store after it carry it on, so who has one has made the steps that it tells.
+/// What an owner's release did. Contracts see its steps. Nothing but a release that has made all its steps makes one.
 #[derive(Debug, Drop)]
 pub struct Released {
     steps: Steps,
 }
 
 impl Model for Released {
+    ghost use Rattle.counted_handles.specs.declared.released.Steps.{Steps};
+
+    ghost Value = { Steps };
+
+    ghost view = { λ a. a.steps };
+}
+
+/// A release that is under way. Contracts see its steps. Nothing but a subtraction begins one, nothing but the exchange and the stores
+/// behind it carry it on, and it can't be dropped, so who has begun one makes all its steps.
+pub(crate) struct Releasing {
+    steps: Steps,
+}
+
+impl Model for Releasing {
     ghost use Rattle.counted_handles.specs.declared.released.Steps.{Steps};
 
     ghost Value = { Steps };
@@ -70,20 +83,22 @@ impl Released {
             | Steps::Freed(number) => Some(number),
         }
     }
+}
 
+impl Releasing {
     // The share goes back.
     pub(crate) fn lower<T, C: Names<T>>(
         words: &Words<T, C>,
         seat: &mut Seat<Room<T>, View<T>>,
         slot: usize,
-    ) -> Released
+    ) -> Releasing
         requires fits { Fits words.now.table_id × (seat.old.table_id ≡ words.now.table_id) }
         requires has { (mark : Mark T) × (seat.old.me ≡ (Has mark, [])) × (mark.slot ≡ slot) × (slot < slots) }
         ensures seat { (seat.new.table_id ≡ seat.old.table_id) × (seat.new.id ≡ seat.old.id) }
         ensures lowered { (mark : Mark T) → seat.old.me ≡ (Has mark, []) → IsLowered mark result seat.new.me }
     {
         let found = lower(words, seat, slot);
-        Released {
+        Releasing {
             steps: Steps::Lowered(found),
         }
     }
@@ -191,5 +206,14 @@ impl Released {
             Steps::Restored(number) => self.steps = Steps::Freed(number),
             _ => unreachable!(),
         }
+    }
+
+    // All steps are made.
+    pub(crate) fn end<T, C: Names<T>>(self) -> Released
+        requires { IsReleased C.begins C.follows self }
+        ensures { IsReleased C.begins C.follows result }
+    {
+        let Releasing { steps } = self;
+        Released { steps }
     }
 }

@@ -37,8 +37,8 @@ pub enum Hold<T> {
     Once(Mark<T>),
     /// Two shares.
     Double(Mark<T>),
-    /// The version, weakly.
-    Loose(Tie<T>),
+    /// The version, weakly; and whether a look at S, which no raise has followed, has found it there.
+    Loose(Tie<T>, bool),
     /// A share, and the version weakly.
     Mixed(Mark<T>, Tie<T>),
 }

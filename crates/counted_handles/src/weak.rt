@@ -12,7 +12,7 @@ ghost use Rattle.counted_handles.specs.Owned.{tied_version};
 
 use crate::calls::{SPAN, Words, draw_newest};
 use crate::guests::{lift, note};
-use crate::lapsed::Lapsed;
+use crate::lapsed::{Lapsed, WeakToken};
 use crate::names::Names;
 use crate::owner::{Strong, own};
 use crate::rule::{Room, Spots};
@@ -28,7 +28,7 @@ use std::snapshot::Snapshot;
 pub struct Weak<'a, T: Drop, C: Names<T>> {
     words: &'a Words<T, C>,
     spots: &'a Spots<T>,
-    badge: Badge<View<T>>,
+    token: WeakToken<T>,
     number: u64,
     slot: usize,
     version: Snapshot<Version<T>>,
@@ -43,7 +43,7 @@ impl<'a, T: Drop, C: Names<T>> Model for Weak<'a, T, C> {
 
     ghost view = { λ a. record { version = a.version.value; table = a.words.now.table_id } };
 
-    ghost invariant = { λ a. IsWeak a.words.now.table_id a.words.now.key a.spots.now a.badge.table_id a.badge.views a.number a.slot a.version.value };
+    ghost invariant = { λ a. IsWeak a.words.now.table_id a.words.now.key a.spots.now a.token.badge.table_id a.token.badge.views a.number a.slot a.version.value };
 }
 
 /// An upgrade gave no owner: the version is buried.
@@ -71,7 +71,7 @@ pub(crate) fn keep_weak<'a, T: Drop, C: Names<T>>(
     Weak {
         words,
         spots,
-        badge: seat.into_badge(),
+        token: WeakToken::of(seat),
         number,
         slot,
         version,
@@ -124,11 +124,11 @@ impl<'a, T: Drop, C: Names<T>> Weak<'a, T, C> {
         ensures owner { IfOk result (λ strong. (strong ≡ self.old) × ((r : Reading T) → CanRead r reader.old.views → reader.new.views ≡ Reads (with_grant_less r) ∷ [])) }
         ensures buried { IfErr result (λ sunk. (r : Reading T) → CanRead r reader.old.views → reader.new.views ≡ Reads (sunk_by r self.old.version.number sunk.raised) ∷ []) }
     {
-        let weak = mem::replace(&mut self.badge, Badge::blank()).into_seat();
+        let weak = self.token.lend();
         let mut seat = mem::replace(reader, Badge::blank()).into_seat();
         let (share, weak) = lift(self.words, &mut seat, weak, self.slot);
         *reader = seat.into_badge();
-        self.badge = weak.into_badge();
+        self.token.keep(weak);
         match share {
             Ok(share) => Ok(own(self.words, self.spots, share, self.slot)),
             Err(raised) => Err(Sunk { raised }),
@@ -143,12 +143,12 @@ impl<'a, T: Drop, C: Names<T>> Weak<'a, T, C> {
         let Weak {
             words,
             spots: _,
-            badge,
+            token,
             number: _,
             slot,
             version: _,
         } = self;
-        Lapsed::of(words, badge, slot)
+        Lapsed::of(words, token, slot)
     }
 }
 
@@ -157,11 +157,11 @@ impl<'a, T: Drop, C: Names<T>> Drop for Weak<'a, T, C> {
         let Weak {
             words,
             spots: _,
-            badge,
+            token,
             number: _,
             slot,
             version: _,
         } = self;
-        Lapsed::of(words, badge, slot);
+        Lapsed::of(words, token, slot);
     }
 }

@@ -73,7 +73,14 @@ impl<'a, 'b, P: UpdatePublisher, S: UpdateStore> MainTask for Judge<'a, 'b, P, S
 }
 
 /// What publishes in a server, and replies by the routes to its threads.
-type RoutedPublisher<'g, 's, Z, N, L> = ServerPublisher<'g, 's, Z, N, L, ReplyRoutes<'g>>;
+pub(crate) type RoutedPublisher<'g, 's, Z, N, L> = ServerPublisher<
+    'g,
+    's,
+    Z,
+    N,
+    L,
+    ReplyRoutes<'g>,
+>;
 
 /// The update thread's task in a server, with a reader and the right to publish. The reader comes back if an allocation fails.
 pub(crate) fn judge_for<

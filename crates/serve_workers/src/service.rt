@@ -9,7 +9,7 @@ ghost use Rattle.serve_workers.specs.Numbers.{end_of, fault_by};
 
 use crate::ending::{end_cell, end_named};
 use crate::jobs::{fault_of, jobs_of};
-use crate::judge::{UpdateConfig, UpdateContext, judge_for, reader_of};
+use crate::judge::{Judge, RoutedPublisher, UpdateConfig, UpdateContext, judge_for, reader_of};
 use crate::server_thread::{ServerThread, put_readers, run_threads};
 use crate::thread_spec::ThreadSpec;
 use crate::threads::SocketJob;
@@ -116,16 +116,41 @@ pub fn serve_zone<
     requires threads { vec_len specs + 2 ≤ READERS }
     requires kept { plan.keep ≤ KEPT }
 {
-    let threads = specs.len();
     let updates = match updates_for(rt, alloc, config.most, &specs, plan.places) {
         Ok(updates) => updates,
         Err(fault) => return Err(fault),
     };
-    let context = match context_for(alloc, config, &specs, &updates) {
+    serve_specs::<R, Z, L, S>(rt, alloc, first, later, specs, plan, config, &updates, log)
+}
+
+/// Serves a zone on sockets, as [`serve_zone`] does. The threads submit their updates to `updates`.
+fn serve_specs<
+    R: Net + Threads + Wait + Clock + Sync,
+    Z: FirstZone + Send + Sync,
+    L: ServiceLog + Sync,
+    S: UpdateStore,
+>(
+    rt: &R,
+    alloc: Global,
+    first: SharedVersion,
+    later: Vec<SharedVersion>,
+    specs: Vec<ThreadSpec<'_>>,
+    plan: Plan<'_>,
+    config: UpdateConfig<S>,
+    updates: &Updates,
+    log: &L,
+) -> Result<(), ServeFault>
+    requires first { IsFirst Z.zone first }
+    requires follow { AreNext first later.items }
+    requires threads { vec_len specs + 2 ≤ READERS }
+    requires kept { plan.keep ≤ KEPT }
+{
+    let threads = specs.len();
+    let context = match context_for(alloc, config, &specs, updates) {
         Ok(context) => context,
         Err(fault) => return Err(fault),
     };
-    let jobs = match jobs_of(rt, alloc, specs, plan, &updates) {
+    let jobs = match jobs_of(rt, alloc, specs, plan, updates) {
         Ok(jobs) => jobs,
         Err(fault) => return Err(fault),
     };
@@ -231,10 +256,19 @@ fn serve_with_engine<
     ensures { vec_len readers.new ≡ vec_len readers.old + 2 }
 {
     let count = later.len();
-    let (server, right) = match Server::resume(
-        alloc, cell, publisher, own, plan.keep, later, ledgers,
-    ) {
-        Ok(resumed) => resumed,
+    match Server::resume(alloc, cell, publisher, own, plan.keep, later, ledgers) {
+        Ok((server, right)) => serve_with_server(
+            rt,
+            alloc,
+            server,
+            right,
+            plan.shutdown,
+            context,
+            reader,
+            readers,
+            jobs,
+            log,
+        ),
         Err(
             NoEngine {
                 fault,
@@ -251,18 +285,35 @@ fn serve_with_engine<
             readers.push_reserved(own);
             return (Err(ServeFault::Spent), publisher);
         }
-    };
+    }
+}
+
+/// Serves the versions of a server's cell, as [`serve_with_updates`] does, and takes the server apart. The cell's publisher comes back, and all readers in `readers`, which
+/// has room for two more.
+fn serve_with_server<
+    R: Threads + Wait + Clock + Sync,
+    Z: FirstZone + Send + Sync,
+    N: ServerName + Send + Sync,
+    L: ServiceLog + Sync,
+    S: UpdateStore,
+>(
+    rt: &R,
+    alloc: Global,
+    server: Server<'_, Z, N>,
+    right: PublishRight<N>,
+    shutdown: &Shutdown,
+    context: UpdateContext<'_, S>,
+    reader: VersionReader<N>,
+    readers: &mut Vec<VersionReader<N>>,
+    jobs: Vec<SocketJob<'_, R>>,
+    log: &L,
+) -> (Result<(), ServeFault>, VersionPublisher<Z, N>)
+    requires count { vec_len readers.old ≡ vec_len jobs }
+    requires room { vec_len readers.old + 1 < vec_capacity readers.old }
+    ensures { vec_len readers.new ≡ vec_len readers.old + 2 }
+{
     let served = serve_with_updates(
-        rt,
-        alloc,
-        &server,
-        plan.shutdown,
-        context,
-        reader,
-        right,
-        readers,
-        jobs,
-        log,
+        rt, alloc, &server, shutdown, context, reader, right, readers, jobs, log,
     );
     let (publisher, own) = server.finish();
     readers.push_reserved(own);
@@ -295,13 +346,41 @@ fn serve_with_updates<
     ensures room { vec_capacity readers.new ≡ vec_capacity readers.old }
 {
     let updates = context.updates;
-    let judge = match judge_for(rt, alloc, server, shutdown, context, reader, right, log) {
-        Ok(judge) => judge,
+    match judge_for(rt, alloc, server, shutdown, context, reader, right, log) {
+        Ok(judge) => serve_with_judge(
+            rt, alloc, server, shutdown, updates, judge, readers, jobs, log,
+        ),
         Err(reader) => {
             readers.push_reserved(reader);
             return Err(ServeFault::NoMemory);
         }
-    };
+    }
+}
+
+/// Serves the versions of a server's cell, by jobs with `readers`, while `judge` judges the updates that they submit to `updates`. All readers come back in `readers`, which
+/// has room for one more. Fails as [`serve_on_threads`] does.
+fn serve_with_judge<
+    R: Threads + Wait + Clock + Sync,
+    Z: FirstZone + Send + Sync,
+    N: ServerName + Send + Sync,
+    L: ServiceLog + Sync,
+    S: UpdateStore,
+>(
+    rt: &R,
+    alloc: Global,
+    server: &Server<'_, Z, N>,
+    shutdown: &Shutdown,
+    updates: &Updates,
+    judge: Judge<'_, '_, RoutedPublisher<'_, '_, Z, N, L>, S>,
+    readers: &mut Vec<VersionReader<N>>,
+    jobs: Vec<SocketJob<'_, R>>,
+    log: &L,
+) -> Result<(), ServeFault>
+    requires count { vec_len readers.old ≡ vec_len jobs }
+    requires room { vec_len readers.old < vec_capacity readers.old }
+    ensures count { vec_len readers.new ≡ vec_len readers.old + 1 }
+    ensures room { vec_capacity readers.new ≡ vec_capacity readers.old }
+{
     shutdown.judge();
     let (served, judge) = serve_on_threads(
         rt, alloc, server, shutdown, updates, judge, readers, jobs, log,

@@ -4,7 +4,7 @@ use Rattle.raw_slots.specs.Places.{first_with}
 use Rattle.counted_handles.specs.Ruled.{stake_of}
 use Rattle.counted_handles.proofs.Rights.{alone_right}
 use Rattle.counted_handles.proofs.Burials.{lost_of, won_of}
-use Rattle.counted_handles.proofs.released.Released.bury.Goals as goal
+use Rattle.counted_handles.proofs.released.Releasing.bury.Goals as goal
 
 pub returns-then-found-ne0-clause-tried : goal.returns-then-found-ne0-clause-tried
 returns-then-found-ne0-clause-tried g c = lost_of g.C.Names.begins g.C.Follows.follows c.args.slot _ c.bury-found.result c.bury-found.new.seat.me c.if-found-ne0.true (c.bury-found.ensures.tried _ c.requires.due.1)

@@ -2,7 +2,7 @@ use Rattle.std.proofs.Common.{subst, arith}
 use Rattle.counted_handles.specs.Plays.{FadeTells}
 use Rattle.counted_handles.specs.Tells.{Sat, Faded}
 use Rattle.counted_handles.proofs.HostLemmas.{lapse_allowed}
-use Rattle.counted_handles.proofs.lapsed.Lapsed.fade.Goals as goal
+use Rattle.counted_handles.proofs.lapsed.Lapsing.fade.Goals as goal
 
 pub fetch_sub-found-requires : goal.fetch_sub-found-requires
 fetch_sub-found-requires g c =

@@ -1,5 +1,5 @@
 -- The name is that of the cell that was made, and of its ledgers.
-use Rattle.serve_workers.proofs.service.serve_zone.Given as goal
+use Rattle.serve_workers.proofs.service.serve_specs.Given as goal
 
 abbrev pub ghosts-serve_with_readers-N-Naming : goal.ghosts-serve_with_readers-N-Naming
 ghosts-serve_with_readers-N-Naming g a = record { cell = a.parts.cell }

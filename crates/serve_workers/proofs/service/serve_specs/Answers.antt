@@ -3,7 +3,7 @@ use Rattle.std.proofs.Common.{◌≡◌, sym, ap, subst}
 use Rattle.zone_tree.specs.Version.{Version}
 use Rattle.snapshot_cell.specs.Tokens.{PublisherState}
 use Rattle.dns_engine.specs.Versions.{AreNext}
-use Rattle.serve_workers.proofs.service.serve_zone.Goals as goal
+use Rattle.serve_workers.proofs.service.serve_specs.Goals as goal
 
 pub serve_with_readers-requires-clause-follow : goal.serve_with_readers-requires-clause-follow
 serve_with_readers-requires-clause-follow g c =

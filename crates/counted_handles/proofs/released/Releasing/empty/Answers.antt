@@ -1,7 +1,7 @@
 use Rattle.std.proofs.Common.{◌≡◌, get_or, sym, ap, ◌∙◌, ℕ, List, Some}
 use Rattle.counted_handles.specs.declared.released.Steps.TheVariants.{Buried}
 use Rattle.counted_handles.specs.Shown.{Room}
-use Rattle.counted_handles.proofs.released.Released.empty.Goals as goal
+use Rattle.counted_handles.proofs.released.Releasing.empty.Goals as goal
 
 pub returns-clause-number : goal.returns-clause-number
 returns-clause-number g c version lies =
