@@ -56,7 +56,7 @@ impl Model for Released {
 }
 
 /// A release that is under way. Contracts see its steps. Nothing but a subtraction begins one, nothing but the exchange and the stores
-/// behind it carry it on, and it can't be dropped, so who has begun one makes all its steps.
+/// after it carry it on, and it can't be dropped, so who has begun one makes all its steps.
 pub(crate) struct Releasing {
     steps: Steps,
 }
