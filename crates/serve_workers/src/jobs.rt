@@ -85,7 +85,7 @@ pub(crate) fn tcp_job<'a, R: Clock + Net + Wait>(
         return Ok(job);
     };
     wakes.wake_by(rt, waker);
-    Ok(job.hearing(alloc, wakes))
+    Ok(job.with_wake_list(alloc, wakes))
 }
 
 /// Why a job can't be made: no memory, or its sockets have failed.

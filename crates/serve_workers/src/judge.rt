@@ -66,7 +66,7 @@ impl<'a, 'b, P: UpdatePublisher, S: UpdateStore> Judge<'a, 'b, P, S> {
 
 impl<'a, 'b, P: UpdatePublisher, S: UpdateStore> MainTask for Judge<'a, 'b, P, S> {
     // Secondaries are notified of versions until this has ended too.
-    fn meanwhile<R: Wait>(&mut self, rt: &R) {
+    fn run<R: Wait>(&mut self, rt: &R) {
         self.job.serve(rt);
         self.shutdown.judged();
     }

@@ -13,7 +13,7 @@ use std::mem;
 use std::sync::Wait;
 use std::thread::Threads;
 use std::time::Clock;
-use worker_jobs::{MainTask, Shutdown, Task, do_all};
+use worker_jobs::{MainTask, Shutdown, Task, run_tasks};
 use zone_server::{Event, JobEnd, Server, ServerName, ServiceLog, UpdateSender};
 
 /// A thread of a server.
@@ -199,5 +199,5 @@ pub(crate) fn run_threads<
         jobs,
         &mut threads,
     );
-    do_all(rt, alloc, threads, main_task)
+    run_tasks(rt, alloc, threads, main_task)
 }

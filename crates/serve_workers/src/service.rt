@@ -389,7 +389,7 @@ fn serve_with_judge<
     served
 }
 
-/// Serves the versions of a server's cell, by jobs with readers, and does the main task meanwhile. The jobs submit their updates to `updates`. The readers come back in
+/// Serves the versions of a server's cell, by jobs with readers, and does the main task at the same time. The jobs submit their updates to `updates`. The readers come back in
 /// `readers`. Fails with `NotStarted` where not all threads could be started, and else with the fault of the first job that failed.
 fn serve_on_threads<
     R: Threads + Wait + Clock + Sync,
@@ -416,7 +416,7 @@ fn serve_on_threads<
     let Ok(threads) = Vec::with_capacity(alloc, jobs.len()) else {
         return (Err(ServeFault::NotStarted), main_task);
     };
-    let (started, threads, beside) = run_threads(
+    let (started, threads, main_task) = run_threads(
         rt, alloc, server, shutdown, updates, main_task, readers, jobs, threads, log,
     );
     let fault = if started {
@@ -426,8 +426,8 @@ fn serve_on_threads<
     };
     put_readers(threads, readers);
     match fault {
-        Some(fault) => (Err(fault), beside),
-        None => (Ok(()), beside),
+        Some(fault) => (Err(fault), main_task),
+        None => (Ok(()), main_task),
     }
 }
 

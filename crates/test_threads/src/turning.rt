@@ -319,7 +319,7 @@ fn heard<'a>(
     wake_list: &'a WakeList,
 ) -> ConnectionsJob<'a, Comer, Poll, Comers, Steps> {
     if case.hears {
-        job.hearing(alloc, wake_list)
+        job.with_wake_list(alloc, wake_list)
     } else {
         job
     }

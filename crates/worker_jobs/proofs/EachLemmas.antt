@@ -75,10 +75,10 @@ pub each_along : {A B : Type 0} (R : A → B → Type 0) (xs zs : List A) (ys : 
 each_along R xs zs ys same all = subst (λ l. Each R l ys) same all
 
 -- what is put in and taken out again keeps its numbers, where those of what it is put in stay
-pub numbers_along : {P W : Type 0} (number : P → ℕ) (pair_of : W → P) (pairs back : List P) (works done : List W)
-    → back ≡ map pair_of done → map (λ w. number (pair_of w)) done ≡ map (λ w. number (pair_of w)) works → map pair_of works ≡ pairs → map number back ≡ map number pairs
-numbers_along number pair_of pairs back works done out same in' =
-    ap (map number) out ∙ map-map number pair_of done ∙ same ∙ sym (map-map number pair_of works) ∙ ap (map number) in'
+pub numbers_along : {P W : Type 0} (number : P → ℕ) (pair_of : W → P) (pairs back : List P) (tasks done : List W)
+    → back ≡ map pair_of done → map (λ w. number (pair_of w)) done ≡ map (λ w. number (pair_of w)) tasks → map pair_of tasks ≡ pairs → map number back ≡ map number pairs
+numbers_along number pair_of pairs back tasks done out same in' =
+    ap (map number) out ∙ map-map number pair_of done ∙ same ∙ sym (map-map number pair_of tasks) ∙ ap (map number) in'
 
 -- what is related by something of each is so when that is taken of each
 pub each_map : {A B : Type 0} (S : B → B → Type 0) (f : A → B) (xs ys : List A) → Each (λ x y. S (f x) (f y)) xs ys → Each S (map f xs) (map f ys)
@@ -86,8 +86,8 @@ each_map S f _ _ none = none
 each_map S f _ _ (one first all) = one first (each_map S f _ _ all)
 
 -- what is put in and taken out again stays related, where what it is put in does
-pub each_put : {P W : Type 0} (S : P → P → Type 0) (pair_of : W → P) (pairs back : List P) (works done : List W) → back ≡ map pair_of done → Each (λ given work. S (pair_of given) (pair_of work)) works done → map pair_of works ≡ pairs → Each S pairs back
-each_put S pair_of pairs back works done out all in' = subst (λ l. Each S pairs l) (sym out) (subst (λ l. Each S l (map pair_of done)) in' (each_map S pair_of works done all))
+pub each_put : {P W : Type 0} (S : P → P → Type 0) (pair_of : W → P) (pairs back : List P) (tasks done : List W) → back ≡ map pair_of done → Each (λ given work. S (pair_of given) (pair_of work)) tasks done → map pair_of tasks ≡ pairs → Each S pairs back
+each_put S pair_of pairs back tasks done out all in' = subst (λ l. Each S pairs l) (sym out) (subst (λ l. Each S l (map pair_of done)) in' (each_map S pair_of tasks done all))
 
 -- what holds of each that is put in holds of each that is taken out
 pub all_put : {P W : Type 0} (Q : P → Type 0) (pair_of : W → P) (back : List P) (done : List W) → back ≡ map pair_of done → All (λ w. Q (pair_of w)) done → All Q back

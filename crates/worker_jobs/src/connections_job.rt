@@ -148,14 +148,18 @@ impl<
     }
 
     /// The same job, where other threads tell which connections' replies are ready.
-    pub fn hearing(self, alloc: Global, wake_list: &'a WakeList) -> ConnectionsJob<'a, S, P, L, C>
+    pub fn with_wake_list(
+        self,
+        alloc: Global,
+        wake_list: &'a WakeList,
+    ) -> ConnectionsJob<'a, S, P, L, C>
         ensures number { result.number ≡ self.entry.number }
         ensures plan { result.plan ≡ self.entry.plan }
         ensures event_loop { result.event_loop ≡ self.entry.event_loop }
     {
-        let mut hearing = self;
-        hearing.poll.listen(alloc, wake_list);
-        hearing
+        let mut job = self;
+        job.poll.listen(alloc, wake_list);
+        job
     }
 
     /// How the job has ended. None where it hasn't yet.

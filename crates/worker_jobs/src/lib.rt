@@ -2,7 +2,7 @@
 //!
 //! A [`DatagramsJob`] answers the datagrams of a socket, a [`ConnectionsJob`] runs the event loop over the connections of a worker's listeners, and a [`NotifyJob`] notifies
 //! secondaries of new versions. The threads of a server share a [`Shutdown`], and those of a worker its [`WorkLimit`]. With a [`WakeList`], other threads wake a worker when the
-//! reply on one of its connections is ready. [`run_workers`] runs jobs of any kind, each on a thread of its own, and [`do_all`] tasks of any kind. What is
+//! reply on one of its connections is ready. [`run_workers`] runs jobs of any kind, each on a thread of its own, and [`run_tasks`] tasks of any kind. What is
 //! answered, and what is then written, is in the crates `requests`, `tcp_loop` and `zone_server`.
 #![tactic(auto)]
 
@@ -30,4 +30,4 @@ pub use serve_fault::ServeFault;
 pub use udp_job::UdpJob;
 pub use wake_list::WakeList;
 pub use worker_socket::{WorkerSocket, is_sent};
-pub use workers::{Job, MainTask, NoMainTask, NotStarted, Task, do_all, nobody, run_workers};
+pub use workers::{Job, MainTask, NoMainTask, NotStarted, Task, nobody, run_tasks, run_workers};

@@ -55,7 +55,7 @@ pub trait Task: Send + Drop {
 /// A task for the thread that waits for the others.
 pub trait MainTask: Drop {
     /// Does the task, once each other task has its thread.
-    fn meanwhile<R: Wait>(&mut self, rt: &R);
+    fn run<R: Wait>(&mut self, rt: &R);
 }
 
 /// No task for the thread that waits.
@@ -63,7 +63,7 @@ pub trait MainTask: Drop {
 pub struct NoMainTask;
 
 impl MainTask for NoMainTask {
-    fn meanwhile<R: Wait>(&mut self, _rt: &R) {}
+    fn run<R: Wait>(&mut self, _rt: &R) {}
 }
 
 /// An address of no peer: 0.0.0.0, port 0.
@@ -161,18 +161,18 @@ fn start_threads<'s, E, R: Threads + Wait + Sync, W: Task + 's>(
     rt: &'s R,
     scope: &'s Scope<'s, E>,
     may: &'s OnceLock<bool>,
-    works: Vec<W>,
+    tasks: Vec<W>,
     mut begun: Vec<StartedThread<'s, W>>,
 ) -> Vec<StartedThread<'s, W>>
-    requires room { vec_len works ≤ vec_capacity begun }
+    requires room { vec_len tasks ≤ vec_capacity begun }
     requires empty { begun.items ≡ [] }
     requires len { vec_len begun ≡ 0 }
-    ensures count { vec_len result ≡ vec_len works }
+    ensures count { vec_len result ≡ vec_len tasks }
     ensures begun { Each (λ given one. MatchResult one
         (λ handle. (handle.promise.may.now.id ≡ may.entry.now.id) × (handle.promise.work.value ≡ given))
-        (λ back. IsReturned W.number W.seen W.is_done may.entry.now.id given back.reported.of back.reported.value back.work)) works.items result.items }
+        (λ back. IsReturned W.number W.seen W.is_done may.entry.now.id given back.reported.of back.reported.value back.work)) tasks.items result.items }
 {
-    for work in works {
+    for work in tasks {
         begun.push_reserved(start_thread(rt, scope, may, work));
     }
     begun
@@ -234,89 +234,89 @@ fn tasks_of<'s, W: Task>(
 }
 
 /// Does the main task, where the other tasks may be done.
-fn do_beside<R: Wait, M: MainTask>(rt: &R, may: bool, meanwhile: M) -> M {
-    let mut beside = meanwhile;
+fn run_main_task<R: Wait, M: MainTask>(rt: &R, may: bool, main_task: M) -> M {
+    let mut main_task = main_task;
     if may {
-        beside.meanwhile(rt);
+        main_task.run(rt);
     }
-    beside
+    main_task
 }
 
 /// Does each task on a thread of a scope, and the main task on this one, and waits for all. Gives the tasks back in their order. A lock tells the threads whether the
 /// tasks may be done. False where a thread was refused, or where there is no memory to track the tasks. Then no task has begun, and the main task isn't done.
-fn do_in<'s, E, R: Threads + Wait + Sync, W: Task + 's, M: MainTask>(
+fn run_in_scope<'s, E, R: Threads + Wait + Sync, W: Task + 's, M: MainTask>(
     rt: &'s R,
     alloc: Global,
     scope: &'s Scope<'s, E>,
     may: &'s OnceLock<bool>,
-    works: Vec<W>,
-    meanwhile: M,
+    tasks: Vec<W>,
+    main_task: M,
 ) -> (bool, Vec<W>, M)
-    ensures numbers { map W.number result.1.items ≡ map W.number works.items }
-    ensures seen { Each (λ given work. BeginsWith (W.seen work) (W.seen given)) works.items result.1.items }
+    ensures numbers { map W.number result.1.items ≡ map W.number tasks.items }
+    ensures seen { Each (λ given work. BeginsWith (W.seen work) (W.seen given)) tasks.items result.1.items }
     ensures done { result.0 ≡ true → All W.is_done result.1.items }
-    ensures none { result.0 ≡ false → result.1.items ≡ works.items }
+    ensures none { result.0 ≡ false → result.1.items ≡ tasks.items }
 {
-    let count = works.len();
+    let count = tasks.len();
     let Ok(begun) = Vec::with_capacity(alloc, count) else {
-        return (false, works, meanwhile);
+        return (false, tasks, main_task);
     };
     let Ok(returned) = Vec::with_capacity(alloc, count) else {
-        return (false, works, meanwhile);
+        return (false, tasks, main_task);
     };
     let Ok(done) = Vec::with_capacity(alloc, count) else {
-        return (false, works, meanwhile);
+        return (false, tasks, main_task);
     };
-    let begun = start_threads(rt, scope, may, works, begun);
+    let begun = start_threads(rt, scope, may, tasks, begun);
     let reported = may.init(rt, || true);
     let started = *may.value(&reported);
-    let beside = do_beside(rt, started, meanwhile);
+    let main_task = run_main_task(rt, started, main_task);
     let returned = end_all(rt, begun, returned);
     let done = tasks_of(&reported, returned, done);
-    (started, done, beside)
+    (started, done, main_task)
 }
 
 /// Does each task on a thread of its own, and the main task on this one, and waits for all. Gives the tasks back in their order. False where a thread was
 /// refused, or where there is no memory to track the tasks. Then no task has begun, and the main task isn't done.
-pub fn do_all<R: Threads + Wait + Sync, W: Task, M: MainTask>(
+pub fn run_tasks<R: Threads + Wait + Sync, W: Task, M: MainTask>(
     rt: &R,
     alloc: Global,
-    works: Vec<W>,
-    meanwhile: M,
+    tasks: Vec<W>,
+    main_task: M,
 ) -> (bool, Vec<W>, M)
-    ensures numbers { map W.number result.1.items ≡ map W.number works.items }
-    ensures seen { Each (λ given work. BeginsWith (W.seen work) (W.seen given)) works.items result.1.items }
+    ensures numbers { map W.number result.1.items ≡ map W.number tasks.items }
+    ensures seen { Each (λ given work. BeginsWith (W.seen work) (W.seen given)) tasks.items result.1.items }
     ensures done { result.0 ≡ true → All W.is_done result.1.items }
-    ensures none { result.0 ≡ false → result.1.items ≡ works.items }
+    ensures none { result.0 ≡ false → result.1.items ≡ tasks.items }
 {
     let may = &OnceLock::new();
     thread::scope(
         thread::scope_env(),
         rt,
         |scope|
-            ensures numbers { map W.number result.1.items ≡ map W.number works.items }
-            ensures seen { Each (λ given work. BeginsWith (W.seen work) (W.seen given)) works.items result.1.items }
+            ensures numbers { map W.number result.1.items ≡ map W.number tasks.items }
+            ensures seen { Each (λ given work. BeginsWith (W.seen work) (W.seen given)) tasks.items result.1.items }
             ensures done { result.0 ≡ true → All W.is_done result.1.items }
-            ensures none { result.0 ≡ false → result.1.items ≡ works.items }
-        { do_in(rt, alloc, scope, may, works, meanwhile) },
+            ensures none { result.0 ≡ false → result.1.items ≡ tasks.items }
+        { run_in_scope(rt, alloc, scope, may, tasks, main_task) },
     )
 }
 
-/// Makes a worker of each pair, and appends it to `works`, which has room for them.
+/// Makes a worker of each pair, and appends it to `tasks`, which has room for them.
 fn put_workers<'g, 's, Z: FirstZone, N: ServerName, J: Drop, L: ServiceLog>(
     alloc: Global,
     server: &'g Server<'s, Z, N>,
     log: &'g L,
     pairs: Vec<(VersionReader<N>, J)>,
-    works: &mut Vec<Worker<'g, 's, Z, N, J, L>>,
+    tasks: &mut Vec<Worker<'g, 's, Z, N, J, L>>,
 )
-    requires room { vec_len pairs ≤ vec_capacity works.old }
-    requires empty { works.old.items ≡ [] }
-    ensures pairs { map (λ worker. (worker.asked.reader, worker.job)) works.new.items ≡ pairs.items }
+    requires room { vec_len pairs ≤ vec_capacity tasks.old }
+    requires empty { tasks.old.items ≡ [] }
+    ensures pairs { map (λ worker. (worker.asked.reader, worker.job)) tasks.new.items ≡ pairs.items }
 {
     for (reader, job) in pairs {
         let peer = Peer::over(Transport::Udp, false);
-        works.push_reserved(Worker {
+        tasks.push_reserved(Worker {
             asked: DatagramHandler::new(alloc, server, reader, log, peer, nobody()),
             job,
             log,
@@ -363,14 +363,14 @@ pub fn run_workers<
     ensures none { IfErr result (λ refused. refused.0.items ≡ pairs.items) }
 {
     let count = pairs.len();
-    let Ok(mut works) = Vec::with_capacity(alloc, count) else {
+    let Ok(mut tasks) = Vec::with_capacity(alloc, count) else {
         return Err(NotStarted(pairs));
     };
     let Ok(mut back) = Vec::with_capacity(alloc, count) else {
         return Err(NotStarted(pairs));
     };
-    put_workers(alloc, server, log, pairs, &mut works);
-    let (started, done, _) = do_all(rt, alloc, works, NoMainTask);
+    put_workers(alloc, server, log, pairs, &mut tasks);
+    let (started, done, _) = run_tasks(rt, alloc, tasks, NoMainTask);
     put_pairs(done, &mut back);
     if started {
         Ok(back)

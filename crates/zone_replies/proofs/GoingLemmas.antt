@@ -9,7 +9,7 @@ use Rattle.transfer_core.specs.Packed.{spelt, packed_from, packed_later, octets_
 use Rattle.transfer_core.specs.Places.{left_at}
 use Rattle.transfer_core.specs.declared.place.Place.{Place}
 use Rattle.serve_core.specs.Heading.{reply_opt}
-use Rattle.zone_replies.specs.Left.{question_left, messages_of_records, messages_from}
+use Rattle.zone_replies.specs.RemainingMessages.{question_left, messages_of_records, messages_from}
 
 -- the messages of the records that are left of a list, from a place on
 pub from_list : (zone : List Record) (versions : List Version) (query : Query) (begun : Bool) (place : Place) (question : Option Question) (opt : Option Opt) (list : List Record) → question ≡ question_left begun query → opt ≡ reply_opt query.edns → list ≡ left_at zone versions place

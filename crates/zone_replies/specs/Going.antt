@@ -1,6 +1,6 @@
 -- A transfer in progress, as contracts see it (RFC 1995, 4; RFC 5936, 2.2).
 use Rattle.std.specs.Prelude.{ℕ, List}
-use Rattle.zone_replies.specs.Left.{messages_from}
+use Rattle.zone_replies.specs.RemainingMessages.{messages_from}
 use Rattle.zone_replies.specs.declared.transfer.Transfer.{Transfer}
 
 -- the messages that are left of a transfer, in its version, with the versions of its chain

@@ -1,4 +1,4 @@
-pub mod Left
+pub mod RemainingMessages
 pub mod Going
 pub mod PendingUpdates
 pub mod State

@@ -6,7 +6,7 @@ ghost use Rattle.serve_core.specs.Heading.{reply_opt};
 ghost use Rattle.serve_core.specs.Transfers.{list_for};
 ghost use Rattle.zone_tree.specs.Zone.{soa_of};
 ghost use Rattle.dns_engine.specs.Chain.{changes_by};
-ghost use Rattle.zone_replies.specs.Left.{question_left, messages_from};
+ghost use Rattle.zone_replies.specs.RemainingMessages.{question_left, messages_from};
 
 use dns_engine::{SharedVersion, VersionChain};
 use dns_message::{Query, Question};

@@ -1,4 +1,4 @@
--- The works so far have come back.
+-- The tasks so far have come back.
 use Rattle.std.proofs.Common.{◌≡◌, ◌+◌, ◌++◌, ◌≤◌, vec_len, vec_capacity, MatchResult}
 use Rattle.std.specs.Vec.Iter.{into_iter_len, into_iter_items}
 use Rattle.worker_jobs.specs.GivenBack.{Each, IsReturned}

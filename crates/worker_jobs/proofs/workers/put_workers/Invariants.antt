@@ -5,6 +5,6 @@ use Rattle.worker_jobs.proofs.workers.put_workers.Given as goal
 
 abbrev pub invariant-loop-reader : goal.invariant-loop-reader
 invariant-loop-reader g l = record {
-  room : vec_len l.works + into_iter_len l.reader-iterator ≤ vec_capacity l.works;
-  pairs : map (λ worker. (worker.asked.reader, worker.job)) l.works.items ≡ l.yielded;
+  room : vec_len l.tasks + into_iter_len l.reader-iterator ≤ vec_capacity l.tasks;
+  pairs : map (λ worker. (worker.asked.reader, worker.job)) l.tasks.items ≡ l.yielded;
 }

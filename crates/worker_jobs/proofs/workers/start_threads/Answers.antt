@@ -18,4 +18,4 @@ loop-work-preserved g c = record {
 
 pub returns-clause-begun : goal.returns-clause-begun
 returns-clause-begun g c =
-    let all : c.loop-work.yielded ≡ c.args.works.items = all_taken c.loop-work.yielded (into_iter_items c.loop-work.work-iterator) c.args.works.items c.loop-work.invariant.left (sym c.loop-work.work-iterator.rest.ok.0 ∙ c.in-None.ensures.steps.0) in each_along _ _ _ _ all c.loop-work.invariant.begun
+    let all : c.loop-work.yielded ≡ c.args.tasks.items = all_taken c.loop-work.yielded (into_iter_items c.loop-work.work-iterator) c.args.tasks.items c.loop-work.invariant.left (sym c.loop-work.work-iterator.rest.ok.0 ∙ c.in-None.ensures.steps.0) in each_along _ _ _ _ all c.loop-work.invariant.begun

@@ -13,7 +13,7 @@ loop-back-init g c = record {
   count = search rules;
   room = search rules;
   reported = All-same (λ (back : Returned g.row.W.Denot). back.reported.of ≡ c.args.reported.now.of) _ _ c.into_iter-back-iterator.ensures.into_iter_gives.0 c.requires.reported;
-  works = subst (Each _ _) (sym c.requires.empty) none;
+  tasks = subst (Each _ _) (sym c.requires.empty) none;
 }
 
 pub agrees-requires : goal.agrees-requires
@@ -25,9 +25,9 @@ loop-back-preserved g c = record {
   count = search rules;
   room = search rules;
   reported = All-rest (λ (back : Returned g.row.W.Denot). back.reported.of ≡ c.args.reported.now.of) _ _ _ c.in-Some.ensures.steps.0 c.loop-back.invariant.reported;
-  works = subst (Each _ _) (sym c.push_reserved.ensures.items) (each_push _ _ _ _ _ c.loop-back.invariant.works (c.agrees.ensures, refl));
+  tasks = subst (Each _ _) (sym c.push_reserved.ensures.items) (each_push _ _ _ _ _ c.loop-back.invariant.tasks (c.agrees.ensures, refl));
 }
 
 pub returns : goal.returns
 returns g c =
-    let all : c.loop-back.yielded ≡ c.args.returned.items = all_taken c.loop-back.yielded (into_iter_items c.loop-back.back-iterator) c.args.returned.items c.loop-back.invariant.left (sym c.loop-back.back-iterator.rest.ok.0 ∙ c.in-None.ensures.steps.0) in each_along _ _ _ _ all c.loop-back.invariant.works
+    let all : c.loop-back.yielded ≡ c.args.returned.items = all_taken c.loop-back.yielded (into_iter_items c.loop-back.back-iterator) c.args.returned.items c.loop-back.invariant.left (sym c.loop-back.back-iterator.rest.ok.0 ∙ c.in-None.ensures.steps.0) in each_along _ _ _ _ all c.loop-back.invariant.tasks

@@ -1,4 +1,4 @@
--- The works so far are put.
+-- The tasks so far are put.
 use Rattle.std.proofs.Common.{◌≡◌, ◌+◌, ◌++◌, ◌≤◌, All, vec_len, vec_capacity}
 use Rattle.std.specs.Vec.Iter.{into_iter_len, into_iter_items}
 use Rattle.worker_jobs.specs.GivenBack.{Each}
@@ -10,5 +10,5 @@ invariant-loop-back g l = record {
   count : vec_len l.done + into_iter_len l.back-iterator ≡ vec_len l.fn.returned;
   room : vec_len l.fn.returned ≤ vec_capacity l.done;
   reported : All (λ back. back.reported.of ≡ l.reported.of) (into_iter_items l.back-iterator);
-  works : Each (λ back work. (back.reported.value ≡ l.reported.value) × (work ≡ back.work)) l.yielded l.done.items;
+  tasks : Each (λ back work. (back.reported.value ≡ l.reported.value) × (work ≡ back.work)) l.yielded l.done.items;
 }

@@ -5,7 +5,7 @@ use Rattle.zone_tree.specs.Version.{Version}
 use Rattle.dns_engine.specs.Chain.{changes_by}
 use Rattle.transfer_core.specs.Places.{left_at}
 use Rattle.serve_core.specs.Transfers.{list_for}
-use Rattle.zone_replies.specs.Left.{messages_of_records}
+use Rattle.zone_replies.specs.RemainingMessages.{messages_of_records}
 use Rattle.zone_replies.proofs.transfer.Transfer.new.Goals as goal
 
 pub returns : goal.returns

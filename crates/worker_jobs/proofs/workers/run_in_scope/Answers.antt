@@ -4,7 +4,7 @@ use Rattle.worker_jobs.specs.GivenBack.{IsGivenBack, IsReturned}
 use Rattle.worker_jobs.specs.declared.workers.Returned.{Returned}
 use Rattle.worker_jobs.proofs.EachLemmas.{each_through, each_second, each_alike, each_same, each_wider, each_itself, ended, given_along}
 use Rattle.requests.proofs.TurnLemmas.{begins_itself}
-use Rattle.worker_jobs.proofs.workers.do_in.Goals as goal
+use Rattle.worker_jobs.proofs.workers.run_in_scope.Goals as goal
 
 pub tasks_of-done-requires-clause-reported : goal.tasks_of-done-requires-clause-reported
 tasks_of-done-requires-clause-reported g c κs within =
