@@ -3,6 +3,7 @@ ghost use Rattle.std.specs.Prelude.{◌≡◌, ◌⊎◌};
 
 use commands::{DONE, FAILED};
 use dns_name::NameFault;
+use rights::RuleFault;
 use std::alloc::AllocError;
 use std::io;
 
@@ -53,6 +54,10 @@ pub enum CommandFault<'a> {
     Take(&'a str),
     /// The option requires a store, and none is given.
     NoStore(&'static str),
+    /// The rule is refused.
+    Rule(&'a str, RuleFault<'a>),
+    /// The word is not an address.
+    Address(&'a str),
 }
 
 impl<'a> Drop for CommandFault<'a> {
@@ -80,6 +85,8 @@ impl<'a> Drop for CommandFault<'a> {
             } => {}
             CommandFault::Take(_) => {}
             CommandFault::NoStore(_) => {}
+            CommandFault::Rule(_, _) => {}
+            CommandFault::Address(_) => {}
         }
     }
 }
@@ -159,6 +166,12 @@ pub fn tell_fault<R: Print + Eprint>(rt: &R, fault: &CommandFault<'_>) -> io::Re
         }
         CommandFault::NoStore(option) => {
             eprintln!(rt; "error: --{option} needs --store")?;
+        }
+        CommandFault::Rule(word, fault) => {
+            eprintln!(rt; "error: --may '{word}': {fault}")?;
+        }
+        CommandFault::Address(word) => {
+            eprintln!(rt; "error: '{word}' is not an address, such as 192.0.2.7 or 2001:db8::7")?;
         }
     }
     Ok(BAD_COMMAND)
