@@ -108,7 +108,7 @@ row 2 "--workers: '0' is not a number from 1 to 31" serve --listen 127.0.0.1:0 -
 row 2 "--workers: '32' is not a number from 1 to 31" serve --listen 127.0.0.1:0 --workers 32 "$zone"
 row 2 "--keep: '9' is not a number from 0 to 8" serve --listen 127.0.0.1:0 --keep 9 "$zone"
 row 2 "--count: '-' is not a number from 0 to 18446744073709551615" serve --listen 127.0.0.1:0 --count - "$zone"
-row 2 "--allow: 'x' is not an address; separate addresses by commas, such as 127.0.0.1,192.0.2.7" serve --listen 127.0.0.1:0 --allow 127.0.0.1,x "$zone"
+row 2 "--allow: 'x' is not an address or a prefix; separate them by commas, such as 127.0.0.1,192.0.2.0/24" serve --listen 127.0.0.1:0 --allow 127.0.0.1,x "$zone"
 for list in '127.0.0.1 ::1' ' ' '::1, 127.0.0.1 x'; do
     word=${list##*, }
     row 2 "--allow: '${word# }' is not an address" serve --listen 127.0.0.1:0 --allow "$list" "$zone"

@@ -31,8 +31,8 @@ pub enum CommandFault<'a> {
     Time(&'static str, &'a str),
     /// The address to listen on is not an address with a port.
     Listen(&'a str),
-    /// An entry in the list of addresses permitted to update and transfer is not an address.
-    Allow(&'a str),
+    /// An entry in the list of those that may update and transfer is neither an address nor a prefix.
+    Allow(RuleFault<'a>),
     /// This many workers, for this many addresses, need too many threads.
     Threads(usize, usize),
     /// The value for a secondary is not an address.
@@ -131,11 +131,12 @@ pub fn tell_fault<R: Print + Eprint>(rt: &R, fault: &CommandFault<'_>) -> io::Re
                 "error: --listen: '{word}' is not an address and port, such as 127.0.0.1:5353 or [::1]:5353"
             )?;
         }
-        CommandFault::Allow(word) => {
+        CommandFault::Allow(RuleFault::Address(word)) => {
             eprintln!(rt;
-                "error: --allow: '{word}' is not an address; separate addresses by commas, such as 127.0.0.1,192.0.2.7"
+                "error: --allow: '{word}' is not an address or a prefix; separate them by commas, such as 127.0.0.1,192.0.2.0/24"
             )?;
         }
+        CommandFault::Allow(fault) => eprintln!(rt; "error: --allow: {fault}")?,
         CommandFault::Threads(workers, addresses) => {
             eprintln!(rt;
                 "error: --workers {workers} with {addresses} addresses needs more than 62 threads: each worker has one for TCP, and one for UDP on each address; --notify needs one more"

@@ -2,8 +2,8 @@
 use crate::command::{
     ADDRESS, BEFORE_FAULT, DIR, HEX, KEEP, NEW, OLD, ORIGIN, REQUEST, TCP, WARN, WINDOW, ZONE,
 };
-use crate::may::MAY;
-use crate::options::{ALLOW, CONNECTIONS, COUNT, IDLE, LISTEN, MESSAGE, REPLY, WORKERS};
+use crate::may::{ALLOW, MAY};
+use crate::options::{CONNECTIONS, COUNT, IDLE, LISTEN, MESSAGE, REPLY, WORKERS};
 use crate::secondaries::NOTIFY;
 use crate::store_options::{JOURNAL, STORE, TAKE, TRANSFER_RATE, UDP_BUFFER, UPDATE_QUEUE};
 use clap::{Arg, ArgAction, Command as Parser};
@@ -203,13 +203,16 @@ const STORED_WORDS: &[WordRow] = &[
     DIR_ROW,
 ];
 
+/// The option for a rule.
+const MAY_ROW: WordRow = WordRow {
+    name: MAY,
+    form: Form::Several("'WHO: RIGHTS'"),
+    help: "rule: WHO is an address or prefix, RIGHTS are transfer and update, separated by a comma; after update may follow exact NAME or at-or-below NAME, then types, and tcp; may be repeated",
+};
+
 /// The arguments of `may`.
 const MAY_WORDS: &[WordRow] = &[
-    WordRow {
-        name: MAY,
-        form: Form::Several("'WHO: RIGHTS'"),
-        help: "rule: WHO is an address or prefix, RIGHTS are transfer and update, separated by a comma; after update may follow exact NAME or at-or-below NAME, then types, and tcp; may be repeated",
-    },
+    MAY_ROW,
     WordRow {
         name: TCP,
         form: Form::Flag,
@@ -249,8 +252,9 @@ const SERVE_WORDS: &[WordRow] = &[
     WordRow {
         name: ALLOW,
         form: Form::Default("LIST", "127.0.0.1,::1"),
-        help: "addresses that may update and transfer the zone, separated by commas; '' for none",
+        help: "addresses and prefixes that may update and transfer the zone, separated by commas; '' for none, as by default where --may is given",
     },
+    MAY_ROW,
     WordRow {
         name: COUNT,
         form: Form::Value("N"),

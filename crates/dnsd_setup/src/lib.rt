@@ -25,7 +25,7 @@ pub use change::run_change;
 pub use kept::start_store_for;
 pub use lines::{LogLine, ROOT_APEX};
 pub use log::{Listening, Log};
-pub use may::run_may;
+pub use may::{run_may, tell_outside};
 pub use started_zone::{ServedZone, StartedStore, StartedZone, ZoneStore};
 pub use stored::{run_journal, run_stored};
 pub use streams::run_on_streams;

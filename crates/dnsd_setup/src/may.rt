@@ -1,7 +1,8 @@
-//! Printing what a request gets by rules.
+//! Printing what a request gets by rules, and which rules aren't of a zone.
 use command_line::{BAD_COMMAND, Trial};
 use commands::{DONE, FAILED, REFUSED};
-use rights::{RequestFault, Rule, judge_digits};
+use dns_name::Name;
+use rights::{RequestFault, Rule, first_outside, judge_digits};
 use std::io;
 
 /// Prints what a request gets by rules, and by which, on standard output, and returns the program's status: 1 where it is not permitted. Errors go to
@@ -38,4 +39,15 @@ fn tell_request<R: Eprint>(rt: &R, fault: RequestFault, rules: &[Rule]) -> io::R
         }
     }
     Ok(BAD_COMMAND)
+}
+
+/// Whether a rule names a name outside of the zone with this apex; standard error then has the first such rule.
+pub fn tell_outside<R: Eprint>(rt: &R, rules: &[Rule], apex: &Name) -> io::Result<bool> {
+    let Some(place) = first_outside(rules, apex) else {
+        return Ok(false);
+    };
+    if let Some(rule) = rules.get(place) {
+        eprintln!(rt; "error: --may '{rule}': the name is outside of the zone {apex}")?;
+    }
+    Ok(true)
 }

@@ -61,11 +61,16 @@ pub trait Handler<M: Messages> {
     /// It can load no version any more.
     ghost spent: { Self → Type 0 };
 
-    /// Changes to another peer, which sends from an address, on the connection under a key.
-    fn turn_to(&mut self, other: Peer, from: SocketAddr, key: usize)
-        ensures other { peer self.new ≡ other }
+    /// Changes to the connection under a key, whose peer sends from an address.
+    fn turn_to(&mut self, from: SocketAddr, key: usize)
         ensures asker { asker self.new ≡ key }
         ensures grows { EachGrows (seen self.new) (seen self.old) };
+
+    /// Changes to the peer that sends the next request, on the same connection.
+    fn set_peer(&mut self, other: Peer)
+        ensures other { peer self.new ≡ other }
+        ensures asker { asker self.new ≡ asker self.old }
+        ensures same { (key : ℕ) → seen self.new key ≡ seen self.old key };
 
     /// Makes the reply to a request: its one message at the start of a buffer, or what makes its messages. A reply that is to be made later
     /// is made by another call with the same request, once the key of its connection is reported; until then each such call says that it is

@@ -379,10 +379,13 @@ impl<'a, 's, Z: FirstZone, N: ServerName, L: ServiceLog> Handler<Transfer>
     ghost spent = { λ replies. replies.reader.left ≡ 0 };
 
     #[tactic(auto, using(tcp_connections::proofs::AskedLemmas::each_itself))]
-    fn turn_to(&mut self, other: Peer, from: SocketAddr, key: usize) {
-        self.peer = other;
+    fn turn_to(&mut self, from: SocketAddr, key: usize) {
         self.from = from;
         self.asker = key;
+    }
+
+    fn set_peer(&mut self, other: Peer) {
+        self.peer = other;
     }
 
     #[tactic(auto, using(zone_server::proofs::ReplyLemmas::limit_most, zone_server::proofs::ReplyLemmas::room_most, zone_server::proofs::ReplyLemmas::silent_replied, tcp_connections::proofs::AskedLemmas::each_itself))]

@@ -1,6 +1,9 @@
 //! A server that answers datagrams.
-ghost use Rattle.std.specs.Prelude.{◌≡◌, ◌≤◌, true, length, None, Some, IfOk, IfSome, OnErr};
+ghost use Rattle.std.specs.Prelude.{◌≡◌, ◌≤◌, true, [], ◌∷◌, length, take, None, Some, IfOk, IfSome, OnErr};
 ghost use Rattle.dns_message.specs.Message.{message_limit};
+ghost use Rattle.dns_message.specs.Request.{IsWant};
+ghost use Rattle.dns_message.specs.declared.query.Parsed.TheVariants.{NoMemory as no_memory};
+ghost use Rattle.serve_core.specs.declared.peer.Peer.{Peer as PeerAsking};
 ghost use Rattle.zone_tree.specs.Version.{Version};
 ghost use Rattle.zone_server.specs.Known.{learned_by};
 ghost use Rattle.requests.specs.Octets.{messages_in};
@@ -19,10 +22,11 @@ use crate::submit::{DatagramSubmitted, UpdateSender, submit_datagram};
 use crate::telling::{tell_refused, tell_signed, tell_update};
 use crate::transfer::answer_transfer;
 use dns_engine::{FirstZone, VersionReader};
-use dns_message::Query;
+use dns_message::{Head, Query};
+use dns_rdata::Rcode;
 use notify::Notifier;
 use requests::Handler;
-use serve_core::{Peer, Transport};
+use serve_core::{Heading, Peer, Transport, write_code};
 use snapshot_cell::Spent;
 use std::alloc::Global;
 use std::net::SocketAddr;
@@ -179,6 +183,20 @@ impl<'a, 's, Z: FirstZone, N: ServerName, L: ServiceLog> Handler
     fn turn_to(&mut self, other: Peer, from: SocketAddr) {
         self.peer = other;
         self.from = from;
+    }
+
+    #[tactic(auto, using(crate::proofs::ReplyLemmas::limit_most, crate::proofs::ReplyLemmas::room_most, requests::proofs::TurnLemmas::grows_itself))]
+    fn answer_unread(&mut self, request: &[u8], head: Head, out: &mut [u8]) -> usize
+        requires room { message_limit ≤ length out.old }
+        requires wanted { IsWant request.now (no_memory head) }
+        ensures same { self.new.reader ≡ self.old.reader }
+        ensures grows { Grows {T = Version} (learned_by self.new.reader) (learned_by self.old.reader) }
+        ensures bound { (result ≤ message_limit) × (result ≤ length out.new) }
+        ensures replied { (peer : PeerAsking) → IsReplied Z.zone (by_datagram peer) (learned_by self.old.reader) (learned_by self.new.reader) request.now (take result out.new ∷ []) }
+        ensures reply { (peer : PeerAsking) → IsAnswered Z.zone (by_datagram peer) (learned_by self.old.reader) (learned_by self.new.reader) request.now (take result out.new ∷ []) }
+    {
+        let heading = Heading::header_alone(head);
+        write_code(&heading, Rcode::ServFail, Transport::Udp, out)
     }
 
     #[tactic(auto, using(crate::proofs::ReplyLemmas::limit_most, crate::proofs::ReplyLemmas::room_most, crate::proofs::ReplyLemmas::silent_replied, requests::proofs::TurnLemmas::grows_itself))]

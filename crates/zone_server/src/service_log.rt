@@ -146,7 +146,10 @@ impl Display for Event {
                 write_serials(f, *serials)
             }
             Event::Refused { from, wanted } => {
-                write!(f, "{wanted} from {from} refused: not permitted by --allow")
+                write!(
+                    f,
+                    "{wanted} from {from} refused: not permitted by --allow or --may"
+                )
             }
             Event::Signed { from, wanted, key } => {
                 let key = key.to_text();
