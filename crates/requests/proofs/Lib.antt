@@ -1,3 +1,2 @@
-pub mod AllowedLemmas
 pub mod ExchangeLemmas
 pub mod TurnLemmas

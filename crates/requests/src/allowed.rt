@@ -16,7 +16,7 @@ pub struct Allowed<'a> {
     /// The rules.
     pub rules: &'a [Rule],
     /// The memory for reading an update.
-    alloc: Global,
+    pub(crate) alloc: Global,
 }
 
 impl<'a> Allowed<'a> {

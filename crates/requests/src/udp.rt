@@ -43,8 +43,8 @@ pub(crate) fn answer_from<R: Wait, A: Handler, D: Datagrams>(
     let peer = match allowed.peer(from, Transport::Udp, request) {
         Ok(peer) => peer,
         Err(head) => {
-            let len = handler.answer_unread(request, head, out);
-            datagrams.send(&out[..len], from);
+            let count = handler.answer_unread(request, head, out);
+            datagrams.send(&out[..count], from);
             return Ok(());
         }
     };

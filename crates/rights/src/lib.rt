@@ -25,3 +25,4 @@ pub use prefix::Prefix;
 pub use report::{Judgement, RequestFault, is_permitted, judge, judge_digits};
 pub use requestor::Requestor;
 pub use rule::{NameScope, Rule, UpdateRight};
+pub use types::TypeWord;

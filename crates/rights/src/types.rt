@@ -54,7 +54,7 @@ fn is_plain(digits: &str) -> bool {
 
 /// A type, as it is written in rules.
 #[derive(Clone, Copy)]
-pub(crate) struct TypeWord(pub RType);
+pub struct TypeWord(pub RType);
 
 impl fmt::Display for TypeWord {
     fn fmt<W: fmt::Write>(&self, f: &mut fmt::Formatter<W>) -> fmt::Result {

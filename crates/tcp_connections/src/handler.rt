@@ -1,15 +1,17 @@
 //! What answers the requests of connections.
-ghost use Rattle.std.specs.Prelude.{◌≡◌, ◌≢◌, ℕ, ◌≤◌, List, [], ◌∷◌, length, take, IfOk, IfErr, OnErr, MatchOption};
+ghost use Rattle.std.specs.Prelude.{◌≡◌, ◌≢◌, ℕ, ◌≤◌, ◌⊎◌, List, [], ◌∷◌, length, take, IfOk, IfErr, OnErr, MatchOption};
 ghost use Rattle.dns_message.specs.Message.{message_limit};
 ghost use Rattle.zone_tree.specs.Version.{Version};
+ghost use Rattle.requests.specs.Allowed.{IsReplyFrom, IsLaterFrom};
+ghost use Rattle.serve_core.specs.declared.transport.Transport.TheVariants.{Tcp};
 ghost use Rattle.requests.specs.Served.{Learned};
 ghost use Rattle.requests.specs.declared.stream_end.StreamEnd.{StreamEnd as EndOf};
 ghost use Rattle.serve_core.specs.declared.peer.Peer.{Peer as PeerAsking};
 ghost use Rattle.tcp_connections.specs.Asked.{EachGrows};
 ghost use Rattle.tcp_connections.specs.Kept.{messages_of};
 
-use requests::StreamEnd;
-use serve_core::Peer;
+use requests::{Allowed, StreamEnd};
+use serve_core::{Peer, Transport};
 use std::net::SocketAddr;
 use std::sync::Wait;
 
@@ -90,4 +92,34 @@ pub trait Handler<M: Messages> {
         ensures later { IfOk result (λ reply. reply ≡ Reply.Later → is_later (peer self.old) request.now) }
         ensures end { IfErr result (λ end. end ≡ EndOf.Spent) }
         ensures spent { OnErr result (spent self.new) };
+}
+
+/// The reply to a request, as that of the peer that rules make of who sends it from an address. The connection ends if there is no memory to read
+/// an update.
+pub(crate) fn reply_from<R: Wait, M: Messages, A: Handler<M>>(
+    rt: &R,
+    handler: &mut A,
+    allowed: Allowed<'_>,
+    from: SocketAddr,
+    request: &[u8],
+    out: &mut [u8],
+) -> Result<Reply<M>, StreamEnd>
+    requires { message_limit ≤ length out.old }
+    ensures asker { A.asker handler.new ≡ A.asker handler.old }
+    ensures grows { EachGrows (A.seen handler.new) (A.seen handler.old) }
+    ensures bound { IfOk result (λ reply. (len : ℕ) → reply ≡ Reply.One len → (len ≤ message_limit) × (len ≤ length out.new)) }
+    ensures reply { IfOk result (λ reply. reply ≢ Reply.Later → IsReplyFrom A.is_reply allowed.entry.rules.now Tcp from (A.seen handler.old (A.asker handler.old)) (A.seen handler.new (A.asker handler.old)) request.now (messages_of M.left reply out.new)) }
+    ensures later { IfOk result (λ reply. reply ≡ Reply.Later → IsLaterFrom A.is_later allowed.entry.rules.now Tcp from request.now) }
+    ensures end { IfErr result (λ end. (end ≡ EndOf.Spent) ⊎ (end ≡ EndOf.NoMemory)) }
+    ensures spent { IfErr result (λ end. end ≡ EndOf.Spent → A.spent handler.new) }
+{
+    let peer = match allowed.peer(from, Transport::Tcp, request) {
+        Ok(peer) => peer,
+        Err(_) => return Err(StreamEnd::NoMemory),
+    };
+    handler.set_peer(peer);
+    match handler.reply(rt, request, out) {
+        Ok(reply) => Ok(reply),
+        Err(end) => Err(end),
+    }
 }

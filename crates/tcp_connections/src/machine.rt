@@ -10,12 +10,11 @@ ghost use Rattle.serve_core.specs.declared.transport.Transport.TheVariants.{Tcp}
 ghost use Rattle.tcp_connections.specs.Asked.{EachGrows, Waits};
 ghost use Rattle.tcp_connections.specs.Kept.{nothing_kept, due, IsFull, IsWaiting, awaited, messages_of, one_passed, passed_behind, taken_behind};
 
-use crate::handler::{Handler, Messages, Reply};
+use crate::handler::{Handler, Messages, Reply, reply_from};
 use crate::queue::{Queue, first_frame};
 use crate::step::Step;
 use crate::waiting::Waiting;
 use requests::{Allowed, StreamEnd};
-use serve_core::Transport;
 use std::alloc::{AllocError, Global};
 use std::marker::Model;
 use std::net::SocketAddr;
@@ -215,11 +214,7 @@ impl<M: Messages> ConnectionState<M> {
         let Some((request, count)) = first_frame(self.held.as_slice()) else {
             return Ok(Step::Done);
         };
-        let Ok(peer) = allowed.peer(from, Transport::Tcp, request) else {
-            return Err(StreamEnd::NoMemory);
-        };
-        handler.set_peer(peer);
-        let reply = match handler.reply(rt, request, out) {
+        let reply = match reply_from(rt, handler, allowed, from, request, out) {
             Ok(reply) => reply,
             Err(end) => return Err(end),
         };

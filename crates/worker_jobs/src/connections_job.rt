@@ -12,6 +12,7 @@ use crate::scratch::Scratch;
 use crate::wake_list::WakeList;
 use crate::waking_poll::WakingPoll;
 use crossbeam_utils::CachePadded;
+use requests::Allowed;
 use std::alloc::Global;
 use std::sync::Wait;
 use std::time::{Clock, Duration};
@@ -158,6 +159,11 @@ impl<
         let mut hearing = self;
         hearing.poll.listen(alloc, wake_list);
         hearing
+    }
+
+    /// The rules by which peers may update and transfer.
+    pub fn allowed(&self) -> Allowed<'a> {
+        self.plan.allowed
     }
 
     /// How the job has ended. None where it hasn't yet.

@@ -69,6 +69,11 @@ impl<'a, D: Datagrams> DatagramsJob<'a, D> {
         }
     }
 
+    /// The rules by which peers may update and transfer.
+    pub fn allowed(&self) -> Allowed<'a> {
+        self.job.allowed()
+    }
+
     /// How the job has ended. None where it hasn't yet.
     pub fn end(&self) -> Option<JobEnd>
         ensures { result ≡ self.now.end }

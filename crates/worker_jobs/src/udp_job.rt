@@ -69,6 +69,11 @@ impl<'a, D: Datagrams> UdpJob<'a, D> {
         }
     }
 
+    /// The rules by which peers may update and transfer.
+    pub(crate) fn allowed(&self) -> Allowed<'a> {
+        self.allowed
+    }
+
     /// How the job has ended. None where it hasn't yet.
     pub fn end(&self) -> Option<JobEnd>
         ensures { result ≡ self.now.end }

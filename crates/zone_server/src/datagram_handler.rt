@@ -19,13 +19,13 @@ use crate::right::ServerName;
 use crate::server::Server;
 use crate::service_log::ServiceLog;
 use crate::submit::{DatagramSubmitted, UpdateSender, submit_datagram};
-use crate::telling::{tell_refused, tell_signed, tell_update};
+use crate::telling::{tell_refused, tell_served, tell_signed, tell_update};
 use crate::transfer::answer_transfer;
 use dns_engine::{FirstZone, VersionReader};
 use dns_message::{Head, Query};
 use dns_rdata::Rcode;
 use notify::Notifier;
-use requests::Handler;
+use requests::{Allowed, Handler};
 use serve_core::{Heading, Peer, Transport, write_code};
 use snapshot_cell::Spent;
 use std::alloc::Global;
@@ -44,6 +44,8 @@ pub struct DatagramHandler<'a, 's, Z: FirstZone, N: ServerName, L> {
     from: SocketAddr,
     query: Query,
     names: NameWriter,
+    /// The rules by which the log names a record that isn't permitted.
+    allowed: Option<Allowed<'a>>,
     /// The queue for updates, unless the engine answers them.
     sender: Option<UpdateSender<'a>>,
 }
@@ -70,6 +72,7 @@ impl<'a, 's, Z: FirstZone, N: ServerName, L: ServiceLog> DatagramHandler<'a, 's,
             from,
             query: Query::blank(),
             names: NameWriter::new(),
+            allowed: None,
             sender: None,
         }
     }
@@ -82,6 +85,17 @@ impl<'a, 's, Z: FirstZone, N: ServerName, L: ServiceLog> DatagramHandler<'a, 's,
     {
         let mut handler = self;
         handler.sender = Some(sender);
+        handler
+    }
+
+    /// The same handler, whose log names the first record of an update that these rules don't permit.
+    pub fn with_rules(self, allowed: Allowed<'a>) -> DatagramHandler<'a, 's, Z, N, L>
+        ensures reader { result.reader ≡ self.entry.reader }
+        ensures peer { result.peer ≡ self.entry.peer }
+        ensures sender { result.sender ≡ self.entry.sender }
+    {
+        let mut handler = self;
+        handler.allowed = Some(allowed);
         handler
     }
 
@@ -165,7 +179,15 @@ impl<'a, 's, Z: FirstZone, N: ServerName, L: ServiceLog> DatagramHandler<'a, 's,
             request,
             out,
         );
-        tell_update(rt, self.log, peer, self.from, outcome);
+        tell_served(
+            rt,
+            self.log,
+            self.allowed,
+            peer,
+            self.from,
+            request,
+            outcome,
+        );
         Some(len)
     }
 }
