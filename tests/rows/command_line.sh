@@ -120,7 +120,7 @@ for option in idle message reply; do
     done
 done
 # what is taken is shown by a store that isn't there
-for list in '127.0.0.1, ::1' ' 127.0.0.1 ,  192.0.2.7 ' '127.0.0.1,::1' ''; do
+for list in '127.0.0.1, ::1' ' 127.0.0.1 ,  192.0.2.7 ' '127.0.0.1,::1' '' '10.0.0.0/8, 2001:db8::/32'; do
     row 3 "the store 'no/such/store' can't be read or written" serve --listen 127.0.0.1:0 --store no/such/store --allow "$list" "$zone"
 done
 for word in 1 3600 1s 3600s 5m 60m 1h 001m; do

@@ -42,3 +42,12 @@ row 2 "'192.0.2.1:53' is not an address" may 192.0.2.1:53 $query
 row 2 'the request is not written in hexadecimal' may 192.0.2.1 xyz
 row 2 'the request is neither an update nor a query' may 192.0.2.1 00
 row 2 REQUEST may 192.0.2.1
+
+# what serve takes: --allow takes prefixes too, and each name in a rule is in the zone
+zone=zones/example.test.zone
+row 2 "--may 'host: update': 'host' is not an address or a prefix" serve --listen 127.0.0.1:0 --may 'host: update' "$zone"
+row 2 "--may '192.0.2.1: update, update': 'update' is given twice" serve --listen 127.0.0.1:0 --may '192.0.2.1: update, update' "$zone"
+row 2 "--allow: '192.0.2.1/24' has bits set after its length" serve --listen 127.0.0.1:0 --allow 192.0.2.1/24 "$zone"
+row 2 "--allow: the length of '192.0.2.0/33' is not a number up to 32" serve --listen 127.0.0.1:0 --allow '::1, 192.0.2.0/33' "$zone"
+row 2 "--may '192.0.2.1: update exact www.example.com.': the name is outside of the zone example.test." serve --listen 127.0.0.1:0 --may '127.0.0.1: transfer' --may '192.0.2.1: update exact www.example.com' "$zone"
+row 3 "the store 'no/such/store' can't be read or written" serve --listen 127.0.0.1:0 --store no/such/store --may '192.0.2.0/28: update at-or-below dyn.example.test. A, transfer' "$zone"

@@ -1,2 +1,3 @@
 pub mod ExchangeLemmas
+pub mod PeerLemmas
 pub mod TurnLemmas

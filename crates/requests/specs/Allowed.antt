@@ -1,5 +1,5 @@
 -- Which requests update, and which peers may transfer (RFC 2136, 3.3; RFC 5936, 5).
-use Rattle.std.specs.Prelude.{◌≡◌, Bool, true, false, List}
+use Rattle.std.specs.Prelude.{◌≡◌, ℕ, Bool, false, List}
 use Rattle.std.specs.Net.Socket.{socket_ip}
 use Rattle.std.specs.declared.net.socket_addr.SocketAddr.{SocketAddr}
 use Rattle.dns_message.specs.declared.query.Parsed.{Parsed}

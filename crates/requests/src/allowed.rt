@@ -1,5 +1,5 @@
 //! Which requests update, and which peers may transfer.
-ghost use Rattle.std.specs.Prelude.{◌≡◌, true, IfOk, MatchResult};
+ghost use Rattle.std.specs.Prelude.{◌≡◌, MatchResult};
 ghost use Rattle.dns_message.specs.Request.{reads, IsWant};
 ghost use Rattle.dns_message.specs.declared.query.Parsed.TheVariants.{NoMemory as no_memory};
 ghost use Rattle.requests.specs.Allowed.{permits, IsPeer};

@@ -96,6 +96,7 @@ pub trait Handler<M: Messages> {
 
 /// The reply to a request, as that of the peer that rules make of who sends it from an address. The connection ends if there is no memory to read
 /// an update.
+#[tactic(auto, using(crate::proofs::AskedLemmas::each_itself))]
 pub(crate) fn reply_from<R: Wait, M: Messages, A: Handler<M>>(
     rt: &R,
     handler: &mut A,
