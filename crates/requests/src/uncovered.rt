@@ -29,14 +29,14 @@ impl Allowed<'_> {
             return None;
         };
         let who = Requestor::new(from.ip(), transport.is_stream());
-        let apex = &update.zone.name;
-        if !are_permitted(self.rules, who, apex, &[]) {
+        let (rules, apex) = (self.rules, &update.zone.name);
+        if !are_permitted(rules, who, apex, &[]) {
             return None;
         }
         let records = update.updates.as_slice();
         let place = records
             .iter()
-            .position(|record| covering(self.rules, who, apex, record).is_none())?;
+            .position(|record| covering(rules, who, apex, record).is_none())?;
         let record = records.get(place)?;
         Some(Uncovered {
             owner: record.owner.copy(),
