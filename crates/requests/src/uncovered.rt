@@ -3,7 +3,7 @@ use crate::allowed::Allowed;
 use dns_message::{Parsed, parse};
 use dns_name::Name;
 use dns_rdata::RType;
-use rights::{Requestor, are_permitted, covering};
+use rights::{Requestor, covering, has_right};
 use serve_core::Transport;
 use std::net::SocketAddr;
 
@@ -30,7 +30,7 @@ impl Allowed<'_> {
         };
         let who = Requestor::new(from.ip(), transport.is_stream());
         let (rules, apex) = (self.rules, &update.zone.name);
-        if !are_permitted(rules, who, apex, &[]) {
+        if !has_right(rules, who) {
             return None;
         }
         let records = update.updates.as_slice();
