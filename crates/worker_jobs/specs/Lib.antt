@@ -2,3 +2,4 @@ pub mod GivenBack
 pub mod Ended
 pub mod Lost
 pub mod WokenKeys
+pub mod TakenKeys

@@ -248,6 +248,7 @@ impl<'a, 's, Z: FirstZone, N: ServerName, L: ServiceLog> ConnectionHandler<'a, '
         requires room { message_limit ≤ length out.old }
         ensures peer { self.new.peer ≡ self.old.peer }
         ensures asker { self.new.asker ≡ self.old.asker }
+        ensures submits { self.new.submits ≡ self.old.submits }
         ensures grows { EachGrows {T = Version} (known_at self.new.taken self.new.reader) (known_at self.old.taken self.old.reader) }
         ensures bound { (len : ℕ) → result ≡ ReplyOf.One len → (len ≤ message_limit) × (len ≤ length out.new) }
         ensures replied { result ≢ ReplyOf.Later → IsReplied Z.zone self.old.peer (known_at self.old.taken self.old.reader self.old.asker) (known_at self.new.taken self.new.reader self.old.asker) request.now (messages_of transfer_left result out.new) }
@@ -307,6 +308,7 @@ impl<'a, 's, Z: FirstZone, N: ServerName, L: ServiceLog> ConnectionHandler<'a, '
         requires room { message_limit ≤ length out.old }
         ensures peer { self.new.peer ≡ self.old.peer }
         ensures asker { self.new.asker ≡ self.old.asker }
+        ensures submits { self.new.submits ≡ self.old.submits }
         ensures grows { EachGrows {T = Version} (known_at self.new.taken self.new.reader) (known_at self.old.taken self.old.reader) }
         ensures none { result ≡ None → place_in self.new.taken self.old.asker ≡ None }
         ensures bound { IfSome result (λ reply. (len : ℕ) → reply ≡ ReplyOf.One len → (len ≤ message_limit) × (len ≤ length out.new)) }
@@ -336,6 +338,7 @@ impl<'a, 's, Z: FirstZone, N: ServerName, L: ServiceLog> ConnectionHandler<'a, '
         requires room { message_limit ≤ length out.old }
         ensures peer { self.new.peer ≡ self.old.peer }
         ensures asker { self.new.asker ≡ self.old.asker }
+        ensures submits { self.new.submits ≡ self.old.submits }
         ensures taken { self.new.taken ≡ self.old.taken }
         ensures grows { Grows {T = Version} (learned_by self.new.reader) (learned_by self.old.reader) }
         ensures bound { (result ≤ message_limit) × (result ≤ length out.new) }
@@ -372,10 +375,12 @@ impl<'a, 's, Z: FirstZone, N: ServerName, L: ServiceLog> ConnectionHandler<'a, '
         requires room { message_limit ≤ length out.old }
         ensures peer { self.new.peer ≡ self.old.peer }
         ensures asker { self.new.asker ≡ self.old.asker }
+        ensures submits { self.new.submits ≡ self.old.submits }
         ensures grows { EachGrows {T = Version} (known_at self.new.taken self.new.reader) (known_at self.old.taken self.old.reader) }
         ensures bound { (len : ℕ) → result ≡ ReplyOf.One len → (len ≤ message_limit) × (len ≤ length out.new) }
         ensures replied { result ≢ ReplyOf.Later → IsReplied Z.zone self.old.peer (known_at self.old.taken self.old.reader self.old.asker) (known_at self.new.taken self.new.reader self.old.asker) request.now (messages_of transfer_left result out.new) }
         ensures later { result ≡ ReplyOf.Later → IsLater self.old.peer request.now }
+        ensures submitted { result ≡ ReplyOf.Later → self.old.submits ≡ true }
     {
         let Some(sender) = self.sender_for(request) else {
             return Reply::One(self.reply_served(rt, request, out));
@@ -422,10 +427,13 @@ impl<'a, 's, Z: FirstZone, N: ServerName, L: ServiceLog> Handler<Transfer>
         requires { message_limit ≤ length out.old }
         ensures same { self.new.peer ≡ self.old.peer }
         ensures asker { self.new.asker ≡ self.old.asker }
+        ensures submits { self.new.submits ≡ self.old.submits }
         ensures grows { EachGrows {T = Version} (known_at self.new.taken self.new.reader) (known_at self.old.taken self.old.reader) }
         ensures bound { IfOk result (λ reply. (len : ℕ) → reply ≡ ReplyOf.One len → (len ≤ message_limit) × (len ≤ length out.new)) }
         ensures reply { IfOk result (λ reply. reply ≢ ReplyOf.Later → IsReplied Z.zone self.old.peer (known_at self.old.taken self.old.reader self.old.asker) (known_at self.new.taken self.new.reader self.old.asker) request.now (messages_of transfer_left reply out.new)) }
         ensures later { IfOk result (λ reply. reply ≡ ReplyOf.Later → IsLater self.old.peer request.now) }
+        // Without a queue for updates each request gets its reply now.
+        ensures submitted { IfOk result (λ reply. reply ≡ ReplyOf.Later → self.old.submits ≡ true) }
         ensures end { IfErr result (λ end. end ≡ EndOf.Spent) }
         ensures spent { OnErr result (self.new.reader.left ≡ 0) }
         // A request that can't be read as a query gets its reply, whether a version can be loaded or not.

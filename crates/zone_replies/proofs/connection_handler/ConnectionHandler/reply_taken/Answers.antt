@@ -50,6 +50,7 @@ returns-in_default-fetched-2 g c =
     record {
       peer = ap (λ (s : HandlerState). s.peer) c.self.view_is;
       asker = ap (λ (s : HandlerState). s.asker) c.self.view_is;
+      submits = ap (λ (s : HandlerState). s.submits) c.self.view_is;
       grows =
           subst (λ (s : HandlerState). EachGrows {T = Version} (known_at c.remove.new.self c.fetch-fetched.new.reader) (known_at s.taken s.reader)) c.self.view_is
           (gone_grows c.self.inside.taken c.self.inside.reader c.fetch-fetched.new.reader c.self.inside.asker grown c.remove.new.self c.remove.ensures c.self.invariant);
@@ -64,6 +65,7 @@ returns g c =
     record {
       peer = ap (λ (s : HandlerState). s.peer) c.self.view_is;
       asker = ap (λ (s : HandlerState). s.asker) c.self.view_is;
+      submits = ap (λ (s : HandlerState). s.submits) c.self.view_is;
       grows =
           subst (λ (s : HandlerState). EachGrows {T = Version} (known_at c.remove.new.self c.fetch-fetched.new.reader) (known_at s.taken s.reader)) c.self.view_is
           (gone_grows c.self.inside.taken c.self.inside.reader c.fetch-fetched.new.reader c.self.inside.asker grown c.remove.new.self c.remove.ensures c.self.invariant);
@@ -86,6 +88,7 @@ returns-then-eq g c =
     record {
       peer = ap (λ (s : HandlerState). s.peer) c.self.view_is;
       asker = ap (λ (s : HandlerState). s.asker) c.self.view_is;
+      submits = ap (λ (s : HandlerState). s.submits) c.self.view_is;
       grows =
           subst (λ (s : HandlerState). EachGrows {T = Version} (known_at c.remove.new.self c.fetch-fetched.new.reader) (known_at s.taken s.reader)) c.self.view_is
           (gone_grows c.self.inside.taken c.self.inside.reader c.fetch-fetched.new.reader c.self.inside.asker grown c.remove.new.self c.remove.ensures c.self.invariant);

@@ -1,5 +1,6 @@
 -- What the reader has seen grows, and a reply by what it saw meanwhile is one by what it had seen.
 use Rattle.std.proofs.Common.{◌≡◌, [], ◌∷◌, None, take, inl, inr, sym, ap, ◌∙◌, subst, rules}
+use Rattle.std.specs.Prelude.{is_some}
 use Rattle.zone_tree.specs.Version.{Version}
 use Rattle.snapshot_cell.specs.Tokens.{ReaderState}
 use Rattle.serve_core.specs.declared.peer.Peer.{Peer}
@@ -77,6 +78,11 @@ returns-in-Update-clause-later g c = λ later.
     let peer : c.self.inside.peer ≡ c.args.self.now.peer = subst (λ (s : HandlerState). s.peer ≡ c.args.self.now.peer) (sym c.self.view_is) c.settle.ensures.peer in
     subst (λ (p : Peer). IsLater p c.args.request.now) peer (c.reply_update.ensures.later later)
 
+pub returns-in-Update-clause-submitted : goal.returns-in-Update-clause-submitted
+returns-in-Update-clause-submitted g c = λ later.
+    let submits : is_some c.self.inside.sender ≡ c.args.self.now.submits = subst (λ (s : HandlerState). s.submits ≡ c.args.self.now.submits) (sym c.self.view_is) c.settle.ensures.submits in
+    sym submits ∙ c.reply_update.ensures.submitted later
+
 pub begin_transfer-requires : goal.begin_transfer-requires
 begin_transfer-requires g c =
     let permits = permits_moved g.Z.FirstZone.zone c.self.inside.peer c.args.request.now c.self.inside.reader c.answer_request.new.reader c.in-Transfer.strong c.answer_request.new.query c.replace-query.result c.replace-query.ensures.value c.in-Transfer.ensures.answer in
@@ -106,6 +112,9 @@ returns-in-Transfer-clause-reply g c =
 
 pub returns-in-Transfer-clause-later : goal.returns-in-Transfer-clause-later
 returns-in-Transfer-clause-later g c = transfer_unlater _ c.begin_transfer.result c.begin_transfer.ensures.made
+
+pub returns-in-Transfer-clause-submitted : goal.returns-in-Transfer-clause-submitted
+returns-in-Transfer-clause-submitted g c = transfer_unlater _ c.begin_transfer.result c.begin_transfer.ensures.made
 
 pub returns-in-Transfer-clause-spent : goal.returns-in-Transfer-clause-spent
 returns-in-Transfer-clause-spent g c = spent_left g.Z.FirstZone.zone c.self.inside.peer c.args.request.now c.begin_transfer.new.reader c.begin_transfer.result (transfer_spent g.Z.FirstZone.zone c.self.inside.peer c.args.request.now c.self.inside.reader c.answer_request.new.reader c.begin_transfer.new.reader c.replace-query.result c.in-Transfer.strong (permits_moved g.Z.FirstZone.zone c.self.inside.peer c.args.request.now c.self.inside.reader c.answer_request.new.reader c.in-Transfer.strong c.answer_request.new.query c.replace-query.result c.replace-query.ensures.value c.in-Transfer.ensures.answer) c.begin_transfer.result c.begin_transfer.ensures.spent)
