@@ -33,14 +33,14 @@ impl Allowed<'_> {
         if !has_right(rules, who) {
             return None;
         }
-        let records = update.updates.as_slice();
-        let place = records
-            .iter()
-            .position(|record| covering(rules, who, apex, record).is_none())?;
-        let record = records.get(place)?;
-        Some(Uncovered {
-            owner: record.owner.copy(),
-            rtype: record.rtype,
-        })
+        for record in update.updates.as_slice() {
+            if covering(rules, who, apex, record).is_none() {
+                return Some(Uncovered {
+                    owner: record.owner.copy(),
+                    rtype: record.rtype,
+                });
+            }
+        }
+        None
     }
 }

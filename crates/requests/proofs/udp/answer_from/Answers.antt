@@ -16,8 +16,8 @@ returns-in-Ok-Some-clause-grows g c = grows_more _ _ _ c.turn_to.ensures.grows c
 pub returns-in-Ok-Some-clause-answered : goal.returns-in-Ok-Some-clause-answered
 returns-in-Ok-Some-clause-answered g c =
     let turned = rw c.turn_to.ensures.other at (rw c.in-Ok-Some.field-0-is at c.in-Ok-Some.ensures.reply) in
-    let own = rw (datagram_same c.in-Ok-peer.peer c.in-Ok-peer.ensures.over) at turned in
-    (c.in-Ok-peer.peer, _, c.turn_to.ensures.grows, c.answer.ensures.grows, c.in-Ok-peer.ensures, replied_one g.A.Handler.is_reply _ _ _ _ _ _ _ _ _ _ own c.send.ensures)
+    let own = rw (datagram_same c.in-Ok.peer c.in-Ok.ensures.over) at turned in
+    (c.in-Ok.peer, _, c.turn_to.ensures.grows, c.answer.ensures.grows, c.in-Ok.ensures, replied_one g.A.Handler.is_reply _ _ _ _ _ _ _ _ _ _ own c.send.ensures)
 
 pub returns-in-Ok-None-clause-grows : goal.returns-in-Ok-None-clause-grows
 returns-in-Ok-None-clause-grows g c = grows_more _ _ _ c.turn_to.ensures.grows c.answer.ensures.grows
@@ -25,8 +25,8 @@ returns-in-Ok-None-clause-grows g c = grows_more _ _ _ c.turn_to.ensures.grows c
 pub returns-in-Ok-None-clause-answered : goal.returns-in-Ok-None-clause-answered
 returns-in-Ok-None-clause-answered g c =
     let turned = rw c.turn_to.ensures.other at (rw c.in-Ok-None.field-0-is at c.in-Ok-None.ensures.reply) in
-    let own = rw (datagram_same c.in-Ok-peer.peer c.in-Ok-peer.ensures.over) at turned in
-    (c.in-Ok-peer.peer, _, c.turn_to.ensures.grows, c.answer.ensures.grows, c.in-Ok-peer.ensures, replied_none g.A.Handler.is_reply _ _ _ _ _ _ _ own)
+    let own = rw (datagram_same c.in-Ok.peer c.in-Ok.ensures.over) at turned in
+    (c.in-Ok.peer, _, c.turn_to.ensures.grows, c.answer.ensures.grows, c.in-Ok.ensures, replied_none g.A.Handler.is_reply _ _ _ _ _ _ _ own)
 
 pub returns-in-Err-answer-clause-grows : goal.returns-in-Err-answer-clause-grows
 returns-in-Err-answer-clause-grows g c = grows_more _ _ _ c.turn_to.ensures.grows c.answer.ensures.grows
