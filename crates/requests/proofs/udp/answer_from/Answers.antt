@@ -17,7 +17,7 @@ pub returns-in-Ok-Some-clause-answered : goal.returns-in-Ok-Some-clause-answered
 returns-in-Ok-Some-clause-answered g c =
     let turned = rw c.turn_to.ensures.other at (rw c.in-Ok-Some.field-0-is at c.in-Ok-Some.ensures.reply) in
     let own = rw (datagram_same c.in-Ok.peer c.in-Ok.ensures.over) at turned in
-    (c.in-Ok.peer, _, c.turn_to.ensures.grows, c.answer.ensures.grows, c.in-Ok.ensures, replied_one g.A.Handler.is_reply _ _ _ _ _ _ _ _ _ _ own c.send.ensures)
+    (c.in-Ok.peer, _, c.turn_to.ensures.grows, c.answer.ensures.grows, c.in-Ok.ensures, replied_one g.A.Handler.is_reply _ _ _ _ _ _ _ _ _ _ own c.send-in-Ok-Some.ensures)
 
 pub returns-in-Ok-None-clause-grows : goal.returns-in-Ok-None-clause-grows
 returns-in-Ok-None-clause-grows g c = grows_more _ _ _ c.turn_to.ensures.grows c.answer.ensures.grows
