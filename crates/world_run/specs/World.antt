@@ -278,7 +278,7 @@ publication_start world heading version =
 -- an update by its outcome: it gets a code, or it makes a version (RFC 2136, 3; own)
 abbrev pub update_start : World → Option Judged → Start
 update_start world None = Refused
-update_start world (Some (judgement.Replied heading code)) = Answers (code_reply heading code)
+update_start world (Some (judgement.Code heading code)) = Answers (code_reply heading code)
 update_start world (Some (judgement.Makes heading version)) = publication_start world heading version
 
 -- how a call begins: a name that is in use isn't loaded, and one that isn't is neither dropped nor asked; an update is judged in
