@@ -457,7 +457,7 @@ transfer_still world request (Some owner) = of_still world owner request (found_
 
 update_still : (world : World) (what : Option Judged) → IsStill (update_start world what)
 update_still world None = tt
-update_still world (Some (judgement.Replied head code)) = λ n. refl
+update_still world (Some (judgement.Code head code)) = λ n. refl
 update_still world (Some (judgement.Makes head version)) = still_if (nat_lt world.words.granted grants && is_held world.words (oldest_kept world.keep world.kept) && can_enter world.words world.window) _ _ tt tt
 
 start_still : (world : World) (call : Call) → IsStill (start world call)

@@ -432,7 +432,7 @@ publication_first world head version ok =
 
 update_first : (world : World) (what : Option Judged) → EntriesOk world → FirstOf world.words (update_start world what)
 update_first world None ok = tt
-update_first world (Some (judgement.Replied head code)) ok = tt
+update_first world (Some (judgement.Code head code)) ok = tt
 update_first world (Some (judgement.Makes head version)) ok = publication_first world head version ok
 
 -- calls begin so, by their kind
@@ -496,7 +496,7 @@ transfer_opening world request (Some owner) = of_opening world owner request (fo
 
 update_opening : (world : World) (what : Option Judged) → OpeningOf (update_start world what)
 update_opening world None = tt
-update_opening world (Some (judgement.Replied head code)) = tt
+update_opening world (Some (judgement.Code head code)) = tt
 update_opening world (Some (judgement.Makes head version)) = opening_if (nat_lt world.words.granted grants && is_held world.words (oldest_kept world.keep world.kept) && can_enter world.words world.window) _ _ tt tt
 
 pub start_opening : (world : World) (call : Call) → OpeningOf (start world call)

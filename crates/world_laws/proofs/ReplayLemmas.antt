@@ -264,7 +264,7 @@ publication_ok S first us world place head version none n =
 
 update_ok : (S : Script) (first : List Record) (us : List Placed) (world : World) (request : List ℕ) (place : ℕ) (last : Numbered) (what : Option Judged) → judged last request ≡ what → S.sends place request → IsFresh S us place → any_update world.calls ≡ false → found_last world.words ≡ Some last → Tells S first world.words us → StartOk S first us world.words world.calls place (update_start world what)
 update_ok S first us world request place last None is sent fresh none found t = tt
-update_ok S first us world request place last (Some (judgement.Replied head code)) is sent fresh none found t = tt
+update_ok S first us world request place last (Some (judgement.Code head code)) is sent fresh none found t = tt
 update_ok S first us world request place last (Some (judgement.Makes head version)) is sent fresh none found t =
     let m = made_by last request head version is in
     let l = last_replay S first world.words us last t found in

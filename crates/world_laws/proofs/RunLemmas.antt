@@ -504,7 +504,7 @@ transfer_loads run owners world request (Some owner) = of_loads run owners world
 
 update_loads : (run : Run) (owners : List Owner) (world : World) (what : Option Judged) → StartLoaded run owners (update_start world what)
 update_loads run owners world None = tt
-update_loads run owners world (Some (judgement.Replied head code)) = tt
+update_loads run owners world (Some (judgement.Code head code)) = tt
 update_loads run owners world (Some (judgement.Makes head version)) = start_if run owners (nat_lt world.words.granted grants && is_held world.words (oldest_kept world.keep world.kept) && can_enter world.words world.window) _ _ tt tt
 
 start_loads : (first : List Record) (world : World) (call : Call) (s : Shown first world) → StartLoaded s.run world.words.owners (start world call)

@@ -218,7 +218,7 @@ publication_begins world cell request head version none few h =
 judged_begins : (S : Script) (first : List Record) (world : World) (request : List ℕ) (last : Numbered) (what : Option Judged) (g : Goes S first world) → judged last request ≡ what → found_last world.words ≡ Some last → any_update world.calls ≡ false → AllInUse world
     → BeginsOk world g.tells.cell (Update request) (update_start world what)
 judged_begins S first world request last None g is found none h = tt
-judged_begins S first world request last (Some (judgement.Replied head code)) g is found none h = tt
+judged_begins S first world request last (Some (judgement.Code head code)) g is found none h = tt
 judged_begins S first world request last (Some (judgement.Makes head version)) g is found none h =
     let room = has_room last request (judgement.Makes head version) is in
     let l = last_replay S first world.words g.us last g.tells found in
