@@ -1,7 +1,7 @@
 #!/usr/bin/env bash
 # Runs each block of commands in docs/OPERATING.md, with addresses, ports and paths of its own in place of those there, and tries what it left: a zone
-# saved by a transfer, a store's backup, a backup restored to a new store, which a BIND with a greater serial takes, and a zone brought in from another
-# server. A block that it doesn't know is a failure, and so is a recipe that no block is of. It prints a line a check and a count, and its
+# saved by a transfer, a store's backup, a backup restored to a new store, which a BIND with a greater serial takes, a zone brought in from another
+# server, and rules for who may update and transfer. A block that it doesn't know is a failure, and so is a recipe that no block is of. It prints a line a check and a count, and its
 # status is 1 where one failed. It listens on 127.0.0.1 alone, and ends what it starts.
 # Usage: [DNSD=PROGRAM] tests/recipes.sh [--port N]
 #   --port N    dnsd listens on N (by default 17413), a secondary and another server on the two after it
@@ -35,6 +35,7 @@ recipe_of() {
         'dnsd zone /var/lib/dnsd > saved'*) echo saves_a_store ;;
         'serial=$(dig '*) echo restores ;;
         'dig '*' @192.0.2.1 example.com. axfr > theirs') echo brings_in ;;
+        "--may '"*) echo permits ;;
     esac
 }
 
@@ -132,6 +133,18 @@ brings_in() {
     stop primary
 }
 
+# A block of options: a server starts with them, and by them who may transfer the zone is who the page says.
+permits() {
+    local rules transfer=123400000001000000000000076578616d706c6504746573740000fc0001
+    eval "rules=($(tr '\n' ' ' <"$1"))"
+    serve zones/example.test.zone "${rules[@]}"
+    check "$recipe: a start takes the rules, $((${#rules[@]} / 2)) of them" 1 "$(serial "$port")"
+    unserve
+    check "$recipe: a transfer by the first" $'permitted\nexample.test. AXFR: 10.0.0.0/8: transfer' "$("$program" may "${rules[@]}" 10.1.2.3 $transfer)"
+    check "$recipe: a transfer by the last" $'permitted\nexample.test. AXFR: 192.0.2.53: update tcp, transfer' "$("$program" may "${rules[@]}" 192.0.2.53 $transfer)"
+    check "$recipe: a transfer by none" $'REFUSED\nexample.test. AXFR: no rule' "$("$program" may "${rules[@]}" 192.0.2.1 $transfer || true)"
+}
+
 awk -v folder="$work/blocks" '/^```/ { inside = !inside; number += inside; next } inside { print > sprintf("%s/%03d", folder, number) }' docs/OPERATING.md
 seen=
 for block in "$work"/blocks/*; do
@@ -140,7 +153,7 @@ for block in "$work"/blocks/*; do
     [ -z "$recipe" ] || "$recipe" "$block"
     seen="$seen $recipe"
 done
-for recipe in saves_by_transfer saves_a_store restores brings_in; do
+for recipe in saves_by_transfer saves_a_store restores brings_in permits; do
     check "$recipe: a block is of it" yes "$([[ " $seen " != *" $recipe "* ]] || echo yes)"
 done
 echo "$passed checks passed, $failed failed"
