@@ -17,6 +17,7 @@ use Rattle.update_batches.proofs.queue.Queue.TheSendSync as queue
 use Rattle.serve_workers.specs.contracts.server_thread.ServerThread as thread
 use Rattle.serve_workers.specs.contracts.threads.SocketJob as job
 use Rattle.serve_workers.specs.contracts.updates.Updates as updates
+use Rattle.zone_replies.proofs.SendLemmas.{allowed_send}
 use Rattle.worker_jobs.proofs.SendLemmas.{woken_sync, tcp_send, telling_send}
 
 queued_send : IsSend waiting.the_row
@@ -28,7 +29,7 @@ updates_sync =
     (struct_sync (shape (updates.the_type)) (search (queue.the_field_sync, queue.the_sync, queued_send, crossing.crosses, sendable) depth 60 fits 20000, (search (crossing.crosses, sendable) depth 60 fits 20000, (search (woken_sync, crossing.crosses, sendable) depth 60 fits 20000, tt))))
 
 job_send : (a : NamedLft) (C : RattleType) → IsSync C → IsSend (job.the_field a C).row
-job_send a C ticks = enum_send (enum.shape (job.the_type a C)) ((search (crossing.crosses, sendable) depth 60 fits 20000, tt), ((tcp_send a C ticks, tt), ((telling_send a C ticks, tt), tt)))
+job_send a C ticks = enum_send (enum.shape (job.the_type a C)) ((search (allowed_send, crossing.crosses, sendable) depth 60 fits 20000, tt), ((tcp_send a C ticks, tt), ((telling_send a C ticks, tt), tt)))
 
 pub thread_send : (a b : NamedLft) (T N L C : RattleType) (g : Ghosts T.Denot) (n : naming.Ghosts N.Denot) (s : server_names.Ghosts N.Denot) → IsSync L → IsSync C → IsSend (thread.the_row a b T N L C n g s)
 thread_send a b T N L C g n s hears ticks =

@@ -21,6 +21,7 @@ use Rattle.wire_names.specs.contracts.write.NameWriter as names
 use Rattle.zone_server.specs.declared.right.ServerName as server_names
 use Rattle.zone_server.proofs.ServerSendLemmas.{server_sync, sender_send}
 use Rattle.zone_server.specs.contracts.datagram_handler.DatagramHandler as asked
+use Rattle.zone_replies.proofs.SendLemmas.{allowed_send}
 use Rattle.zone_replies.specs.contracts.transfer.Transfer as transfer
 use Rattle.worker_jobs.specs.contracts.connections_job.ConnectionsJob as connections
 use Rattle.worker_jobs.specs.contracts.waking_poll.WakingPoll as waking
@@ -59,7 +60,7 @@ waking_send a P polls = search (woken_sync, option.the_field_send, option.the_se
 connections_send : (a : NamedLft) (S P L C : RattleType) → IsSend S → IsSend P → IsSend L → IsSync C → IsSend (connections.the_field a S P L C).row
 connections_send a S P L C peers polls places ticks =
     struct_send (shape (connections.the_type a S P L C))
-    (search (crossing.crosses, sendable) depth 60 fits 20000, (waking_send a P polls, (search (crossing.crosses, sendable) depth 60 fits 20000, (search (transfer_send, global.the_field_send, crossing.crosses, sendable) depth 60 fits 20000, (search (crossing.crosses, sendable) depth 60 fits 20000, (search (crossing.crosses, sendable) depth 60 fits 20000, (search (crossing.crosses, sendable) depth 60 fits 20000, (search (crossing.crosses, sendable) depth 60 fits 20000, (search (crossing.crosses, sendable) depth 60 fits 20000, (search (crossing.crosses, sendable) depth 60 fits 20000, (search (crossing.crosses, sendable) depth 60 fits 20000, (search (crossing.crosses, sendable) depth 60 fits 20000, tt))))))))))))
+    (search (crossing.crosses, sendable) depth 60 fits 20000, (waking_send a P polls, (search (crossing.crosses, sendable) depth 60 fits 20000, (search (transfer_send, global.the_field_send, crossing.crosses, sendable) depth 60 fits 20000, (search (allowed_send, crossing.crosses, sendable) depth 60 fits 20000, (search (crossing.crosses, sendable) depth 60 fits 20000, (search (crossing.crosses, sendable) depth 60 fits 20000, (search (crossing.crosses, sendable) depth 60 fits 20000, (search (crossing.crosses, sendable) depth 60 fits 20000, (search (crossing.crosses, sendable) depth 60 fits 20000, (search (crossing.crosses, sendable) depth 60 fits 20000, (search (crossing.crosses, sendable) depth 60 fits 20000, tt))))))))))))
 
 pub tcp_send : (a : NamedLft) (C : RattleType) → IsSync C → IsSend (connections.the_field a peer.the_row (watch.the_row a C) place.the_row C).row
 tcp_send a C ticks = connections_send a peer.the_row (watch.the_row a C) place.the_row C peer_send (watch_send a C ticks) place_send ticks
@@ -70,7 +71,7 @@ telling_send a C ticks = search (global.the_field_send, crossing.crosses, sendab
 pub datagram_handler_send : (a b : NamedLft) (T N L : RattleType) (g : Ghosts T.Denot) (n : naming.Ghosts N.Denot) (s : server_names.Ghosts N.Denot) → IsSync L → IsSend (asked.the_field a b T N L n g s).row
 datagram_handler_send a b T N L g n s hears =
     struct_send (shape (asked.the_type a b T N L n g s))
-    (shr_send _ _ _ (server_sync b T N g n s), (search (cell.crosses, crossing.crosses, sendable) depth 60 fits 20000, (search (crossing.crosses, sendable) depth 60 fits 20000, (search (global.the_field_send, sendable) depth 60 fits 20000, (search (crossing.crosses, sendable) depth 60 fits 20000, (search (crossing.crosses, sendable) depth 60 fits 20000, (search (query_send, sendable) depth 60 fits 20000, (search (names_send, sendable) depth 60 fits 20000, (search (sender_send, option.the_field_send, option.the_send, crossing.crosses, sendable) depth 60 fits 20000, tt)))))))))
+    (shr_send _ _ _ (server_sync b T N g n s), (search (cell.crosses, crossing.crosses, sendable) depth 60 fits 20000, (search (crossing.crosses, sendable) depth 60 fits 20000, (search (global.the_field_send, sendable) depth 60 fits 20000, (search (crossing.crosses, sendable) depth 60 fits 20000, (search (crossing.crosses, sendable) depth 60 fits 20000, (search (query_send, sendable) depth 60 fits 20000, (search (names_send, sendable) depth 60 fits 20000, (search (allowed_send, option.the_field_send, option.the_send, crossing.crosses, sendable) depth 60 fits 20000, (search (sender_send, option.the_field_send, option.the_send, crossing.crosses, sendable) depth 60 fits 20000, tt))))))))))
 
 pub worker_send : (a b : NamedLft) (T N J L : RattleType) (g : Ghosts T.Denot) (n : naming.Ghosts N.Denot) (s : server_names.Ghosts N.Denot) → IsSend J → IsSync L → IsSend (worker.the_row a b T N J L n g s)
 worker_send a b T N J L g n s sends hears =
