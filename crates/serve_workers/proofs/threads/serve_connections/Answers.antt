@@ -11,5 +11,5 @@ returns-clause-seen g c =
     let before = c.with_sender-handler.result in
     let after = c.serve-end.new.handler in
     subst (λ (r : ReaderState Version). BeginsWith r.seen c.args.reader.seen) (sym c.into_reader.ensures)
-    (subst (λ (r : ReaderState Version). BeginsWith after.reader.seen r.seen) (c.with_sender-handler.ensures.reader ∙ c.new-handler.ensures.reader)
+    (subst (λ (r : ReaderState Version). BeginsWith after.reader.seen r.seen) (c.with_sender-handler.ensures.reader ∙ c.with_rules-handler.ensures.reader ∙ c.new-handler.ensures.reader)
     (reader_grows before.taken after.taken before.reader after.reader c.serve-end.ensures.grows).published)
