@@ -1,0 +1,87 @@
+//! Reading an update from one message or more (RFC 2136, 2).
+ghost use Rattle.std.specs.Prelude.{◌≡◌, ◌++◌, ◌∷◌, List, map, flat_map, IfOk, MatchOption};
+ghost use Rattle.dns_message.specs.Request.{reads};
+ghost use Rattle.dns_message.specs.declared.query.Parsed.TheVariants.{Update as Asks};
+ghost use Rattle.dns_message.specs.declared.update.Update.{Update as DynamicUpdate};
+ghost use Rattle.update_messages.specs.Joined.{joined, AreParts, IsRead};
+
+use dns_message::{Parsed, RawRecords, Update, parse};
+use dns_rdata::RawRecord;
+use std::alloc::{AllocError, Global};
+
+/// The update that a message is read as; None where it isn't an update (RFC 2136, 2).
+fn read_message(alloc: Global, octets: &[u8]) -> Result<Option<Update>, AllocError>
+    ensures { IfOk result (λ found. MatchOption found ((update : DynamicUpdate) → reads octets.now ≡ Asks update → ⊥) (λ update. reads octets.now ≡ Asks update)) }
+{
+    match parse(alloc, octets) {
+        Parsed::Update(update) => Ok(Some(update)),
+        Parsed::NoMemory(_) => Err(AllocError),
+        Parsed::Query(_) | Parsed::Silent | Parsed::Fault(_, _) | Parsed::BadOpt(_, _, _, _) => Ok(
+            None,
+        ),
+    }
+}
+
+/// The update that a request's messages are read as; None where one of them isn't an update, or there are none. It allocates memory.
+pub fn read_request(alloc: Global, messages: &[&[u8]]) -> Result<Option<Update>, AllocError>
+    ensures { IfOk result (λ found. MatchOption found
+        ((update : DynamicUpdate) → IsRead (map (λ message. message.now) messages.now) update → ⊥)
+        (λ update. IsRead (map (λ message. message.now) messages.now) update)) }
+{
+    let Some((first, more)) = messages.split_first() else {
+        return Ok(None);
+    };
+    match read_message(alloc, first)? {
+        Some(update) => read_more(alloc, update, more),
+        None => Ok(None),
+    }
+}
+
+/// An update with the records of those that further messages are read as; None where one of these isn't an update. It allocates memory.
+fn read_more(
+    alloc: Global,
+    first: Update,
+    more: &[&[u8]],
+) -> Result<Option<Update>, AllocError>
+    ensures { IfOk result (λ found. MatchOption found
+        ((parts : List DynamicUpdate) → AreParts (map (λ message. message.now) more.now) parts → ⊥)
+        (λ update. (parts : List DynamicUpdate) × AreParts (map (λ message. message.now) more.now) parts
+        × (update ≡ record first { updates = first.updates ++ flat_map (λ part. part.updates) parts }))) }
+{
+    let Update {
+        head,
+        edns,
+        zone,
+        prerequisites,
+        updates,
+    } = first;
+    let mut records = updates.into_vec();
+    for message in more {
+        let Some(part) = read_message(alloc, message)? else {
+            return Ok(None);
+        };
+        let mut further = records_of(part);
+        records.append(&mut further)?;
+    }
+    Ok(Some(Update {
+        head,
+        edns,
+        zone,
+        prerequisites,
+        updates: RawRecords::new(records),
+    }))
+}
+
+/// The records of an update.
+fn records_of(update: Update) -> Vec<RawRecord>
+    ensures { result.items ≡ update.updates }
+{
+    let Update {
+        head: _,
+        edns: _,
+        zone: _,
+        prerequisites: _,
+        updates,
+    } = update;
+    updates.into_vec()
+}
