@@ -24,7 +24,7 @@ mod tails;
 
 pub use batch::{put_request, read_batch, write_request};
 pub use disk::Disk;
-pub use frame::{SUM, read_frame, write_frame};
+pub use frame::{BODY_LIMIT, SUM, read_frame, write_frame};
 pub use frames::read_all;
 pub use head_octets::{read_head, write_head};
 pub use heads::{Head, HeadFault, TextSum};

@@ -1,4 +1,5 @@
 -- Messages that are replayed, one after another.
+use Rattle.journal.specs.Batch.{Messages}
 use Rattle.std.proofs.Common.{◌≡◌, ◌≢◌, ℕ, zero, suc, ◌+◌, ◌<◌, ◌≤◌, true, List, [], ◌∷◌, ◌++◌, length, take, get_or, map, Option, None, Some, Result, Ok, Err, unwrap_or, Bor, refl, sym, ap, ◌∙◌, subst, arith, if◌then◌else◌}
 use Rattle.std.specs.Prelude.{slice_get, MatchResult}
 use Rattle.std.specs.Option.{option_or, is_some}
@@ -24,10 +25,10 @@ use Rattle.store_recovery.proofs.HeldLemmas.{makes_by, held_zone, held_number, h
 use Rattle.store_recovery.proofs.ReadLemmas.{read_one, read_once, read_long, read_more, read_take}
 
 -- the last of the newest versions has the replayed zone, and counts the updates
-pub replayed_zone : (zone : List Record) (messages : List (List ℕ)) (kept : RecentVersions) (is : IsReplayed zone messages kept) → kept.last.zone ≡ replay zone is.updates
+pub replayed_zone : (zone : List Record) (messages : List Messages) (kept : RecentVersions) (is : IsReplayed zone messages kept) → kept.last.zone ≡ replay zone is.updates
 replayed_zone zone messages kept is = ap (λ (version : Version). version.zone) is.last ∙ held_zone (begun zone) is.updates
 
-pub replayed_number : (zone : List Record) (messages : List (List ℕ)) (kept : RecentVersions) → IsReplayed zone messages kept → kept.last.number ≡ length messages
+pub replayed_number : (zone : List Record) (messages : List Messages) (kept : RecentVersions) → IsReplayed zone messages kept → kept.last.number ≡ length messages
 replayed_number zone messages kept is =
     ap (λ (version : Version). version.number) is.last ∙ (held_number (begun zone) is.updates ∙ omega (arith, read_long messages is.updates is.read))
 
@@ -47,7 +48,7 @@ pub none_replayed : (zone : List Record) (kept : RecentVersions) → kept.last �
 none_replayed zone kept last older = record { updates = []; read = tt; taken = tt; last = last; older = older }
 
 -- one message more is replayed
-pub more_replayed : (zone : List Record) (messages : List (List ℕ)) (message : List ℕ) (kept next : RecentVersions)
+pub more_replayed : (zone : List Record) (messages : List Messages) (message : List ℕ) (kept next : RecentVersions)
     → IsReplayed zone messages kept → IsMade kept.last message next.last → next.older.items ≡ newest KEPT (kept.older.items ++ kept.last ∷ [])
     → IsReplayed zone (messages ++ message ∷ []) next
 more_replayed zone messages message kept next is made older =
@@ -90,7 +91,7 @@ pub one_more_replayed : (zone : List Record) (messages : List (Bor (List ℕ))) 
     → IsReplayed zone (take place (now_of messages)) kept → place < length messages → IsMade kept.last (get_or messages place d).now next
     → after.last ≡ next → after.older.items ≡ newest KEPT (kept.older.items ++ kept.last ∷ []) → IsReplayed zone (take (place + 1) (now_of messages)) after
 one_more_replayed zone messages place d kept after next is within made last older =
-    subst (λ (ms : List (List ℕ)). IsReplayed zone ms after) (sym (lent_more messages place d within))
+    subst (λ (ms : List Messages). IsReplayed zone ms after) (sym (lent_more messages place d within))
     (more_replayed zone (take place (now_of messages)) (get_or messages place d).now kept after is
     (subst (λ (version : Version). IsMade kept.last (get_or messages place d).now version) (sym last) made) older)
 
@@ -102,7 +103,7 @@ so_far_number zone messages place kept is within =
 pub all_replayed : (zone : List Record) (messages : List (Bor (List ℕ))) (place : ℕ) (kept : RecentVersions) → IsReplayed zone (take place (now_of messages)) kept → length messages ≤ place
     → IsReplayed zone (now_of messages) kept
 all_replayed zone messages place kept is end =
-    subst (λ (ms : List (List ℕ)). IsReplayed zone ms kept) (take_all place (now_of messages) (omega (arith, end, lent_long messages))) is
+    subst (λ (ms : List Messages). IsReplayed zone ms kept) (take_all place (now_of messages) (omega (arith, end, lent_long messages))) is
 
 -- the message at a place isn't taken
 pub not_taken_at : (zone : List Record) (messages : List (Bor (List ℕ))) (place : ℕ) (d : Bor (List ℕ)) (kept : RecentVersions) (fault : UpdateFault)
@@ -129,7 +130,7 @@ some_same message other e = cc
 nothing_stands : (message : List ℕ) (place : ℕ) → slice_get [] place ≡ Some message → ⊥
 nothing_stands message place e = cc
 
-taken_at : (zone : List Record) (messages : List (List ℕ)) (updates : List Update) (place : ℕ) (message : List ℕ)
+taken_at : (zone : List Record) (messages : List Messages) (updates : List Update) (place : ℕ) (message : List ℕ)
     → AreRead messages updates → EachChanges zone updates → slice_get messages place ≡ Some message → TakenAt (replay zone (take place updates)) message
 taken_at zone [] updates place message read taken is_present = absurd (nothing_stands message place is_present)
 taken_at zone (first ∷ messages) [] place message read taken is_present = absurd read
@@ -156,7 +157,7 @@ not_faulty zone message ChangesNothing taken why =
     taken.shows.changed (ap (λ (made : Option (List Record)). unwrap_or made zone) (subst (λ (u : Update). act zone u ≡ Some zone) same why.3))
 
 -- messages of updates that are taken are all taken
-pub all_taken : (zone : List Record) (messages : List (List ℕ)) (updates : List Update) (place : ℕ) (fault : UpdateFault)
+pub all_taken : (zone : List Record) (messages : List Messages) (updates : List Update) (place : ℕ) (fault : UpdateFault)
     → AreRead messages updates → EachChanges zone updates → IsNotTaken zone messages place fault → ⊥
 all_taken zone messages updates place fault read taken other =
     let same : other.before ≡ take place updates = read_once (take place messages) other.before (take place updates) other.read (read_take place messages updates read) in

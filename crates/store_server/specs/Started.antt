@@ -1,11 +1,12 @@
 -- What a server begins with (own).
-use Rattle.std.specs.Prelude.{◌≡◌, ◌-◌, ◌∷◌, ⊤, ℕ, List, [], Option, Ok, Err, length, map, drop}
+use Rattle.std.specs.Prelude.{◌≡◌, ◌-◌, ◌∷◌, ⊤, ℕ, List, [], Option, Ok, Err, length, drop}
 use Rattle.dns_name.specs.Name.{Name}
 use Rattle.dns_rdata.specs.Record.{Record}
 use Rattle.zone_tree.specs.Zone.{apex_of}
 use Rattle.zone_tree.specs.Version.{zone_serial}
 use Rattle.dns_engine.specs.Versions.{IsFirst, AreNext}
 use Rattle.master_file.specs.ZoneText.{zone_of_text}
+use Rattle.journal.specs.Batch.{Messages}
 use Rattle.journal.specs.declared.heads.Head.{Head}
 use Rattle.journal.specs.declared.heads.TextSum.{TextSum}
 use Rattle.journal.specs.Head.{IsText}
@@ -39,10 +40,10 @@ pub record IsNewStore {F : Type 0} (zone : List Record) (number : ℕ) (random g
   pub from : IsText origin given
   pub empty : Holds written synced head log []
 
--- updates are the last `count` ones of a zone file's journal, as they were received
-pub record AreLastUpdates (text octets : List ℕ) (count : ℕ) (updates : List (List ℕ)) : Type 0 where
+-- updates are the last `count` ones of a zone file's journal, each as the messages of its request
+pub record AreLastUpdates (text octets : List ℕ) (count : ℕ) (updates : List Messages) : Type 0 where
   pub head : Head
-  pub all : List (List ℕ)
+  pub all : List Messages
   pub sound : IsSound text octets head all
   pub last : updates ≡ drop (length all - count) all
 
@@ -54,7 +55,7 @@ pub record GoesOn (text octets : List ℕ) (start : Recovery) (store : OpenStore
   pub log : Holds written synced store.head store.log is.recovered.bodies
   pub versions : store.first ∷ store.later.items ≡ rebased (versions_in start.newest)
   pub made : IsFirst store.first.zone store.first × AreNext store.first store.later.items
-  pub updates : map (λ update. update.items) store.updates.items ≡ drop (length is.messages - length start.newest.older.items) is.messages
+  pub updates : store.updates.items ≡ drop (length is.messages - length start.newest.older.items) is.messages
 
 -- a store is created with a zone, whose text was given: only its first version is served
 pub record IsBegunStore (zone : List Record) (number : ℕ) (random given : List ℕ) (store : OpenStore) : Type 0 where

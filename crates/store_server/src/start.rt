@@ -1,5 +1,5 @@
 //! Starting from a directory (own).
-ghost use Rattle.std.specs.Prelude.{◌≡◌, ◌≢◌, ◌≤◌, ℕ, [], length, drop, map, IfOk, IfErr, MatchOption};
+ghost use Rattle.std.specs.Prelude.{◌≡◌, ◌≢◌, ◌≤◌, ℕ, [], length, drop, IfOk, IfErr, MatchOption};
 ghost use Rattle.store_files.specs.File.{written};
 ghost use Rattle.store_recovery.specs.Start.{IsStarted};
 ghost use Rattle.store_recovery.specs.Choice.{IsChoice};
@@ -12,7 +12,7 @@ use crate::resume::{OpenStore, resume_pair};
 use crate::updates::start_with_updates;
 use dns_name::Name;
 use dns_rdata::Serial;
-use journal::Head;
+use journal::{Head, RequestMessages};
 use master_file::read_zone;
 use std::alloc::Global;
 use std::fs::{File, Files};
@@ -177,12 +177,12 @@ fn go_on<R: Files<File = File> + Alloc + Clone + Drop>(
     lock: StoreLock,
     pair: Pair,
     start: Recovery,
-    updates: Vec<Vec<u8>>,
+    updates: Vec<RequestMessages>,
     served: Served,
 ) -> Result<Started, Refusal>
     requires noted { written pair.disk ≡ pair.journal.items }
     requires started { IsStarted pair.text.items pair.journal.items start }
-    requires updates { AreLastUpdates pair.text.items pair.journal.items (length start.newest.older.items) (map (λ update. update.items) updates.items) }
+    requires updates { AreLastUpdates pair.text.items pair.journal.items (length start.newest.older.items) updates.items }
     ensures store { IfOk result (λ started. GoesOn pair.text.items pair.journal.items start started.store) }
     ensures served { IfOk result (λ started. started.served ≡ served) }
     ensures refused { IfErr result IsOwnFault }

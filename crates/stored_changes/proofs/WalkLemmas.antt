@@ -1,4 +1,5 @@
 -- Updates that are applied one after another, and what is told of each.
+use Rattle.journal.specs.Batch.{Messages}
 use Rattle.std.proofs.Common.{◌≡◌, ◌≢◌, ℕ, Bool, ◌&&◌, not, ◌==◌, ◌+◌, ◌<◌, ◌≤◌, true, List, [], ◌∷◌, ◌++◌, length, take, get_or, Option, None, Some, unwrap_or, Bor, refl, sym, ap, ◌∙◌, subst, arith}
 use Rattle.std.specs.List.{list_any}
 use Rattle.std.proofs.lemmas.List.Filters.{length-filter_both}
@@ -21,7 +22,7 @@ use Rattle.store_recovery.proofs.ReplayLemmas.{now_of}
 use Rattle.stored_changes.specs.StoredChanges.{change_of, after, changes_text, AreTold}
 
 -- messages are applied to a zone: the last version, and what is told of them
-pub record IsWalked (zone : List Record) (messages : List (List ℕ)) (last : Version) (reported : List ℕ) : Type 0 where
+pub record IsWalked (zone : List Record) (messages : List Messages) (last : Version) (reported : List ℕ) : Type 0 where
   pub updates : List Update
   pub read : AreRead messages updates
   pub taken : EachChanges zone updates
@@ -49,7 +50,7 @@ told_more zone (other ∷ updates) update =
     (change_of (replay (after zone other) updates) (after (replay (after zone other) updates) update)))
 
 -- one message more is applied
-pub more_walked : (zone : List Record) (messages : List (List ℕ)) (message : List ℕ) (last next : Version) (reported now : List ℕ)
+pub more_walked : (zone : List Record) (messages : List Messages) (message : List ℕ) (last next : Version) (reported now : List ℕ)
     → IsWalked zone messages last reported → IsMade last message next → now ≡ reported ++ change_of last.zone next.zone
     → IsWalked zone (messages ++ message ∷ []) next now
 more_walked zone messages message last next reported now is made grown =
@@ -83,7 +84,7 @@ pub one_more_walked : (zone : List Record) (messages : List (Bor (List ℕ))) (p
     → IsWalked zone (take place (now_of messages)) last reported → place < length messages → IsMade last (get_or messages place d).now next
     → now ≡ reported ++ change_of last.zone next.zone → IsWalked zone (take (place + 1) (now_of messages)) next now
 one_more_walked zone messages place d last next reported now is within made grown =
-    subst (λ (ms : List (List ℕ)). IsWalked zone ms next now) (sym (lent_more messages place d within))
+    subst (λ (ms : List Messages). IsWalked zone ms next now) (sym (lent_more messages place d within))
     (more_walked zone (take place (now_of messages)) (get_or messages place d).now last next reported now is made grown)
 
 pub walked_number : (zone : List Record) (messages : List (Bor (List ℕ))) (place : ℕ) (last : Version) (reported : List ℕ) → IsWalked zone (take place (now_of messages)) last reported → place ≤ length messages
@@ -94,7 +95,7 @@ pub all_walked : (zone : List Record) (messages : List (Bor (List ℕ))) (place 
     → AreTold zone (now_of messages) reported
 all_walked zone messages place last reported is end =
     let all : IsWalked zone (now_of messages) last reported =
-    subst (λ (ms : List (List ℕ)). IsWalked zone ms last reported) (take_all place (now_of messages) (omega (arith, end, lent_long messages))) is in
+    subst (λ (ms : List Messages). IsWalked zone ms last reported) (take_all place (now_of messages) (omega (arith, end, lent_long messages))) is in
     record { updates = all.updates; read = all.read; taken = all.taken; reported = all.lines }
 
 -- the message at a place isn't taken

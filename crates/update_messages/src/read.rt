@@ -38,11 +38,7 @@ pub fn read_request(alloc: Global, messages: &[&[u8]]) -> Result<Option<Update>,
 }
 
 /// An update with the records of those that further messages are read as; None where one of these isn't an update. It allocates memory.
-fn read_more(
-    alloc: Global,
-    first: Update,
-    more: &[&[u8]],
-) -> Result<Option<Update>, AllocError>
+fn read_more(alloc: Global, first: Update, more: &[&[u8]]) -> Result<Option<Update>, AllocError>
     ensures { IfOk result (λ found. MatchOption found
         ((parts : List DynamicUpdate) → AreParts (map (λ message. message.now) more.now) parts → ⊥)
         (λ update. (parts : List DynamicUpdate) × AreParts (map (λ message. message.now) more.now) parts

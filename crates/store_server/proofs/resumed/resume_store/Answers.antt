@@ -3,7 +3,7 @@ use Rattle.std.proofs.Common.{◌≡◌, ℕ, List, [], length, min, map, All, V
 use Rattle.std.specs.Global.{Global}
 use Rattle.zone_tree.specs.Version.{Version}
 use Rattle.dns_engine.specs.Held.{KEPT}
-use Rattle.journal.specs.Batch.{IsShort}
+use Rattle.journal.specs.Batch.{IsRequest}
 use Rattle.store_compaction.specs.RecentUpdates.{TrailState, followed}
 use Rattle.store_compaction.specs.Writer.{trail_of}
 use Rattle.store_server.specs.declared.resume.OpenStore.{OpenStore}
@@ -13,7 +13,7 @@ use Rattle.store_server.proofs.resumed.resume_store.Goals as goal
 
 pub trail_of-requires-clause-short : goal.trail_of-requires-clause-short
 trail_of-requires-clause-short g c =
-    subst (λ (us : List (Vec ℕ Global)). All IsShort (map (λ update. update.items) us)) (sym c.deref-2.ensures.value) (has_short c.args.store c.requires)
+    subst (λ (us : List (Vec ℕ Global)). All IsRequest (map (λ update. update.items) us)) (sym c.deref-2.ensures.value) (has_short c.args.store c.requires)
 
 pub trail_of-requires-clause-many : goal.trail_of-requires-clause-many
 trail_of-requires-clause-many g c =

@@ -1,4 +1,5 @@
 -- What is copied stands behind those in front.
+use Rattle.journal.specs.Batch.{Messages}
 use Rattle.std.proofs.Common.{◌≡◌, ◌-◌, ℕ, List, length, take, drop, map, IfOk, Bor, sym, ap, ◌∙◌, subst, length-drop, arith}
 use Rattle.std.proofs.lemmas.List.{drop-map, take_all}
 use Rattle.store_server.proofs.updates.last_updates.Goals as goal
@@ -12,4 +13,4 @@ returns c =
     let taken : take (length all - first) (drop first all) ≡ drop first all = take_all (length all - first) (drop first all) (omega (arith, length-drop first all)) in
     let same : map now (take (length all - first) (drop first all)) ≡ drop (length all - c.args.count) (map now all) =
     ap (λ (l : List (Bor (List ℕ))). map now l) taken ∙ (sym (drop-map now first all) ∙ ap (λ (n : ℕ). drop n (map now all)) count) in
-    subst (λ (l : List (List ℕ)). IfOk c.owned.result (λ last. map (λ update. update.items) last.items ≡ l)) same c.owned.ensures
+    subst (λ (l : List Messages). IfOk c.owned.result (λ last. map (λ update. update.items) last.items ≡ l)) same c.owned.ensures
