@@ -102,7 +102,7 @@ impl RequestMessages {
     }
 
     /// Its first message.
-    pub(crate) fn first(&self) -> &[u8]
+    pub fn first(&self) -> &[u8]
         ensures first { result.now ≡ first_of self.now }
         ensures short { IsShort result.now }
     {
@@ -110,7 +110,7 @@ impl RequestMessages {
     }
 
     /// Its further messages.
-    pub(crate) fn more(&self) -> &[Vec<u8>]
+    pub fn more(&self) -> &[Vec<u8>]
         ensures more { map (λ message. message.items) result.now ≡ more_of self.now }
         ensures short { All IsShort (map (λ message. message.items) result.now) }
     {

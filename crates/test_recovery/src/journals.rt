@@ -1,6 +1,6 @@
 //! Updates for the tests, and journals of them.
 use dns_name::Name;
-use journal::{Head, TextSum, put_update, write_frame, write_head};
+use journal::{Head, RequestMessages, TextSum, put_request, write_frame, write_head};
 use master_file::read_zone;
 use std::alloc::Global;
 use std::test::Fail;
@@ -49,8 +49,8 @@ fn batch_of(alloc: Global, messages: &[&str]) -> Result<Vec<u8>, Fail> {
     let mut batch = Vec::new(alloc);
     for message in messages {
         let update = hex::decode(alloc, message.as_bytes())?;
-        if update.len() < 65_536 {
-            put_update(&mut batch, &update)?;
+        if let Some(request) = RequestMessages::one(alloc, update) {
+            put_request(alloc, &mut batch, &request)?;
         }
     }
     Ok(batch)

@@ -1,7 +1,8 @@
 //! The content of a head and of frames, as built by another program, whose sums are those of sha256sum.
 use crate::journals::{BATCHES, END, bad_head, journal_of, outcome, recovers, salt};
 use journal::{
-    HeadFault, Refused, put_update, read_all, read_frame, read_head, recover, write_frame,
+    HeadFault, Refused, RequestMessages, put_request, read_all, read_frame, read_head, recover,
+    write_frame,
 };
 use std::alloc::{AllocError, Global};
 use std::test::Fail;
@@ -85,7 +86,9 @@ fn with_no_batch(alloc: Global) -> Result<Vec<u8>, AllocError> {
     let mut octets = journal_of(alloc, &BATCHES)?;
     let salt = salt(alloc)?;
     let mut body = Vec::new(alloc);
-    put_update(&mut body, b"whole")?;
+    if let Some(whole) = RequestMessages::copied(alloc, &[b"whole"])? {
+        put_request(alloc, &mut body, &whole)?;
+    }
     body.extend_from_slice(&[0, 6, b's', b'h', b'o', b'r', b't'])?;
     if body.len() < 1 << 24 {
         octets.extend_from_slice(&write_frame(alloc, &salt, 3, &body)?)?;
