@@ -25,7 +25,7 @@ const RECORD: usize = 12;
 pub fn messages_of(alloc: Global, update: &Update) -> Result<Vec<Vec<u8>>, ChangeFault>
     ensures messages { IfOk result (λ messages. AreMessages update.now (map (λ message. message.items) messages.items)) }
     ensures long { IsErrOf result ChangeFault.TooLong → (most_octets < length (part_octets update.now.zone update.now.prerequisites []))
-        ⊎ ((record : Raw) × Contains record update.now.updates × (most_octets < length (part_octets update.now.zone [] (record ∷ [])))) }
+        ⊎ ((raw : Raw) × Contains update.now.updates raw × (most_octets < length (part_octets update.now.zone [] (raw ∷ [])))) }
     ensures other { IsErrOf result ChangeFault.OtherApex → ⊥ }
     ensures room { IsErrOf result ChangeFault.NoRoom → ⊥ }
 {
@@ -52,7 +52,7 @@ fn put_rest(
     ensures rest { OnOk result ((parts : List (List Raw)) × (flat_map (λ part. part) parts ≡ records.now) × All (λ part. 0 < length part) parts
         × All (λ part. length (part_octets zone.now [] part) ≤ most_octets) parts
         × (map (λ message. message.items) messages.new.items ≡ map (λ message. message.items) messages.old.items ++ map (part_octets zone.now []) parts)) }
-    ensures long { IsErrOf result ChangeFault.TooLong → (record : Raw) × Contains record records.now × (most_octets < length (part_octets zone.now [] (record ∷ []))) }
+    ensures long { IsErrOf result ChangeFault.TooLong → (raw : Raw) × Contains records.now raw × (most_octets < length (part_octets zone.now [] (raw ∷ []))) }
     ensures other { IsErrOf result ChangeFault.OtherApex → ⊥ }
     ensures room { IsErrOf result ChangeFault.NoRoom → ⊥ }
 {
@@ -122,5 +122,7 @@ fn record_len(zone: &Name, raw: &RawRecord) -> usize
     ensures { result ≡ min (length (record_octets zone.now raw.now)) (2 ^ 64 - 1) }
 {
     let labels = raw.owner.wire().len().saturating_sub(zone.wire().len());
-    labels.saturating_add(RECORD).saturating_add(raw.octets.len())
+    labels
+        .saturating_add(RECORD)
+        .saturating_add(raw.octets.len())
 }
