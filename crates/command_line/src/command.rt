@@ -8,10 +8,12 @@ use crate::program::program;
 use crate::stored_zone::Part;
 use clap::ArgMatches;
 use commands::{Command, Source};
+use control_socket::ControlCommand;
 use dns_name::Name;
 use serve_core::Transport;
 use std::alloc::{AllocError, Global};
 use std::convert::AsStr;
+use std::net::SocketAddr;
 
 /// The task that a command line requests.
 pub enum Task<'a> {
@@ -32,6 +34,10 @@ pub enum Task<'a> {
     Journal(&'a str),
     /// Prints what changes from one zone to another.
     Change(Change<'a>),
+    /// Brings the zone that a server serves to another one.
+    Deploy(Deploy<'a>),
+    /// Sends a command to a running server.
+    Control(Control<'a>),
 }
 
 impl<'a> Drop for Task<'a> {
@@ -46,6 +52,8 @@ impl<'a> Drop for Task<'a> {
             Task::Stored(_) => {}
             Task::Journal(_) => {}
             Task::Change(_) => {}
+            Task::Deploy(_) => {}
+            Task::Control(_) => {}
         }
     }
 }
@@ -71,6 +79,38 @@ impl<'a> Drop for Change<'a> {
             is_hex: _,
         } = self;
     }
+}
+
+/// A zone to which that of a server is to be brought.
+pub struct Deploy<'a> {
+    /// The server's address and port.
+    pub server: SocketAddr,
+    /// Where the zone's text comes from.
+    pub zone: Source<'a>,
+    /// The origin at the start of the text.
+    pub origin: Name,
+    /// Whether what would change is printed, and nothing is sent.
+    pub is_dry: bool,
+}
+
+impl<'a> Drop for Deploy<'a> {
+    fn drop(self) {
+        let Deploy {
+            server: _,
+            zone: _,
+            origin: _,
+            is_dry: _,
+        } = self;
+    }
+}
+
+/// A command for a running server.
+#[derive(Clone, Copy, Debug, PartialEq, Eq)]
+pub struct Control<'a> {
+    /// The path of its socket.
+    pub path: &'a str,
+    /// The command.
+    pub command: ControlCommand,
 }
 
 /// A store whose zone is to be printed.
@@ -103,6 +143,9 @@ fn task_of<'a>(
     if name == "zone" {
         return Ok(Task::Stored(stored_of(found)));
     }
+    if name == "control" {
+        return Ok(Task::Control(control_of(found)?));
+    }
     if name == "journal" {
         return Ok(Task::Journal(dir_of(found)));
     }
@@ -114,6 +157,9 @@ fn task_of<'a>(
         return Ok(Task::Change(change_of(found, origin)));
     }
     let zone = text_source(found.get_str(ZONE));
+    if name == "deploy" {
+        return Ok(Task::Deploy(deploy_of(found, zone, origin)?));
+    }
     if name == "serve" {
         return Ok(Task::Serve(serve_of(alloc, found, zone, origin)?));
     }
@@ -140,6 +186,36 @@ fn change_of<'a>(found: &ArgMatches<'a>, origin: Name) -> Change<'a> {
         origin,
         is_hex: found.get_flag(HEX),
     }
+}
+
+/// The command for a running server.
+fn control_of<'a>(found: &ArgMatches<'a>) -> Result<Control<'a>, CommandFault<'a>> {
+    let word = found.get_str(COMMAND).unwrap_or("");
+    match ControlCommand::of(word.as_bytes()) {
+        Some(command) => Ok(Control {
+            path: found.get_str(PATH).unwrap_or(""),
+            command,
+        }),
+        None => Err(CommandFault::Control(word)),
+    }
+}
+
+/// The zone to which that of a server is to be brought.
+fn deploy_of<'a>(
+    found: &ArgMatches<'a>,
+    zone: Source<'a>,
+    origin: Name,
+) -> Result<Deploy<'a>, CommandFault<'a>> {
+    let word = found.get_str(SERVER).unwrap_or("");
+    let Ok(server) = word.parse::<SocketAddr>() else {
+        return Err(CommandFault::Server(word));
+    };
+    Ok(Deploy {
+        server,
+        zone,
+        origin,
+        is_dry: found.get_flag(DRY_RUN),
+    })
 }
 
 /// The store whose zone is to be printed.
@@ -205,6 +281,18 @@ pub const OLD: &str = "old";
 
 /// The argument for the source of the next zone's text.
 pub const NEW: &str = "new";
+
+/// The argument for a running server's address and port.
+pub const SERVER: &str = "server";
+
+/// The option for printing what would change.
+pub const DRY_RUN: &str = "dry-run";
+
+/// The argument for the path of a running server's socket.
+pub const PATH: &str = "path";
+
+/// The argument for a command for a running server.
+pub const COMMAND: &str = "command";
 
 /// The option for warnings of a zone's text.
 pub const WARN: &str = "warn";

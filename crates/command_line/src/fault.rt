@@ -53,6 +53,10 @@ pub enum CommandFault<'a> {
     Take(&'a str),
     /// The option requires a store, and none is given.
     NoStore(&'static str),
+    /// The word is no command for a running server.
+    Control(&'a str),
+    /// The word is no address and port of a server.
+    Server(&'a str),
 }
 
 impl<'a> Drop for CommandFault<'a> {
@@ -80,6 +84,8 @@ impl<'a> Drop for CommandFault<'a> {
             } => {}
             CommandFault::Take(_) => {}
             CommandFault::NoStore(_) => {}
+            CommandFault::Control(_) => {}
+            CommandFault::Server(_) => {}
         }
     }
 }
@@ -131,7 +137,7 @@ pub fn tell_fault<R: Print + Eprint>(rt: &R, fault: &CommandFault<'_>) -> io::Re
         }
         CommandFault::Threads(workers, addresses) => {
             eprintln!(rt;
-                "error: --workers {workers} with {addresses} addresses needs more than 62 threads: each worker has one for TCP, and one for UDP on each address; --notify needs one more"
+                "error: --workers {workers} with {addresses} addresses needs more than 62 threads: each worker has one for TCP, and one for UDP on each address; --notify and --control need one more each"
             )?;
         }
         CommandFault::Notify(word) => {
@@ -156,6 +162,14 @@ pub fn tell_fault<R: Print + Eprint>(rt: &R, fault: &CommandFault<'_>) -> io::Re
         }
         CommandFault::Take(word) => {
             eprintln!(rt; "error: --take: '{word}' is neither store nor zone")?;
+        }
+        CommandFault::Control(word) => {
+            eprintln!(rt; "error: COMMAND: '{word}' is none of reload, status, stats and stop")?;
+        }
+        CommandFault::Server(word) => {
+            eprintln!(rt;
+                "error: ADDR:PORT: '{word}' is not an address and port, such as 127.0.0.1:5353 or [::1]:5353"
+            )?;
         }
         CommandFault::NoStore(option) => {
             eprintln!(rt; "error: --{option} needs --store")?;

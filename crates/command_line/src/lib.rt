@@ -17,7 +17,7 @@ mod start_fault;
 mod store_options;
 mod stored_zone;
 
-pub use command::{Change, Stored, Task, parse_words};
+pub use command::{Change, Control, Deploy, Stored, Task, parse_words};
 pub use fault::{CommandFault, tell_fault};
 pub use options::{MAX_THREADS, Serve};
 pub use secondaries::{Secondary, is_routed, source_of};

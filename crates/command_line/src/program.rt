@@ -1,6 +1,9 @@
 //! The program's commands, and the arguments of each.
-use crate::command::{BEFORE_FAULT, DIR, HEX, KEEP, NEW, OLD, ORIGIN, TCP, WARN, WINDOW, ZONE};
-use crate::options::{ALLOW, CONNECTIONS, COUNT, IDLE, LISTEN, MESSAGE, REPLY, WORKERS};
+use crate::command::{
+    BEFORE_FAULT, COMMAND, DIR, DRY_RUN, HEX, KEEP, NEW, OLD, ORIGIN, PATH, SERVER, TCP, WARN,
+    WINDOW, ZONE,
+};
+use crate::options::{ALLOW, CONNECTIONS, CONTROL, COUNT, IDLE, LISTEN, MESSAGE, REPLY, WORKERS};
 use crate::secondaries::NOTIFY;
 use crate::store_options::{JOURNAL, STORE, TAKE, TRANSFER_RATE, UDP_BUFFER, UPDATE_QUEUE};
 use clap::{Arg, ArgAction, Command as Parser};
@@ -119,6 +122,18 @@ const COMMANDS: &[CommandRow] = &[
         words: &[DIR_ROW],
     },
     CommandRow {
+        name: "deploy",
+        about: "brings the zone that a server serves to ZONE, by one update",
+        example: "Example:\n  dnsd deploy 127.0.0.1:5353 zones/example.test.zone",
+        words: DEPLOY_WORDS,
+    },
+    CommandRow {
+        name: "control",
+        about: "sends a command to a running server: reload, status, stats or stop",
+        example: "Example, with a server that was started by --control /run/dnsd/control:\n  dnsd control /run/dnsd/control reload",
+        words: CONTROL_WORDS,
+    },
+    CommandRow {
         name: "serve",
         about: "serves a zone over UDP and TCP",
         example: "Example:\n  dnsd serve --listen 127.0.0.1:5353 zones/example.test.zone\n  dig @127.0.0.1 -p 5353 www.example.test.",
@@ -184,6 +199,36 @@ const CHANGE_WORDS: &[WordRow] = &[
     },
 ];
 
+/// The arguments of `deploy`.
+const DEPLOY_WORDS: &[WordRow] = &[
+    ORIGIN_ROW,
+    WordRow {
+        name: DRY_RUN,
+        form: Form::Flag,
+        help: "print what would change, and send no update",
+    },
+    WordRow {
+        name: SERVER,
+        form: Form::Word("ADDR:PORT"),
+        help: "address and port of the server, which must permit transfers and updates from here",
+    },
+    ZONE_ROW,
+];
+
+/// The arguments of `control`.
+const CONTROL_WORDS: &[WordRow] = &[
+    WordRow {
+        name: PATH,
+        form: Form::Word("PATH"),
+        help: "socket of the server, as it was given by --control",
+    },
+    WordRow {
+        name: COMMAND,
+        form: Form::Word("COMMAND"),
+        help: "reload (ZONE is read again), status, stats or stop",
+    },
+];
+
 /// The arguments of `zone`.
 const STORED_WORDS: &[WordRow] = &[
     WordRow {
@@ -242,6 +287,11 @@ const SERVE_WORDS: &[WordRow] = &[
         name: TAKE,
         form: Form::Value("WHICH"),
         help: "which to serve if ZONE has changed since the store was created: store or zone",
+    },
+    WordRow {
+        name: CONTROL,
+        form: Form::Value("PATH"),
+        help: "socket for the commands of dnsd control, which the server's user alone may use (default: none)",
     },
     WordRow {
         name: CONNECTIONS,

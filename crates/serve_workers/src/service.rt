@@ -54,6 +54,7 @@ impl<C: Clock> SocketJob<'_, C> {
             SocketJob::Datagrams(job) => job.end(),
             SocketJob::Connections(job) => job.end(),
             SocketJob::Secondaries(job) => job.end(),
+            SocketJob::Control(job) => job.end(),
         };
         match end {
             Some(JobEnd::Device) => Some(ServeFault::Device),

@@ -1,12 +1,15 @@
 //! The jobs of a server's threads, and the threads that run them.
 //!
-//! A [`DatagramsJob`] answers the datagrams of a socket, a [`ConnectionsJob`] runs the event loop over the connections of a worker's listeners, and a [`NotifyJob`] notifies
-//! secondaries of new versions. The threads of a server share a [`Shutdown`], and those of a worker its [`WorkLimit`]. With a [`WakeList`], other threads wake a worker when the
+//! A [`DatagramsJob`] answers the datagrams of a socket, a [`ConnectionsJob`] runs the event loop over the connections of a worker's listeners, a [`NotifyJob`] notifies
+//! secondaries of new versions, and a [`ControlJob`] takes the commands of the operator. The threads of a server share a [`Shutdown`], and those of a worker its [`WorkLimit`]. With a [`WakeList`], other threads wake a worker when the
 //! reply on one of its connections is ready. [`run_workers`] runs jobs of any kind, each on a thread of its own, and [`do_all`] tasks of any kind. What is
 //! answered, and what is then written, is in the crates `requests`, `tcp_loop` and `zone_server`.
 #![tactic(auto)]
 
 mod connections_job;
+mod control_job;
+mod control_reload;
+mod control_text;
 mod datagrams_job;
 mod held_replies;
 mod interrupted;
@@ -22,6 +25,7 @@ mod worker_socket;
 mod workers;
 
 pub use connections_job::ConnectionsJob;
+pub use control_job::{ControlJob, ControlPlan};
 pub use datagrams_job::DatagramsJob;
 pub use notify_job::{NotifyJob, NotifySocket, Secondaries};
 pub use progress::{Shutdown, StopFlag, WorkLimit};

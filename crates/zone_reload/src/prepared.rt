@@ -39,7 +39,7 @@ pub struct ChangeSummary {
 /// An update that takes the zone that is served to that of a text.
 #[derive(Drop)]
 pub struct PreparedChange {
-    /// The update, as it is handed in.
+    /// The update, as it is submitted.
     pub request: UpdateRequest,
     /// What it changes.
     pub summary: ChangeSummary,
@@ -73,7 +73,7 @@ pub fn prepare(
     Ok(Prepared::Change(PreparedChange { request, summary }))
 }
 
-/// An update as it is handed in: its messages, and what they are read as. It allocates memory.
+/// An update as it is submitted: its messages, and what they are read as. It allocates memory.
 fn request_of(alloc: Global, update: &Update) -> Result<UpdateRequest, PrepareFault>
     ensures read { IfOk result (λ request. IsRead request.messages request.update × (request.may ≡ true)) }
     ensures short { IfOk result (λ request. length (request_octets request.messages) ≤ 12582912) }
