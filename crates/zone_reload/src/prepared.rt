@@ -93,7 +93,7 @@ fn request_of(alloc: Global, update: &Update) -> Result<UpdateRequest, PrepareFa
 }
 
 /// What an update changes that takes a zone to another.
-fn summary_of(served: &Zone, next: &Zone, update: &Update) -> ChangeSummary
+pub fn summary_of(served: &Zone, next: &Zone, update: &Update) -> ChangeSummary
     ensures serials { (result.from.0 ≡ zone_serial served.now) × (result.to.0 ≡ serial_after served.now next.now) × (result.given.0 ≡ zone_serial next.now) }
     ensures counts { (result.deleted ≡ deleted_by update.now) × (result.added ≡ added_by update.now) }
 {
