@@ -1,12 +1,10 @@
 -- The update that takes the zone that is served to the zone of a text (RFC 2136; own).
-use Rattle.std.specs.Prelude.{◌≡◌, ◌==◌, ◌&&◌, not, ℕ, true, List, Ok, count_by, if◌then◌else◌}
-use Rattle.dns_name.specs.Name.{Name}
+use Rattle.std.specs.Prelude.{◌≡◌, ◌==◌, ◌&&◌, not, ℕ, List, count_by, if◌then◌else◌}
 use Rattle.dns_rdata.specs.Numbers.{class_NONE, type_SOA}
 use Rattle.dns_rdata.specs.Record.{Record}
 use Rattle.dns_rdata.specs.SerialOrder.{serial_less, serial_next}
 use Rattle.dns_message.specs.declared.update.Update.{Update}
 use Rattle.zone_tree.specs.Version.{zone_serial}
-use Rattle.master_file.specs.ZoneText.{zone_of_text}
 use Rattle.zone_change.specs.Change.{aimed, change_to}
 use Rattle.zone_change.specs.Messages.{AreMessages}
 use Rattle.update_messages.specs.Joined.{IsRead}
@@ -25,11 +23,9 @@ added_by update = count_by (λ raw. not (raw.class == class_NONE) && not (raw.rt
 abbrev pub serial_after : List Record → List Record → ℕ
 serial_after old next = if serial_less (zone_serial old) (zone_serial next) then zone_serial next else serial_next (zone_serial old)
 
--- a text is that of a zone, and an update has the messages of the one that takes the zone that is served there, and is what these are read
--- as; what it changes is told in numbers
-pub record IsPrepared (served : List Record) (origin : Name) (text : List ℕ) (prepared : PreparedChange) : Type 0 where
-  pub next : List Record
-  pub is_zone : zone_of_text origin text ≡ Ok next
+-- an update has the messages of the one that takes the zone that is served to another one, and is what these are read as; what it changes is
+-- told in numbers
+pub record IsPrepared (served next : List Record) (prepared : PreparedChange) : Type 0 where
   pub messages : AreMessages (change_to served next) prepared.request.messages
   pub read : IsRead prepared.request.messages prepared.request.update
   pub from : prepared.summary.from.0 ≡ zone_serial served
@@ -38,14 +34,7 @@ pub record IsPrepared (served : List Record) (origin : Name) (text : List ℕ) (
   pub deleted : prepared.summary.deleted ≡ deleted_by (change_to served next)
   pub added : prepared.summary.added ≡ added_by (change_to served next)
 
--- a text is that of a zone to which a change leads nowhere else than to the zone that is served, which has this serial
-pub record IsUnchanged (served : List Record) (origin : Name) (text : List ℕ) (serial : ℕ) : Type 0 where
-  pub next : List Record
-  pub is_zone : zone_of_text origin text ≡ Ok next
-  pub same : aimed served next ≡ served
-  pub serial_is : serial ≡ zone_serial served
-
--- what a text makes of the zone that is served
-abbrev pub IsPreparedFrom : List Record → Name → List ℕ → Prepared → Type 0
-IsPreparedFrom served origin text (Unchanged serial) = IsUnchanged served origin text serial.0
-IsPreparedFrom served origin text (Change change) = IsPrepared served origin text change
+-- what another zone makes of the zone that is served: a change to it leads nowhere else, and this is the serial; or such an update
+abbrev pub IsPreparedFrom : List Record → List Record → Prepared → Type 0
+IsPreparedFrom served next (Unchanged serial) = (aimed served next ≡ served) × (serial.0 ≡ zone_serial served)
+IsPreparedFrom served next (Change change) = IsPrepared served next change

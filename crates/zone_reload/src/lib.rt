@@ -9,5 +9,5 @@ mod prepared;
 mod slot;
 
 pub use fault::PrepareFault;
-pub use prepared::{ChangeSummary, Prepared, PreparedChange, prepare, summary_of};
+pub use prepared::{ChangeSummary, Prepared, PreparedChange, prepare, prepare_change, summary_of};
 pub use slot::{ReloadResult, ReloadSlot};

@@ -1,5 +1,7 @@
 //! The update that takes the zone that is served to the zone of a text (RFC 2136; own).
-ghost use Rattle.std.specs.Prelude.{◌≡◌, ◌≤◌, true, length, if◌then◌else◌, IfOk};
+ghost use Rattle.std.specs.Prelude.{◌≡◌, ◌≤◌, true, List, Ok, length, if◌then◌else◌, IfOk};
+ghost use Rattle.dns_rdata.specs.Record.{Record};
+ghost use Rattle.master_file.specs.ZoneText.{zone_of_text};
 ghost use Rattle.dns_rdata.specs.SerialOrder.{serial_less, serial_next};
 ghost use Rattle.zone_tree.specs.Version.{zone_serial};
 ghost use Rattle.zone_reload.specs.Reload.{deleted_by, added_by, serial_after, IsPreparedFrom};
@@ -62,13 +64,20 @@ pub fn prepare(
     origin: &Name,
     served: &Zone,
 ) -> Result<Prepared, PrepareFault>
-    ensures prepared { IfOk result (λ prepared. IsPreparedFrom served.now origin.now text.now prepared) }
+    ensures prepared { IfOk result (λ prepared. (next : List Record) × (zone_of_text origin.now text.now ≡ Ok next) × IsPreparedFrom served.now next prepared) }
 {
     let next = read_zone(alloc, text, origin)?;
-    let Some(update) = change_to(alloc, served, &next)? else {
+    prepare_change(alloc, served, &next)
+}
+
+/// The update that takes the zone that is served to another one of its apex. It allocates memory.
+pub fn prepare_change(alloc: Global, served: &Zone, next: &Zone) -> Result<Prepared, PrepareFault>
+    ensures prepared { IfOk result (λ prepared. IsPreparedFrom served.now next.now prepared) }
+{
+    let Some(update) = change_to(alloc, served, next)? else {
         return Ok(Prepared::Unchanged(served.serial()));
     };
-    let summary = summary_of(served, &next, &update);
+    let summary = summary_of(served, next, &update);
     let request = request_of(alloc, &update)?;
     Ok(Prepared::Change(PreparedChange { request, summary }))
 }
