@@ -190,7 +190,7 @@ fn change_of<'a>(found: &ArgMatches<'a>, origin: Name) -> Change<'a> {
 
 /// The command for a running server.
 fn control_of<'a>(found: &ArgMatches<'a>) -> Result<Control<'a>, CommandFault<'a>> {
-    let word = found.get_str(COMMAND).unwrap_or("");
+    let word = found.get_str(COMMAND_WORD).unwrap_or("");
     match ControlCommand::of(word.as_bytes()) {
         Some(command) => Ok(Control {
             path: found.get_str(PATH).unwrap_or(""),
@@ -292,7 +292,7 @@ pub const DRY_RUN: &str = "dry-run";
 pub const PATH: &str = "path";
 
 /// The argument for a command for a running server.
-pub const COMMAND: &str = "command";
+pub const COMMAND_WORD: &str = "command";
 
 /// The option for warnings of a zone's text.
 pub const WARN: &str = "warn";

@@ -1,6 +1,6 @@
 //! The program's commands, and the arguments of each.
 use crate::command::{
-    BEFORE_FAULT, COMMAND, DIR, DRY_RUN, HEX, KEEP, NEW, OLD, ORIGIN, PATH, SERVER, TCP, WARN,
+    BEFORE_FAULT, COMMAND_WORD, DIR, DRY_RUN, HEX, KEEP, NEW, OLD, ORIGIN, PATH, SERVER, TCP, WARN,
     WINDOW, ZONE,
 };
 use crate::options::{ALLOW, CONNECTIONS, CONTROL, COUNT, IDLE, LISTEN, MESSAGE, REPLY, WORKERS};
@@ -223,7 +223,7 @@ const CONTROL_WORDS: &[WordRow] = &[
         help: "socket of the server, as it was given by --control",
     },
     WordRow {
-        name: COMMAND,
+        name: COMMAND_WORD,
         form: Form::Word("COMMAND"),
         help: "reload (ZONE is read again), status, stats or stop",
     },

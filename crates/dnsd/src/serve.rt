@@ -118,8 +118,14 @@ fn serve_store<
     };
     let begun = match start_store_for(rt, serve, plan, text) {
         Ok(Ok(begun)) => begun,
-        Ok(Err(status)) => return Ok(status),
-        Err(fault) => return Err(fault),
+        Ok(Err(status)) => {
+            unbind_control(rt, serve);
+            return Ok(status);
+        }
+        Err(fault) => {
+            unbind_control(rt, serve);
+            return Err(fault);
+        }
     };
     serve_on_sockets(rt, serve, begun, bound)
 }
@@ -200,6 +206,13 @@ fn bind_control_for<R: Files<File = File> + Env + Eprint + Net>(
     }
 }
 
+/// Removes the socket for the operator's commands, which was bound, if there was to be one.
+fn unbind_control<R: Files<File = File>>(rt: &R, serve: &Serve<'_>) {
+    if let Some(path) = serve.control {
+        remove_control(rt, path);
+    }
+}
+
 /// What the thread needs that takes the operator's commands, if there is to be one. An error is lack of memory, or of a thread.
 fn control_for<R: Files<File = File> + AllocGlobal + Threads + Wait + Copy + Send + Drop + 'static>(
     rt: &R,
@@ -257,9 +270,7 @@ fn serve_on_sockets<
     warn(rt, serve, &log);
     warn_of_zone(rt, serve, &begun, &log);
     let served = serve_on_workers(rt, serve, begun, workers, secondaries, control, &log);
-    if let Some(path) = serve.control {
-        remove_control(rt, path);
-    }
+    unbind_control(rt, serve);
     let status = status_of(rt, served, &log);
     log.end(rt);
     Ok(status)

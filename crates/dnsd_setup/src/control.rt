@@ -10,10 +10,10 @@ use std::os::unix::net::UnixListener;
 use std::rt::Env;
 
 /// The last line of a reply to a command that is done.
-const OK: &str = "ok";
+const DONE_LINE: &str = "ok";
 
 /// How the last line of a reply to a command begins that isn't done.
-const ERROR: &str = "error: ";
+const ERROR_LINE: &str = "error: ";
 
 /// Binds the socket at a path. None if that fails; standard error then has the reason.
 pub fn bind_control_at<R: Files + Net + Env + Eprint>(
@@ -67,9 +67,9 @@ fn print_reply<R: Print + Eprint + AllocGlobal>(
     let text = String::from_utf8_lossy(rt.alloc(), reply)?;
     let mut status = FAILED;
     for line in text.as_str().lines() {
-        if line == OK {
+        if line == DONE_LINE {
             status = DONE;
-        } else if line.starts_with(ERROR) {
+        } else if line.starts_with(ERROR_LINE) {
             eprintln!(rt; "{line}")?;
             status = REFUSED;
         } else {

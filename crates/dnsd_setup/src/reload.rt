@@ -57,7 +57,7 @@ fn read_ordered<R: Files + AllocGlobal + Wait>(rt: &R, slot: &ReloadSlot, file: 
 /// What the file makes of the zone that is served, or why it is refused.
 fn reload<R: Files + AllocGlobal>(rt: &R, served: &SharedVersion, file: &ZoneFile) -> ReloadResult {
     let alloc = rt.alloc();
-    let text = match fs::read(rt, &file.path) {
+    let text = match fs::read(rt, file.path.as_str()) {
         Ok(text) => text,
         Err(fault) => return Err(unread(alloc, &file.path, &fault)),
     };

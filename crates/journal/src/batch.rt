@@ -98,10 +98,11 @@ fn first_request<'a>(
         (λ r. IsRequest (map (λ message. message.now) r.0.items) × NoJoint r.1.now × (octets.now ≡ request_octets (map (λ message. message.now) r.0.items) ++ r.1.now))) }
 {
     let mut messages = Vec::new(alloc);
-    let Some((first, mut rest)) = first_message(octets) else {
+    let Some((first, behind)) = first_message(octets) else {
         return Ok(None);
     };
     messages.push(first)?;
+    let mut rest = behind;
     while let Some(after) = after_joint(rest) {
         let Some((message, behind)) = first_message(after) else {
             return Ok(None);

@@ -117,7 +117,10 @@ fn updates_of<'a>(alloc: Global, bodies: &[&'a [u8]]) -> Result<Vec<Vec<&'a [u8]
     let mut updates = Vec::new(alloc);
     for (number, body) in bodies.iter().enumerate() {
         match read_batch(alloc, body)? {
-            Some(mut batch) => updates.append(&mut batch)?,
+            Some(batch) => {
+                let mut batch = batch;
+                updates.append(&mut batch)?;
+            }
             None => return Err(Refused::NoBatch(number as u64)),
         }
     }

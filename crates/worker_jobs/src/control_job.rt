@@ -165,7 +165,7 @@ impl<'a, C: Clock> ControlJob<'a, C> {
 
     /// Takes the clients that have come, as many as there is room for.
     fn accept(&mut self, now: u64) {
-        while self.clients.len() < CLIENTS {
+        for _room in self.clients.len()..CLIENTS {
             let Some(client) = accept_client(&self.plan.listener, now) else {
                 break;
             };
@@ -183,10 +183,9 @@ impl<'a, C: Clock> ControlJob<'a, C> {
         for at in 0..self.clients.len() {
             let obeyed = match self.clients[at].hear(now) {
                 Heard::Nothing => continue,
-                Heard::Unknown => failed(
-                    self.alloc,
-                    "no command: reload, status, stats or stop",
-                ).map(Obeyed::Reply),
+                Heard::Unknown => {
+                    replied(failed(self.alloc, "no command: reload, status, stats or stop"))
+                }
                 Heard::Command(command) => self.obey(rt, handler, command),
             };
             self.obeyed = self.obeyed.saturating_add(1);
@@ -306,7 +305,7 @@ impl<'a, C: Clock> ControlJob<'a, C> {
     fn reply_waiting(&mut self, text: Result<String, AllocError>, now: u64) {
         let waiting = self.clients.iter().position(|client| client.is_waiting());
         if let Some(at) = waiting {
-            self.settle(at, text.map(Obeyed::Reply), now);
+            self.settle(at, replied(text), now);
         }
     }
 
@@ -327,6 +326,11 @@ impl<'a, C: Clock> ControlJob<'a, C> {
             slot.end(rt);
         }
     }
+}
+
+/// A command's reply, if there was memory for it.
+fn replied(text: Result<String, AllocError>) -> Result<Obeyed, AllocError> {
+    Ok(Obeyed::Reply(text?))
 }
 
 /// The time that a clock shows, in milliseconds. 0 where it can't be read.

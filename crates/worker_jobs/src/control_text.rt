@@ -5,12 +5,12 @@ use zone_reload::ChangeSummary;
 use zone_tree::{Version, Zone, ZoneRead};
 
 /// The last line of a reply where the command is done.
-const OK: &str = "ok\n";
+const DONE_LINE: &str = "ok\n";
 
 /// A reply of the one line that says that the command is done.
 pub(crate) fn done(alloc: Global) -> Result<String, AllocError> {
     let mut text = String::new(alloc);
-    text.push_str(OK)?;
+    text.push_str(DONE_LINE)?;
     Ok(text)
 }
 
@@ -29,7 +29,7 @@ pub(crate) fn status(alloc: Global, version: &Version, uptime: u64) -> Result<St
     let mut text = String::new(alloc);
     write!(text, "zone {apex}\nserial {serial}\nrecords {records}\n")?;
     write!(text, "version {number}\nuptime {uptime}\n")?;
-    text.push_str(OK)?;
+    text.push_str(DONE_LINE)?;
     Ok(text)
 }
 
@@ -45,7 +45,7 @@ pub(crate) fn stats(alloc: Global, version: &Version) -> Result<String, AllocErr
         text,
         "dnsd_zone_versions_total{{zone=\"{apex}\"}} {number}\n"
     )?;
-    text.push_str(OK)?;
+    text.push_str(DONE_LINE)?;
     Ok(text)
 }
 
@@ -70,7 +70,7 @@ pub(crate) fn reloaded(alloc: Global, summary: &ChangeSummary) -> Result<String,
         text,
         "serial {from} to {to}, {deleted} records deleted, {added} added\n"
     )?;
-    text.push_str(OK)?;
+    text.push_str(DONE_LINE)?;
     Ok(text)
 }
 
@@ -79,7 +79,7 @@ pub(crate) fn unchanged(alloc: Global, serial: Serial) -> Result<String, AllocEr
     let serial = serial.0;
     let mut text = String::new(alloc);
     write!(text, "nothing to change, serial {serial}\n")?;
-    text.push_str(OK)?;
+    text.push_str(DONE_LINE)?;
     Ok(text)
 }
 
