@@ -67,3 +67,25 @@ pub(crate) fn journal_of(alloc: Global, zone: &str, batches: &[&[&str]]) -> Resu
     }
     Ok(octets)
 }
+
+/// The journal of one batch of one request, which has these messages, under the head of a store that is created from a zone text.
+pub(crate) fn joined_journal_of(
+    alloc: Global,
+    zone: &str,
+    messages: &[&str],
+) -> Result<Vec<u8>, Fail> {
+    let (mut octets, salt) = write_head(alloc, &head_of(alloc, zone)?)?;
+    let mut all = Vec::new(alloc);
+    for message in messages {
+        all.push(hex::decode(alloc, message.as_bytes())?)?;
+    }
+    let Some(request) = RequestMessages::of(all) else {
+        return Err(Fail::from("a request can't stand in a batch"));
+    };
+    let mut batch = Vec::new(alloc);
+    put_request(alloc, &mut batch, &request)?;
+    if batch.len() < 1 << 24 {
+        octets.extend_from_slice(&write_frame(alloc, &salt, 0, &batch)?)?;
+    }
+    Ok(octets)
+}
