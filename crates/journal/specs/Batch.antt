@@ -50,7 +50,7 @@ octets_in messages = sum_by length messages
 
 -- octets are the batch of these requests
 pub record IsBatch (octets : List ℕ) (requests : List Messages) : Type 0 where
-  pub are_requests : All IsRequest requests
+  pub short : All IsRequest requests
   pub spelt : octets ≡ batch_of requests
 
 -- octets don't begin with no octets after their number, as what follows a request in a batch
