@@ -1,16 +1,14 @@
 -- How messages are read as updates.
 use Rattle.journal.specs.Batch.{Messages}
 use Rattle.std.proofs.Common.{◌≡◌, ℕ, zero, suc, List, [], ◌∷◌, ◌++◌, length, take, refl, sym, ap, ◌∙◌}
-use Rattle.dns_message.specs.declared.query.Parsed.TheVariants.{Update as Asks}
 use Rattle.dns_message.specs.declared.update.Update.{Update}
-use Rattle.store_recovery.specs.Replay.{IsRead, AreRead}
+use Rattle.update_messages.specs.Joined.{IsRead}
+use Rattle.update_messages.proofs.JoinedLemmas.{read_once as request_once}
+use Rattle.store_recovery.specs.Replay.{AreRead}
 
-asks_one : (update other : Update) → Asks update ≡ Asks other → update ≡ other
-asks_one update other e = cc
-
--- a message is read as one update
-pub read_one : (message : List ℕ) (update other : Update) → IsRead message update → IsRead message other → update ≡ other
-read_one message update other one two = asks_one update other (sym one.is ∙ two.is)
+-- a request is read as one update
+pub read_one : (request : Messages) (update other : Update) → IsRead request update → IsRead request other → update ≡ other
+read_one = request_once
 
 joined : (x y : Update) (xs ys : List Update) → x ≡ y → xs ≡ ys → x ∷ xs ≡ y ∷ ys
 joined x y xs ys p q = cc
@@ -32,7 +30,7 @@ read_long (message ∷ messages) [] are = absurd are
 read_long (message ∷ messages) (update ∷ updates) are = ap suc (read_long messages updates are.1)
 
 -- one message more
-pub read_more : (messages : List Messages) (updates : List Update) (message : List ℕ) (update : Update)
+pub read_more : (messages : List Messages) (updates : List Update) (message : Messages) (update : Update)
     → AreRead messages updates → IsRead message update → AreRead (messages ++ message ∷ []) (updates ++ update ∷ [])
 read_more [] [] message update are is = (is, tt)
 read_more [] (other ∷ updates) message update are is = absurd are
