@@ -51,12 +51,6 @@ module _ (begun : TextSum) (last : List Record) (origin : Name) (text : List ℕ
   newer_or_not serial other one two =
       not_so (sym two.3 ∙ (ap (λ (n : ℕ). serial_less (zone_serial last) n) (one_number other serial two.2 one.2) ∙ one.3))
 
-  -- so is the serial of a zone that is taken
-  taken_or_not : (zone : List Record) (other : ℕ) → IsChoice begun last origin text taken (Zone zone) → HasSerial last origin text other
-      → serial_less (zone_serial last) other ≡ false → ⊥
-  taken_or_not zone other is has less =
-      not_so (sym less ∙ (ap (λ (n : ℕ). serial_less (zone_serial last) n) (one_number other (zone_serial zone) has (zone, is.2, is.3, refl)) ∙ is.4))
-
   -- a zone has the store's apex or another one
   of_one : (zone : List Record) → zone_of_text origin text ≡ Ok zone → is_same (apex_of zone) (apex_of last) ≡ true → HasNoOtherApex last origin text
   of_one zone is same other too =
@@ -146,18 +140,12 @@ not_taken : (begun : TextSum) (last : List Record) (origin : Name) (text : List 
 not_taken begun last origin text zone true less other is alike = (other, refl, (zone, is, alike, refl), less)
 not_taken begun last origin text zone false less other is alike = (other, refl, (zone, is, alike, refl), less)
 
-is_taken : (begun : TextSum) (last : List Record) (origin : Name) (text : List ℕ) (zone : List Record) (greater : Bool) → serial_less (zone_serial last) (zone_serial zone) ≡ greater
-    → IsOther begun text → zone_of_text origin text ≡ Ok zone → is_same (apex_of zone) (apex_of last) ≡ true
-    → IsChoice begun last origin text (Some TheZone) (if greater then Zone zone else RefuseNotNewer (record { 0 = zone_serial zone }))
-is_taken begun last origin text zone true less other is alike = (other, refl, is, alike, less)
-is_taken begun last origin text zone false less other is alike = (other, refl, (zone, is, alike, refl), less)
-
 one_apex_chosen : (begun : TextSum) (last : List Record) (origin : Name) (text : List ℕ) (taken : Option Take) (zone : List Record) (same : Bool) → (IsTrue same ↔ IsText begun text)
     → zone_of_text origin text ≡ Ok zone → is_same (apex_of zone) (apex_of last) ≡ true → IsChoice begun last origin text taken (of_one_apex last zone same taken)
 one_apex_chosen begun last origin text taken zone true tested is alike = (tested.0 refl, of_one begun last origin text taken zone is alike)
 one_apex_chosen begun last origin text (Some TheStore) zone false tested is alike = (λ so. not_so (tested.1 so), refl, of_one begun last origin text (Some TheStore) zone is alike)
 one_apex_chosen begun last origin text (Some TheZone) zone false tested is alike =
-    is_taken begun last origin text zone (serial_less (zone_serial last) (zone_serial zone)) refl (λ so. not_so (tested.1 so)) is alike
+    ((λ so. not_so (tested.1 so)), refl, is, alike)
 one_apex_chosen begun last origin text None zone false tested is alike =
     not_taken begun last origin text zone (serial_less (zone_serial last) (zone_serial zone)) refl (λ so. not_so (tested.1 so)) is alike
 
