@@ -31,16 +31,13 @@ impl Drop for UpdateRequest {
 
 impl UpdateRequest {
     /// An update that was read of one message of these octets, sent by a peer that may update, or may not. None where they are more than 65,535.
+    #[tactic(auto, using(update_messages::proofs::JoinedLemmas::one_read))]
     pub fn of(alloc: Global, update: Update, octets: Vec<u8>, may: bool) -> Option<UpdateRequest>
         requires { reads octets.items ≡ Says update }
         ensures { MatchOption result (2 ^ 16 ≤ length octets.items) (λ asked. (asked.update ≡ update) × (asked.messages ≡ octets.items ∷ []) × (asked.may ≡ may)) }
     {
         let messages = RequestMessages::one(alloc, octets)?;
-        Some(UpdateRequest {
-            update,
-            messages,
-            may,
-        })
+        Some(UpdateRequest::joined(update, messages, may))
     }
 
     /// An update that was read of these messages, of a peer that may update, or may not.
