@@ -164,7 +164,9 @@ impl<'a, C: Clock> ControlJob<'a, C> {
     }
 
     /// Takes the clients that have come, as many as there is room for.
-    fn accept(&mut self, now: u64) {
+    fn accept(&mut self, now: u64)
+        ensures number { self.new.number ≡ self.old.number }
+    {
         for _room in self.clients.len()..CLIENTS {
             let Some(client) = accept_client(&self.plan.listener, now) else {
                 break;
@@ -181,7 +183,7 @@ impl<'a, C: Clock> ControlJob<'a, C> {
         ensures number { self.new.number ≡ self.old.number }
     {
         for at in 0..self.clients.len() {
-            let obeyed = match self.clients[at].hear(now) {
+            let obeyed = match self.heard_from(at, now) {
                 Heard::Nothing => continue,
                 Heard::Unknown => {
                     replied(failed(self.alloc, "no command: reload, status, stats or stop"))
@@ -193,8 +195,20 @@ impl<'a, C: Clock> ControlJob<'a, C> {
         }
     }
 
+    /// What the client at a place has sent.
+    fn heard_from(&mut self, at: usize, now: u64) -> Heard
+        ensures number { self.new.number ≡ self.old.number }
+    {
+        match self.clients.get_mut(at) {
+            Some(client) => client.hear(now),
+            None => Heard::Nothing,
+        }
+    }
+
     /// Gives a client its reply, or lets it wait for the end of the reload. Where there is no memory for a reply it gets none.
-    fn settle(&mut self, at: usize, obeyed: Result<Obeyed, AllocError>, now: u64) {
+    fn settle(&mut self, at: usize, obeyed: Result<Obeyed, AllocError>, now: u64)
+        ensures number { self.new.number ≡ self.old.number }
+    {
         let text = match obeyed {
             Ok(Obeyed::Later) => return,
             Ok(Obeyed::Reply(text)) => text,
@@ -257,7 +271,7 @@ impl<'a, C: Clock> ControlJob<'a, C> {
                 Ok(Obeyed::Later)
             }
             Step::Done(text) => Ok(Obeyed::Reply(text)),
-            Step::Failed(reason) => Ok(Obeyed::Reply(failed(self.alloc, &reason)?)),
+            Step::Failed(reason) => Ok(Obeyed::Reply(failed(self.alloc, reason.as_str())?)),
         }
     }
 
@@ -291,7 +305,7 @@ impl<'a, C: Clock> ControlJob<'a, C> {
             }
             Ok(Step::Done(text)) => Ok(text),
             Ok(Step::Failed(reason)) => {
-                let text = failed(self.alloc, &reason);
+                let text = failed(self.alloc, reason.as_str());
                 log.tell(rt, Event::NotReloaded(reason));
                 text
             }
@@ -302,7 +316,9 @@ impl<'a, C: Clock> ControlJob<'a, C> {
     }
 
     /// Gives the client that waits for the reload's end this reply.
-    fn reply_waiting(&mut self, text: Result<String, AllocError>, now: u64) {
+    fn reply_waiting(&mut self, text: Result<String, AllocError>, now: u64)
+        ensures number { self.new.number ≡ self.old.number }
+    {
         let waiting = self.clients.iter().position(|client| client.is_waiting());
         if let Some(at) = waiting {
             self.settle(at, replied(text), now);
