@@ -21,13 +21,13 @@ impl ControlCommand {
     pub fn of(word: &[u8]) -> Option<ControlCommand>
         ensures { MatchOption result ((command : CommandOf) → word.now ≡ word_of command → ⊥) (λ command. word.now ≡ word_of command) }
     {
-        if word == b"reload" {
+        if word == b"reload".as_slice() {
             Some(ControlCommand::Reload)
-        } else if word == b"status" {
+        } else if word == b"status".as_slice() {
             Some(ControlCommand::Status)
-        } else if word == b"stats" {
+        } else if word == b"stats".as_slice() {
             Some(ControlCommand::Stats)
-        } else if word == b"stop" {
+        } else if word == b"stop".as_slice() {
             Some(ControlCommand::Stop)
         } else {
             None

@@ -7,7 +7,7 @@ use std::fs::{self, Files};
 use std::sync::{Arc, Wait};
 use std::thread::{self, Threads};
 use std::{io, mem};
-use zone_reload::{PrepareFault, ReloadResult, ReloadSlot, prepare};
+use zone_reload::{PrepareFault, ReloadResult, ReloadSlot, Reloads, prepare};
 
 /// What the thread reads.
 struct ZoneFile {
@@ -27,7 +27,7 @@ pub fn start_reloads<R: Files + AllocGlobal + Threads + Wait + Copy + Send + Dro
     rt: &R,
     path: &str,
     origin: &Name,
-) -> io::Result<Arc<ReloadSlot, Global>> {
+) -> io::Result<Reloads> {
     let alloc = rt.alloc();
     let slot = Arc::new(alloc, ReloadSlot::new())?;
     let own = Arc::try_clone(&slot)?;
@@ -37,18 +37,18 @@ pub fn start_reloads<R: Files + AllocGlobal + Threads + Wait + Copy + Send + Dro
     };
     let rt = *rt;
     // The thread is not joined: a reload that is under way when the server ends is given up.
-    let reader = thread::spawn(&rt, move || read_ordered(&rt, &own, &file))?;
+    let reader = thread::spawn(&rt, move || read_ordered(&rt, own, file))?;
     mem::drop(reader);
     Ok(slot)
 }
 
 /// Reads the file whenever a reload is ordered, until none comes any more.
-fn read_ordered<R: Files + AllocGlobal + Wait>(rt: &R, slot: &ReloadSlot, file: &ZoneFile) {
+fn read_ordered<R: Files + AllocGlobal + Wait>(rt: &R, slot: Reloads, file: ZoneFile) {
     for _ in rt.forever() {
         let Some(served) = slot.wait(rt) else {
             return;
         };
-        let result = reload(rt, &served, file);
+        let result = reload(rt, &served, &file);
         slot.put(rt, result);
     }
     unreachable!()

@@ -1,9 +1,9 @@
 //! Reading an update from one message or more (RFC 2136, 2).
-ghost use Rattle.std.specs.Prelude.{◌≡◌, ◌++◌, ◌∷◌, List, map, flat_map, IfOk, MatchOption};
+ghost use Rattle.std.specs.Prelude.{◌≡◌, ◌++◌, List, map, flat_map, IfOk, MatchOption};
 ghost use Rattle.dns_message.specs.Request.{reads};
 ghost use Rattle.dns_message.specs.declared.query.Parsed.TheVariants.{Update as Asks};
 ghost use Rattle.dns_message.specs.declared.update.Update.{Update as DynamicUpdate};
-ghost use Rattle.update_messages.specs.Joined.{joined, AreParts, IsRead};
+ghost use Rattle.update_messages.specs.Joined.{AreParts, IsRead};
 
 use dns_message::{Parsed, RawRecords, Update, parse};
 use dns_rdata::RawRecord;

@@ -8,10 +8,10 @@ use crate::progress::Shutdown;
 use control_socket::{ControlClient, ControlCommand, Heard, accept_client};
 use std::alloc::{AllocError, Global};
 use std::os::unix::net::UnixListener;
-use std::sync::{Arc, Wait};
+use std::sync::Wait;
 use std::thread;
 use std::time::{Clock, Duration};
-use zone_reload::ReloadSlot;
+use zone_reload::Reloads;
 use zone_server::{Event, JobEnd, LocalUpdates, ServiceLog};
 
 /// How long the worker waits before it looks again, in milliseconds (own).
@@ -25,7 +25,7 @@ pub struct ControlPlan {
     /// The socket, which doesn't block.
     pub listener: UnixListener,
     /// Where a reload is ordered; None where the zone has no file to be read again.
-    pub reloads: Option<Arc<ReloadSlot, Global>>,
+    pub reloads: Option<Reloads>,
     /// How many threads of the server answer no requests, with this one.
     pub beside: usize,
 }
@@ -98,7 +98,7 @@ impl<'a, C: Clock> ControlJob<'a, C> {
             alloc,
             plan,
             clients: Vec::with_capacity(alloc, CLIENTS)?,
-            reload: Reload::None,
+            reload: Reload::Idle,
             clock,
             shutdown,
             begun: millis_of(clock),
@@ -262,7 +262,7 @@ impl<'a, C: Clock> ControlJob<'a, C> {
         let Some(slot) = &self.plan.reloads else {
             return Ok(Obeyed::Reply(failed(self.alloc, "the zone came by standard input")?));
         };
-        if self.reload != Reload::None {
+        if self.reload != Reload::Idle {
             return Ok(Obeyed::Reply(failed(self.alloc, "a reload is under way")?));
         }
         match order(rt, self.alloc, handler, slot, 1)? {
@@ -290,7 +290,7 @@ impl<'a, C: Clock> ControlJob<'a, C> {
             return;
         };
         let step = match self.reload {
-            Reload::None => return,
+            Reload::Idle => return,
             Reload::Reading(tries) => after_reading(rt, self.alloc, handler, slot, tries),
             Reload::Judged {
                 ticket,
@@ -311,7 +311,7 @@ impl<'a, C: Clock> ControlJob<'a, C> {
             }
             Err(fault) => Err(fault),
         };
-        self.reload = Reload::None;
+        self.reload = Reload::Idle;
         self.reply_waiting(text, now);
     }
 
@@ -333,8 +333,8 @@ impl<'a, C: Clock> ControlJob<'a, C> {
         if let Reload::Judged { ticket, .. } = self.reload {
             handler.leave(rt, ticket);
         }
-        if self.reload != Reload::None {
-            self.reload = Reload::None;
+        if self.reload != Reload::Idle {
+            self.reload = Reload::Idle;
             let text = failed(self.alloc, "the server is ending");
             self.reply_waiting(text, now);
         }

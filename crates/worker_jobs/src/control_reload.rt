@@ -3,7 +3,7 @@ use crate::control_text::{refused, reloaded, unchanged};
 use dns_rdata::Rcode;
 use std::alloc::{AllocError, Global};
 use std::sync::Wait;
-use zone_reload::{ChangeSummary, Prepared, PreparedChange, ReloadResult, ReloadSlot};
+use zone_reload::{ChangeSummary, Prepared, PreparedChange, ReloadResult, Reloads};
 use zone_server::{Event, LocalUpdates, Poll, Serials, ServiceLog, UpdateResult};
 
 /// How often a reload is begun again, where an update came between (own).
@@ -13,7 +13,7 @@ const TRIES: u32 = 5;
 #[derive(Clone, Copy, Debug, PartialEq, Eq)]
 pub(crate) enum Reload {
     /// There is none.
-    None,
+    Idle,
     /// The zone's text is read, for the so-manyth time.
     Reading(u32),
     /// Its update waits for its result at this ticket.
@@ -43,7 +43,7 @@ pub(crate) fn order<R: Wait, A: LocalUpdates>(
     rt: &R,
     alloc: Global,
     handler: &mut A,
-    slot: &ReloadSlot,
+    slot: &Reloads,
     tries: u32,
 ) -> Result<Step, AllocError> {
     let Ok(served) = handler.last_version(rt) else {
@@ -61,7 +61,7 @@ pub(crate) fn after_reading<R: Wait, A: LocalUpdates>(
     rt: &R,
     alloc: Global,
     handler: &mut A,
-    slot: &ReloadSlot,
+    slot: &Reloads,
     tries: u32,
 ) -> Result<Step, AllocError> {
     match slot.take(rt) {
@@ -99,7 +99,7 @@ pub(crate) fn after_judging<R: Wait, A: LocalUpdates, L: ServiceLog>(
     rt: &R,
     alloc: Global,
     handler: &mut A,
-    slot: &ReloadSlot,
+    slot: &Reloads,
     log: &L,
     judged: (usize, ChangeSummary, u32),
 ) -> Result<Step, AllocError> {

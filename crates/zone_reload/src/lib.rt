@@ -10,4 +10,4 @@ mod slot;
 
 pub use fault::PrepareFault;
 pub use prepared::{ChangeSummary, Prepared, PreparedChange, prepare, prepare_change, summary_of};
-pub use slot::{ReloadResult, ReloadSlot};
+pub use slot::{ReloadResult, ReloadSlot, Reloads};

@@ -1,11 +1,15 @@
 //! The order for a reload, and its result, between two threads (own).
 use crate::prepared::Prepared;
 use dns_engine::SharedVersion;
+use std::alloc::Global;
 use std::mem;
-use std::sync::{Condvar, Mutex, Wait};
+use std::sync::{Arc, Condvar, Mutex, Wait};
 
 /// The result of a reload's reading: what the text makes of the zone that is served, or why it is refused, as the last words of a line.
 pub type ReloadResult = Result<Prepared, String>;
+
+/// The place where reloads are ordered, shared by the threads.
+pub type Reloads = Arc<ReloadSlot, Global>;
 
 /// How far a reload is.
 #[derive(Drop)]
