@@ -275,7 +275,7 @@ module _ {F : Type 0} where
     origin = ap (λ (h : Head). h.origin) head;
     last = λ is short made. last_follows (trail_of old) (trail_of new) (versions_in (one ∷ others)) (updates_of (one ∷ others)) found.0 is found.1 found.2 made;
     is_present = λ short made text batches zone updates k at.
-        more_some text batches zone updates k one.octets.items (updates_of others) (record { writer = old; wanted = wanted }) (record { writer = new; wanted = wanted })
+        more_some text batches zone updates k one.messages (updates_of others) (record { writer = old; wanted = wanted }) (record { writer = new; wanted = wanted })
         (versions_in (one ∷ others)) found.0 at (goes_on (head_of old) (log_of old) (map batch_of batches) at.log on) found.1 made found.2 head refl way
         (λ m all was now. marks (omega arith) m all was now) stored;
   }

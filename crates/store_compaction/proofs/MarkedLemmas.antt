@@ -23,12 +23,12 @@ use Rattle.store_compaction.specs.Marked.{bodies_of, IsMarked, IsNextJournal}
 -- the updates of steps are short, and so is their batch
 pub short_steps : (steps : List VersionUpdate) → All IsRequest (updates_of steps)
 short_steps [] = All-nil IsRequest
-short_steps (step ∷ steps) = All-cons IsRequest step.octets.items (updates_of steps) step.short (short_steps steps)
+short_steps (step ∷ steps) = All-cons IsRequest step.messages (updates_of steps) step.short (short_steps steps)
 
 pub batch_long : (steps : List VersionUpdate) → length (batch_of (updates_of steps)) ≤ 65537 * length steps
 batch_long [] = omega arith
 batch_long (step ∷ steps) =
-    omega (arith, length-append (counted step.octets.items) (batch_of (updates_of steps)), counted_long step.octets.items, step.short, batch_long steps)
+    omega (arith, length-append (counted step.messages) (batch_of (updates_of steps)), counted_long step.messages, step.short, batch_long steps)
 
 -- bodies that are short fit a journal
 pub fit_bodies : (number : ℕ) (bodies : List Body) → number + length bodies < 2 ^ 64 → Fit number (map (λ body. body.octets.items) bodies)

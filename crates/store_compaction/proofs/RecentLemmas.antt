@@ -26,7 +26,7 @@ pub versions-append : (steps more : List VersionUpdate) → versions_in (steps +
 versions-append steps more = map-append (λ (step : VersionUpdate). step.version) steps more
 
 pub updates_of-append : (steps more : List VersionUpdate) → updates_of (steps ++ more) ≡ updates_of steps ++ updates_of more
-updates_of-append steps more = map-append (λ (step : VersionUpdate). step.octets.items) steps more
+updates_of-append steps more = map-append (λ (step : VersionUpdate). step.messages) steps more
 
 -- a trail without the first of its steps
 shortened_is : (trail : TrailState) (steps : List VersionUpdate) → AreMadeBy trail.oldest (versions_in steps) (updates_of steps) → trail.steps ≡ steps
@@ -43,14 +43,14 @@ room_at trail true is = shortened_is trail trail.steps is refl
 room_at trail false is = (is, refl)
 
 -- with one step more
-pushed_is : (trail : TrailState) (step : VersionUpdate) → IsTrail trail → AreMadeBy (last_in trail) (step.version ∷ []) (step.octets.items ∷ [])
+pushed_is : (trail : TrailState) (step : VersionUpdate) → IsTrail trail → AreMadeBy (last_in trail) (step.version ∷ []) (step.messages ∷ [])
     → IsTrail (pushed trail step) × (last_in (pushed trail step) ≡ step.version)
 pushed_is trail step is made =
-    let all : AreMadeBy trail.oldest (versions_in trail.steps ++ step.version ∷ []) (updates_of trail.steps ++ step.octets.items ∷ []) =
-    made_behind trail.oldest (versions_in trail.steps) (step.version ∷ []) (updates_of trail.steps) (step.octets.items ∷ []) is made in
+    let all : AreMadeBy trail.oldest (versions_in trail.steps ++ step.version ∷ []) (updates_of trail.steps ++ step.messages ∷ []) =
+    made_behind trail.oldest (versions_in trail.steps) (step.version ∷ []) (updates_of trail.steps) (step.messages ∷ []) is made in
     let here : IsTrail (longer trail step) =
     subst (λ (us : List Messages). AreMadeBy trail.oldest (versions_in (trail.steps ++ step ∷ [])) us) (sym (updates_of-append trail.steps (step ∷ [])))
-    (subst (λ (vs : List Version). AreMadeBy trail.oldest vs (updates_of trail.steps ++ step.octets.items ∷ [])) (sym (versions-append trail.steps (step ∷ []))) all) in
+    (subst (λ (vs : List Version). AreMadeBy trail.oldest vs (updates_of trail.steps ++ step.messages ∷ [])) (sym (versions-append trail.steps (step ∷ []))) all) in
     let room = room_at (longer trail step) (nat_lt trail.keep (length (trail.steps ++ step ∷ []))) here in (
       room.0,
       room.1 ∙ (ap (newest_of trail.oldest) (versions-append trail.steps (step ∷ [])) ∙ newest_behind trail.oldest (versions_in trail.steps) (step.version ∷ [])),
