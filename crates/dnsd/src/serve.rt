@@ -192,7 +192,7 @@ fn bind<
 struct NotBound;
 
 /// Binds the socket for the operator's commands, if there is to be one.
-fn bind_control_for<R: Files<File = File> + Env + Eprint + Net>(
+fn bind_control_for<R: Files<File = File> + Env + Eprint + AllocGlobal + Net>(
     rt: &R,
     serve: &Serve<'_>,
 ) -> io::Result<Result<Option<UnixListener>, NotBound>> {

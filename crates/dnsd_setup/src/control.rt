@@ -16,7 +16,7 @@ const DONE_LINE: &str = "ok";
 const ERROR_LINE: &str = "error: ";
 
 /// Binds the socket at a path. None if that fails; standard error then has the reason.
-pub fn bind_control_at<R: Files + Net + Env + Eprint>(
+pub fn bind_control_at<R: Files + Net + Env + Eprint + AllocGlobal>(
     rt: &R,
     path: &str,
 ) -> io::Result<Option<UnixListener>> {

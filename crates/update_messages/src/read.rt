@@ -1,5 +1,5 @@
 //! Reading an update from one message or more (RFC 2136, 2).
-ghost use Rattle.std.specs.Prelude.{◌≡◌, ◌++◌, List, map, flat_map, IfOk, MatchOption};
+ghost use Rattle.std.specs.Prelude.{◌≡◌, ◌++◌, [], List, map, flat_map, IfOk, MatchOption};
 ghost use Rattle.dns_message.specs.Request.{reads};
 ghost use Rattle.dns_message.specs.declared.query.Parsed.TheVariants.{Update as Asks};
 ghost use Rattle.dns_message.specs.declared.update.Update.{Update as DynamicUpdate};
@@ -8,6 +8,7 @@ ghost use Rattle.update_messages.specs.Joined.{AreParts, IsRead};
 use dns_message::{Parsed, RawRecords, Update, parse};
 use dns_rdata::RawRecord;
 use std::alloc::{AllocError, Global};
+use std::mem;
 
 /// The update that a message is read as; None where it isn't an update (RFC 2136, 2).
 fn read_message(alloc: Global, octets: &[u8]) -> Result<Option<Update>, AllocError>
@@ -44,40 +45,24 @@ fn read_more(alloc: Global, first: Update, more: &[&[u8]]) -> Result<Option<Upda
         (λ update. (parts : List DynamicUpdate) × AreParts (map (λ message. message.now) more.now) parts
         × (update ≡ record first { updates = first.updates ++ flat_map (λ part. part.updates) parts }))) }
 {
-    let Update {
-        head,
-        edns,
-        zone,
-        prerequisites,
-        updates,
-    } = first;
-    let mut records = updates.into_vec();
+    let mut update = first;
+    let mut records = taken_records(alloc, &mut update);
     for message in more {
-        let Some(part) = read_message(alloc, message)? else {
+        let Some(mut part) = read_message(alloc, message)? else {
             return Ok(None);
         };
-        let mut further = records_of(part);
+        let mut further = taken_records(alloc, &mut part);
         records.append(&mut further)?;
     }
-    Ok(Some(Update {
-        head,
-        edns,
-        zone,
-        prerequisites,
-        updates: RawRecords::new(records),
-    }))
+    update.updates = RawRecords::new(records);
+    Ok(Some(update))
 }
 
-/// The records of an update.
-fn records_of(update: Update) -> Vec<RawRecord>
-    ensures { result.items ≡ update.updates }
+/// The records of an update, which has none then.
+fn taken_records(alloc: Global, update: &mut Update) -> Vec<RawRecord>
+    ensures records { result.items ≡ update.old.updates }
+    ensures others { update.new ≡ record update.old { updates = [] } }
 {
-    let Update {
-        head: _,
-        edns: _,
-        zone: _,
-        prerequisites: _,
-        updates,
-    } = update;
-    updates.into_vec()
+    let none = RawRecords::new(Vec::new(alloc));
+    mem::replace(&mut update.updates, none).into_vec()
 }

@@ -66,7 +66,7 @@ pub(crate) fn after_reading<R: Wait, A: LocalUpdates>(
 ) -> Result<Step, AllocError> {
     match slot.take(rt) {
         None => Ok(Step::GoesOn(Reload::Reading(tries))),
-        Some(result) => submit(rt, alloc, handler, result, tries),
+        Some(read) => submit(rt, alloc, handler, read, tries),
     }
 }
 
@@ -75,10 +75,10 @@ fn submit<R: Wait, A: LocalUpdates>(
     rt: &R,
     alloc: Global,
     handler: &mut A,
-    result: ReloadResult,
+    read: ReloadResult,
     tries: u32,
 ) -> Result<Step, AllocError> {
-    let change = match result {
+    let change = match read {
         Ok(Prepared::Change(change)) => change,
         Ok(Prepared::Unchanged(serial)) => return Ok(Step::Done(unchanged(alloc, serial)?)),
         Err(reason) => return Ok(Step::Failed(reason)),

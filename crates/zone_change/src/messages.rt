@@ -36,8 +36,7 @@ pub fn messages_of(alloc: Global, update: &Update) -> Result<Vec<Vec<u8>>, Chang
     };
     let count = fitting(&update.zone.name, room, records);
     let first = part_of(alloc, &update.zone, prerequisites, &records[..count])?;
-    let mut messages = Vec::new(alloc);
-    messages.push(first)?;
+    let mut messages = only(alloc, first)?;
     put_rest(alloc, &mut messages, &update.zone, &records[count..])?;
     Ok(messages)
 }
@@ -63,9 +62,32 @@ fn put_rest(
         if count == 0 {
             return Err(ChangeFault::TooLong);
         }
-        messages.push(part_of(alloc, zone, &[], &rest[..count])?)?;
+        put_part(alloc, messages, zone, &rest[..count])?;
         rest = &rest[count..];
     }
+    Ok(())
+}
+
+/// One message alone.
+fn only(alloc: Global, message: Vec<u8>) -> Result<Vec<Vec<u8>>, AllocError>
+    ensures { IfOk result (λ messages. map (λ one. one.items) messages.items ≡ message.items ∷ []) }
+{
+    let mut messages = Vec::new(alloc);
+    messages.push(message)?;
+    Ok(messages)
+}
+
+/// Puts a message with these records, and without prerequisites, at the end of others.
+fn put_part(
+    alloc: Global,
+    messages: &mut Vec<Vec<u8>>,
+    zone: &ZoneEntry,
+    records: &[RawRecord],
+) -> Result<(), AllocError>
+    ensures { OnOk result (map (λ one. one.items) messages.new.items ≡ map (λ one. one.items) messages.old.items ++ part_octets zone.now [] records.now ∷ []) }
+{
+    let message = part_of(alloc, zone, &[], records)?;
+    messages.push(message)?;
     Ok(())
 }
 

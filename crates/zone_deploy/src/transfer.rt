@@ -50,12 +50,18 @@ fn read_transfer<S: Read>(alloc: Global, stream: &mut S) -> Result<Vec<Vec<u8>>,
             None => return Err(DeployFault::Transfer(TransferFault::Broken)),
         }
         let is_last = ends(alloc, &message, &mut count)?;
-        messages.push(message)?;
+        put_message(&mut messages, message)?;
         if is_last {
             return Ok(messages);
         }
     }
     Err(DeployFault::Transfer(TransferFault::Broken))
+}
+
+/// Puts a message at the end of others.
+fn put_message(messages: &mut Vec<Vec<u8>>, message: Vec<u8>) -> Result<(), AllocError> {
+    messages.push(message)?;
+    Ok(())
 }
 
 /// Whether a message of a transfer is the last one: its last record is an SOA that isn't the transfer's first record. Its records are counted.

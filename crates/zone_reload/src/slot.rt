@@ -67,7 +67,7 @@ impl ReloadSlot {
     pub fn take<R: Wait>(&self, rt: &R) -> Option<ReloadResult> {
         let mut progress = self.progress.lock(rt);
         match mem::replace(&mut *progress, Progress::Idle) {
-            Progress::Done(result) => Some(result),
+            Progress::Done(read) => Some(read),
             other => {
                 *progress = other;
                 None
@@ -91,10 +91,10 @@ impl ReloadSlot {
     }
 
     /// Puts the result of an order.
-    pub fn put<R: Wait>(&self, rt: &R, result: ReloadResult) {
+    pub fn put<R: Wait>(&self, rt: &R, read: ReloadResult) {
         let mut progress = self.progress.lock(rt);
         if let Progress::Reading = &*progress {
-            *progress = Progress::Done(result);
+            *progress = Progress::Done(read);
         }
     }
 
