@@ -1,8 +1,8 @@
 -- A trail as the end of a store, and what a compaction leaves.
-use Rattle.std.proofs.Common.{◌≡◌, ℕ, ◌+◌, ◌^◌, ◌<◌, ◌≤◌, List, [], ◌∷◌, ◌++◌, length, take, drop, map, refl, sym, ap, ◌∙◌, subst, length-append, arith}
+use Rattle.std.proofs.Common.{◌≡◌, ℕ, ◌+◌, ◌^◌, ◌<◌, ◌≤◌, List, [], ◌∷◌, ◌++◌, length, take, drop, map, refl, sym, ap, ◌∙◌, subst, append-nil, length-append, arith}
 use Rattle.std.specs.Prelude.{All}
 use Rattle.std.proofs.lemmas.List.{map-append, drop-append-le, take-append-le, length-map, length-drop, drop-drop}
-use Rattle.std.proofs.lemmas.List.Elements.{All-nil, All-cons, All-append}
+use Rattle.std.proofs.lemmas.List.Elements.{All-nil, All-cons, All-head, All-tail, All-append}
 use Rattle.std.proofs.Math.Seq.{drop-append_seam}
 use Rattle.dns_rdata.specs.Record.{Record}
 use Rattle.dns_message.specs.declared.update.Update.{Update}
@@ -13,7 +13,7 @@ use Rattle.update_batches.specs.Batch.{newest_of}
 use Rattle.update_batches.specs.Journal.{AreMadeBy}
 use Rattle.journal.specs.declared.heads.Head.{Head}
 use Rattle.journal.specs.declared.heads.TextSum.{TextSum}
-use Rattle.journal.specs.Batch.{Messages, batch_of, IsRequest}
+use Rattle.journal.specs.Batch.{Messages, request_octets, batch_of, IsRequest}
 use Rattle.journal.specs.Frame.{body_limit, Fit}
 use Rattle.journal.specs.Recovered.{journal_of, updates_in}
 use Rattle.journal.proofs.FramesLemmas.{fit_more}
@@ -34,7 +34,7 @@ use Rattle.store_compaction.specs.Marked.{bodies_of, IsMarked}
 use Rattle.store_compaction.specs.End.{IsEndOf}
 use Rattle.store_compaction.proofs.RecentLemmas.{versions-append, updates_of-append, followed_is, followed_split, made_behind}
 use Rattle.store_compaction.proofs.MadeLemmas.{Leads, made_leads, changes_both, read_both, read_behind, made_first}
-use Rattle.store_compaction.proofs.MarkedLemmas.{short_steps, batch_long, one_batch, one_more}
+use Rattle.store_compaction.proofs.MarkedLemmas.{short_steps, one_more}
 
 -- the last version of a store is the trail's
 pub last_is : (text : List ℕ) (head : Head) (batches : List (List Messages)) (zone : List Record) (updates : List Update) (trail : TrailState) (k : ℕ)
@@ -87,13 +87,13 @@ moved zone messages updates trail after k gone all read within oldest rest made 
     subst (λ (us : List Messages). AreMadeBy trail.oldest (versions_in gone ++ versions_in after.steps) us) split
     (subst (λ (vs : List Version). AreMadeBy trail.oldest vs (updates_of all)) versions made) in
     let many : length (versions_in gone) ≡ length (updates_of gone) =
-    length-map gone (λ (s : VersionUpdate). s.version) ∙ sym (length-map gone (λ (s : VersionUpdate). s.octets.items)) in
+    length-map gone (λ (s : VersionUpdate). s.version) ∙ sym (length-map gone (λ (s : VersionUpdate). s.messages)) in
     let leads = made_leads trail.oldest (versions_in gone) (updates_of gone)
     (made_first trail.oldest (versions_in gone) (versions_in after.steps) (updates_of gone) (updates_of after.steps) many both) in
     let dropped : drop k messages ≡ updates_of gone ++ updates_of after.steps = sym rest ∙ split in
     let behind : AreRead (updates_of gone ++ updates_of after.steps) (drop k updates) =
     subst (λ (ms : List Messages). AreRead ms (drop k updates)) dropped (read_behind k messages updates read) in
-    let is_n : length (updates_of gone) ≡ n = length-map gone (λ (s : VersionUpdate). s.octets.items) in
+    let is_n : length (updates_of gone) ≡ n = length-map gone (λ (s : VersionUpdate). s.messages) in
     let first : AreRead (updates_of gone) (take n (drop k updates)) =
     subst (λ (m : ℕ). AreRead (updates_of gone) (take m (drop k updates))) is_n (read_first (updates_of gone) (updates_of after.steps) (drop k updates) behind) in
     let same : leads.updates ≡ take n (drop k updates) = read_once (updates_of gone) leads.updates (take n (drop k updates)) leads.read first in
@@ -141,21 +141,47 @@ end_more text head batches zone updates trail k steps end made few counted =
       record { store = store; within = move.within; oldest = move.oldest; rest = move.rest; made = (followed_is trail steps end.made made).0 },
     )
 
+-- updates, each as a batch of its own
+abbrev alone : List Messages → List (List Messages)
+alone updates = map (λ (one : Messages). one ∷ []) updates
+
+alone_all : (updates : List Messages) → updates_in (alone updates) ≡ updates
+alone_all [] = refl
+alone_all (one ∷ updates) = ap (λ (us : List Messages). one ∷ us) (alone_all updates)
+
+alone_short : (updates : List Messages) → All IsRequest updates → All (All IsRequest) (alone updates)
+alone_short [] short = All-nil (All IsRequest)
+alone_short (one ∷ updates) short =
+    All-cons (All IsRequest) (one ∷ []) (alone updates) (All-cons IsRequest one [] (All-head IsRequest one updates short) (All-nil IsRequest))
+    (alone_short updates (All-tail IsRequest one updates short))
+
+alone_fit : (number : ℕ) (steps : List VersionUpdate) → number + length steps < 2 ^ 64 → Fit number (map batch_of (alone (updates_of steps)))
+alone_fit number [] few = tt
+alone_fit number (step ∷ steps) few = (
+  subst (λ (o : List ℕ). length o < body_limit) (sym (append-nil (request_octets step.messages))) step.short,
+  omega (arith, few),
+  alone_fit (number + 1) steps (omega (arith, few)),
+)
+
+alone_bodies : (updates : List Messages) → map (λ (one : Messages). batch_of (one ∷ [])) updates ≡ map batch_of (alone updates)
+alone_bodies [] = refl
+alone_bodies (one ∷ updates) = ap (λ (bodies : List (List ℕ)). batch_of (one ∷ []) ∷ bodies) (alone_bodies updates)
+
 -- what is kept of a trail is behind its oldest version
 pub behind_end : (text : List ℕ) (head : Head) (batches : List (List Messages)) (zone : List Record) (updates : List Update) (trail : TrailState) (k : ℕ)
-    → IsEndOf text head batches zone updates trail k → length trail.steps ≤ 8 → AreBehind k batches (updates_of trail.steps ∷ [])
+    → IsEndOf text head batches zone updates trail k → length trail.steps ≤ 8 → AreBehind k batches (alone (updates_of trail.steps))
 behind_end text head batches zone updates trail k end few = record {
-  all = one_batch (updates_of trail.steps) ∙ end.rest;
-  short = All-cons (All IsRequest) (updates_of trail.steps) [] (short_steps trail.steps) (All-nil (All IsRequest));
-  fit = (omega (arith, batch_long trail.steps, few), omega arith, tt);
+  all = alone_all (updates_of trail.steps) ∙ end.rest;
+  short = alone_short (updates_of trail.steps) (short_steps trail.steps);
+  fit = alone_fit 0 trail.steps (omega (arith, few));
 }
 
 pub marked_end : (compaction : Compaction) (text : List ℕ) (head : Head) (batches : List (List Messages)) (zone : List Record) (updates : List Update) (trail : TrailState) (k : ℕ)
-    → bodies_of compaction ≡ batch_of (updates_of trail.steps) ∷ [] → length trail.steps ≤ 8 → IsEndOf text head batches zone updates trail k → IsMarked k batches compaction
+    → bodies_of compaction ≡ map (λ messages. batch_of (messages ∷ [])) (updates_of trail.steps) → length trail.steps ≤ 8 → IsEndOf text head batches zone updates trail k → IsMarked k batches compaction
 marked_end compaction text head batches zone updates trail k bodies few end = record {
-  rest = updates_of trail.steps ∷ [];
+  rest = alone (updates_of trail.steps);
   behind = behind_end text head batches zone updates trail k end few;
-  bodies = bodies;
+  bodies = bodies ∙ alone_bodies (updates_of trail.steps);
 }
 
 -- what a compaction leaves is a store

@@ -4,11 +4,10 @@ use Rattle.std.specs.Prelude.{All}
 use Rattle.std.proofs.lemmas.List.{map-append, append-nil, drop-append-le, length-map, length-take-le, take_more, take_all}
 use Rattle.std.proofs.lemmas.List.Elements.{All-nil, All-cons, All-append}
 use Rattle.journal.specs.declared.heads.Head.{Head}
-use Rattle.journal.specs.Batch.{Messages, counted, batch_of, IsRequest}
+use Rattle.journal.specs.Batch.{Messages, batch_of, IsRequest}
 use Rattle.journal.specs.Frame.{body_limit, Fit, framed, frames_of}
 use Rattle.journal.specs.Head.{head_of, salt_of}
 use Rattle.journal.specs.Recovered.{updates_in}
-use Rattle.journal.proofs.BatchLemmas.{counted_long}
 use Rattle.journal.proofs.FramesLemmas.{fit_more, frames_push}
 use Rattle.journal.specs.Log.{octets_of}
 use Rattle.store_recovery.proofs.CutLemmas.{updates-append}
@@ -20,15 +19,10 @@ use Rattle.update_batches.specs.declared.version_update.VersionUpdate.{VersionUp
 use Rattle.update_batches.specs.Batch.{updates_of}
 use Rattle.store_compaction.specs.Marked.{bodies_of, IsMarked, IsNextJournal}
 
--- the updates of steps are short, and so is their batch
+-- the updates of steps are requests
 pub short_steps : (steps : List VersionUpdate) → All IsRequest (updates_of steps)
 short_steps [] = All-nil IsRequest
-short_steps (step ∷ steps) = All-cons IsRequest step.messages (updates_of steps) step.short (short_steps steps)
-
-pub batch_long : (steps : List VersionUpdate) → length (batch_of (updates_of steps)) ≤ 65537 * length steps
-batch_long [] = omega arith
-batch_long (step ∷ steps) =
-    omega (arith, length-append (counted step.messages) (batch_of (updates_of steps)), counted_long step.messages, step.short, batch_long steps)
+short_steps (step ∷ steps) = All-cons IsRequest step.messages (updates_of steps) step.request (short_steps steps)
 
 -- bodies that are short fit a journal
 pub fit_bodies : (number : ℕ) (bodies : List Body) → number + length bodies < 2 ^ 64 → Fit number (map (λ body. body.octets.items) bodies)

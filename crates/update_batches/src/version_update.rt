@@ -1,6 +1,6 @@
 //! A version with the update that made it (RFC 2136, 3; own).
 ghost use Rattle.std.specs.Prelude.{◌≡◌, ◌<◌, length, IfOk};
-ghost use Rattle.journal.specs.Batch.{request_octets};
+ghost use Rattle.journal.specs.Batch.{request_octets, IsRequest};
 ghost use Rattle.journal.specs.Frame.{body_limit};
 
 use dns_engine::SharedVersion;
@@ -13,6 +13,7 @@ pub struct VersionUpdate {
     pub(crate) version: SharedVersion,
     /// The messages of the update.
     pub(crate) messages: RequestMessages,
+    ghost request: { IsRequest messages },
     ghost short: { length (request_octets messages) < body_limit },
 }
 
