@@ -37,10 +37,9 @@ tries serve --listen 127.0.0.1:0 --workers 1 --count 0 --control '' "$zone"
 row 2 '--workers 31 with 1 addresses needs more than 62 threads' serve --listen 127.0.0.1:0 --workers 31 --control "$socket" "$zone"
 
 # a socket on which nobody listens any more is taken over
-python3 - "$socket" <<'end'
-import socket, sys
-socket.socket(socket.AF_UNIX).bind(sys.argv[1])
-end
+timeout -s KILL 3 "$program" serve --listen 127.0.0.1:0 --workers 1 --control "$socket" "$zone" </dev/null >/dev/null 2>&1 || true
+[ -S "$socket" ] || fails 'a server that is killed leaves no socket'
+says 3 "error: no server answers on '$socket': Connection refused (os error 111)" control "$socket" status
 tries serve --listen 127.0.0.1:0 --workers 1 --count 0 --control "$socket" "$zone"
 [[ $got == 0 && ! -e $socket ]] || differs "status 0, and no socket" serve --control "$socket"
 
