@@ -1,4 +1,6 @@
 //! A reload, as the thread that takes the operator's commands goes on with it (own).
+ghost use Rattle.requests.specs.Served.{Grows};
+
 use crate::control_text::{refused, reloaded, unchanged};
 use dns_rdata::Rcode;
 use std::alloc::{AllocError, Global};
@@ -45,7 +47,9 @@ pub(crate) fn order<R: Wait, A: LocalUpdates>(
     handler: &mut A,
     slot: &Reloads,
     tries: u32,
-) -> Result<Step, AllocError> {
+) -> Result<Step, AllocError>
+    ensures grows { Grows (A.seen handler.new) (A.seen handler.old) }
+{
     let Ok(served) = handler.last_version(rt) else {
         return failed(alloc, "no version can be loaded");
     };
@@ -63,7 +67,9 @@ pub(crate) fn after_reading<R: Wait, A: LocalUpdates>(
     handler: &mut A,
     slot: &Reloads,
     tries: u32,
-) -> Result<Step, AllocError> {
+) -> Result<Step, AllocError>
+    ensures grows { Grows (A.seen handler.new) (A.seen handler.old) }
+{
     match slot.take(rt) {
         None => Ok(Step::GoesOn(Reload::Reading(tries))),
         Some(read) => submit(rt, alloc, handler, read, tries),
@@ -77,7 +83,9 @@ fn submit<R: Wait, A: LocalUpdates>(
     handler: &mut A,
     read: ReloadResult,
     tries: u32,
-) -> Result<Step, AllocError> {
+) -> Result<Step, AllocError>
+    ensures grows { Grows (A.seen handler.new) (A.seen handler.old) }
+{
     let change = match read {
         Ok(Prepared::Change(change)) => change,
         Ok(Prepared::Unchanged(serial)) => return Ok(Step::Done(unchanged(alloc, serial)?)),
@@ -102,7 +110,9 @@ pub(crate) fn after_judging<R: Wait, A: LocalUpdates, L: ServiceLog>(
     slot: &Reloads,
     log: &L,
     judged: (usize, ChangeSummary, u32),
-) -> Result<Step, AllocError> {
+) -> Result<Step, AllocError>
+    ensures grows { Grows (A.seen handler.new) (A.seen handler.old) }
+{
     let (ticket, summary, tries) = judged;
     let done = match handler.result_at(rt, ticket) {
         Poll::Pending => {
