@@ -122,7 +122,7 @@ trail_started text head batches zone updates trail k start end few is =
     ∙ (ap (λ (us : List Update). drop (length us - min KEPT (length us)) (zones_from is.zone us)) others ∙ ap (λ (z : List Record). drop b (zones_from z updates)) zones) in
     let long : length updates ≡ length messages = read_long messages updates store.read in
     let steps : length trail.steps ≡ length messages - k =
-    sym (length-map trail.steps (λ (s : VersionUpdate). s.octets.items)) ∙ (ap length end.rest ∙ length-drop k messages) in
+    sym (length-map trail.steps (λ (s : VersionUpdate). s.messages)) ∙ (ap length end.rest ∙ length-drop k messages) in
     let read : AreRead (updates_of trail.steps) (drop k updates) =
     subst (λ (ms : List Messages). AreRead ms (drop k updates)) (sym end.rest) (read_behind k messages updates store.read) in
     let has : zones_of (trail.oldest ∷ versions_in trail.steps) ≡ drop k all =
