@@ -1,5 +1,5 @@
 //! The update that takes the zone that is served to the zone of a text (RFC 2136; own).
-ghost use Rattle.std.specs.Prelude.{◌≡◌, ◌≤◌, true, List, Ok, length, if◌then◌else◌, IfOk};
+ghost use Rattle.std.specs.Prelude.{◌≡◌, ◌≤◌, true, List, Ok, length, if◌then◌else◌, IfOk, IfSome};
 ghost use Rattle.dns_rdata.specs.Record.{Record};
 ghost use Rattle.master_file.specs.ZoneText.{zone_of_text};
 ghost use Rattle.dns_rdata.specs.SerialOrder.{serial_less, serial_next};
@@ -14,7 +14,7 @@ use dns_name::Name;
 use dns_rdata::{Class, RType, Serial};
 use journal::RequestMessages;
 use master_file::read_zone;
-use std::alloc::Global;
+use std::alloc::{AllocError, Global};
 use update_batches::UpdateRequest;
 use update_messages::read_request;
 use zone_change::{change_to, messages_of};
@@ -94,11 +94,18 @@ fn request_of(alloc: Global, update: &Update) -> Result<UpdateRequest, PrepareFa
     if messages.batch_len() > MOST {
         return Err(PrepareFault::TooLarge);
     }
-    let slices = messages.slices(alloc)?;
-    let Some(read) = read_request(alloc, &slices)? else {
+    let Some(read) = read_again(alloc, &messages)? else {
         return Err(PrepareFault::Unread);
     };
     Ok(UpdateRequest::joined(read, messages, true))
+}
+
+/// The update that messages are read as; None where they aren't one. It allocates memory.
+fn read_again(alloc: Global, messages: &RequestMessages) -> Result<Option<Update>, AllocError>
+    ensures { IfOk result (λ found. IfSome found (λ update. IsRead messages.now update)) }
+{
+    let slices = messages.slices(alloc)?;
+    read_request(alloc, &slices)
 }
 
 /// What an update changes that takes a zone to another.
