@@ -1,0 +1,245 @@
+//! Datagrams that are signed (RFC 8945, 5).
+ghost use Rattle.std.specs.Prelude.{◌≡◌, ◌≤◌, length, slice_get, IfOk, IfSome};
+ghost use Rattle.dns_message.specs.Message.{message_limit};
+ghost use Rattle.requests.specs.Datagrams.{by_datagram};
+ghost use Rattle.requests.specs.Octets.{messages_in};
+ghost use Rattle.requests.specs.Served.{Learned, Grows};
+ghost use Rattle.signed_replies.specs.Signed.{received, AreSignedAlone, IsReplyBy, IsSignedReply, IsReplyTo};
+ghost use Rattle.zone_tree.specs.Version.{Version};
+
+use crate::clock::UnixClock;
+use crate::errors::{write_error, write_unsigned};
+use crate::key_ring::{KeyRing, RingKeys};
+use crate::limit::reply_limit;
+use crate::plain_room::PlainRoom;
+use crate::signing::{sign_reply, stamp_at, stamp_late, stamp_short, write_signed};
+use dns_message::{HEADER, MAX_LIMIT};
+use dns_rdata::Rcode;
+use requests::Handler;
+use serve_core::{Peer, Transport};
+use snapshot_cell::Spent;
+use std::alloc::{AllocError, Global};
+use std::net::SocketAddr;
+use std::sync::Wait;
+use tsig::{RequestTsig, TsigError, Verification, verify};
+use wire_names::{MAX_TARGETS, Message};
+
+/// The most octets of a request whose pointers are followed anew for each name (own).
+const MAX_SHORT: usize = 512;
+
+/// Verifies the datagrams of peers by the keys of a server, has another handler answer those that are signed, without their TSIG, and those without a TSIG, and signs the replies to
+/// the first. Contracts see that handler and the peer.
+#[derive(Drop)]
+pub struct SignedDatagrams<'k, K: KeyRing, A: Handler, C> {
+    inner: A,
+    ring: RingKeys<'k, K>,
+    clock: C,
+    peer: Peer,
+    from: SocketAddr,
+    room: PlainRoom,
+}
+
+impl<'k, K: KeyRing, A: Handler + Drop, C: UnixClock> SignedDatagrams<'k, K, A, C> {
+    /// Such a handler in front of another one. Its first peer is this one, which sends from this address. An error where memory is refused.
+    pub fn new(
+        alloc: Global,
+        inner: A,
+        ring: RingKeys<'k, K>,
+        clock: C,
+        peer: Peer,
+        from: SocketAddr,
+    ) -> Result<SignedDatagrams<'k, K, A, C>, AllocError>
+        ensures inner { IfOk result (λ made. made.inner ≡ inner) }
+        ensures peer { IfOk result (λ made. made.peer ≡ peer) }
+    {
+        Ok(SignedDatagrams {
+            inner,
+            ring,
+            clock,
+            peer,
+            from,
+            room: PlainRoom::new(alloc)?,
+        })
+    }
+
+    /// The handler behind it.
+    pub fn into_inner(self) -> A
+        ensures { result ≡ self.entry.inner }
+    {
+        self.inner
+    }
+
+    /// Answers a request of few octets.
+    fn answer_short<R: Wait>(
+        &mut self,
+        rt: &R,
+        request: &[u8],
+        out: &mut [u8],
+    ) -> Result<Option<usize>, Spent>
+        requires header { HEADER ≤ length request.now }
+        requires short { length request.now ≤ message_limit }
+        requires room { message_limit ≤ length out.old }
+        ensures same { self.new.peer ≡ self.old.peer }
+        ensures grows { Grows {T = Version} (A.seen self.new.inner) (A.seen self.old.inner) }
+        ensures bound { IfOk result (λ len. IfSome len (λ n. (n ≤ message_limit) × (n ≤ length out.new))) }
+        ensures reply { IfOk result (λ len. IsReplyTo {T = Version} K.keys K.rights A.is_reply AreSignedAlone (by_datagram self.old.peer) (A.seen self.old.inner) (A.seen self.new.inner) request.now (messages_in len out.new)) }
+    {
+        let now = self.clock.now();
+        let message = Message::new(request);
+        let verified = verify(self.ring.keys(), now, &message);
+        self.answer_by(rt, now, verified, request, out)
+    }
+
+    /// Answers a request of many octets: no pointer among them is followed twice.
+    #[inline(never)]
+    fn answer_long<R: Wait>(
+        &mut self,
+        rt: &R,
+        request: &[u8],
+        out: &mut [u8],
+    ) -> Result<Option<usize>, Spent>
+        requires header { HEADER ≤ length request.now }
+        requires short { length request.now ≤ message_limit }
+        requires room { message_limit ≤ length out.old }
+        ensures same { self.new.peer ≡ self.old.peer }
+        ensures grows { Grows {T = Version} (A.seen self.new.inner) (A.seen self.old.inner) }
+        ensures bound { IfOk result (λ len. IfSome len (λ n. (n ≤ message_limit) × (n ≤ length out.new))) }
+        ensures reply { IfOk result (λ len. IsReplyTo {T = Version} K.keys K.rights A.is_reply AreSignedAlone (by_datagram self.old.peer) (A.seen self.old.inner) (A.seen self.new.inner) request.now (messages_in len out.new)) }
+    {
+        let now = self.clock.now();
+        let mut ends = [0; MAX_TARGETS];
+        let mut sizes = [0; MAX_TARGETS];
+        let message = Message::with_room(request, &mut ends, &mut sizes);
+        let verified = verify(self.ring.keys(), now, &message);
+        self.answer_by(rt, now, verified, request, out)
+    }
+
+    /// Answers a request by what it is by its TSIG (RFC 8945, 5.2).
+    fn answer_by<R: Wait>(
+        &mut self,
+        rt: &R,
+        now: u64,
+        verified: Verification<'_>,
+        request: &[u8],
+        out: &mut [u8],
+    ) -> Result<Option<usize>, Spent>
+        requires verified { verified ≡ received K.keys now request.now }
+        requires header { HEADER ≤ length request.now }
+        requires short { length request.now ≤ message_limit }
+        requires room { message_limit ≤ length out.old }
+        ensures same { self.new.peer ≡ self.old.peer }
+        ensures grows { Grows {T = Version} (A.seen self.new.inner) (A.seen self.old.inner) }
+        ensures bound { IfOk result (λ len. IfSome len (λ n. (n ≤ message_limit) × (n ≤ length out.new))) }
+        ensures reply { IfOk result (λ len. (before : Learned Version) × Grows before (A.seen self.old.inner) × Grows (A.seen self.new.inner) before
+            × IsReplyBy {T = Version} K.keys K.rights A.is_reply AreSignedAlone verified.entry now (by_datagram self.old.peer) before (A.seen self.new.inner) request.now (messages_in len out.new)) }
+    {
+        match verified {
+            Verification::Unsigned => {
+                answer_as(rt, &mut self.inner, self.peer, self.from, request, out)
+            }
+            Verification::Silent => Ok(None),
+            Verification::Malformed => Ok(Some(write_error(
+                request,
+                Rcode::FormErr,
+                Transport::Udp,
+                out,
+            ))),
+            Verification::BadKey(tsig) => {
+                let error = TsigError::BadKey;
+                Ok(Some(write_unsigned(request, &tsig, error, Transport::Udp, out)))
+            }
+            Verification::BadSig(tsig) => {
+                let error = TsigError::BadSig;
+                Ok(Some(write_unsigned(request, &tsig, error, Transport::Udp, out)))
+            }
+            Verification::BadTime(tsig) => {
+                let key = self.ring.keys().get(tsig.key);
+                let stamp = stamp_late(&tsig, now);
+                Ok(write_signed(request, key, tsig, &stamp, Transport::Udp, out))
+            }
+            Verification::BadTrunc(tsig) => {
+                let key = self.ring.keys().get(tsig.key);
+                Ok(write_signed(request, key, tsig, &stamp_short(now), Transport::Udp, out))
+            }
+            Verification::Signed(tsig) => self.answer_signed(rt, now, tsig, request, out),
+        }
+    }
+
+    /// Answers a request that the holder of a key signed, and signs the reply.
+    fn answer_signed<R: Wait>(
+        &mut self,
+        rt: &R,
+        now: u64,
+        tsig: RequestTsig,
+        request: &[u8],
+        out: &mut [u8],
+    ) -> Result<Option<usize>, Spent>
+        requires header { HEADER ≤ length request.now }
+        requires short { length request.now ≤ message_limit }
+        requires room { message_limit ≤ length out.old }
+        ensures same { self.new.peer ≡ self.old.peer }
+        ensures grows { Grows {T = Version} (A.seen self.new.inner) (A.seen self.old.inner) }
+        ensures bound { IfOk result (λ len. IfSome len (λ n. (n ≤ message_limit) × (n ≤ length out.new))) }
+        ensures reply { IfOk result (λ len. (before : Learned Version) × Grows before (A.seen self.old.inner) × Grows (A.seen self.new.inner) before
+            × IsSignedReply {T = Version} K.keys K.rights A.is_reply AreSignedAlone (slice_get K.keys tsig.key) now tsig (by_datagram self.old.peer) before (A.seen self.new.inner) request.now (messages_in len out.new)) }
+    {
+        let Some(key) = self.ring.keys().get(tsig.key) else {
+            return Ok(None);
+        };
+        let peer = self.ring.peer_by(tsig.key, self.peer);
+        let plain = self.room.plain(request, tsig.start);
+        let limit = reply_limit(plain, Transport::Udp);
+        let Some(len) = answer_as(rt, &mut self.inner, peer, self.from, plain, out)? else {
+            return Ok(None);
+        };
+        Ok(Some(sign_reply(key, tsig, &stamp_at(now), limit, out, len)))
+    }
+}
+
+/// Has a handler answer a request of a peer that sends from an address.
+fn answer_as<R: Wait, A: Handler>(
+    rt: &R,
+    inner: &mut A,
+    peer: Peer,
+    from: SocketAddr,
+    request: &[u8],
+    out: &mut [u8],
+) -> Result<Option<usize>, Spent>
+    requires room { message_limit ≤ length out.old }
+    ensures grows { Grows {T = Version} (A.seen inner.new) (A.seen inner.old) }
+    ensures bound { IfOk result (λ len. IfSome len (λ n. (n ≤ message_limit) × (n ≤ length out.new))) }
+    ensures reply { IfOk result (λ len. (before : Learned Version) × Grows before (A.seen inner.old) × Grows (A.seen inner.new) before
+        × A.is_reply (by_datagram peer) before (A.seen inner.new) request.now (messages_in len out.new)) }
+{
+    inner.turn_to(peer, from);
+    inner.answer(rt, request, out)
+}
+
+impl<'k, K: KeyRing, A: Handler + Drop, C: UnixClock> Handler for SignedDatagrams<'k, K, A, C> {
+    ghost seen = { λ signed. A.seen signed.inner };
+
+    ghost peer = { λ signed. signed.peer };
+
+    ghost is_reply = { λ peer seen later request messages. IsReplyTo K.keys K.rights A.is_reply AreSignedAlone peer seen later request messages };
+
+    fn turn_to(&mut self, other: Peer, from: SocketAddr) {
+        self.inner.turn_to(other, from);
+        self.peer = other;
+        self.from = from;
+    }
+
+    fn answer<R: Wait>(
+        &mut self,
+        rt: &R,
+        request: &[u8],
+        out: &mut [u8],
+    ) -> Result<Option<usize>, Spent> {
+        if request.len() < HEADER || request.len() > MAX_LIMIT {
+            return Ok(None);
+        }
+        if request.len() > MAX_SHORT {
+            return self.answer_long(rt, request, out);
+        }
+        self.answer_short(rt, request, out)
+    }
+}
