@@ -48,6 +48,8 @@ pub struct Serve<'a> {
     pub secondaries: Vec<Secondary>,
     /// The store in which updates survive a restart, if there is one.
     pub store: Option<StorePlan<'a>>,
+    /// The file of the keys that clients sign by, if signatures are checked.
+    pub keys: Option<&'a str>,
     ghost few_kept: { keep ≤ KEPT },
     ghost some_workers: { 0 < workers },
     ghost few_threads: { workers * (vec_len listen + 1) ≤ 62 },
@@ -76,6 +78,7 @@ impl<'a> Drop for Serve<'a> {
             update_queue: _,
             secondaries: _,
             store: _,
+            keys: _,
         } = self;
     }
 }
@@ -95,6 +98,9 @@ pub const MAX_THREADS: usize = 62;
 
 /// The option for the addresses permitted to update and transfer.
 pub const ALLOW: &str = "allow";
+
+/// The option for the file of the keys that clients sign by.
+pub const KEYS: &str = "keys";
 
 /// The option for the number of datagrams and connections after which a worker exits.
 pub const COUNT: &str = "count";
@@ -166,6 +172,7 @@ pub fn serve_of<'a>(
         update_queue,
         secondaries,
         store,
+        keys: found.get_str(KEYS),
     })
 }
 

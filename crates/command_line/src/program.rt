@@ -1,6 +1,6 @@
 //! The program's commands, and the arguments of each.
 use crate::command::{BEFORE_FAULT, DIR, HEX, KEEP, NEW, OLD, ORIGIN, TCP, WARN, WINDOW, ZONE};
-use crate::options::{ALLOW, CONNECTIONS, COUNT, IDLE, LISTEN, MESSAGE, REPLY, WORKERS};
+use crate::options::{ALLOW, CONNECTIONS, COUNT, IDLE, KEYS, LISTEN, MESSAGE, REPLY, WORKERS};
 use crate::secondaries::NOTIFY;
 use crate::store_options::{JOURNAL, STORE, TAKE, TRANSFER_RATE, UDP_BUFFER, UPDATE_QUEUE};
 use clap::{Arg, ArgAction, Command as Parser};
@@ -217,6 +217,11 @@ const SERVE_WORDS: &[WordRow] = &[
         name: ALLOW,
         form: Form::Default("LIST", "127.0.0.1,::1"),
         help: "addresses that may update and transfer the zone, separated by commas; '' for none",
+    },
+    WordRow {
+        name: KEYS,
+        form: Form::Value("FILE"),
+        help: "file of the keys that clients sign by (TSIG), as tsig-keygen prints them, or ALGORITHM:NAME:SECRET, one per line; its owner alone may read it",
     },
     WordRow {
         name: COUNT,

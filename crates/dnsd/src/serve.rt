@@ -9,15 +9,18 @@ use command_line::{MAX_THREADS, Serve, StorePlan, is_routed};
 use commands::{DONE, FAILED};
 use dnsd_setup::{
     BoundSockets, Entries, Listening, Log, LogLine, ServedZone, StartedZone, WorkerSockets,
-    ZoneStore, bind_sockets, descriptors, read_text_for, start_entries, start_store_for, text_for,
+    ZoneStore, bind_sockets, descriptors, keys_for, read_text_for, start_entries, start_store_for,
+    text_for,
 };
+use key_file::KeyFile;
 use notify::large_in;
 use requests::Allowed;
 use serve_workers::{
-    ConnectionPlan, Most, Plan, ServeFault, Shutdown, ThreadSpec, UpdateConfig, WorkLimit,
-    serve_zone,
+    ConnectionPlan, Most, Plan, ServeFault, SharedKeys, Shutdown, ThreadSpec, UpdateConfig,
+    WorkLimit, serve_zone,
 };
-use std::alloc::Global;
+use signed_replies::KeyRights;
+use std::alloc::{AllocError, Global};
 use std::fs::{File, Files};
 use std::marker::Brand;
 use std::net::{Net, SocketAddr, TcpListener, TcpStream};
@@ -53,12 +56,17 @@ pub fn run_serve<
         + Drop
         + 'static,
 >(rt: &R, serve: &Serve<'_>) -> io::Result<u8> {
+    let keys = match keys_for(rt, serve) {
+        Ok(Ok(keys)) => keys,
+        Ok(Err(status)) => return Ok(status),
+        Err(fault) => return Err(fault),
+    };
     let Some(text) = text_for(rt, serve)? else {
         return Ok(FAILED);
     };
     match serve.store {
-        Some(plan) => serve_store(rt, serve, plan, text),
-        None => serve_zone_text(rt, serve, text),
+        Some(plan) => serve_store(rt, serve, plan, text, keys.as_ref()),
+        None => serve_zone_text(rt, serve, text, keys.as_ref()),
     }
 }
 
@@ -78,7 +86,7 @@ fn serve_zone_text<
         + Sync
         + Drop
         + 'static,
->(rt: &R, serve: &Serve<'_>, text: Vec<u8>) -> io::Result<u8> {
+>(rt: &R, serve: &Serve<'_>, text: Vec<u8>, keys: Option<&KeyFile>) -> io::Result<u8> {
     let begun = match read_text_for(rt, serve, text) {
         Ok(Ok(begun)) => begun,
         Ok(Err(status)) => return Ok(status),
@@ -89,7 +97,7 @@ fn serve_zone_text<
         Ok(None) => return Ok(FAILED),
         Err(fault) => return Err(fault),
     };
-    serve_on_sockets(rt, serve, begun, bound)
+    serve_on_sockets(rt, serve, begun, bound, keys)
 }
 
 /// Serves the zone of a store, or the zone of the text from which the store is created.
@@ -108,7 +116,13 @@ fn serve_store<
         + Sync
         + Drop
         + 'static,
->(rt: &R, serve: &Serve<'_>, plan: StorePlan<'_>, text: Vec<u8>) -> io::Result<u8> {
+>(
+    rt: &R,
+    serve: &Serve<'_>,
+    plan: StorePlan<'_>,
+    text: Vec<u8>,
+    keys: Option<&KeyFile>,
+) -> io::Result<u8> {
     let bound = match bind(rt, serve) {
         Ok(Some(bound)) => bound,
         Ok(None) => return Ok(FAILED),
@@ -119,7 +133,7 @@ fn serve_store<
         Ok(Err(status)) => return Ok(status),
         Err(fault) => return Err(fault),
     };
-    serve_on_sockets(rt, serve, begun, bound)
+    serve_on_sockets(rt, serve, begun, bound, keys)
 }
 
 /// What a server acquires from the system before it has a zone.
@@ -185,7 +199,13 @@ fn serve_on_sockets<
         + Sync
         + Drop
         + 'static,
->(rt: &R, serve: &Serve<'_>, begun: StartedZone, bound: Bound) -> io::Result<u8>
+>(
+    rt: &R,
+    serve: &Serve<'_>,
+    begun: StartedZone,
+    bound: Bound,
+    keys: Option<&KeyFile>,
+) -> io::Result<u8>
     requires { CanBegin begun }
 {
     let Bound {
@@ -197,7 +217,16 @@ fn serve_on_sockets<
     let log = Log::new(entries, listening_for(serve, &begun, addresses, kept));
     warn(rt, serve, &log);
     warn_of_zone(rt, serve, &begun, &log);
-    let served = serve_on_workers(rt, rt.alloc(), serve, begun, workers, secondaries, &log);
+    let served = serve_on_workers(
+        rt,
+        rt.alloc(),
+        serve,
+        begun,
+        workers,
+        secondaries,
+        keys,
+        &log,
+    );
     let status = status_of(rt, served, &log);
     log.end(rt);
     Ok(status)
@@ -294,6 +323,7 @@ fn serve_on_workers<
     begun: StartedZone,
     sockets: Vec<WorkerSockets>,
     secondaries: SecondarySockets,
+    keys: Option<&KeyFile>,
     log: &Log,
 ) -> Result<(), ServeFault>
     requires { CanBegin begun }
@@ -307,7 +337,7 @@ fn serve_on_workers<
     let Some(specs) = specs else {
         return Err(ServeFault::NoMemory);
     };
-    serve_with_specs(rt, alloc, serve, begun, specs, log)
+    serve_with_specs(rt, alloc, serve, begun, specs, keys, log)
 }
 
 /// Serves a zone with one thread for each of these specs.
@@ -328,6 +358,7 @@ fn serve_with_specs<
     serve: &Serve<'_>,
     begun: StartedZone,
     specs: Vec<ThreadSpec<'_>>,
+    keys: Option<&KeyFile>,
     log: &Log,
 ) -> Result<(), ServeFault>
     requires { CanBegin begun }
@@ -342,6 +373,9 @@ fn serve_with_specs<
     let Ok(dir) = format!(in alloc; "{dir}") else {
         return Err(ServeFault::NoMemory);
     };
+    let Ok(rights) = rights_of(alloc, keys) else {
+        return Err(ServeFault::NoMemory);
+    };
     let shutdown = Shutdown::new(specs.len());
     let plan = Plan {
         shutdown: &shutdown,
@@ -351,6 +385,7 @@ fn serve_with_specs<
             limits: serve.limits,
             allowed: Allowed::new(serve.allowed.as_slice()),
         },
+        keys: shared_keys(keys, rights.as_slice()),
     };
     let texts = ThreadTextWriter::new(*rt, dir);
     let most = Most {
@@ -358,6 +393,30 @@ fn serve_with_specs<
         octets: serve.update_queue,
     };
     serve_with_store(rt, alloc, most, begun, texts, specs, plan, log)
+}
+
+/// What the holders of keys may do, in the order of the keys.
+fn rights_of(alloc: Global, keys: Option<&KeyFile>) -> Result<Vec<KeyRights>, AllocError> {
+    let mut rights = Vec::new(alloc);
+    let Some(file) = keys else {
+        return Ok(rights);
+    };
+    for _ in 0..file.keys.len() {
+        rights.push(KeyRights {
+            may_update: true,
+            may_transfer: true,
+        })?;
+    }
+    Ok(rights)
+}
+
+/// The keys of a file with these rights, if there is one.
+fn shared_keys<'a>(keys: Option<&'a KeyFile>, rights: &'a [KeyRights]) -> Option<SharedKeys<'a>> {
+    let file = keys?;
+    Some(SharedKeys {
+        keys: &file.keys,
+        rights,
+    })
 }
 
 /// Serves a zone with one thread for each of these specs. At most `most` updates wait, and the store's zone texts are written by `texts`.

@@ -14,6 +14,7 @@ use Rattle.serve_core.specs.Heading.{header_alone, coded}
 use Rattle.serve_core.specs.Transport.{limit_of}
 use Rattle.serve_core.specs.declared.peer.Peer.{Peer}
 use Rattle.serve_core.specs.declared.transport.Transport.{Transport}
+use Rattle.serve_core.specs.declared.transport.Transport.TheVariants.{Udp}
 use Rattle.tsig.specs.Digested.{without_tsig}
 use Rattle.tsig.specs.Keys.{SharedKey}
 use Rattle.tsig.specs.Signing.{signed_within, with_error_tsig}
@@ -71,6 +72,11 @@ abbrev pub signed_error : Transport → Option SharedKey → RequestTsig → Sta
 signed_error transport None tsig stamp request = []
 signed_error transport (Some key) tsig stamp request =
     signed_reply key tsig.mac.items stamp (limit_of transport None) (error_reply transport NotAuth request) ∷ []
+
+-- the reply to an update by datagram that was queued, signed at a time; none without a key
+abbrev pub signed_queued : Option SharedKey → RequestTsig → ℕ → List ℕ → List (List ℕ)
+signed_queued None tsig now plain = []
+signed_queued (Some key) tsig now plain = signed_reply key tsig.mac.items (stamp_at now) (limit_of Udp None) plain ∷ []
 
 -- what octets are by their TSIG, at a time; more of them than a message has are nothing that is answered (RFC 1035, 4.2.2)
 abbrev pub received : List SharedKey → ℕ → List ℕ → Verification

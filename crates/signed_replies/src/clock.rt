@@ -10,20 +10,20 @@ pub trait UnixClock: Drop {
 
 /// The system's clock.
 #[derive(Drop)]
-pub struct SystemClock<R> {
-    rt: R,
+pub struct SystemClock<'a, R> {
+    rt: &'a R,
 }
 
-impl<R: Clock> SystemClock<R> {
+impl<'a, R: Clock> SystemClock<'a, R> {
     /// The clock of a handle.
-    pub fn new(rt: R) -> SystemClock<R> {
+    pub fn new(rt: &'a R) -> SystemClock<'a, R> {
         SystemClock { rt }
     }
 }
 
-impl<R: Clock + Drop> UnixClock for SystemClock<R> {
+impl<'a, R: Clock> UnixClock for SystemClock<'a, R> {
     fn now(&self) -> u64 {
-        let Ok(now) = SystemTime::now(&self.rt) else {
+        let Ok(now) = SystemTime::now(self.rt) else {
             return 0;
         };
         match now.duration_since(UNIX_EPOCH) {

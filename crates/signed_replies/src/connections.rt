@@ -25,7 +25,7 @@ use dns_rdata::Rcode;
 use hmac::MAX_MAC;
 use requests::StreamEnd;
 use serve_core::Peer;
-use std::alloc::{AllocError, Global};
+use std::alloc::Global;
 use std::marker::PhantomData;
 use std::net::SocketAddr;
 use std::sync::Wait;
@@ -36,7 +36,7 @@ use wire_names::{MAX_TARGETS, Message};
 /// Verifies the requests of connections by the keys of a server, has another handler answer those that are signed, without their TSIG, and those without a TSIG, and signs the replies
 /// to the first. Contracts see that handler, the peer, and the key of its connection.
 #[derive(Drop)]
-pub struct SignedConnections<'k, K: KeyRing, M: Messages, A: Handler<M>, C> {
+pub struct SignedConnections<'r, 'k, K: KeyRing, M: Messages, A: Handler<M>, C> {
     inner: A,
     ring: RingKeys<'k, K>,
     clock: C,
@@ -44,7 +44,7 @@ pub struct SignedConnections<'k, K: KeyRing, M: Messages, A: Handler<M>, C> {
     from: SocketAddr,
     /// The key of the peer's connection.
     asker: usize,
-    room: PlainRoom,
+    room: &'r mut PlainRoom,
     times: PendingTimes,
     messages: PhantomData<M>,
 }
@@ -141,39 +141,41 @@ fn one<M: Messages>(len: Option<usize>) -> Reply<M>
     }
 }
 
-impl<'k, K: KeyRing, M: Messages, A: Handler<M> + Drop, C: UnixClock> SignedConnections<
+impl<'r, 'k, K: KeyRing, M: Messages, A: Handler<M> + Drop, C: UnixClock> SignedConnections<
+    'r,
     'k,
     K,
     M,
     A,
     C,
 > {
-    /// Such a handler in front of another one. Its first peer is this one, which sends from this address. An error where memory is refused.
+    /// Such a handler in front of another one, with room for requests without their TSIG. Its first peer is this one, which sends from this address.
     pub fn new(
         alloc: Global,
         inner: A,
         ring: RingKeys<'k, K>,
         clock: C,
+        room: &'r mut PlainRoom,
         peer: Peer,
         from: SocketAddr,
-    ) -> Result<SignedConnections<'k, K, M, A, C>, AllocError>
-        ensures inner { IfOk result (λ made. made.inner ≡ inner) }
-        ensures peer { IfOk result (λ made. made.peer ≡ peer) }
+    ) -> SignedConnections<'r, 'k, K, M, A, C>
+        ensures inner { result.inner ≡ inner }
+        ensures peer { result.peer ≡ peer }
     {
-        Ok(SignedConnections {
+        SignedConnections {
             inner,
             ring,
             clock,
             peer,
             from,
             asker: 0,
-            room: PlainRoom::new(alloc)?,
+            room,
             times: PendingTimes::new(alloc),
             messages: PhantomData,
-        })
+        }
     }
 
-    /// The handler behind it.
+    /// The handler after it.
     pub fn into_inner(self) -> A
         ensures { result ≡ self.entry.inner }
     {
@@ -370,8 +372,9 @@ impl<'k, K: KeyRing, M: Messages, A: Handler<M> + Drop, C: UnixClock> SignedConn
     }
 }
 
-impl<'k, K: KeyRing, M: Messages, A: Handler<M> + Drop, C: UnixClock> Handler<SignedMessages<'k, M>>
-    for SignedConnections<'k, K, M, A, C> {
+impl<'r, 'k, K: KeyRing, M: Messages, A: Handler<M> + Drop, C: UnixClock> Handler<
+    SignedMessages<'k, M>,
+> for SignedConnections<'r, 'k, K, M, A, C> {
     ghost seen = { λ signed. A.seen signed.inner };
 
     ghost peer = { λ signed. signed.peer };

@@ -13,12 +13,12 @@ use crate::key_ring::{KeyRing, RingKeys};
 use crate::limit::reply_limit;
 use crate::plain_room::PlainRoom;
 use crate::signing::{sign_reply, stamp_at, stamp_late, stamp_short, write_signed};
+use crate::signs_later::SignsLater;
 use dns_message::{HEADER, MAX_LIMIT};
 use dns_rdata::Rcode;
 use requests::Handler;
 use serve_core::{Peer, Transport};
 use snapshot_cell::Spent;
-use std::alloc::{AllocError, Global};
 use std::net::SocketAddr;
 use std::sync::Wait;
 use tsig::{RequestTsig, TsigError, Verification, verify};
@@ -30,39 +30,39 @@ const MAX_SHORT: usize = 512;
 /// Verifies the datagrams of peers by the keys of a server, has another handler answer those that are signed, without their TSIG, and those without a TSIG, and signs the replies to
 /// the first. Contracts see that handler and the peer.
 #[derive(Drop)]
-pub struct SignedDatagrams<'k, K: KeyRing, A: Handler, C> {
+pub struct SignedDatagrams<'r, 'k, K: KeyRing, A: SignsLater, C> {
     inner: A,
     ring: RingKeys<'k, K>,
     clock: C,
     peer: Peer,
     from: SocketAddr,
-    room: PlainRoom,
+    room: &'r mut PlainRoom,
 }
 
-impl<'k, K: KeyRing, A: Handler + Drop, C: UnixClock> SignedDatagrams<'k, K, A, C> {
-    /// Such a handler in front of another one. Its first peer is this one, which sends from this address. An error where memory is refused.
+impl<'r, 'k, K: KeyRing, A: SignsLater + Drop, C: UnixClock> SignedDatagrams<'r, 'k, K, A, C> {
+    /// Such a handler in front of another one, with room for requests without their TSIG. Its first peer is this one, which sends from this address.
     pub fn new(
-        alloc: Global,
         inner: A,
         ring: RingKeys<'k, K>,
         clock: C,
+        room: &'r mut PlainRoom,
         peer: Peer,
         from: SocketAddr,
-    ) -> Result<SignedDatagrams<'k, K, A, C>, AllocError>
-        ensures inner { IfOk result (λ made. made.inner ≡ inner) }
-        ensures peer { IfOk result (λ made. made.peer ≡ peer) }
+    ) -> SignedDatagrams<'r, 'k, K, A, C>
+        ensures inner { result.inner ≡ inner }
+        ensures peer { result.peer ≡ peer }
     {
-        Ok(SignedDatagrams {
+        SignedDatagrams {
             inner,
             ring,
             clock,
             peer,
             from,
-            room: PlainRoom::new(alloc)?,
-        })
+            room,
+        }
     }
 
-    /// The handler behind it.
+    /// The handler after it.
     pub fn into_inner(self) -> A
         ensures { result ≡ self.entry.inner }
     {
@@ -135,7 +135,15 @@ impl<'k, K: KeyRing, A: Handler + Drop, C: UnixClock> SignedDatagrams<'k, K, A, 
     {
         match verified {
             Verification::Unsigned => {
-                answer_as(rt, &mut self.inner, self.peer, self.from, request, out)
+                answer_as(
+                    rt,
+                    &mut self.inner,
+                    self.peer,
+                    self.from,
+                    None,
+                    request,
+                    out,
+                )
             }
             Verification::Silent => Ok(None),
             Verification::Malformed => Ok(Some(write_error(
@@ -189,19 +197,21 @@ impl<'k, K: KeyRing, A: Handler + Drop, C: UnixClock> SignedDatagrams<'k, K, A, 
         let peer = self.ring.peer_by(tsig.key, self.peer);
         let plain = self.room.plain(request, tsig.start);
         let limit = reply_limit(plain, Transport::Udp);
-        let Some(len) = answer_as(rt, &mut self.inner, peer, self.from, plain, out)? else {
+        let (from, own) = (self.from, Some(tsig.copy()));
+        let Some(len) = answer_as(rt, &mut self.inner, peer, from, own, plain, out)? else {
             return Ok(None);
         };
         Ok(Some(sign_reply(key, tsig, &stamp_at(now), limit, out, len)))
     }
 }
 
-/// Has a handler answer a request of a peer that sends from an address.
-fn answer_as<R: Wait, A: Handler>(
+/// Has a handler answer a request of a peer that sends from an address, which came with this TSIG.
+fn answer_as<R: Wait, A: SignsLater>(
     rt: &R,
     inner: &mut A,
     peer: Peer,
     from: SocketAddr,
+    tsig: Option<RequestTsig>,
     request: &[u8],
     out: &mut [u8],
 ) -> Result<Option<usize>, Spent>
@@ -212,10 +222,12 @@ fn answer_as<R: Wait, A: Handler>(
         × A.is_reply (by_datagram peer) before (A.seen inner.new) request.now (messages_in len out.new)) }
 {
     inner.turn_to(peer, from);
+    inner.set_tsig(tsig);
     inner.answer(rt, request, out)
 }
 
-impl<'k, K: KeyRing, A: Handler + Drop, C: UnixClock> Handler for SignedDatagrams<'k, K, A, C> {
+impl<'r, 'k, K: KeyRing, A: SignsLater + Drop, C: UnixClock> Handler
+    for SignedDatagrams<'r, 'k, K, A, C> {
     ghost seen = { λ signed. A.seen signed.inner };
 
     ghost peer = { λ signed. signed.peer };

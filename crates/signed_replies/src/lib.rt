@@ -14,10 +14,15 @@ mod limit;
 mod messages;
 mod pending_times;
 mod plain_room;
+mod queued;
 mod signing;
+mod signs_later;
 
 pub use clock::{SystemClock, UnixClock};
 pub use connections::SignedConnections;
 pub use datagrams::SignedDatagrams;
 pub use key_ring::{KeyRights, KeyRing, RingKeys};
 pub use messages::{STREAM_FUDGE, SignedMessages};
+pub use plain_room::PlainRoom;
+pub use queued::QueuedSigner;
+pub use signs_later::SignsLater;

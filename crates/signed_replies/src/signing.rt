@@ -1,14 +1,15 @@
 //! How replies are signed (RFC 8945, 5.3).
-ghost use Rattle.std.specs.Prelude.{◌≡◌, ◌≤◌, ◌∷◌, length, take, IfSome, option_copied};
+ghost use Rattle.std.specs.Prelude.{◌≡◌, ◌≤◌, ◌∷◌, length, take, IfSome, slice_get};
+ghost use Rattle.std.specs.Option.{option_copied};
 ghost use Rattle.dns_message.specs.Message.{message_limit};
 ghost use Rattle.requests.specs.Octets.{messages_in};
-ghost use Rattle.signed_replies.specs.Signed.{stamp_at, stamp_late, stamp_short, signed_reply, signed_error};
+ghost use Rattle.signed_replies.specs.Signed.{stamp_at, stamp_late, stamp_short, signed_reply, signed_error, signed_queued};
 
 use crate::errors::write_error;
 use dns_message::HEADER;
 use dns_rdata::Rcode;
 use serve_core::Transport;
-use tsig::{FUDGE, Key, RequestTsig, Stamp, TsigError, sign};
+use tsig::{FUDGE, Key, Keys, RequestTsig, Stamp, TsigError, sign};
 
 /// What the TSIG of a reply says that is signed at a time, with no error.
 pub(crate) fn stamp_at(time: u64) -> Stamp
@@ -64,6 +65,25 @@ pub(crate) fn sign_reply(
     }
     let mut mac = tsig.mac;
     sign(key, &mut mac, stamp, limit, out, len)
+}
+
+/// Signs the reply to an update by datagram that another thread sends, at a time, by the key of a server that its TSIG names, and gives how many octets it has then; None where that
+/// key isn't one of these.
+pub(crate) fn sign_queued(
+    keys: &Keys,
+    tsig: RequestTsig,
+    now: u64,
+    out: &mut [u8],
+    len: usize,
+) -> Option<usize>
+    requires within { len ≤ message_limit }
+    requires room { message_limit ≤ length out.old }
+    ensures octets { messages_in result out.new ≡ signed_queued (slice_get keys.now tsig.key) tsig now (take len out.old) }
+    ensures bound { IfSome result (λ n. n ≤ message_limit) }
+{
+    let key = keys.get(tsig.key)?;
+    let limit = Transport::Udp.limit(None);
+    Some(sign_reply(key, tsig, &stamp_at(now), limit, out, len))
 }
 
 /// Writes the reply that tells an error of a request's TSIG, signed, to the front of `out`, and gives how many octets it has; None where there is no key (RFC 8945, 5.2.3 and 5.2.4).

@@ -8,14 +8,16 @@ use crate::messages::{
 };
 use requests::Handler;
 use serve_core::{Peer, Transport};
-use signed_replies::{KeyRights, KeyRing, RingKeys, SignedDatagrams, UnixClock};
+use signed_replies::{
+    KeyRights, KeyRing, PlainRoom, RingKeys, SignedDatagrams, SignsLater, UnixClock,
+};
 use snapshot_cell::Spent;
 use std::alloc::Global;
 use std::marker::Brand;
 use std::net::{IpAddr, Ipv4Addr, SocketAddr};
 use std::sync::Wait;
 use std::test::Fail;
-use tsig::Keys;
+use tsig::{Keys, RequestTsig};
 
 /// A clock that stands still.
 #[derive(Drop)]
@@ -63,6 +65,11 @@ impl Handler for Fixed {
     }
 }
 
+impl SignsLater for Fixed {
+    #[tactic(auto, using(requests::proofs::TurnLemmas::grows_itself))]
+    fn set_tsig(&mut self, _tsig: Option<RequestTsig>) {}
+}
+
 /// The address that the requests come from.
 fn client() -> SocketAddr {
     SocketAddr::new(IpAddr::V4(Ipv4Addr::new(192, 0, 2, 7)), 5353)
@@ -83,7 +90,9 @@ fn reply_to<R: Wait, K: KeyRing>(
 {
     let ring: RingKeys<'_, K> = RingKeys::new(keys, rights);
     let peer = Peer::over(Transport::Udp, false);
-    let mut handler = SignedDatagrams::new(alloc, inner, ring, Still(now), peer, client())?;
+    let mut room = PlainRoom::new(alloc)?;
+    let clock = Still(now);
+    let mut handler = SignedDatagrams::new(inner, ring, clock, &mut room, peer, client());
     let mut out = Vec::new(alloc);
     out.resize(65535, 0)?;
     let Ok(Some(len)) = handler.answer(rt, request, &mut out) else {

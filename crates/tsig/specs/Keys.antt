@@ -24,6 +24,10 @@ is_named name algorithm key = is_same key.name name && is_same (algorithm_name k
 abbrev pub index_of : Name → Name → List SharedKey → Option ℕ
 index_of name algorithm keys = position (is_named name algorithm) keys
 
+-- the index of the first key of this name; none where there is none
+abbrev pub index_named : Name → List SharedKey → Option ℕ
+index_named name keys = position (λ key. is_same key.name name) keys
+
 -- that key, behind its index
 abbrev pub key_of : Name → Name → List SharedKey → Option (ℕ × SharedKey)
 key_of name algorithm keys =

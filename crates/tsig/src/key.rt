@@ -1,7 +1,7 @@
 //! A key that the two ends share (RFC 8945, 4.2 and 6).
 ghost use Rattle.std.specs.Prelude.{◌≡◌, ◌≤◌, length};
 ghost use Rattle.dns_name.specs.Labels.{IsWhole, labels_in};
-ghost use Rattle.dns_name.specs.Name.{wire_of};
+ghost use Rattle.dns_name.specs.Name.{wire_of, is_same};
 ghost use Rattle.hmac.specs.Hmac.{keyed, mac_size};
 ghost use Rattle.tsig.specs.Keys.{algorithm_name, is_named};
 
@@ -66,6 +66,13 @@ impl Key {
         ensures { result.now ≡ self.now.secret }
     {
         &self.secret
+    }
+
+    /// Whether it has this name.
+    pub(crate) fn has_name(&self, name: &Name) -> bool
+        ensures { result ≡ is_same self.now.name name.now }
+    {
+        self.name == *name
     }
 
     /// Whether it has this name and this algorithm (RFC 8945, 5.2.1).

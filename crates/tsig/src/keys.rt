@@ -1,7 +1,7 @@
 //! The keys of a server (RFC 8945, 5.2.1).
 ghost use Rattle.std.specs.Prelude.{◌≡◌, ◌<◌, ◌↔◌, [], ◌∷◌, ◌++◌, length, slice_get, IsTrue, IfSome, OnOk, OnErr};
 ghost use Rattle.std.specs.Option.{option_copied};
-ghost use Rattle.tsig.specs.Keys.{index_of};
+ghost use Rattle.tsig.specs.Keys.{index_of, index_named};
 
 use crate::key::Key;
 use dns_name::Name;
@@ -69,6 +69,14 @@ impl Keys {
         self.keys.get(usize::from(index))
     }
 
+    /// The index of the first key of this name; None where there is none.
+    pub fn index_named(&self, name: &Name) -> Option<u16>
+        ensures { result ≡ index_named name.now self.now }
+    {
+        let index = position_named(&self.keys, name)?;
+        Some(index as u16)
+    }
+
     /// The index of the first key of this name and this algorithm; None where there is none (RFC 8945, 5.2.1).
     pub(crate) fn index_of(&self, name: &Name, algorithm: &Name) -> Option<u16>
         ensures { result ≡ index_of name.now algorithm.now self.now }
@@ -76,6 +84,14 @@ impl Keys {
         let index = position_of(&self.keys, name, algorithm)?;
         Some(index as u16)
     }
+}
+
+/// The index of the first of some keys of this name; None where there is none.
+fn position_named(keys: &[Key], name: &Name) -> Option<usize>
+    ensures index { result ≡ index_named name.now keys.now }
+    ensures within { IfSome result (λ index. index < length keys.now) }
+{
+    keys.iter().position(|key| key.has_name(name))
 }
 
 /// The index of the first of some keys of this name and this algorithm; None where there is none.

@@ -22,6 +22,23 @@ pub struct RequestTsig {
     pub fudge: u16,
 }
 
+impl RequestTsig {
+    /// The same.
+    pub fn copy(&self) -> RequestTsig
+        ensures { result ≡ self.now }
+    {
+        let mut mac = ArrayVec::new();
+        let _ = mac.try_extend_from_slice(&self.mac);
+        RequestTsig {
+            key: self.key,
+            start: self.start,
+            mac,
+            time: self.time,
+            fudge: self.fudge,
+        }
+    }
+}
+
 /// What a reply has to know of a TSIG that names this key, and stands at this position.
 pub(crate) fn request_tsig_of(key: u16, start: usize, fields: &Data<'_>) -> RequestTsig
     requires { length fields.now.mac ≤ MAX_MAC }

@@ -23,10 +23,12 @@ use dns_message::Query;
 use notify::Notifier;
 use requests::Handler;
 use serve_core::{Peer, Transport};
+use signed_replies::SignsLater;
 use snapshot_cell::Spent;
 use std::alloc::Global;
 use std::net::SocketAddr;
 use std::sync::Wait;
+use tsig::RequestTsig;
 use wire_names::NameWriter;
 
 /// Answers the datagrams of peers for a server, with a worker's reader. Contracts know what the reader has seen published and buried. Updates are logged.
@@ -42,6 +44,8 @@ pub struct DatagramHandler<'a, 's, Z: FirstZone, N: ServerName, L> {
     names: NameWriter,
     /// The queue for updates, unless the engine answers them.
     sender: Option<UpdateSender<'a>>,
+    /// The TSIG that the request came with, if it was signed.
+    tsig: Option<RequestTsig>,
 }
 
 impl<'a, 's, Z: FirstZone, N: ServerName, L: ServiceLog> DatagramHandler<'a, 's, Z, N, L> {
@@ -67,6 +71,7 @@ impl<'a, 's, Z: FirstZone, N: ServerName, L: ServiceLog> DatagramHandler<'a, 's,
             query: Query::blank(),
             names: NameWriter::new(),
             sender: None,
+            tsig: None,
         }
     }
 
@@ -108,6 +113,7 @@ impl<'a, 's, Z: FirstZone, N: ServerName, L: ServiceLog> DatagramHandler<'a, 's,
         ensures replied { IsAnswered Z.zone peer (learned_by self.old.reader) (learned_by self.new.reader) request.now (messages_in result out.new) }
     {
         let from = self.from;
+        let tsig = self.tsig.take();
         let submitted = submit_datagram(
             rt,
             self.alloc,
@@ -115,6 +121,7 @@ impl<'a, 's, Z: FirstZone, N: ServerName, L: ServiceLog> DatagramHandler<'a, 's,
             &mut self.reader,
             sender,
             from,
+            tsig,
             peer,
             request,
             out,
@@ -236,6 +243,14 @@ impl<'a, 's, Z: FirstZone, N: ServerName, L: ServiceLog> Handler
             }
             Answer::Spent => Err(Spent),
         }
+    }
+}
+
+impl<'a, 's, Z: FirstZone, N: ServerName, L: ServiceLog> SignsLater
+    for DatagramHandler<'a, 's, Z, N, L> {
+    #[tactic(auto, using(requests::proofs::TurnLemmas::grows_itself))]
+    fn set_tsig(&mut self, tsig: Option<RequestTsig>) {
+        self.tsig = tsig;
     }
 }
 
