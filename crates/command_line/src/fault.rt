@@ -136,7 +136,7 @@ pub fn tell_fault<R: Print + Eprint>(rt: &R, fault: &CommandFault<'_>) -> io::Re
         }
         CommandFault::Notify(word) => {
             eprintln!(rt;
-                "error: --notify: '{word}' is not an address, such as 192.0.2.7, 192.0.2.7:5353 or [2001:db8::7]:53@2001:db8::1"
+                "error: --notify: '{word}' is not an address, such as 192.0.2.7, 192.0.2.7:5353 or [2001:db8::7]:53@2001:db8::1, maybe with ' key NAME' after it"
             )?;
         }
         CommandFault::Secondaries(word) => {

@@ -230,8 +230,8 @@ const SERVE_WORDS: &[WordRow] = &[
     },
     WordRow {
         name: NOTIFY,
-        form: Form::Several("ADDR[:PORT][@FROM]"),
-        help: "secondary to notify of each version, from the address FROM, or else the first --listen address of its family; may be repeated, at most 32",
+        form: Form::Several("'ADDR[:PORT][@FROM][ key NAME]'"),
+        help: "secondary to notify of each version, from the address FROM, or else the first --listen address of its family, signed by a key of --keys if one is named; may be repeated, at most 32",
     },
     WordRow {
         name: STORE,

@@ -31,6 +31,7 @@ use std::thread::Threads;
 use std::time::Clock;
 use std::{io, mem};
 use store_compaction::{TextWriter, ThreadTextWriter};
+use tsig::Keys;
 use zone_tree::ZoneRead;
 
 /// The maximum number of updates that may wait for the update thread, whatever their size (own).
@@ -92,7 +93,7 @@ fn serve_zone_text<
         Ok(Err(status)) => return Ok(status),
         Err(fault) => return Err(fault),
     };
-    let bound = match bind(rt, serve) {
+    let bound = match bind(rt, serve, keys.map(|file| &file.keys)) {
         Ok(Some(bound)) => bound,
         Ok(None) => return Ok(FAILED),
         Err(fault) => return Err(fault),
@@ -123,7 +124,7 @@ fn serve_store<
     text: Vec<u8>,
     keys: Option<&KeyFile>,
 ) -> io::Result<u8> {
-    let bound = match bind(rt, serve) {
+    let bound = match bind(rt, serve, keys.map(|file| &file.keys)) {
         Ok(Some(bound)) => bound,
         Ok(None) => return Ok(FAILED),
         Err(fault) => return Err(fault),
@@ -162,14 +163,14 @@ fn bind<
         + Send
         + Drop
         + 'static,
->(rt: &R, serve: &Serve<'_>) -> io::Result<Option<Bound>> {
+>(rt: &R, serve: &Serve<'_>, keys: Option<&Keys>) -> io::Result<Option<Bound>> {
     let sockets = match bind_sockets(rt, serve) {
         Ok(Some(sockets)) => sockets,
         Ok(None) => return Ok(None),
         Err(fault) => return Err(fault),
     };
     let (secondaries, listen) = (serve.secondaries.as_slice(), serve.listen.as_slice());
-    let secondaries = match secondaries_for(rt, secondaries, listen) {
+    let secondaries = match secondaries_for(rt, secondaries, listen, keys) {
         Ok(Some(secondaries)) => secondaries,
         Ok(None) => return Ok(None),
         Err(fault) => return Err(fault),

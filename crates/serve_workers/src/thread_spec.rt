@@ -80,7 +80,8 @@ impl Sockets {
                 }
             },
             Sockets::Secondaries(secondaries) => {
-                match NotifyJob::new(alloc, worker, secondaries, rt, plan.shutdown) {
+                let keys = plan.keys.map(|shared| shared.keys);
+                match NotifyJob::new(alloc, worker, secondaries, rt, plan.shutdown, keys) {
                     Ok(job) => Ok(SocketJob::Secondaries(job)),
                     Err(fault) => Err(io::Error::from(fault)),
                 }

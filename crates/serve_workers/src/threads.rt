@@ -17,7 +17,9 @@ use std::sync::Wait;
 use std::time::Clock;
 use worker_jobs::{ConnectionsJob, DatagramsJob, NotifyJob, WorkerSocket, nobody};
 use zone_replies::{ConnectionHandler, Transfer};
-use zone_server::{DatagramHandler, Event, JobEnd, Server, ServerName, ServiceLog, UpdateSender};
+use zone_server::{
+    DatagramHandler, Event, JobEnd, Server, ServerName, ServiceLog, TsigLines, UpdateSender,
+};
 
 /// A job on the system's TCP connections, whose replies of several messages are made by an `M`.
 pub type TcpJob<'a, M, C> = ConnectionsJob<'a, TcpPeer, Watch<'a, C>, TcpPlace, M, C>;
@@ -121,7 +123,15 @@ fn serve_signed_datagrams<
     } = signed;
     let ring: RingKeys<'_, K> = RingKeys::new(keys.keys, keys.rights);
     let clock = SystemClock::new(*clock);
-    let mut handler = SignedDatagrams::new(handler, ring, clock, room, peer, nobody());
+    let mut handler = SignedDatagrams::new(
+        handler,
+        ring,
+        clock,
+        TsigLines::new(log),
+        room,
+        peer,
+        nobody(),
+    );
     let end = job.serve(rt, &mut handler);
     (handler.into_inner().into_reader(), end)
 }
@@ -162,7 +172,16 @@ fn serve_signed_connections<
     } = signed;
     let ring: RingKeys<'g, K> = RingKeys::new(keys.keys, keys.rights);
     let clock = SystemClock::new(*clock);
-    let mut handler = SignedConnections::new(alloc, handler, ring, clock, room, peer, nobody());
+    let mut handler = SignedConnections::new(
+        alloc,
+        handler,
+        ring,
+        clock,
+        TsigLines::new(log),
+        room,
+        peer,
+        nobody(),
+    );
     let end = job.serve(rt, &mut handler, log);
     (handler.into_inner().into_reader(), end)
 }

@@ -19,6 +19,7 @@ use crate::messages::{STREAM_FUDGE, SignedMessages, Signer};
 use crate::pending_times::PendingTimes;
 use crate::plain_room::PlainRoom;
 use crate::signing::{stamp_at, stamp_late, stamp_short, write_signed};
+use crate::tsig_log::{TsigFault, TsigLog, tell_fault};
 use arrayvec::ArrayVec;
 use dns_message::{HEADER, MAX_LIMIT};
 use dns_rdata::Rcode;
@@ -36,10 +37,11 @@ use wire_names::{MAX_TARGETS, Message};
 /// Verifies the requests of connections by the keys of a server, has another handler answer those that are signed, without their TSIG, and those without a TSIG, and signs the replies
 /// to the first. Contracts see that handler, the peer, and the key of its connection.
 #[derive(Drop)]
-pub struct SignedConnections<'r, 'k, K: KeyRing, M: Messages, A: Handler<M>, C> {
+pub struct SignedConnections<'r, 'k, K: KeyRing, M: Messages, A: Handler<M>, C, O> {
     inner: A,
     ring: RingKeys<'k, K>,
     clock: C,
+    log: O,
     peer: Peer,
     from: SocketAddr,
     /// The key of the peer's connection.
@@ -141,24 +143,26 @@ fn one<M: Messages>(len: Option<usize>) -> Reply<M>
     }
 }
 
-impl<'r, 'k, K: KeyRing, M: Messages, A: Handler<M> + Drop, C: UnixClock> SignedConnections<
+impl<
     'r,
     'k,
-    K,
-    M,
-    A,
-    C,
-> {
-    /// Such a handler in front of another one, with room for requests without their TSIG. Its first peer is this one, which sends from this address.
+    K: KeyRing,
+    M: Messages,
+    A: Handler<M> + Drop,
+    C: UnixClock,
+    O: TsigLog + Drop,
+> SignedConnections<'r, 'k, K, M, A, C, O> {
+    /// Such a handler before another one, which logs refused requests, with room for requests without their TSIG. Its first peer is this one, which sends from this address.
     pub fn new(
         alloc: Global,
         inner: A,
         ring: RingKeys<'k, K>,
         clock: C,
+        log: O,
         room: &'r mut PlainRoom,
         peer: Peer,
         from: SocketAddr,
-    ) -> SignedConnections<'r, 'k, K, M, A, C>
+    ) -> SignedConnections<'r, 'k, K, M, A, C, O>
         ensures inner { result.inner ≡ inner }
         ensures peer { result.peer ≡ peer }
     {
@@ -166,6 +170,7 @@ impl<'r, 'k, K: KeyRing, M: Messages, A: Handler<M> + Drop, C: UnixClock> Signed
             inner,
             ring,
             clock,
+            log,
             peer,
             from,
             asker: 0,
@@ -251,20 +256,26 @@ impl<'r, 'k, K: KeyRing, M: Messages, A: Handler<M> + Drop, C: UnixClock> Signed
                 out,
             ))),
             Verification::BadKey(tsig) => {
+                self.log
+                    .tell_fault(rt, self.from, tsig.owner(), TsigFault::BadKey);
                 let error = TsigError::BadKey;
                 Ok(Reply::One(write_unsigned(request, &tsig, error, transport, out)))
             }
             Verification::BadSig(tsig) => {
+                self.log
+                    .tell_fault(rt, self.from, tsig.owner(), TsigFault::BadSig);
                 let error = TsigError::BadSig;
                 Ok(Reply::One(write_unsigned(request, &tsig, error, transport, out)))
             }
             Verification::BadTime(tsig) => {
                 let key = self.ring.keys().get(tsig.key);
+                tell_fault(rt, &self.log, self.from, key, TsigFault::BadTime);
                 let stamp = stamp_late(&tsig, now);
                 Ok(one(write_signed(request, key, tsig, &stamp, transport, out)))
             }
             Verification::BadTrunc(tsig) => {
                 let key = self.ring.keys().get(tsig.key);
+                tell_fault(rt, &self.log, self.from, key, TsigFault::BadTrunc);
                 Ok(one(write_signed(request, key, tsig, &stamp_short(now), transport, out)))
             }
             Verification::Signed(tsig) => self.reply_signed(rt, now, tsig, request, out),
@@ -372,9 +383,15 @@ impl<'r, 'k, K: KeyRing, M: Messages, A: Handler<M> + Drop, C: UnixClock> Signed
     }
 }
 
-impl<'r, 'k, K: KeyRing, M: Messages, A: Handler<M> + Drop, C: UnixClock> Handler<
-    SignedMessages<'k, M>,
-> for SignedConnections<'r, 'k, K, M, A, C> {
+impl<
+    'r,
+    'k,
+    K: KeyRing,
+    M: Messages,
+    A: Handler<M> + Drop,
+    C: UnixClock,
+    O: TsigLog + Drop,
+> Handler<SignedMessages<'k, M>> for SignedConnections<'r, 'k, K, M, A, C, O> {
     ghost seen = { λ signed. A.seen signed.inner };
 
     ghost peer = { λ signed. signed.peer };

@@ -14,6 +14,7 @@ use crate::limit::reply_limit;
 use crate::plain_room::PlainRoom;
 use crate::signing::{sign_reply, stamp_at, stamp_late, stamp_short, write_signed};
 use crate::signs_later::SignsLater;
+use crate::tsig_log::{TsigFault, TsigLog, tell_fault};
 use dns_message::{HEADER, MAX_LIMIT};
 use dns_rdata::Rcode;
 use requests::Handler;
@@ -30,25 +31,34 @@ const MAX_SHORT: usize = 512;
 /// Verifies the datagrams of peers by the keys of a server, has another handler answer those that are signed, without their TSIG, and those without a TSIG, and signs the replies to
 /// the first. Contracts see that handler and the peer.
 #[derive(Drop)]
-pub struct SignedDatagrams<'r, 'k, K: KeyRing, A: SignsLater, C> {
+pub struct SignedDatagrams<'r, 'k, K: KeyRing, A: SignsLater, C, O> {
     inner: A,
     ring: RingKeys<'k, K>,
     clock: C,
+    log: O,
     peer: Peer,
     from: SocketAddr,
     room: &'r mut PlainRoom,
 }
 
-impl<'r, 'k, K: KeyRing, A: SignsLater + Drop, C: UnixClock> SignedDatagrams<'r, 'k, K, A, C> {
-    /// Such a handler in front of another one, with room for requests without their TSIG. Its first peer is this one, which sends from this address.
+impl<'r, 'k, K: KeyRing, A: SignsLater + Drop, C: UnixClock, O: TsigLog + Drop> SignedDatagrams<
+    'r,
+    'k,
+    K,
+    A,
+    C,
+    O,
+> {
+    /// Such a handler before another one, which logs refused requests, with room for requests without their TSIG. Its first peer is this one, which sends from this address.
     pub fn new(
         inner: A,
         ring: RingKeys<'k, K>,
         clock: C,
+        log: O,
         room: &'r mut PlainRoom,
         peer: Peer,
         from: SocketAddr,
-    ) -> SignedDatagrams<'r, 'k, K, A, C>
+    ) -> SignedDatagrams<'r, 'k, K, A, C, O>
         ensures inner { result.inner ≡ inner }
         ensures peer { result.peer ≡ peer }
     {
@@ -56,6 +66,7 @@ impl<'r, 'k, K: KeyRing, A: SignsLater + Drop, C: UnixClock> SignedDatagrams<'r,
             inner,
             ring,
             clock,
+            log,
             peer,
             from,
             room,
@@ -153,20 +164,26 @@ impl<'r, 'k, K: KeyRing, A: SignsLater + Drop, C: UnixClock> SignedDatagrams<'r,
                 out,
             ))),
             Verification::BadKey(tsig) => {
+                self.log
+                    .tell_fault(rt, self.from, tsig.owner(), TsigFault::BadKey);
                 let error = TsigError::BadKey;
                 Ok(Some(write_unsigned(request, &tsig, error, Transport::Udp, out)))
             }
             Verification::BadSig(tsig) => {
+                self.log
+                    .tell_fault(rt, self.from, tsig.owner(), TsigFault::BadSig);
                 let error = TsigError::BadSig;
                 Ok(Some(write_unsigned(request, &tsig, error, Transport::Udp, out)))
             }
             Verification::BadTime(tsig) => {
                 let key = self.ring.keys().get(tsig.key);
+                tell_fault(rt, &self.log, self.from, key, TsigFault::BadTime);
                 let stamp = stamp_late(&tsig, now);
                 Ok(write_signed(request, key, tsig, &stamp, Transport::Udp, out))
             }
             Verification::BadTrunc(tsig) => {
                 let key = self.ring.keys().get(tsig.key);
+                tell_fault(rt, &self.log, self.from, key, TsigFault::BadTrunc);
                 Ok(write_signed(request, key, tsig, &stamp_short(now), Transport::Udp, out))
             }
             Verification::Signed(tsig) => self.answer_signed(rt, now, tsig, request, out),
@@ -226,8 +243,8 @@ fn answer_as<R: Wait, A: SignsLater>(
     inner.answer(rt, request, out)
 }
 
-impl<'r, 'k, K: KeyRing, A: SignsLater + Drop, C: UnixClock> Handler
-    for SignedDatagrams<'r, 'k, K, A, C> {
+impl<'r, 'k, K: KeyRing, A: SignsLater + Drop, C: UnixClock, O: TsigLog + Drop> Handler
+    for SignedDatagrams<'r, 'k, K, A, C, O> {
     ghost seen = { λ signed. A.seen signed.inner };
 
     ghost peer = { λ signed. signed.peer };

@@ -17,6 +17,7 @@ mod plain_room;
 mod queued;
 mod signing;
 mod signs_later;
+mod tsig_log;
 
 pub use clock::{SystemClock, UnixClock};
 pub use connections::SignedConnections;
@@ -26,3 +27,4 @@ pub use messages::{STREAM_FUDGE, SignedMessages};
 pub use plain_room::PlainRoom;
 pub use queued::QueuedSigner;
 pub use signs_later::SignsLater;
+pub use tsig_log::{TsigFault, TsigLog};

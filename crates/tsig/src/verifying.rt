@@ -159,7 +159,7 @@ fn is_size(whole: usize, size: usize) -> bool
 }
 
 /// Whether a time is within the fudge of now (RFC 8945, 5.2.3).
-fn is_timely(now: u64, fields: &Data<'_>) -> bool
+pub(crate) fn is_timely(now: u64, fields: &Data<'_>) -> bool
     ensures { result ≡ is_timely now fields.now }
 {
     let fudge = u64::from(fields.fudge);
