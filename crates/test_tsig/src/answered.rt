@@ -6,10 +6,12 @@ use crate::messages::{
     ANSWER, ANSWER_BARE, OLD, OLD_TOLD, QUERY, QUERY_BARE, SHORT, SHORT_TOLD, UNKNOWN,
     UNKNOWN_TOLD, UPDATE, UPDATE_BARE, UPDATED, UPDATED_BARE, WRONG, WRONG_TOLD,
 };
+use dns_name::Name;
 use requests::Handler;
 use serve_core::{Peer, Transport};
 use signed_replies::{
-    KeyRights, KeyRing, PlainRoom, RingKeys, SignedDatagrams, SignsLater, UnixClock,
+    KeyRights, KeyRing, PlainRoom, RingKeys, SignedDatagrams, SignsLater, TsigFault, TsigLog,
+    UnixClock,
 };
 use snapshot_cell::Spent;
 use std::alloc::Global;
@@ -27,6 +29,14 @@ impl UnixClock for Still {
     fn now(&self) -> u64 {
         self.0
     }
+}
+
+/// A log that keeps nothing.
+#[derive(Drop)]
+struct NoLog;
+
+impl TsigLog for NoLog {
+    fn tell_fault<R: Wait>(&self, _rt: &R, _from: SocketAddr, _key: &Name, _fault: TsigFault) {}
 }
 
 /// A handler that has a reply to one request of who may update, and none to any other.
@@ -92,7 +102,7 @@ fn reply_to<R: Wait, K: KeyRing>(
     let peer = Peer::over(Transport::Udp, false);
     let mut room = PlainRoom::new(alloc)?;
     let clock = Still(now);
-    let mut handler = SignedDatagrams::new(inner, ring, clock, &mut room, peer, client());
+    let mut handler = SignedDatagrams::new(inner, ring, clock, NoLog, &mut room, peer, client());
     let mut out = Vec::new(alloc);
     out.resize(65535, 0)?;
     let Ok(Some(len)) = handler.answer(rt, request, &mut out) else {
