@@ -18,7 +18,7 @@ zone = f"{top}/zones/example.test.zone"
 APEX = bytes.fromhex("076578616d706c65047465737400")
 KEY = bytes.fromhex("026b31076578616d706c6500")
 ALGORITHM = bytes.fromhex("0b686d61632d73686132353600")
-REFUSED = re.compile(r"^(update|transfer) from (\S+):\d+ refused: not permitted by --allow(?: \((\d+) more since\))?$", re.M)
+REFUSED = re.compile(r"^(update|transfer) from (\S+):\d+ refused: not permitted by --allow or --may(?: \((\d+) more since\))?$", re.M)
 SIGNED = re.compile(r"^(update|transfer) from (\S+):\d+: signed with key k1\.example\., but no keys are configured; signature not checked(?: \((\d+) more since\))?$", re.M)
 failed = 0
 

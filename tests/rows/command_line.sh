@@ -108,7 +108,7 @@ row 2 "--workers: '0' is not a number from 1 to 31" serve --listen 127.0.0.1:0 -
 row 2 "--workers: '32' is not a number from 1 to 31" serve --listen 127.0.0.1:0 --workers 32 "$zone"
 row 2 "--keep: '9' is not a number from 0 to 8" serve --listen 127.0.0.1:0 --keep 9 "$zone"
 row 2 "--count: '-' is not a number from 0 to 18446744073709551615" serve --listen 127.0.0.1:0 --count - "$zone"
-row 2 "--allow: 'x' is not an address; separate addresses by commas, such as 127.0.0.1,192.0.2.7" serve --listen 127.0.0.1:0 --allow 127.0.0.1,x "$zone"
+row 2 "--allow: 'x' is not an address or a prefix; separate them by commas, such as 127.0.0.1,192.0.2.0/24" serve --listen 127.0.0.1:0 --allow 127.0.0.1,x "$zone"
 for list in '127.0.0.1 ::1' ' ' '::1, 127.0.0.1 x'; do
     word=${list##*, }
     row 2 "--allow: '${word# }' is not an address" serve --listen 127.0.0.1:0 --allow "$list" "$zone"
@@ -120,7 +120,7 @@ for option in idle message reply; do
     done
 done
 # what is taken is shown by a store that isn't there
-for list in '127.0.0.1, ::1' ' 127.0.0.1 ,  192.0.2.7 ' '127.0.0.1,::1' ''; do
+for list in '127.0.0.1, ::1' ' 127.0.0.1 ,  192.0.2.7 ' '127.0.0.1,::1' '' '10.0.0.0/8, 2001:db8::/32'; do
     row 3 "the store 'no/such/store' can't be read or written" serve --listen 127.0.0.1:0 --store no/such/store --allow "$list" "$zone"
 done
 for word in 1 3600 1s 3600s 5m 60m 1h 001m; do

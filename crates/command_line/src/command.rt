@@ -3,6 +3,7 @@ ghost use Rattle.std.specs.Prelude.{◌≡◌, ◌≤◌, IsNone, IfOk};
 ghost use Rattle.std.specs.Result.{IsOkAnd};
 
 use crate::fault::CommandFault;
+use crate::may::{MAY, Trial, trial_of};
 use crate::options::{Serve, serve_of};
 use crate::program::program;
 use crate::stored_zone::Part;
@@ -32,6 +33,8 @@ pub enum Task<'a> {
     Journal(&'a str),
     /// Prints what changes from one zone to another.
     Change(Change<'a>),
+    /// Prints what a request gets by rules.
+    May(Trial<'a>),
 }
 
 impl<'a> Drop for Task<'a> {
@@ -46,6 +49,7 @@ impl<'a> Drop for Task<'a> {
             Task::Stored(_) => {}
             Task::Journal(_) => {}
             Task::Change(_) => {}
+            Task::May(_) => {}
         }
     }
 }
@@ -105,6 +109,9 @@ fn task_of<'a>(
     }
     if name == "journal" {
         return Ok(Task::Journal(dir_of(found)));
+    }
+    if name == MAY {
+        return Ok(Task::May(trial_of(alloc, found)?));
     }
     let text = found.get_str(ORIGIN).unwrap_or(".");
     let origin = Name::from_text(text.as_bytes(), &Name::root()).map_err(
@@ -212,8 +219,14 @@ pub const WARN: &str = "warn";
 /// The option for the update's message.
 pub const HEX: &str = "hex";
 
-/// The option for replies as over TCP.
+/// The option for replies as over TCP, and for a request over TCP.
 pub const TCP: &str = "tcp";
+
+/// The argument for the address that a request comes from.
+pub const ADDRESS: &str = "address";
+
+/// The argument for a request in hexadecimal.
+pub const REQUEST: &str = "request";
 
 /// The argument for a store's directory.
 pub const DIR: &str = "dir";

@@ -3,6 +3,7 @@ ghost use Rattle.std.specs.Prelude.{◌≡◌, ◌⊎◌};
 
 use commands::{DONE, FAILED};
 use dns_name::NameFault;
+use rights::RuleFault;
 use std::alloc::AllocError;
 use std::io;
 
@@ -30,8 +31,8 @@ pub enum CommandFault<'a> {
     Time(&'static str, &'a str),
     /// The address to listen on is not an address with a port.
     Listen(&'a str),
-    /// An entry in the list of addresses permitted to update and transfer is not an address.
-    Allow(&'a str),
+    /// An entry in the list of those that may update and transfer is neither an address nor a prefix.
+    Allow(RuleFault<'a>),
     /// This many workers, for this many addresses, need too many threads.
     Threads(usize, usize),
     /// The value for a secondary is not an address.
@@ -53,6 +54,10 @@ pub enum CommandFault<'a> {
     Take(&'a str),
     /// The option requires a store, and none is given.
     NoStore(&'static str),
+    /// The rule is refused.
+    Rule(&'a str, RuleFault<'a>),
+    /// The word is not an address.
+    Address(&'a str),
 }
 
 impl<'a> Drop for CommandFault<'a> {
@@ -80,6 +85,8 @@ impl<'a> Drop for CommandFault<'a> {
             } => {}
             CommandFault::Take(_) => {}
             CommandFault::NoStore(_) => {}
+            CommandFault::Rule(_, _) => {}
+            CommandFault::Address(_) => {}
         }
     }
 }
@@ -124,11 +131,12 @@ pub fn tell_fault<R: Print + Eprint>(rt: &R, fault: &CommandFault<'_>) -> io::Re
                 "error: --listen: '{word}' is not an address and port, such as 127.0.0.1:5353 or [::1]:5353"
             )?;
         }
-        CommandFault::Allow(word) => {
+        CommandFault::Allow(RuleFault::Address(word)) => {
             eprintln!(rt;
-                "error: --allow: '{word}' is not an address; separate addresses by commas, such as 127.0.0.1,192.0.2.7"
+                "error: --allow: '{word}' is not an address or a prefix; separate them by commas, such as 127.0.0.1,192.0.2.0/24"
             )?;
         }
+        CommandFault::Allow(fault) => eprintln!(rt; "error: --allow: {fault}")?,
         CommandFault::Threads(workers, addresses) => {
             eprintln!(rt;
                 "error: --workers {workers} with {addresses} addresses needs more than 62 threads: each worker has one for TCP, and one for UDP on each address; --notify needs one more"
@@ -159,6 +167,12 @@ pub fn tell_fault<R: Print + Eprint>(rt: &R, fault: &CommandFault<'_>) -> io::Re
         }
         CommandFault::NoStore(option) => {
             eprintln!(rt; "error: --{option} needs --store")?;
+        }
+        CommandFault::Rule(word, fault) => {
+            eprintln!(rt; "error: --may '{word}': {fault}")?;
+        }
+        CommandFault::Address(word) => {
+            eprintln!(rt; "error: '{word}' is not an address, such as 192.0.2.7 or 2001:db8::7")?;
         }
     }
     Ok(BAD_COMMAND)

@@ -10,6 +10,7 @@
 
 mod command;
 mod fault;
+mod may;
 mod options;
 mod program;
 mod secondaries;
@@ -18,7 +19,8 @@ mod store_options;
 mod stored_zone;
 
 pub use command::{Change, Stored, Task, parse_words};
-pub use fault::{CommandFault, tell_fault};
+pub use fault::{BAD_COMMAND, CommandFault, tell_fault};
+pub use may::Trial;
 pub use options::{MAX_THREADS, Serve};
 pub use secondaries::{Secondary, is_routed, source_of};
 pub use start_fault::PrintedFault;

@@ -6,6 +6,7 @@ ghost use Rattle.transfer_core.specs.declared.kept.TheConstants.{KEPT};
 
 use crate::command::{KEEP, MAX_KEEP, ORIGIN, number_for};
 use crate::fault::CommandFault;
+use crate::may::served_rules;
 use crate::secondaries::{Secondary, secondaries_of};
 use crate::store_options::{
     StorePlan, TRANSFER_RATE, UDP_BUFFER, UPDATE_QUEUE, split_unit, store_of, transfer_rate,
@@ -14,8 +15,9 @@ use crate::store_options::{
 use clap::ArgMatches;
 use commands::Source;
 use dns_name::Name;
+use rights::Rule;
 use std::alloc::{AllocError, Global};
-use std::net::{IpAddr, SocketAddr};
+use std::net::SocketAddr;
 use tcp_connections::Limits;
 
 /// A zone to serve, and how to serve it.
@@ -34,8 +36,8 @@ pub struct Serve<'a> {
     pub keep: usize,
     /// The number of datagrams and connections, counted together, after which a worker exits.
     pub most: u64,
-    /// The addresses that are permitted to update and transfer.
-    pub allowed: Vec<IpAddr>,
+    /// The rules by which peers may update and transfer.
+    pub rules: Vec<Rule>,
     /// The maximum number of open connections per worker.
     pub places: usize,
     /// The timeouts of a connection, and the minimum rate at which its peer must accept what is written to it.
@@ -71,7 +73,7 @@ impl<'a> Drop for Serve<'a> {
             workers: _,
             keep: _,
             most: _,
-            allowed: _,
+            rules: _,
             places: _,
             limits: _,
             udp_buffer: _,
@@ -95,9 +97,6 @@ const MAX_WORKERS: usize = 31;
 /// The maximum number of worker threads in total, since each has a reader of the zone's versions. The engine has one more reader, and the update
 /// thread another.
 pub const MAX_THREADS: usize = 62;
-
-/// The option for the addresses permitted to update and transfer.
-pub const ALLOW: &str = "allow";
 
 /// The option for the file of the keys that clients sign by.
 pub const KEYS: &str = "keys";
@@ -144,7 +143,7 @@ pub fn serve_of<'a>(
         return Err(CommandFault::Threads(workers, listen.len()));
     }
     let keep = number_for(found.get_str(KEEP), KEEP, 0, MAX_KEEP, MAX_KEEP)?;
-    let allowed = addresses_of(alloc, found.get_str(ALLOW).unwrap_or(""))?;
+    let rules = served_rules(alloc, found)?;
     let most = count_of(found.get_str(COUNT))?;
     let places = number_for(
         found.get_str(CONNECTIONS),
@@ -165,7 +164,7 @@ pub fn serve_of<'a>(
         workers,
         keep,
         most,
-        allowed,
+        rules,
         places,
         limits,
         udp_buffer,
@@ -262,24 +261,4 @@ fn count_of<'a>(word: Option<&'a str>) -> Result<u64, CommandFault<'a>>
         least: 0,
         most: u64::MAX,
     })
-}
-
-/// The addresses in a comma-separated list, which may have blanks around each; none for an empty list.
-fn addresses_of<'a>(alloc: Global, list: &'a str) -> Result<Vec<IpAddr>, CommandFault<'a>>
-    ensures { list.entry.now ≡ [] → IsOkAnd result (λ addresses. addresses.items ≡ []) }
-{
-    let mut addresses = Vec::new(alloc);
-    if list.is_empty() {
-        return Ok(addresses);
-    }
-    for part in list.split(',') {
-        let word = part.trim_ascii();
-        let Ok(address) = word.parse::<IpAddr>() else {
-            return Err(CommandFault::Allow(word));
-        };
-        if addresses.push(address).is_err() {
-            return Err(CommandFault::from(AllocError));
-        }
-    }
-    Ok(addresses)
 }

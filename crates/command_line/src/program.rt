@@ -1,6 +1,9 @@
 //! The program's commands, and the arguments of each.
-use crate::command::{BEFORE_FAULT, DIR, HEX, KEEP, NEW, OLD, ORIGIN, TCP, WARN, WINDOW, ZONE};
-use crate::options::{ALLOW, CONNECTIONS, COUNT, IDLE, KEYS, LISTEN, MESSAGE, REPLY, WORKERS};
+use crate::command::{
+    ADDRESS, BEFORE_FAULT, DIR, HEX, KEEP, NEW, OLD, ORIGIN, REQUEST, TCP, WARN, WINDOW, ZONE,
+};
+use crate::may::{ALLOW, MAY};
+use crate::options::{CONNECTIONS, COUNT, IDLE, KEYS, LISTEN, MESSAGE, REPLY, WORKERS};
 use crate::secondaries::NOTIFY;
 use crate::store_options::{JOURNAL, STORE, TAKE, TRANSFER_RATE, UDP_BUFFER, UPDATE_QUEUE};
 use clap::{Arg, ArgAction, Command as Parser};
@@ -119,6 +122,12 @@ const COMMANDS: &[CommandRow] = &[
         words: &[DIR_ROW],
     },
     CommandRow {
+        name: MAY,
+        about: "prints what an update or a request for a transfer gets from rules, and by which rule",
+        example: "Example, the update that makes one zone of another:\n  dnsd may --may '192.0.2.7: update at-or-below dyn.example.test. A AAAA' 192.0.2.7 $(dnsd change --hex old.zone new.zone)",
+        words: MAY_WORDS,
+    },
+    CommandRow {
         name: "serve",
         about: "serves a zone over UDP and TCP",
         example: "Example:\n  dnsd serve --listen 127.0.0.1:5353 zones/example.test.zone\n  dig @127.0.0.1 -p 5353 www.example.test.",
@@ -194,6 +203,33 @@ const STORED_WORDS: &[WordRow] = &[
     DIR_ROW,
 ];
 
+/// The option for a rule.
+const MAY_ROW: WordRow = WordRow {
+    name: MAY,
+    form: Form::Several("'WHO: RIGHTS'"),
+    help: "rule: WHO is an address or prefix, RIGHTS are transfer and update, separated by a comma; after update may follow exact NAME or at-or-below NAME, then types, and tcp; may be repeated",
+};
+
+/// The arguments of `may`.
+const MAY_WORDS: &[WordRow] = &[
+    MAY_ROW,
+    WordRow {
+        name: TCP,
+        form: Form::Flag,
+        help: "the request comes over TCP; by default over UDP",
+    },
+    WordRow {
+        name: ADDRESS,
+        form: Form::Word("ADDR"),
+        help: "address that the request comes from",
+    },
+    WordRow {
+        name: REQUEST,
+        form: Form::Word("REQUEST"),
+        help: "the request in hexadecimal",
+    },
+];
+
 /// The arguments of `serve`.
 const SERVE_WORDS: &[WordRow] = &[
     ORIGIN_ROW,
@@ -216,8 +252,9 @@ const SERVE_WORDS: &[WordRow] = &[
     WordRow {
         name: ALLOW,
         form: Form::Default("LIST", "127.0.0.1,::1"),
-        help: "addresses that may update and transfer the zone, separated by commas; '' for none",
+        help: "addresses and prefixes that may update and transfer the zone, separated by commas; '' for none, as by default where --may is given",
     },
+    MAY_ROW,
     WordRow {
         name: KEYS,
         form: Form::Value("FILE"),

@@ -5,16 +5,17 @@ ghost use Rattle.dnsd_setup.specs.Begun.{CanBegin};
 
 use crate::secondaries::{SecondarySockets, secondaries_for};
 use crate::thread_specs::{thread_specs_for, work_limits_of};
-use command_line::{MAX_THREADS, Serve, StorePlan, is_routed};
+use command_line::{BAD_COMMAND, MAX_THREADS, Serve, StorePlan, is_routed};
 use commands::{DONE, FAILED};
 use dnsd_setup::{
     BoundSockets, Entries, Listening, Log, LogLine, ServedZone, StartedZone, WorkerSockets,
     ZoneStore, bind_sockets, descriptors, keys_for, read_text_for, start_entries, start_store_for,
-    text_for,
+    tell_outside, text_for,
 };
 use key_file::KeyFile;
 use notify::large_in;
 use requests::Allowed;
+use rights::Rule;
 use serve_workers::{
     ConnectionPlan, Most, Plan, ServeFault, SharedKeys, Shutdown, ThreadSpec, UpdateConfig,
     WorkLimit, serve_zone,
@@ -209,6 +210,9 @@ fn serve_on_sockets<
 ) -> io::Result<u8>
     requires { CanBegin begun }
 {
+    if tell_outside(rt, serve.rules.as_slice(), begun.zone().apex())? {
+        return Ok(BAD_COMMAND);
+    }
     let Bound {
         sockets,
         secondaries,
@@ -233,6 +237,11 @@ fn serve_on_sockets<
     Ok(status)
 }
 
+/// Whether a rule gives anybody a right to update.
+fn may_update(rules: &[Rule]) -> bool {
+    rules.iter().any(|rule| rule.update.is_some())
+}
+
 /// What is logged once all workers have started.
 fn listening_for(
     serve: &Serve<'_>,
@@ -246,7 +255,7 @@ fn listening_for(
         apex: zone.apex().copy(),
         serial: zone.serial(),
         records: begun.records(),
-        loses_updates: serve.store.is_none() && !serve.allowed.is_empty(),
+        loses_updates: serve.store.is_none() && may_update(serve.rules.as_slice()),
         kept,
         wanted: serve.udp_buffer,
     }
@@ -384,7 +393,7 @@ fn serve_with_specs<
         places: places_for(rt, serve, log),
         connections: ConnectionPlan {
             limits: serve.limits,
-            allowed: Allowed::new(serve.allowed.as_slice()),
+            allowed: Allowed::new(alloc, serve.rules.as_slice()),
         },
         keys: shared_keys(keys, rights.as_slice()),
     };

@@ -1,5 +1,5 @@
-//! What `dnsd` does without serving: it runs commands over a zone's text, prints the zone of a store, what its updates changed and what changes
-//! from one zone to another, and reads, locks and binds what a server serves with.
+//! What `dnsd` does without serving: it runs commands over a zone's text, prints the zone of a store, what its updates changed, what changes
+//! from one zone to another and what a request gets by rules, and reads, locks and binds what a server serves with.
 //!
 //! The log of a running server is here too: its lines and their levels, and the thread that writes them to standard error and notifies a service
 //! manager.
@@ -13,6 +13,7 @@ mod keys;
 mod levels;
 mod lines;
 mod log;
+mod may;
 mod peer_lines;
 mod started_zone;
 mod stored;
@@ -26,6 +27,7 @@ pub use kept::start_store_for;
 pub use keys::keys_for;
 pub use lines::{LogLine, ROOT_APEX};
 pub use log::{Listening, Log};
+pub use may::{run_may, tell_outside};
 pub use started_zone::{ServedZone, StartedStore, StartedZone, ZoneStore};
 pub use stored::{run_journal, run_stored};
 pub use streams::run_on_streams;

@@ -90,10 +90,11 @@ impl PeerLines {
 fn is_alike(one: &Event, other: &Event) -> bool {
     match (one, other) {
         (
-            Event::Refused { from, wanted },
+            Event::Refused { from, wanted, .. },
             Event::Refused {
                 from: other_from,
                 wanted: other_wanted,
+                ..
             },
         ) => wanted == other_wanted && is_one_peer(*from, *other_from),
         (

@@ -1,4 +1,5 @@
-//! The addresses of clients in tests, and logs: one that keeps its lines, one that drops them.
+//! The addresses of clients in tests, their rules, and logs: one that keeps its lines, one that drops them.
+use rights::{Rule, parse_rule};
 use std::alloc::Global;
 use std::net::{IpAddr, SocketAddr};
 use std::sync::{Mutex, Wait};
@@ -7,6 +8,17 @@ use zone_server::{Event, ServiceLog};
 /// The address of a client: 192.0.2.7, with a port.
 pub fn asker(port: u16) -> SocketAddr {
     SocketAddr::new(IpAddr::from([192, 0, 2, 7]), port)
+}
+
+/// The rule by which that client may update and transfer, if it may; else none. None if memory allocation fails.
+pub fn rules_if(alloc: Global, may: bool) -> Option<Vec<Rule>> {
+    let mut rules = Vec::new(alloc);
+    if may {
+        rules
+            .push(parse_rule(alloc, "192.0.2.7: update, transfer").ok()?)
+            .ok()?;
+    }
+    Some(rules)
 }
 
 /// A log that drops all events.

@@ -1,3 +1,3 @@
-pub mod AllowedLemmas
 pub mod ExchangeLemmas
+pub mod PeerLemmas
 pub mod TurnLemmas

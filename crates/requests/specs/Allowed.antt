@@ -1,27 +1,43 @@
--- Which addresses may update and transfer (RFC 2136, 3.3; RFC 5936, 5).
-use Rattle.std.specs.Prelude.{◌≡◌, ◌↔◌, IsTrue, List}
-use Rattle.std.specs.List.{Any}
-use Rattle.std.specs.Net.Addr.{MatchIp, IsCanonicalOf}
+-- Which requests update, and which peers may transfer (RFC 2136, 3.3; RFC 5936, 5).
+use Rattle.std.specs.Prelude.{◌≡◌, ℕ, Bool, false, List}
 use Rattle.std.specs.Net.Socket.{socket_ip}
-use Rattle.std.specs.declared.net.ip_addr.IpAddr.{IpAddr}
 use Rattle.std.specs.declared.net.socket_addr.SocketAddr.{SocketAddr}
+use Rattle.dns_message.specs.declared.query.Parsed.{Parsed}
+use Rattle.dns_message.specs.declared.query.Parsed.TheVariants.{Silent, Fault, BadOpt, Query, Update, NoMemory}
+use Rattle.dns_message.specs.Request.{reads}
+use Rattle.rights.specs.Address.{number_of}
+use Rattle.rights.specs.Rights.{is_permitted, may_transfer}
+use Rattle.rights.specs.declared.requestor.Requestor.{Requestor}
+use Rattle.rights.specs.declared.rule.Rule.{Rule}
+use Rattle.serve_core.specs.Transport.{is_stream}
 use Rattle.serve_core.specs.declared.peer.Peer.{Peer}
 use Rattle.serve_core.specs.declared.transport.Transport.{Transport}
+use Rattle.requests.specs.Served.{Learned}
 
--- an IPv4-mapped IPv6 address stands for its IPv4 address, any other address for itself (RFC 4291, 2.5.5.2)
-abbrev pub StandsFor : IpAddr → IpAddr → Type 0
-StandsFor address own = MatchIp address (λ _. own ≡ address) (λ ip. IsCanonicalOf ip own)
+-- who asks from an address, whatever its port, over a transport
+abbrev pub requestor_at : Transport → SocketAddr → Requestor
+requestor_at transport from = record { bits = number_of (socket_ip from); is_tcp = is_stream transport }
 
--- two addresses stand for the same one
-abbrev pub AreOne : IpAddr → IpAddr → Type 0
-AreOne a b = (own : IpAddr) × StandsFor a own × StandsFor b own
+-- whether what a request says is an update that rules permit: each record of its update section is covered by a rule of who asks
+abbrev pub permits : List Rule → Requestor → Parsed → Bool
+permits rules who Silent = false
+permits rules who (Fault head code) = false
+permits rules who (BadOpt head question code dnssec_ok) = false
+permits rules who (Query query) = false
+permits rules who (Update update) = is_permitted rules who update
+permits rules who (NoMemory head) = false
 
--- a list of addresses has an address, itself or one that stands for the same
-abbrev pub IsAllowed : List IpAddr → IpAddr → Type 0
-IsAllowed addresses address = Any (λ allowed. AreOne allowed address) addresses
-
--- the peer that sends from an address and a port, over a transport: it may update and transfer exactly if the list has its address
-pub record IsPeer (addresses : List IpAddr) (transport : Transport) (from : SocketAddr) (peer : Peer) : Type 0 where
+-- the peer that sends a request from an address and a port, over a transport: it may update exactly if rules permit the update that the request
+-- is, and it may transfer exactly if one gives it that right
+pub record IsPeer (rules : List Rule) (transport : Transport) (from : SocketAddr) (request : List ℕ) (peer : Peer) : Type 0 where
   pub over : peer.transport ≡ transport
-  pub update : IsTrue peer.may_update ↔ IsAllowed addresses (socket_ip from)
-  pub transfer : IsTrue peer.may_transfer ↔ IsAllowed addresses (socket_ip from)
+  pub update : peer.may_update ≡ permits rules (requestor_at transport from) (reads request)
+  pub transfer : peer.may_transfer ≡ may_transfer rules (requestor_at transport from)
+
+-- what a reply is, by the address that the request comes from: the reply to the peer that rules make of who sends that request from there
+abbrev pub IsReplyFrom : {T : Type 0} → (Peer → Learned T → Learned T → List ℕ → List (List ℕ) → Type 0) → List Rule → Transport → SocketAddr → Learned T → Learned T → List ℕ → List (List ℕ) → Type 0
+IsReplyFrom IsReply rules transport from known later request messages = (peer : Peer) × IsPeer rules transport from request peer × IsReply peer known later request messages
+
+-- which requests are answered later, by the address that they come from
+abbrev pub IsLaterFrom : (Peer → List ℕ → Type 0) → List Rule → Transport → SocketAddr → List ℕ → Type 0
+IsLaterFrom is_later rules transport from request = (peer : Peer) × IsPeer rules transport from request peer × is_later peer request

@@ -1,6 +1,6 @@
 -- What is sent as datagrams: the reply to each that was received, to its sender, in their order (RFC 1035, 4.2.1).
 use Rattle.std.specs.Prelude.{◌≡◌, ℕ, ◌+◌, ◌<◌, List, [], ◌∷◌, ◌++◌, length, Option, None, Some}
-use Rattle.std.specs.declared.net.ip_addr.IpAddr.{IpAddr}
+use Rattle.rights.specs.declared.rule.Rule.{Rule}
 use Rattle.std.specs.declared.net.socket_addr.SocketAddr.{SocketAddr}
 use Rattle.serve_core.specs.declared.peer.Peer.{Peer}
 use Rattle.serve_core.specs.declared.transport.Transport.TheVariants.{Udp}
@@ -22,14 +22,14 @@ module _ {T : Type 0} (IsReply : Peer → Learned T → Learned T → List ℕ �
     pub output : Sends old new datagrams
     pub counted : more ≡ count_of faults failed
 
--- the same, and the addresses that may update and transfer
-module _ {T : Type 0} (IsReply : Peer → Learned T → Learned T → List ℕ → List (List ℕ) → Type 0) (addresses : List IpAddr) where
+-- the same, and the rules by which peers may update and transfer
+module _ {T : Type 0} (IsReply : Peer → Learned T → Learned T → List ℕ → List (List ℕ) → Type 0) (rules : List Rule) where
   -- datagrams that were received, those that were sent, how many failed to be sent, and what is known then: each received datagram has its
-  -- reply, which goes to its sender, a peer by its address; and nothing that was known before is forgotten
+  -- reply, which goes to its sender, a peer by its address and the request; and nothing that was known before is forgotten
   pub data Exchanges (start : Learned T) : List Datagram → List Datagram → ℕ → Learned T → Type 0 where
     none : Exchanges start [] [] 0 start
     next : {received more sent longer datagrams : List Datagram} {faults failed all : ℕ} {seen before later : Learned T} {from : SocketAddr} {peer : Peer} {request : List ℕ} {messages : List (List ℕ)} → Exchanges start received sent faults seen
-        → Grows before seen → Grows later before → IsPeer addresses Udp from peer → IsReply peer before later request messages → AreSent from messages datagrams failed
+        → Grows before seen → Grows later before → IsPeer rules Udp from request peer → IsReply peer before later request messages → AreSent from messages datagrams failed
         → more ≡ received ++ (request, from) ∷ [] → longer ≡ sent ++ datagrams → all ≡ faults + failed → Exchanges start more longer all later
 
   -- between two states of the datagrams, so many that were received have been answered
@@ -48,7 +48,7 @@ module _ {T : Type 0} (IsReply : Peer → Learned T → Learned T → List ℕ �
   -- a request from an address is answered as that of a peer that sends from there, by what is known then; its reply goes to that address
   abbrev pub AnswersFrom : Learned T → List ℕ → SocketAddr → Learned T → Option (List Datagram × List Datagram) → ℕ → Option (List Datagram × List Datagram) → ℕ → Type 0
   AnswersFrom seen request from later old faults new more =
-      (peer : Peer) × (before : Learned T) × Grows before seen × Grows later before × IsPeer addresses Udp from peer × RepliesTo IsReply peer before request from later old faults new more
+      (peer : Peer) × (before : Learned T) × Grows before seen × Grows later before × IsPeer rules Udp from request peer × RepliesTo IsReply peer before request from later old faults new more
 
   -- one datagram is received and answered
   pub record TurnMade (seen : Learned T) (old : List Datagram × List Datagram) (faults : ℕ) (later : Learned T) (new : List Datagram × List Datagram) (more : ℕ) : Type 0 where
@@ -61,7 +61,7 @@ module _ {T : Type 0} (IsReply : Peer → Learned T → Learned T → List ℕ �
     pub before : Learned T
     pub begun : Grows before seen
     pub grows : Grows later before
-    pub asks : IsPeer addresses Udp from peer
+    pub asks : IsPeer rules Udp from request peer
     pub reply : IsReply peer before later request messages
     pub sent : AreSent from messages datagrams failed
     pub input : old.0 ≡ (request, from) ∷ new.0

@@ -1,60 +1,63 @@
-//! Which addresses may update and transfer.
-ghost use Rattle.std.specs.Prelude.{◌≡◌, ◌↔◌, IsTrue};
-ghost use Rattle.requests.specs.Allowed.{AreOne, IsAllowed, IsPeer};
+//! Which requests update, and which peers may transfer.
+ghost use Rattle.std.specs.Prelude.{◌≡◌, MatchResult};
+ghost use Rattle.dns_message.specs.Request.{reads, IsWant};
+ghost use Rattle.dns_message.specs.declared.query.Parsed.TheVariants.{NoMemory as no_memory};
+ghost use Rattle.requests.specs.Allowed.{permits, IsPeer};
 
+use dns_message::{Head, Parsed, is_update, parse};
+use rights::{Requestor, Rule, is_permitted, may_transfer};
 use serve_core::{Peer, Transport};
-use std::net::{IpAddr, Ipv4Addr, SocketAddr};
+use std::alloc::Global;
+use std::net::SocketAddr;
 
-/// The addresses from which clients may update the zone and transfer it (RFC 2136, 3.3; RFC 5936, 5).
+/// The rules by which clients may update the zone and transfer it (RFC 2136, 3.3; RFC 5936, 5).
 #[derive(Clone, Copy)]
 pub struct Allowed<'a> {
-    /// The addresses. An IPv4 address also covers its IPv4-mapped IPv6 address (RFC 4291, 2.5.5.2).
-    pub addresses: &'a [IpAddr],
+    /// The rules.
+    pub rules: &'a [Rule],
+    /// The memory for reading an update.
+    pub(crate) alloc: Global,
 }
 
 impl<'a> Allowed<'a> {
-    /// These addresses.
-    pub fn new(addresses: &'a [IpAddr]) -> Allowed<'a>
-        ensures { result.addresses.now ≡ addresses.entry.now }
+    /// These rules.
+    pub fn new(alloc: Global, rules: &'a [Rule]) -> Allowed<'a>
+        ensures { result.rules.now ≡ rules.entry.now }
     {
-        Allowed { addresses }
+        Allowed { rules, alloc }
     }
 
-    /// The peer at an address, over a transport. It may update and transfer if its address is one of these, from any port.
-    pub fn peer(self, from: SocketAddr, transport: Transport) -> Peer
-        ensures { IsPeer self.entry.addresses.now transport from result }
+    /// The peer that sends a request from an address, over a transport. It may update exactly if the request is an update that the rules permit, and
+    /// transfer exactly if one gives it that right, from any port. An error is the header of an update that there is no memory to read.
+    pub fn peer(self, from: SocketAddr, transport: Transport, request: &[u8]) -> Result<Peer, Head>
+        ensures { MatchResult result (λ peer. IsPeer self.entry.rules.now transport from request.now peer) (λ head. IsWant request.now (no_memory head)) }
     {
-        let may = has_address(self.addresses, from.ip());
-        Peer {
-            may_update: may,
-            may_transfer: may,
+        let who = Requestor::new(from.ip(), transport.is_stream());
+        let may_update = match may_update(self.alloc, self.rules, who, request) {
+            Ok(may) => may,
+            Err(head) => return Err(head),
+        };
+        Ok(Peer {
+            may_update,
+            may_transfer: may_transfer(self.rules, who),
             transport,
-        }
+        })
     }
 }
 
-/// Whether a list of addresses has an address.
-fn has_address(addresses: &[IpAddr], address: IpAddr) -> bool
-    ensures { IsTrue result ↔ IsAllowed addresses.now address }
+/// Whether a request is an update that rules permit. An error is the header of an update that there is no memory to read.
+fn may_update(alloc: Global, rules: &[Rule], who: Requestor, request: &[u8]) -> Result<bool, Head>
+    ensures { MatchResult result (λ may. may ≡ permits rules.now who (reads request.now)) (λ head. IsWant request.now (no_memory head)) }
 {
-    addresses.iter().any(|allowed| is_one(*allowed, address))
-}
-
-/// Whether two addresses are the same one, where an IPv4-mapped IPv6 address counts as its IPv4 address.
-fn is_one(a: IpAddr, b: IpAddr) -> bool
-    ensures { IsTrue result ↔ AreOne a b }
-{
-    match (a, b) {
-        (IpAddr::V4(a), IpAddr::V4(b)) => is_same(a, b),
-        _ => a.to_canonical() == b.to_canonical(),
+    if !is_update(request) {
+        return Ok(false);
     }
-}
-
-/// Whether two IPv4 addresses are the same, by the numbers that their octets make.
-fn is_same(a: Ipv4Addr, b: Ipv4Addr) -> bool
-    ensures { IsTrue result ↔ (a ≡ b) }
-{
-    let own = a.octets();
-    let other = b.octets();
-    u32::from_be_bytes(own) == u32::from_be_bytes(other)
+    match parse(alloc, request) {
+        Parsed::Update(update) => Ok(is_permitted(rules, who, &update)),
+        Parsed::NoMemory(head) => Err(head),
+        Parsed::Silent => Ok(false),
+        Parsed::Fault(_, _) => Ok(false),
+        Parsed::BadOpt(_, _, _, _) => Ok(false),
+        Parsed::Query(_) => Ok(false),
+    }
 }

@@ -26,7 +26,7 @@ fn answer_through<R: Wait, A: Handler, D: Datagrams, G: Gate>(
     requires request_room { message_limit ≤ length request.old }
     requires reply_room { message_limit ≤ length out.old }
     ensures grows { Grows (A.seen handler.new) (A.seen handler.old) }
-    ensures answered { IfSome (D.datagrams datagrams.old) (λ o. EndsBy A.is_reply allowed.entry.addresses.now result (A.seen handler.old) o (D.failed datagrams.old) most (A.seen handler.new) (D.datagrams datagrams.new) (D.failed datagrams.new)) }
+    ensures answered { IfSome (D.datagrams datagrams.old) (λ o. EndsBy A.is_reply allowed.entry.rules.now result (A.seen handler.old) o (D.failed datagrams.old) most (A.seen handler.new) (D.datagrams datagrams.new) (D.failed datagrams.new)) }
 {
     for _done in 0..most {
         let Some((len, from)) = datagrams.receive(request) else {
@@ -60,7 +60,7 @@ pub fn serve_udp<R: Wait, A: Handler, D: Datagrams, G: Gate>(
     requires request_room { message_limit ≤ length request.old }
     requires reply_room { message_limit ≤ length out.old }
     ensures grows { Grows (A.seen handler.new) (A.seen handler.old) }
-    ensures answered { IfSome (D.datagrams datagrams.old) (λ o. EndsBy A.is_reply allowed.entry.addresses.now result (A.seen handler.old) o (D.failed datagrams.old) most (A.seen handler.new) (D.datagrams datagrams.new) (D.failed datagrams.new)) }
+    ensures answered { IfSome (D.datagrams datagrams.old) (λ o. EndsBy A.is_reply allowed.entry.rules.now result (A.seen handler.old) o (D.failed datagrams.old) most (A.seen handler.new) (D.datagrams datagrams.new) (D.failed datagrams.new)) }
 {
     let end = answer_through(rt, handler, datagrams, allowed, most, gate, request, out);
     datagrams.flush();

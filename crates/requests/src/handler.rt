@@ -1,12 +1,15 @@
 //! What answers requests that come as datagrams.
-ghost use Rattle.std.specs.Prelude.{◌≡◌, ℕ, ◌≤◌, List, length, IfOk, IfSome};
+ghost use Rattle.std.specs.Prelude.{◌≡◌, ℕ, ◌≤◌, List, [], ◌∷◌, length, take, IfOk, IfSome};
 ghost use Rattle.dns_message.specs.Message.{message_limit};
+ghost use Rattle.dns_message.specs.Request.{IsWant};
+ghost use Rattle.dns_message.specs.declared.query.Parsed.TheVariants.{NoMemory as no_memory};
 ghost use Rattle.zone_tree.specs.Version.{Version};
 ghost use Rattle.requests.specs.Octets.{messages_in};
 ghost use Rattle.requests.specs.Datagrams.{by_datagram};
 ghost use Rattle.requests.specs.Served.{Learned, Grows};
 ghost use Rattle.serve_core.specs.declared.peer.Peer.{Peer as PeerAsking};
 
+use dns_message::Head;
 use serve_core::Peer;
 use snapshot_cell::Spent;
 use std::net::SocketAddr;
@@ -42,4 +45,13 @@ pub trait Handler {
         ensures grows { Grows (seen self.new) (seen self.old) }
         ensures bound { IfOk result (λ len. IfSome len (λ n. (n ≤ message_limit) × (n ≤ length out.new))) }
         ensures reply { IfOk result (λ len. is_reply (by_datagram (peer self.old)) (seen self.old) (seen self.new) request.now (messages_in len out.new)) };
+
+    /// Answers an update that there is no memory to read, whoever sends it: writes the reply to the start of a buffer, and returns its
+    /// number of octets.
+    fn answer_unread(&mut self, request: &[u8], head: Head, out: &mut [u8]) -> usize
+        requires room { message_limit ≤ length out.old }
+        requires wanted { IsWant request.now (no_memory head) }
+        ensures grows { Grows (seen self.new) (seen self.old) }
+        ensures bound { (result ≤ message_limit) × (result ≤ length out.new) }
+        ensures reply { (asking : PeerAsking) → is_reply (by_datagram asking) (seen self.old) (seen self.new) request.now (take result out.new ∷ []) };
 }

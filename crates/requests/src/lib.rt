@@ -14,6 +14,7 @@ mod gated;
 mod handler;
 mod stream_end;
 mod udp;
+mod uncovered;
 
 pub use allowed::Allowed;
 pub use counted::{Counted, DeviceFailed, Stream};
@@ -23,3 +24,4 @@ pub use gated::serve_udp;
 pub use handler::Handler;
 pub use stream_end::StreamEnd;
 pub use udp::{DatagramsEnd, serve_datagrams};
+pub use uncovered::Uncovered;

@@ -23,8 +23,8 @@ pub enum DatagramsEnd {
     Spent,
 }
 
-/// Answers a request that came as a datagram: its reply goes to the sender, which may update and transfer according to its own address,
-/// and a send that fails is counted. [`Spent`] if no version can be loaded; then nothing is sent.
+/// Answers a request that came as a datagram: its reply goes to the sender, which may update and transfer according to its own address
+/// and the request, and a send that fails is counted. [`Spent`] if no version can be loaded; then nothing is sent.
 pub(crate) fn answer_from<R: Wait, A: Handler, D: Datagrams>(
     rt: &R,
     handler: &mut A,
@@ -36,11 +36,19 @@ pub(crate) fn answer_from<R: Wait, A: Handler, D: Datagrams>(
 ) -> Result<(), Spent>
     requires { message_limit ≤ length out.old }
     ensures grows { Grows (A.seen handler.new) (A.seen handler.old) }
-    ensures answered { OnOk result (AnswersFrom A.is_reply allowed.entry.addresses.now (A.seen handler.old) request.now from (A.seen handler.new) (D.datagrams datagrams.old) (D.failed datagrams.old) (D.datagrams datagrams.new) (D.failed datagrams.new)) }
+    ensures answered { OnOk result (AnswersFrom A.is_reply allowed.entry.rules.now (A.seen handler.old) request.now from (A.seen handler.new) (D.datagrams datagrams.old) (D.failed datagrams.old) (D.datagrams datagrams.new) (D.failed datagrams.new)) }
     ensures spent { OnErr result (D.datagrams datagrams.new ≡ D.datagrams datagrams.old) }
     ensures same { OnErr result (D.failed datagrams.new ≡ D.failed datagrams.old) }
 {
-    handler.turn_to(allowed.peer(from, Transport::Udp), from);
+    let peer = match allowed.peer(from, Transport::Udp, request) {
+        Ok(peer) => peer,
+        Err(head) => {
+            let count = handler.answer_unread(request, head, out);
+            datagrams.send(&out[..count], from);
+            return Ok(());
+        }
+    };
+    handler.turn_to(peer, from);
     match handler.answer(rt, request, out) {
         Ok(Some(len)) => {
             datagrams.send(&out[..len], from);
@@ -64,7 +72,7 @@ fn answer_all<R: Wait, A: Handler, D: Datagrams>(
     requires request_room { message_limit ≤ length request.old }
     requires reply_room { message_limit ≤ length out.old }
     ensures grows { Grows (A.seen handler.new) (A.seen handler.old) }
-    ensures answered { IfSome (D.datagrams datagrams.old) (λ o. EndsBy A.is_reply allowed.entry.addresses.now result (A.seen handler.old) o (D.failed datagrams.old) most (A.seen handler.new) (D.datagrams datagrams.new) (D.failed datagrams.new)) }
+    ensures answered { IfSome (D.datagrams datagrams.old) (λ o. EndsBy A.is_reply allowed.entry.rules.now result (A.seen handler.old) o (D.failed datagrams.old) most (A.seen handler.new) (D.datagrams datagrams.new) (D.failed datagrams.new)) }
 {
     for _done in 0..most {
         let Some((len, from)) = datagrams.receive(request) else {
@@ -80,7 +88,7 @@ fn answer_all<R: Wait, A: Handler, D: Datagrams>(
 
 /// Answers at most `most` requests that come as datagrams, one after another; fewer if one can't be received, or no version can be loaded.
 /// For a device that reports its datagrams, the replies are sent in the order of the requests, each to the sender of the request, which may
-/// update and transfer according to its own address. Replies that fail to be sent are left out, and are counted (RFC 1035, 4.2.1). None is
+/// update and transfer according to its own address and the request. Replies that fail to be sent are left out, and are counted (RFC 1035, 4.2.1). None is
 /// kept unsent at the end.
 pub fn serve_datagrams<R: Wait, A: Handler, D: Datagrams>(
     rt: &R,
@@ -94,7 +102,7 @@ pub fn serve_datagrams<R: Wait, A: Handler, D: Datagrams>(
     requires request_room { message_limit ≤ length request.old }
     requires reply_room { message_limit ≤ length out.old }
     ensures grows { Grows (A.seen handler.new) (A.seen handler.old) }
-    ensures answered { IfSome (D.datagrams datagrams.old) (λ o. EndsBy A.is_reply allowed.entry.addresses.now result (A.seen handler.old) o (D.failed datagrams.old) most (A.seen handler.new) (D.datagrams datagrams.new) (D.failed datagrams.new)) }
+    ensures answered { IfSome (D.datagrams datagrams.old) (λ o. EndsBy A.is_reply allowed.entry.rules.now result (A.seen handler.old) o (D.failed datagrams.old) most (A.seen handler.new) (D.datagrams datagrams.new) (D.failed datagrams.new)) }
 {
     let end = answer_all(rt, handler, datagrams, allowed, most, request, out);
     datagrams.flush();

@@ -1,6 +1,6 @@
--- A thread's job: its number, whether it takes datagrams, the addresses that may update and transfer by it, how it ended, and with which fault (own).
+-- A thread's job: its number, whether it takes datagrams, the rules by which peers may update and transfer, how it ended, and with which fault (own).
 use Rattle.std.specs.Prelude.{◌≡◌, ℕ, Bool, true, false, List, Option, None, Some}
-use Rattle.std.specs.declared.net.ip_addr.IpAddr.{IpAddr}
+use Rattle.rights.specs.declared.rule.Rule.{Rule}
 use Rattle.zone_server.specs.declared.service_log.JobEnd.{JobEnd}
 use Rattle.zone_server.specs.declared.service_log.JobEnd.TheVariants.{Done, Device, Spent, NoMemory}
 use Rattle.worker_jobs.specs.declared.serve_fault.ServeFault.{ServeFault}
@@ -32,13 +32,13 @@ are_datagrams (OfDatagrams socket) = true
 are_datagrams (OfConnections listeners) = false
 are_datagrams (OfSecondaries secondaries) = false
 
--- the addresses that may update and transfer by the job are these; true of a job that notifies secondaries, which answers no requests
-abbrev pub HasRights : {C : Type 0} → List IpAddr → SocketJob C → Type 0
-HasRights addresses (Datagrams job) = job.job.allowed.addresses.now ≡ addresses
-HasRights addresses (Connections job) = job.plan.allowed.addresses.now ≡ addresses
-HasRights addresses (SignedDatagrams signed) = signed.job.job.allowed.addresses.now ≡ addresses
-HasRights addresses (SignedConnections signed) = signed.job.plan.allowed.addresses.now ≡ addresses
-HasRights addresses (Secondaries job) = Unit {0}
+-- the rules by which peers may update and transfer by the job are these; true of a job that notifies secondaries, which answers no requests
+abbrev pub HasRights : {C : Type 0} → List Rule → SocketJob C → Type 0
+HasRights rules (Datagrams job) = job.job.allowed.rules.now ≡ rules
+HasRights rules (Connections job) = job.plan.allowed.rules.now ≡ rules
+HasRights rules (SignedDatagrams signed) = signed.job.job.allowed.rules.now ≡ rules
+HasRights rules (SignedConnections signed) = signed.job.plan.allowed.rules.now ≡ rules
+HasRights rules (Secondaries job) = Unit {0}
 
 -- the job's end; none where it hasn't ended
 abbrev pub end_of : {C : Type 0} → SocketJob C → Option JobEnd

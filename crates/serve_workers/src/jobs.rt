@@ -111,7 +111,7 @@ pub(crate) fn jobs_of<'a, R: Clock + Net + Wait>(
 ) -> Result<Vec<SocketJob<'a, R>>, ServeFault>
     ensures numbers { IfOk result (λ jobs. map (λ job. number_of job) jobs.items ≡ map (λ spec. spec.worker) specs.entry.items) }
     ensures kinds { IfOk result (λ jobs. map (λ job. takes_datagrams job) jobs.items ≡ map (λ spec. are_datagrams spec.sockets) specs.entry.items) }
-    ensures rights { IfOk result (λ jobs. All (λ job. HasRights plan.entry.connections.allowed.addresses.now job) jobs.items) }
+    ensures rights { IfOk result (λ jobs. All (λ job. HasRights plan.entry.connections.allowed.rules.now job) jobs.items) }
     ensures count { IfOk result (λ jobs. vec_len jobs ≡ vec_len specs.entry) }
     ensures refused { IfErr result (λ fault. (fault ≡ Fault.NoMemory) ⊎ (fault ≡ Fault.Device)) }
 {

@@ -42,7 +42,7 @@ pub struct Plan<'a> {
     pub keep: usize,
     /// How many connections a worker may have open at most.
     pub places: usize,
-    /// How long connections may wait for their peers, and the addresses that may update and transfer.
+    /// How long connections may wait for their peers, and the rules by which peers may update and transfer.
     pub connections: ConnectionPlan<'a>,
     /// The keys by which requests are verified. None where signatures aren't checked.
     pub keys: Option<SharedKeys<'a>>,

@@ -50,7 +50,7 @@ impl Sockets {
     ) -> io::Result<SocketJob<'a, R>>
         ensures number { IfOk result (λ job. number_of job ≡ worker) }
         ensures kind { IfOk result (λ job. takes_datagrams job ≡ are_datagrams self) }
-        ensures rights { IfOk result (λ job. HasRights plan.entry.connections.allowed.addresses.now job) }
+        ensures rights { IfOk result (λ job. HasRights plan.entry.connections.allowed.rules.now job) }
     {
         match self {
             Sockets::Datagrams(socket) => {
@@ -148,7 +148,7 @@ impl<'a> ThreadSpec<'a> {
     ) -> io::Result<SocketJob<'a, R>>
         ensures number { IfOk result (λ job. number_of job ≡ self.entry.worker) }
         ensures kind { IfOk result (λ job. takes_datagrams job ≡ are_datagrams self.entry.sockets) }
-        ensures rights { IfOk result (λ job. HasRights plan.entry.connections.allowed.addresses.now job) }
+        ensures rights { IfOk result (λ job. HasRights plan.entry.connections.allowed.rules.now job) }
     {
         let ThreadSpec {
             worker,

@@ -61,6 +61,7 @@ fn serve_datagrams<'g, 's, R: Wait, Z: FirstZone, N: ServerName, L: ServiceLog>(
 {
     let peer = Peer::over(Transport::Udp, false);
     let handler = DatagramHandler::new(alloc, server, reader, log, peer, nobody());
+    let handler = handler.with_rules(job.allowed());
     let mut handler = handler.with_sender(sender);
     let end = job.serve(rt, &mut handler);
     (handler.into_reader(), end)
@@ -82,6 +83,7 @@ fn serve_connections<'g, 's, R: Wait, Z: FirstZone, N: ServerName, L: ServiceLog
 {
     let peer = Peer::over(Transport::Udp, false);
     let handler = ConnectionHandler::new(alloc, server, reader, log, peer, nobody());
+    let handler = handler.with_rules(job.allowed());
     let mut handler = handler.with_sender(sender);
     let end = job.serve(rt, &mut handler, log);
     (handler.into_reader(), end)

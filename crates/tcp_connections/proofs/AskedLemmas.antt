@@ -1,7 +1,6 @@
 -- What is known on connections, and a request that waits for its reply.
 use Rattle.std.proofs.Common.{◌≡◌, ℕ, List, sym, subst}
-use Rattle.serve_core.specs.declared.peer.Peer.{Peer}
-use Rattle.requests.specs.Served.{Learned}
+use Rattle.requests.specs.Served.{Learned, Grows}
 use Rattle.requests.proofs.TurnLemmas.{grows_itself, grows_more}
 use Rattle.tcp_connections.specs.Asked.{EachGrows, Waits}
 
@@ -11,6 +10,10 @@ each_itself known = λ key. grows_itself (known key)
 pub each_more : {T : Type 0} (a b c : ℕ → Learned T) → EachGrows b a → EachGrows c b → EachGrows c a
 each_more a b c first then = λ key. grows_more (a key) (b key) (c key) (first key) (then key)
 
--- the same request waits, of the same peer
-pub waits_as : (is_later : Peer → List ℕ → Type 0) (peer mine : Peer) (held same : List ℕ) → mine ≡ peer → same ≡ held → Waits (is_later mine) held → Waits (is_later peer) same
-waits_as is_later peer mine held same is still waits = subst (λ (p : Peer). Waits (is_later p) same) is (subst (λ (l : List ℕ). Waits (is_later mine) l) (sym still) waits)
+-- nothing more is known behind what is the same
+pub each_as : {T : Type 0} (a b c : ℕ → Learned T) → ((key : ℕ) → b key ≡ a key) → EachGrows c b → EachGrows c a
+each_as {T} a b c same grows = λ key. subst (λ (l : Learned T). Grows (c key) l) (same key) (grows key)
+
+-- the same request waits
+pub waits_as : (is_later : List ℕ → Type 0) (held same : List ℕ) → same ≡ held → Waits is_later held → Waits is_later same
+waits_as is_later held same still waits = subst (λ (l : List ℕ). Waits is_later l) (sym still) waits

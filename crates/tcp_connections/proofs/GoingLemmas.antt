@@ -1,6 +1,5 @@
 -- What was answered still is when a connection goes on, and where it ends.
 use Rattle.std.proofs.Common.{◌≡◌, ◌≢◌, refl, ℕ, List, [], ◌++◌, Option, None, Some, IfSome, Result, Ok, Err, IfOk, OnErr, sym, ap, ◌∙◌, subst, append_assoc}
-use Rattle.serve_core.specs.declared.peer.Peer.{Peer}
 use Rattle.dns_message.specs.Frame.{frame_of}
 use Rattle.requests.specs.Octets.{frames_of}
 use Rattle.requests.specs.Served.{Learned, Grows, Served, EndsAs}
@@ -12,11 +11,7 @@ use Rattle.tcp_connections.specs.Kept.{Kept, due, told_by}
 use Rattle.tcp_connections.specs.declared.step.Step.{Step}
 use Rattle.tcp_connections.specs.declared.step.Step.TheVariants.{More, Done, Full, Blocked, Later}
 use Rattle.tcp_connections.specs.StreamOctets.{Stays, Writes, EndsTold}
-use Rattle.tcp_connections.specs.Going.{IsHeldUp, Known, Goes, Keeps, PartlyTold, Ends, Stops}
-
--- a connection of the same peer is held up
-pub held_up_as : (is_later : Peer → List ℕ → Type 0) (peer mine : Peer) (kept : Kept) → mine ≡ peer → IsHeldUp (is_later mine) kept → IsHeldUp (is_later peer) kept
-held_up_as is_later peer mine kept same held_up = subst (λ (p : Peer). IsHeldUp (is_later p) kept) same held_up
+use Rattle.tcp_connections.specs.Going.{Known, Goes, Keeps, PartlyTold, Ends, Stops}
 
 abbrev written_of : Option (List ℕ × List ℕ) → List ℕ
 written_of None = []

@@ -3,7 +3,7 @@ use Rattle.std.proofs.Common.{◌≡◌, ◌≢◌, ℕ, ◌+◌, ◌<◌, List,
 use Rattle.std.specs.List.{All, Contains}
 use Rattle.std.proofs.lemmas.Bool.{cases_eq}
 use Rattle.std.proofs.lemmas.List.Elements.{All-weaker, All-more, Contains-append_left}
-use Rattle.serve_core.specs.declared.peer.Peer.{Peer}
+use Rattle.std.specs.declared.net.socket_addr.SocketAddr.{SocketAddr}
 use Rattle.requests.specs.Served.{BeginsWith}
 use Rattle.requests.specs.declared.stream_end.StreamEnd.{StreamEnd}
 use Rattle.tcp_connections.specs.Going.{IsHeldUp}
@@ -13,8 +13,8 @@ use Rattle.tcp_connections.specs.Links.{HasStopped}
 use Rattle.tcp_connections.specs.declared.connection.Connection.{Connection}
 
 -- a connection that couldn't go on has stopped
-pub stopped_by_step : {S M : Type 0} (would_block : S → Type 0) (is_later : Peer → List ℕ → Type 0) (connection : Option (Connection S M)) (new : Connection S M) (step : Step) → connection ≡ Some new → (step ≡ Blocked) ⊎ (step ≡ Later)
-    → (◌≡◌ {A = Result Step StreamEnd} (Ok step) (Ok Blocked) → would_block new.stream) → (◌≡◌ {A = Result Step StreamEnd} (Ok step) (Ok Later) → IsHeldUp (is_later new.peer) new.state) → HasStopped would_block is_later connection
+pub stopped_by_step : {S M : Type 0} (would_block : S → Type 0) (is_later : SocketAddr → List ℕ → Type 0) (connection : Option (Connection S M)) (new : Connection S M) (step : Step) → connection ≡ Some new → (step ≡ Blocked) ⊎ (step ≡ Later)
+    → (◌≡◌ {A = Result Step StreamEnd} (Ok step) (Ok Blocked) → would_block new.stream) → (◌≡◌ {A = Result Step StreamEnd} (Ok step) (Ok Later) → IsHeldUp (is_later new.from) new.state) → HasStopped would_block is_later connection
 stopped_by_step would_block is_later connection new step is (inl same) blocked waits = subst (HasStopped would_block is_later) (sym is) (inl (blocked (ap (λ (s : Step). Ok s) same)))
 stopped_by_step would_block is_later connection new step is (inr same) blocked waits = subst (HasStopped would_block is_later) (sym is) (inr (waits (ap (λ (s : Step). Ok s) same)))
 

@@ -1,7 +1,7 @@
 -- What becomes of a connection over several shares, of it and of others.
 use Rattle.std.proofs.Common.{◌≡◌, ◌≢◌, refl, ℕ, List, Option, None, Some, Result, Ok, Err, OnOk, IfErr, option_map, sym, ◌∙◌, subst, inl, inr}
 use Rattle.std.proofs.lemmas.Bool.{cases_eq}
-use Rattle.serve_core.specs.declared.peer.Peer.{Peer}
+use Rattle.std.specs.declared.net.socket_addr.SocketAddr.{SocketAddr}
 use Rattle.requests.specs.Served.{Learned, Grows}
 use Rattle.tcp_connections.specs.Asked.{EachGrows}
 use Rattle.requests.proofs.TurnLemmas.{grows_more}
@@ -23,27 +23,25 @@ pub err_follows : {A E : Type 0} {P Q : E → Type 0} (result : Result A E) → 
 err_follows (Ok value) step holds = tt
 err_follows (Err fault) step holds = step fault holds
 
-module _ {T : Type 0} (IsReply : Peer → Learned T → Learned T → List ℕ → List (List ℕ) → Type 0) where
+module _ {T : Type 0} (IsReply : SocketAddr → Learned T → Learned T → List ℕ → List (List ℕ) → Type 0) where
   -- a connection isn't served, and maybe more is known
   pub own_same : (now : ℕ) (seen later : Learned T) (connection : Option Seen) → Grows later seen → OwnServed IsReply now seen connection later connection
   own_same now seen later None grows = tt
   own_same now seen later (Some a) grows = record {
-    peer = refl;
     from = refl;
     group = refl;
     window = refl;
-    goes = goes_seen (IsReply a.peer) seen later (told_of a) grows;
+    goes = goes_seen (IsReply a.from) seen later (told_of a) grows;
     written = writes_itself a.octets;
     begun = inr (refl, refl);
   }
 
   gone_more : (now : ℕ) (seen mid later : Learned T) (a b c : Seen) → HasGone IsReply now seen a mid b → HasGone IsReply now mid b later c → HasGone IsReply now seen a later c
   gone_more now seen mid later a b c first then = record {
-    peer = then.peer ∙ first.peer;
     from = then.from ∙ first.from;
     group = then.group ∙ first.group;
     window = then.window ∙ first.window;
-    goes = goes_more (IsReply a.peer) seen mid later (told_of a) (told_of b) (told_of c) first.goes (subst (λ (peer : Peer). Goes (IsReply peer) mid (told_of b) later (told_of c)) first.peer then.goes);
+    goes = goes_more (IsReply a.from) seen mid later (told_of a) (told_of b) (told_of c) first.goes (subst (λ (from : SocketAddr). Goes (IsReply from) mid (told_of b) later (told_of c)) first.from then.goes);
     written = writes_more a.octets b.octets c.octets first.written then.written;
     begun = begun_more now a.kept.passed a.begun b.kept.passed b.begun c.kept.passed c.begun first.begun then.begun;
   }
@@ -54,7 +52,7 @@ module _ {T : Type 0} (IsReply : Peer → Learned T → Learned T → List ℕ �
     known = then.known;
     octets = then.octets;
     grown = then.grown;
-    stops = stops_more (IsReply a.peer) then.end seen mid then.known (told_of a) (told_of b) then.octets first.goes (subst (λ (peer : Peer). Stops (IsReply peer) then.end mid (told_of b) then.known then.octets) first.peer then.stops);
+    stops = stops_more (IsReply a.from) then.end seen mid then.known (told_of a) (told_of b) then.octets first.goes (subst (λ (from : SocketAddr). Stops (IsReply from) then.end mid (told_of b) then.known then.octets) first.from then.stops);
     written = writes_more a.octets b.octets then.octets first.written then.written;
   }
 
@@ -78,26 +76,6 @@ module _ {T : Type 0} (IsReply : Peer → Learned T → Learned T → List ℕ �
   own_more now seen mid later (Some a) (Some b) None grows first then = ended_more now seen mid later a b first then
   own_more now seen mid later (Some a) (Some b) (Some c) grows first then = gone_more now seen mid later a b c first then
 
-  -- a connection goes on, or ends, once its peer is turned to
-  pub goes_as : (seen known later : Learned T) (peer mine : Peer) (a b : Option (List ℕ × List ℕ)) → mine ≡ peer → Grows known seen → Goes (IsReply mine) known a later b → Goes (IsReply peer) seen a later b
-  goes_as seen known later peer mine a b same grows goes =
-      goes_more (IsReply peer) seen known later a a b (goes_seen (IsReply peer) seen known a grows) (subst (λ (p : Peer). Goes (IsReply p) known a later b) same goes)
-
-  pub stops_as : (end : StreamEnd) (seen known later : Learned T) (peer mine : Peer) (a b : Option (List ℕ × List ℕ)) → mine ≡ peer → Grows known seen → Stops (IsReply mine) end known a later b → Stops (IsReply peer) end seen a later b
-  stops_as end seen known later peer mine a b same grows stops =
-      stops_more (IsReply peer) end seen known later a a b (goes_seen (IsReply peer) seen known a grows) (subst (λ (p : Peer). Stops (IsReply p) end known a later b) same stops)
-
-  -- requests of the same peer are answered, and octets are then moved; or the connection ends
-  pub goes_turned : (peer mine : Peer) (key own : ℕ) (seen later : ℕ → Learned T) (k m : Kept) (a b : Option (List ℕ × List ℕ)) → mine ≡ peer → own ≡ key → Keeps (IsReply mine) (seen own) k (later own) m → Stays (told_by m a) b → Goes (IsReply peer) (seen key) (told_by k a) (later key) b
-  goes_turned peer mine key own seen later k m a b same here keeps stays =
-      let kept : Goes (IsReply peer) (seen key) (told_by k a) (later key) (told_by m a) = subst (λ (p : Peer). Goes (IsReply p) (seen key) (told_by k a) (later key) (told_by m a)) same (subst (λ (n : ℕ). Goes (IsReply mine) (seen n) (told_by k a) (later n) (told_by m a)) here (keeps a)) in
-      goes_more (IsReply peer) (seen key) (later key) (later key) (told_by k a) (told_by m a) b kept (goes_stays (IsReply peer) (later key) (told_by m a) b stays)
-
-  pub stops_turned : (end : StreamEnd) (peer mine : Peer) (key own : ℕ) (seen later : ℕ → Learned T) (k m : Kept) (a b : Option (List ℕ × List ℕ)) → mine ≡ peer → own ≡ key → Keeps (IsReply mine) (seen own) k (later own) m → EndsTold end (told_by m a) b → Stops (IsReply peer) end (seen key) (told_by k a) (later key) b
-  stops_turned end peer mine key own seen later k m a b same here keeps ends =
-      let kept : Goes (IsReply peer) (seen key) (told_by k a) (later key) (told_by m a) = subst (λ (p : Peer). Goes (IsReply p) (seen key) (told_by k a) (later key) (told_by m a)) same (subst (λ (n : ℕ). Goes (IsReply mine) (seen n) (told_by k a) (later n) (told_by m a)) here (keeps a)) in
-      stops_told (IsReply peer) end (seen key) (later key) (told_by k a) (told_by m a) b kept ends
-
   module _ {L : Type 0} (seen_as : L → Seen) where
     -- the connection under a key goes on
     pub own_gone : (now : ℕ) (seen later : Learned T) (old new : Option L) (a b : L) → Some a ≡ old → new ≡ Some b → HasGone IsReply now seen (seen_as a) later (seen_as b) → OwnServed IsReply now seen (option_map seen_as old) later (option_map seen_as new)
@@ -118,3 +96,22 @@ module _ {T : Type 0} (IsReply : Peer → Learned T → Learned T → List ℕ �
           | inr differs ↦ subst (λ (o : Option L). OwnServed IsReply now (mid k) (option_map seen_as (before k)) (later k) (option_map seen_as o)) (sym (others k differs)) (own_same now (mid k) (later k) (option_map seen_as (before k)) (grows k))
         ] in
         own_more now (seen k) (mid k) (later k) (option_map seen_as (old k)) (option_map seen_as (before k)) (option_map seen_as (after k)) (grows k) (so_far k) here
+
+module _ {T : Type 0} (IsReply : Learned T → Learned T → List ℕ → List (List ℕ) → Type 0) where
+  -- a connection goes on, or ends, once it is turned to
+  pub goes_as : (seen known later : Learned T) (a b : Option (List ℕ × List ℕ)) → Grows known seen → Goes IsReply known a later b → Goes IsReply seen a later b
+  goes_as seen known later a b grows goes = goes_more IsReply seen known later a a b (goes_seen IsReply seen known a grows) goes
+
+  pub stops_as : (end : StreamEnd) (seen known later : Learned T) (a b : Option (List ℕ × List ℕ)) → Grows known seen → Stops IsReply end known a later b → Stops IsReply end seen a later b
+  stops_as end seen known later a b grows stops = stops_more IsReply end seen known later a a b (goes_seen IsReply seen known a grows) stops
+
+  -- requests are answered, and octets are then moved; or the connection ends
+  pub goes_turned : (key own : ℕ) (seen later : ℕ → Learned T) (k m : Kept) (a b : Option (List ℕ × List ℕ)) → own ≡ key → Keeps IsReply (seen own) k (later own) m → Stays (told_by m a) b → Goes IsReply (seen key) (told_by k a) (later key) b
+  goes_turned key own seen later k m a b here keeps stays =
+      let kept : Goes IsReply (seen key) (told_by k a) (later key) (told_by m a) = subst (λ (n : ℕ). Goes IsReply (seen n) (told_by k a) (later n) (told_by m a)) here (keeps a) in
+      goes_more IsReply (seen key) (later key) (later key) (told_by k a) (told_by m a) b kept (goes_stays IsReply (later key) (told_by m a) b stays)
+
+  pub stops_turned : (end : StreamEnd) (key own : ℕ) (seen later : ℕ → Learned T) (k m : Kept) (a b : Option (List ℕ × List ℕ)) → own ≡ key → Keeps IsReply (seen own) k (later own) m → EndsTold end (told_by m a) b → Stops IsReply end (seen key) (told_by k a) (later key) b
+  stops_turned end key own seen later k m a b here keeps ends =
+      let kept : Goes IsReply (seen key) (told_by k a) (later key) (told_by m a) = subst (λ (n : ℕ). Goes IsReply (seen n) (told_by k a) (later n) (told_by m a)) here (keeps a) in
+      stops_told IsReply end (seen key) (later key) (told_by k a) (told_by m a) b kept ends

@@ -2,6 +2,8 @@
 ghost use Rattle.std.specs.Prelude.{◌≡◌, ◌<◌, ◌≤◌, length, IfErr, OnOk};
 ghost use Rattle.std.specs.Net.Socket.{socket_ip};
 ghost use Rattle.dns_message.specs.Message.{message_limit};
+ghost use Rattle.requests.specs.Allowed.{IsReplyFrom, IsLaterFrom};
+ghost use Rattle.serve_core.specs.declared.transport.Transport.TheVariants.{Tcp};
 ghost use Rattle.tcp_connections.specs.Asked.{EachGrows};
 ghost use Rattle.tcp_connections.specs.Kept.{told_by, nothing_kept};
 ghost use Rattle.tcp_connections.specs.StreamOctets.{Writes};
@@ -19,18 +21,16 @@ use crate::serve::serve_some;
 use crate::step::Step;
 use crate::waiting::Waiting;
 use crate::window::Window;
-use requests::StreamEnd;
-use serve_core::Peer;
+use requests::{Allowed, StreamEnd};
 use std::alloc::Global;
 use std::net::SocketAddr;
 use std::sync::Wait;
 
-/// A connection: its stream; what is held of it and is to be written to it; its peer, the address and the group of that; since when the
+/// A connection: its stream; what is held of it and is to be written to it; the address of its peer and the group of that; since when the
 /// peer is waited for, in nanoseconds of a worker thread's clock; and the window in which the octets that the peer takes are counted.
 pub struct Connection<S: Drop, M: Messages> {
     pub(crate) stream: S,
     pub(crate) state: ConnectionState<M>,
-    pub(crate) peer: Peer,
     pub(crate) from: SocketAddr,
     pub(crate) group: PeerGroup,
     pub(crate) begun: u64,
@@ -42,7 +42,6 @@ impl<S: Drop, M: Messages> Drop for Connection<S, M> {
         let Connection {
             stream: _,
             state: _,
-            peer: _,
             from: _,
             group: _,
             begun: _,
@@ -52,11 +51,10 @@ impl<S: Drop, M: Messages> Drop for Connection<S, M> {
 }
 
 impl<S: Drop, M: Messages> Connection<S, M> {
-    /// A connection of which nothing is read yet: its stream, its peer and the address of that, and the time.
-    pub fn new(stream: S, alloc: Global, peer: Peer, from: SocketAddr, now: u64) -> Connection<S, M>
+    /// A connection of which nothing is read yet: its stream, the address of its peer, and the time.
+    pub fn new(stream: S, alloc: Global, from: SocketAddr, now: u64) -> Connection<S, M>
         ensures stream { result.stream ≡ stream }
         ensures fresh { result.state ≡ nothing_kept }
-        ensures peer { result.peer ≡ peer }
         ensures from { result.from ≡ from }
         ensures group { IsGroupOf (socket_ip from) result.group }
         ensures begun { result.begun ≡ now }
@@ -65,7 +63,6 @@ impl<S: Drop, M: Messages> Connection<S, M> {
         Connection {
             stream,
             state: ConnectionState::new(alloc),
-            peer,
             from,
             group: PeerGroup::of(from.ip()),
             begun: now,
@@ -134,11 +131,12 @@ fn begun_by(passed: u64, more: u64, begun: u64, now: u64) -> u64
     now
 }
 
-/// Serves the connection under a key by a share, as its peer, at a time. If the peer has finished something, it is waited for anew from
+/// Serves the connection under a key by a share, each request by the rights of who sends it from its peer's address, at a time. If the peer has finished something, it is waited for anew from
 /// then on.
 pub(crate) fn serve_connection<R: Wait, S: Blocking + Drop, M: Messages, A: Handler<M>>(
     rt: &R,
     handler: &mut A,
+    allowed: Allowed<'_>,
     connection: &mut Connection<S, M>,
     key: usize,
     now: u64,
@@ -147,23 +145,24 @@ pub(crate) fn serve_connection<R: Wait, S: Blocking + Drop, M: Messages, A: Hand
 ) -> Result<Step, StreamEnd>
     requires room { 0 < length room.old }
     requires out { message_limit ≤ length out.old }
-    ensures peer { connection.new.peer ≡ connection.old.peer }
     ensures from { connection.new.from ≡ connection.old.from }
     ensures group { connection.new.group ≡ connection.old.group }
     ensures window { connection.new.window ≡ connection.old.window }
     ensures grows { EachGrows (A.seen handler.new) (A.seen handler.old) }
-    ensures goes { OnOk result (Goes (A.is_reply connection.old.peer) (A.seen handler.old key) (told_by connection.old.state (S.octets connection.old.stream)) (A.seen handler.new key) (told_by connection.new.state (S.octets connection.new.stream))) }
-    ensures stops { IfErr result (λ end. Stops (A.is_reply connection.old.peer) end (A.seen handler.old key) (told_by connection.old.state (S.octets connection.old.stream)) (A.seen handler.new key) (S.octets connection.new.stream)) }
+    ensures goes { OnOk result (Goes (IsReplyFrom A.is_reply allowed.entry.rules.now Tcp connection.old.from) (A.seen handler.old key) (told_by connection.old.state (S.octets connection.old.stream)) (A.seen handler.new key) (told_by connection.new.state (S.octets connection.new.stream))) }
+    ensures stops { IfErr result (λ end. Stops (IsReplyFrom A.is_reply allowed.entry.rules.now Tcp connection.old.from) end (A.seen handler.old key) (told_by connection.old.state (S.octets connection.old.stream)) (A.seen handler.new key) (S.octets connection.new.stream)) }
     ensures written { Writes (S.octets connection.old.stream) (S.octets connection.new.stream) }
     ensures begun { connection.new.begun ≡ begun_behind connection.old.state.passed connection.new.state.passed connection.old.begun now }
     ensures blocked { result ≡ Ok Step.Blocked → S.would_block connection.new.stream }
-    ensures waits { result ≡ Ok Step.Later → IsHeldUp (A.is_later connection.new.peer) connection.new.state }
+    ensures waits { result ≡ Ok Step.Later → IsHeldUp (IsLaterFrom A.is_later allowed.entry.rules.now Tcp connection.new.from) connection.new.state }
 {
-    handler.turn_to(connection.peer, connection.from, key);
+    handler.turn_to(connection.from, key);
     let passed = connection.state.passed();
     let served = serve_some(
         rt,
         handler,
+        allowed,
+        connection.from,
         &mut connection.state,
         &mut connection.stream,
         room,

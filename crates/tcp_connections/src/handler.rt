@@ -1,15 +1,17 @@
 //! What answers the requests of connections.
-ghost use Rattle.std.specs.Prelude.{◌≡◌, ◌≢◌, ℕ, ◌≤◌, List, [], ◌∷◌, length, take, IfOk, IfErr, OnErr, MatchOption};
+ghost use Rattle.std.specs.Prelude.{◌≡◌, ◌≢◌, ℕ, ◌≤◌, ◌⊎◌, List, [], ◌∷◌, length, take, IfOk, IfErr, OnErr, MatchOption};
 ghost use Rattle.dns_message.specs.Message.{message_limit};
 ghost use Rattle.zone_tree.specs.Version.{Version};
+ghost use Rattle.requests.specs.Allowed.{IsReplyFrom, IsLaterFrom};
+ghost use Rattle.serve_core.specs.declared.transport.Transport.TheVariants.{Tcp};
 ghost use Rattle.requests.specs.Served.{Learned};
 ghost use Rattle.requests.specs.declared.stream_end.StreamEnd.{StreamEnd as EndOf};
 ghost use Rattle.serve_core.specs.declared.peer.Peer.{Peer as PeerAsking};
 ghost use Rattle.tcp_connections.specs.Asked.{EachGrows};
 ghost use Rattle.tcp_connections.specs.Kept.{messages_of};
 
-use requests::StreamEnd;
-use serve_core::Peer;
+use requests::{Allowed, StreamEnd};
+use serve_core::{Peer, Transport};
 use std::net::SocketAddr;
 use std::sync::Wait;
 
@@ -61,11 +63,16 @@ pub trait Handler<M: Messages> {
     /// It can load no version any more.
     ghost spent: { Self → Type 0 };
 
-    /// Changes to another peer, which sends from an address, on the connection under a key.
-    fn turn_to(&mut self, other: Peer, from: SocketAddr, key: usize)
-        ensures other { peer self.new ≡ other }
+    /// Changes to the connection under a key, whose peer sends from an address.
+    fn turn_to(&mut self, from: SocketAddr, key: usize)
         ensures asker { asker self.new ≡ key }
         ensures grows { EachGrows (seen self.new) (seen self.old) };
+
+    /// Changes to the peer that sends the next request, on the same connection.
+    fn set_peer(&mut self, other: Peer)
+        ensures other { peer self.new ≡ other }
+        ensures asker { asker self.new ≡ asker self.old }
+        ensures same { (key : ℕ) → seen self.new key ≡ seen self.old key };
 
     /// Makes the reply to a request: its one message at the start of a buffer, or what makes its messages. A reply that is to be made later
     /// is made by another call with the same request, once the key of its connection is reported; until then each such call says that it is
@@ -85,4 +92,35 @@ pub trait Handler<M: Messages> {
         ensures later { IfOk result (λ reply. reply ≡ Reply.Later → is_later (peer self.old) request.now) }
         ensures end { IfErr result (λ end. end ≡ EndOf.Spent) }
         ensures spent { OnErr result (spent self.new) };
+}
+
+/// The reply to a request, as that of the peer that rules make of who sends it from an address. The connection ends if there is no memory to read
+/// an update.
+#[tactic(auto, using(crate::proofs::AskedLemmas::each_itself))]
+pub(crate) fn reply_from<R: Wait, M: Messages, A: Handler<M>>(
+    rt: &R,
+    handler: &mut A,
+    allowed: Allowed<'_>,
+    from: SocketAddr,
+    request: &[u8],
+    out: &mut [u8],
+) -> Result<Reply<M>, StreamEnd>
+    requires { message_limit ≤ length out.old }
+    ensures asker { A.asker handler.new ≡ A.asker handler.old }
+    ensures grows { EachGrows (A.seen handler.new) (A.seen handler.old) }
+    ensures bound { IfOk result (λ reply. (len : ℕ) → reply ≡ Reply.One len → (len ≤ message_limit) × (len ≤ length out.new)) }
+    ensures reply { IfOk result (λ reply. reply ≢ Reply.Later → IsReplyFrom A.is_reply allowed.entry.rules.now Tcp from (A.seen handler.old (A.asker handler.old)) (A.seen handler.new (A.asker handler.old)) request.now (messages_of M.left reply out.new)) }
+    ensures later { IfOk result (λ reply. reply ≡ Reply.Later → IsLaterFrom A.is_later allowed.entry.rules.now Tcp from request.now) }
+    ensures end { IfErr result (λ end. (end ≡ EndOf.Spent) ⊎ (end ≡ EndOf.NoMemory)) }
+    ensures spent { IfErr result (λ end. end ≡ EndOf.Spent → A.spent handler.new) }
+{
+    let peer = match allowed.peer(from, Transport::Tcp, request) {
+        Ok(peer) => peer,
+        Err(_) => return Err(StreamEnd::NoMemory),
+    };
+    handler.set_peer(peer);
+    match handler.reply(rt, request, out) {
+        Ok(reply) => Ok(reply),
+        Err(end) => Err(end),
+    }
 }

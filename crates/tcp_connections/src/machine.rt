@@ -3,18 +3,21 @@ ghost use Rattle.std.specs.Prelude.{◌≡◌, ◌≢◌, ℕ, ◌<◌, ◌≤�
 ghost use Rattle.dns_message.specs.Frame.{frame_in};
 ghost use Rattle.dns_message.specs.Message.{message_limit};
 ghost use Rattle.requests.specs.Octets.{frames_of};
+ghost use Rattle.requests.specs.Allowed.{IsReplyFrom, IsLaterFrom};
 ghost use Rattle.requests.specs.Turns.{Turn};
 ghost use Rattle.requests.specs.declared.stream_end.StreamEnd.{StreamEnd as EndOf};
+ghost use Rattle.serve_core.specs.declared.transport.Transport.TheVariants.{Tcp};
 ghost use Rattle.tcp_connections.specs.Asked.{EachGrows, Waits};
 ghost use Rattle.tcp_connections.specs.Kept.{nothing_kept, due, IsFull, IsWaiting, awaited, messages_of, one_passed, passed_behind, taken_behind};
 
-use crate::handler::{Handler, Messages, Reply};
+use crate::handler::{Handler, Messages, Reply, reply_from};
 use crate::queue::{Queue, first_frame};
 use crate::step::Step;
 use crate::waiting::Waiting;
-use requests::StreamEnd;
+use requests::{Allowed, StreamEnd};
 use std::alloc::{AllocError, Global};
 use std::marker::Model;
+use std::net::SocketAddr;
 use std::sync::Wait;
 
 /// With so many octets to be written no further request is answered, so that a share is as short for long replies (own).
@@ -176,28 +179,30 @@ impl<M: Messages> ConnectionState<M> {
         }
     }
 
-    /// Answers the first whole request that is held, and adds the reply after what is to be written: `More`. If so much is to be written that
+    /// Answers the first whole request that is held, as that of the peer that rules make of who sends it from an address, and adds the reply after
+    /// what is to be written: `More`. If so much is to be written that
     /// this comes first, it is `Full`, and if no whole request is held, `Done`. The connection ends if no version can be loaded, or there is no
-    /// memory for the reply. Unless the request is answered, nothing changes. It is here alone that the length of a request's frame is read
+    /// memory for the reply or to read an update. Unless the request is answered, nothing changes. It is here alone that the length of a request's frame is read
     /// before the request is answered (RFC 1035, 4.2.2).
     #[tactic(auto, using(crate::proofs::AskedLemmas::each_itself))]
     pub fn answer<R: Wait, A: Handler<M>>(
         &mut self,
         rt: &R,
         handler: &mut A,
+        allowed: Allowed<'_>,
+        from: SocketAddr,
         out: &mut [u8],
     ) -> Result<Step, StreamEnd>
         requires { message_limit ≤ length out.old }
-        ensures peer { A.peer handler.new ≡ A.peer handler.old }
         ensures asker { A.asker handler.new ≡ A.asker handler.old }
         ensures grows { EachGrows (A.seen handler.new) (A.seen handler.old) }
-        ensures turn { result ≡ Ok Step.More → Turn (A.is_reply (A.peer handler.old)) (A.seen handler.old (A.asker handler.old)) (self.old.held, due self.old) (A.seen handler.new (A.asker handler.old)) (self.new.held, due self.new) }
+        ensures turn { result ≡ Ok Step.More → Turn (IsReplyFrom A.is_reply allowed.entry.rules.now Tcp from) (A.seen handler.old (A.asker handler.old)) (self.old.held, due self.old) (A.seen handler.new (A.asker handler.old)) (self.new.held, due self.new) }
         ensures passed { result ≡ Ok Step.More → self.new.passed ≡ one_passed self.old.passed }
         ensures taken { OnOk result (self.new.taken ≡ self.old.taken) }
         ensures same { IfOk result (λ step. step ≢ Step.More → self.new ≡ self.old) }
         ensures none { result ≡ Ok Step.Done → frame_in self.old.held ≡ None }
         ensures full { result ≡ Ok Step.Full → IsFull self.old }
-        ensures later { result ≡ Ok Step.Later → Waits (A.is_later (A.peer handler.old)) self.old.held }
+        ensures later { result ≡ Ok Step.Later → Waits (IsLaterFrom A.is_later allowed.entry.rules.now Tcp from) self.old.held }
         ensures going { result ≡ Ok Step.Blocked → ⊥ }
         ensures ended { OnErr result (self.new ≡ self.old) }
         ensures end { IfErr result (λ end. (end ≡ EndOf.Spent) ⊎ (end ≡ EndOf.NoMemory)) }
@@ -209,7 +214,7 @@ impl<M: Messages> ConnectionState<M> {
         let Some((request, count)) = first_frame(self.held.as_slice()) else {
             return Ok(Step::Done);
         };
-        let reply = match handler.reply(rt, request, out) {
+        let reply = match reply_from(rt, handler, allowed, from, request, out) {
             Ok(reply) => reply,
             Err(end) => return Err(end),
         };

@@ -2,6 +2,8 @@
 ghost use Rattle.std.specs.Prelude.{◌≡◌, ◌≢◌, ◌⊎◌, ◌<◌, ◌≤◌, None, [], length, IfErr, OnOk};
 ghost use Rattle.dns_message.specs.Frame.{frame_in};
 ghost use Rattle.dns_message.specs.Message.{message_limit};
+ghost use Rattle.requests.specs.Allowed.{IsReplyFrom, IsLaterFrom};
+ghost use Rattle.serve_core.specs.declared.transport.Transport.TheVariants.{Tcp};
 ghost use Rattle.tcp_connections.specs.Asked.{EachGrows, Waits};
 ghost use Rattle.tcp_connections.specs.Kept.{IsWaiting, told_by};
 ghost use Rattle.tcp_connections.specs.StreamOctets.{Stays, Writes, EndsTold, EndCounted};
@@ -13,7 +15,8 @@ use crate::blocking::{Blocking, Fault};
 use crate::handler::{Handler, Messages};
 use crate::machine::ConnectionState;
 use crate::step::Step;
-use requests::StreamEnd;
+use requests::{Allowed, StreamEnd};
+use std::net::SocketAddr;
 use std::sync::Wait;
 
 /// How many requests a turn answers at most (own).
@@ -25,26 +28,27 @@ const WRITES: usize = 4;
 /// How many turns a share has at most (own).
 const TURNS: usize = 2;
 
-/// Answers whole requests that are held, in their order, a limited number of them.
+/// Answers whole requests that are held, in their order, a limited number of them, each by the rights of who sends it from an address.
 fn answer_some<R: Wait, M: Messages, A: Handler<M>>(
     rt: &R,
     handler: &mut A,
+    allowed: Allowed<'_>,
+    from: SocketAddr,
     state: &mut ConnectionState<M>,
     out: &mut [u8],
 ) -> Result<Step, StreamEnd>
     requires { message_limit ≤ length out.old }
-    ensures peer { A.peer handler.new ≡ A.peer handler.old }
     ensures asker { A.asker handler.new ≡ A.asker handler.old }
     ensures grows { EachGrows (A.seen handler.new) (A.seen handler.old) }
-    ensures keeps { Keeps (A.is_reply (A.peer handler.old)) (A.seen handler.old (A.asker handler.old)) state.old (A.seen handler.new (A.asker handler.old)) state.new }
+    ensures keeps { Keeps (IsReplyFrom A.is_reply allowed.entry.rules.now Tcp from) (A.seen handler.old (A.asker handler.old)) state.old (A.seen handler.new (A.asker handler.old)) state.new }
     ensures none { result ≡ Ok Step.Done → frame_in state.new.held ≡ None }
-    ensures later { result ≡ Ok Step.Later → Waits (A.is_later (A.peer handler.old)) state.new.held }
+    ensures later { result ≡ Ok Step.Later → Waits (IsLaterFrom A.is_later allowed.entry.rules.now Tcp from) state.new.held }
     ensures going { result ≡ Ok Step.Blocked → ⊥ }
     ensures end { IfErr result (λ end. (end ≡ EndOf.Spent) ⊎ (end ≡ EndOf.NoMemory)) }
     ensures spent { IfErr result (λ end. end ≡ EndOf.Spent → A.spent handler.new) }
 {
     for _answered in 0..REQUESTS {
-        match state.answer(rt, handler, out) {
+        match state.answer(rt, handler, allowed, from, out) {
             Ok(step) => match step {
                 Step::More => {}
                 _ => return Ok(step),
@@ -190,7 +194,7 @@ pub(crate) fn write_and_read<M: Messages, S: Blocking>(
     }
 }
 
-/// Serves a connection by a share: some turns, each of which answers requests that are held, writes what is to be written, and reads once if
+/// Serves a connection by a share, each request as that of the peer that rules make of who sends it from an address: some turns, each of which answers requests that are held, writes what is to be written, and reads once if
 /// no whole request is held and nothing is left to be written. If the stream reports its octets, what is
 /// written and what is to be written is the frames of the replies to the requests that are read, in their order, each by what was known
 /// then to be published. If the stream ends by itself, all of it is written, otherwise a prefix of it (RFC 1035, 4.2.2; RFC 7766, 6.2.1.1).
@@ -198,6 +202,8 @@ pub(crate) fn write_and_read<M: Messages, S: Blocking>(
 pub fn serve_some<R: Wait, M: Messages, A: Handler<M>, S: Blocking>(
     rt: &R,
     handler: &mut A,
+    allowed: Allowed<'_>,
+    from: SocketAddr,
     state: &mut ConnectionState<M>,
     stream: &mut S,
     room: &mut [u8],
@@ -205,20 +211,19 @@ pub fn serve_some<R: Wait, M: Messages, A: Handler<M>, S: Blocking>(
 ) -> Result<Step, StreamEnd>
     requires room { 0 < length room.old }
     requires out { message_limit ≤ length out.old }
-    ensures peer { A.peer handler.new ≡ A.peer handler.old }
     ensures asker { A.asker handler.new ≡ A.asker handler.old }
     ensures grows { EachGrows (A.seen handler.new) (A.seen handler.old) }
-    ensures goes { OnOk result (Goes (A.is_reply (A.peer handler.old)) (A.seen handler.old (A.asker handler.old)) (told_by state.old (S.octets stream.old)) (A.seen handler.new (A.asker handler.old)) (told_by state.new (S.octets stream.new))) }
-    ensures stops { IfErr result (λ end. Stops (A.is_reply (A.peer handler.old)) end (A.seen handler.old (A.asker handler.old)) (told_by state.old (S.octets stream.old)) (A.seen handler.new (A.asker handler.old)) (S.octets stream.new)) }
+    ensures goes { OnOk result (Goes (IsReplyFrom A.is_reply allowed.entry.rules.now Tcp from) (A.seen handler.old (A.asker handler.old)) (told_by state.old (S.octets stream.old)) (A.seen handler.new (A.asker handler.old)) (told_by state.new (S.octets stream.new))) }
+    ensures stops { IfErr result (λ end. Stops (IsReplyFrom A.is_reply allowed.entry.rules.now Tcp from) end (A.seen handler.old (A.asker handler.old)) (told_by state.old (S.octets stream.old)) (A.seen handler.new (A.asker handler.old)) (S.octets stream.new)) }
     ensures written { Writes (S.octets stream.old) (S.octets stream.new) }
     ensures same { OnOk result (S.faults stream.new ≡ S.faults stream.old) }
     ensures counted { IfErr result (λ end. EndCounted end (S.faults stream.old) (S.faults stream.new)) }
     ensures blocked { result ≡ Ok Step.Blocked → S.would_block stream.new }
-    ensures waits { result ≡ Ok Step.Later → IsHeldUp (A.is_later (A.peer handler.old)) state.new }
+    ensures waits { result ≡ Ok Step.Later → IsHeldUp (IsLaterFrom A.is_later allowed.entry.rules.now Tcp from) state.new }
     ensures spent { IfErr result (λ end. end ≡ EndOf.Spent → A.spent handler.new) }
 {
     for _turned in 0..TURNS {
-        let answered = match answer_some(rt, handler, state, out) {
+        let answered = match answer_some(rt, handler, allowed, from, state, out) {
             Ok(step) => step,
             Err(end) => return Err(end),
         };

@@ -2,11 +2,7 @@
 use Rattle.std.proofs.Common.{◌≡◌, ◌≢◌, ℕ, Bool, true, false, if◌then◌else◌, List, Option, None, Some, Result, Ok, Err, IfOk, OnErr, option_map, sym, ap, ◌∙◌, inl, inr, ◌⊎◌, subst}
 use Rattle.std.specs.List.{Contains}
 use Rattle.std.proofs.lemmas.List.Elements.{All-weaker}
-use Rattle.std.specs.declared.net.ip_addr.IpAddr.{IpAddr}
 use Rattle.std.specs.declared.net.socket_addr.SocketAddr.{SocketAddr}
-use Rattle.serve_core.specs.declared.peer.Peer.{Peer}
-use Rattle.serve_core.specs.declared.transport.Transport.TheVariants.{Tcp}
-use Rattle.requests.specs.Allowed.{IsPeer}
 use Rattle.requests.specs.Served.{Learned}
 use Rattle.tcp_connections.specs.Asked.{EachGrows}
 use Rattle.tcp_connections.specs.Kept.{nothing_kept}
@@ -24,38 +20,37 @@ use Rattle.tcp_connections.proofs.OwnLemmas.{own_same}
 use Rattle.tcp_connections.proofs.AskedLemmas.{each_itself}
 use Rattle.tcp_loop.specs.Steps.{scarce, HasBegun, Move, begins, gives, rests, Moves, stay, move, Sweeps, Serves, GoOn, HasTurned}
 
-module _ {S M : Type 0} (origin : S → SocketAddr) (octets : S → Option (List ℕ × List ℕ)) (allowed : List IpAddr) (now : ℕ) where
-  pub moves_more : (a b c : Slab (Connection S M)) → Moves origin octets allowed now a b → Moves origin octets allowed now b c → Moves origin octets allowed now a c
+module _ {S M : Type 0} (origin : S → SocketAddr) (octets : S → Option (List ℕ × List ℕ)) (now : ℕ) where
+  pub moves_more : (a b c : Slab (Connection S M)) → Moves origin octets now a b → Moves origin octets now b c → Moves origin octets now a c
   moves_more a b c first stay = first
   moves_more a b c first (move {between = mid} second one) = move (moves_more a b mid first second) one
 
-  pub moves_once : (a b : Slab (Connection S M)) → Move origin octets allowed now a b → Moves origin octets allowed now a b
+  pub moves_once : (a b : Slab (Connection S M)) → Move origin octets now a b → Moves origin octets now a b
   moves_once a b one = move stay one
 
   -- nothing is moved
-  pub moves_same : (old new : Slab (Connection S M)) → new ≡ old → Moves origin octets allowed now old new
+  pub moves_same : (old new : Slab (Connection S M)) → new ≡ old → Moves origin octets now old new
   moves_same old new same = moves_once old new (rests (λ key. ap (λ (s : Slab (Connection S M)). get s key) same))
 
   -- behind moves nothing is moved
-  pub moves_as : (old new same : Slab (Connection S M)) → new ≡ same → Moves origin octets allowed now old same → Moves origin octets allowed now old new
-  moves_as old new same is moved = subst (λ (s : Slab (Connection S M)). Moves origin octets allowed now old s) (sym is) moved
+  pub moves_as : (old new same : Slab (Connection S M)) → new ≡ same → Moves origin octets now old same → Moves origin octets now old new
+  moves_as old new same is moved = subst (λ (s : Slab (Connection S M)). Moves origin octets now old s) (sym is) moved
 
   -- there is room for more
-  pub moves_wider : (old new : Slab (Connection S M)) (capacity : ℕ) → new ≡ record old { capacity = capacity } → Moves origin octets allowed now old new
+  pub moves_wider : (old new : Slab (Connection S M)) (capacity : ℕ) → new ≡ record old { capacity = capacity } → Moves origin octets now old new
   moves_wider old new capacity same = moves_once old new (rests (λ key. ap (λ (s : Slab (Connection S M)). get s key) same))
 
   -- the one that gives its place goes
-  pub moves_made : (stream : S) (newcomer : PeerGroup) (old new : Slab (Connection S M)) (key : ℕ) → IsGroupOf (socket_ip (origin stream)) newcomer → IsGiver newcomer old (Some key) → get new key ≡ None → ((other : ℕ) → other ≢ key → get new other ≡ get old other) → Moves origin octets allowed now old new
+  pub moves_made : (stream : S) (newcomer : PeerGroup) (old new : Slab (Connection S M)) (key : ℕ) → IsGroupOf (socket_ip (origin stream)) newcomer → IsGiver newcomer old (Some key) → get new key ≡ None → ((other : ℕ) → other ≢ key → get new other ≡ get old other) → Moves origin octets now old new
   moves_made stream newcomer old new key of gave none others = moves_once old new (gives stream newcomer key of gave none others)
 
   -- one begins
-  pub moves_begun : (from : SocketAddr) (peer : Peer) (stream : S) (old new : Slab (Connection S M)) (key : ℕ) (connection : Connection S M) → get old key ≡ None → get new key ≡ Some connection → ((other : ℕ) → other ≢ key → get new other ≡ get old other)
-      → connection.stream ≡ stream → connection.from ≡ from → from ≡ origin stream → connection.peer ≡ peer → IsPeer allowed Tcp from peer → connection.state ≡ nothing_kept → connection.begun ≡ now → IsGroupOf (socket_ip from) connection.group → connection.window ≡ record { since = now; taken = 0 } → Moves origin octets allowed now old new
-  moves_begun from peer stream old new key connection vacant put others is come reported same is_peer kept begun group window =
+  pub moves_begun : (from : SocketAddr) (stream : S) (old new : Slab (Connection S M)) (key : ℕ) (connection : Connection S M) → get old key ≡ None → get new key ≡ Some connection → ((other : ℕ) → other ≢ key → get new other ≡ get old other)
+      → connection.stream ≡ stream → connection.from ≡ from → from ≡ origin stream → connection.state ≡ nothing_kept → connection.begun ≡ now → IsGroupOf (socket_ip from) connection.group → connection.window ≡ record { since = now; taken = 0 } → Moves origin octets now old new
+  moves_begun from stream old new key connection vacant put others is come reported kept begun group window =
       let here : from ≡ origin connection.stream = reported ∙ ap origin (sym is) in
-      let began : HasBegun origin octets allowed now connection = record {
+      let began : HasBegun origin octets now connection = record {
         from = come ∙ here;
-        peer = subst (λ (p : Peer). IsPeer allowed Tcp (origin connection.stream) p) (sym same) (subst (λ (a : SocketAddr). IsPeer allowed Tcp a peer) here is_peer);
         kept = kept;
         begun = begun;
         group = subst (λ (a : SocketAddr). IsGroupOf (socket_ip a) connection.group) here group;
@@ -64,17 +59,17 @@ module _ {S M : Type 0} (origin : S → SocketAddr) (octets : S → Option (List
       moves_once old new (begins key connection vacant put began others)
 
   -- one is put under the next key, or there is no memory for it
-  pub moves_put : {E : Type 0} (result : Result ℕ E) (from : SocketAddr) (peer : Peer) (stream : S) (old new : Slab (Connection S M)) (connection : Connection S M) → IfOk result (λ key. get old key ≡ None) → IfOk result (λ key. Updates old new key (Some connection)) → OnErr result (new ≡ record old { capacity = new.capacity })
-      → connection.stream ≡ stream → connection.from ≡ from → from ≡ origin stream → connection.peer ≡ peer → IsPeer allowed Tcp from peer → connection.state ≡ nothing_kept → connection.begun ≡ now → IsGroupOf (socket_ip from) connection.group → connection.window ≡ record { since = now; taken = 0 } → Moves origin octets allowed now old new
-  moves_put (Ok key) from peer stream old new connection vacant updates failed is come reported same is_peer kept begun group window = moves_begun from peer stream old new key connection vacant updates.changed updates.others is come reported same is_peer kept begun group window
-  moves_put (Err fault) from peer stream old new connection vacant updates failed is come reported same is_peer kept begun group window = moves_wider old new new.capacity failed
+  pub moves_put : {E : Type 0} (result : Result ℕ E) (from : SocketAddr) (stream : S) (old new : Slab (Connection S M)) (connection : Connection S M) → IfOk result (λ key. get old key ≡ None) → IfOk result (λ key. Updates old new key (Some connection)) → OnErr result (new ≡ record old { capacity = new.capacity })
+      → connection.stream ≡ stream → connection.from ≡ from → from ≡ origin stream → connection.state ≡ nothing_kept → connection.begun ≡ now → IsGroupOf (socket_ip from) connection.group → connection.window ≡ record { since = now; taken = 0 } → Moves origin octets now old new
+  moves_put (Ok key) from stream old new connection vacant updates failed is come reported kept begun group window = moves_begun from stream old new key connection vacant updates.changed updates.others is come reported kept begun group window
+  moves_put (Err fault) from stream old new connection vacant updates failed is come reported kept begun group window = moves_wider old new new.capacity failed
 
   -- those that are over go, by limits that are the given ones or those where places are scarce
   pub sweeps_over : (limits used : Limits) (old new : Slab (Connection S M)) → (used ≡ limits) ⊎ (used ≡ scarce limits) → ((key : ℕ) → get new key ≡ kept_at used now (get old key)) → Sweeps origin octets limits now old new
   sweeps_over limits used old new (inl same) swept = inr (inl (subst (λ (l : Limits). (key : ℕ) → get new key ≡ kept_at l now (get old key)) same swept))
   sweeps_over limits used old new (inr same) swept = inr (inr (subst (λ (l : Limits). (key : ℕ) → get new key ≡ kept_at l now (get old key)) same swept))
 
-  module _ (would_block : S → Type 0) (is_later : Peer → List ℕ → Type 0) where
+  module _ (would_block : S → Type 0) (is_later : SocketAddr → List ℕ → Type 0) where
     kept_if : (connection : Connection S M) (over slow : Bool) → HasStopped would_block is_later (Some connection) → HasStopped would_block is_later (if over then None else if slow then None else Some (gone_on now connection))
     kept_if connection true slow stopped = tt
     kept_if connection false true stopped = tt
@@ -103,7 +98,7 @@ module _ {S M : Type 0} (origin : S → SocketAddr) (octets : S → Option (List
         let here : GoOn would_block is_later new keys next = All-weaker (λ key. Contains next key ⊎ HasStopped would_block is_later (get old key)) (λ key. Contains next key ⊎ HasStopped would_block is_later (get new key)) (going_for limits old new next swept) keys going in
         subst (λ (l : List ℕ). GoOn would_block is_later new l after) (sym same) (subst (λ (l : List ℕ). GoOn would_block is_later new keys l) (sym is) here)
 
-  module _ {T : Type 0} (IsReply : Peer → Learned T → Learned T → List ℕ → List (List ℕ) → Type 0) where
+  module _ {T : Type 0} (IsReply : SocketAddr → Learned T → Learned T → List ℕ → List (List ℕ) → Type 0) where
     -- none is served, and maybe more is known
     pub serves_none : (seen later : ℕ → Learned T) (connections : Slab (Connection S M)) → EachGrows later seen → Serves origin octets IsReply now seen connections later connections
     serves_none seen later connections grows = λ key. own_same IsReply now (seen key) (later key) (option_map (seen_of octets) (get connections key)) (grows key)
@@ -112,13 +107,13 @@ module _ {S M : Type 0} (origin : S → SocketAddr) (octets : S → Option (List
     serves_as seen later old new same is own = subst (λ (s : Slab (Connection S M)). Serves origin octets IsReply now seen old later s) (sym is) own
 
     -- nothing is done in a turn
-    pub turned_none : (limits : Limits) (seen : ℕ → Learned T) (old new : Slab (Connection S M)) → new ≡ old → HasTurned origin octets IsReply allowed limits now seen old seen new
+    pub turned_none : (limits : Limits) (seen : ℕ → Learned T) (old new : Slab (Connection S M)) → new ≡ old → HasTurned origin octets IsReply limits now seen old seen new
     turned_none limits seen old new same = record { come = old; served = old; first = stay; own = serves_none seen seen old (each_itself seen); last = inl same }
 
     -- a turn, at the time that was told
-    pub turned_whole : (limits : Limits) (reported : ℕ) (seen later : ℕ → Learned T) (old start come served new : Slab (Connection S M)) → now ≡ reported → start ≡ old → Moves origin octets allowed now start come → Serves origin octets IsReply now seen come later served
-        → Sweeps origin octets limits now served new → HasTurned origin octets IsReply allowed limits reported seen old later new
+    pub turned_whole : (limits : Limits) (reported : ℕ) (seen later : ℕ → Learned T) (old start come served new : Slab (Connection S M)) → now ≡ reported → start ≡ old → Moves origin octets now start come → Serves origin octets IsReply now seen come later served
+        → Sweeps origin octets limits now served new → HasTurned origin octets IsReply limits reported seen old later new
     turned_whole limits reported seen later old start come served new same still first own last =
-        let moved : Moves origin octets allowed now old come = subst (λ (s : Slab (Connection S M)). Moves origin octets allowed now s come) still first in
-        let made : HasTurned origin octets IsReply allowed limits now seen old later new = record { come = come; served = served; first = moved; own = own; last = last } in
-        subst (λ (n : ℕ). HasTurned origin octets IsReply allowed limits n seen old later new) same made
+        let moved : Moves origin octets now old come = subst (λ (s : Slab (Connection S M)). Moves origin octets now s come) still first in
+        let made : HasTurned origin octets IsReply limits now seen old later new = record { come = come; served = served; first = moved; own = own; last = last } in
+        subst (λ (n : ℕ). HasTurned origin octets IsReply limits n seen old later new) same made

@@ -1,11 +1,7 @@
 -- What becomes of a worker thread's connections, from one state to the next (RFC 7766, 6.2; own).
 use Rattle.std.specs.Prelude.{◌≡◌, ◌≢◌, ℕ, ◌/◌, ◌⊎◌, List, All, Contains, Option, None, Some, option_map}
 use Rattle.requests.specs.Served.{Learned}
-use Rattle.std.specs.declared.net.ip_addr.IpAddr.{IpAddr}
 use Rattle.std.specs.declared.net.socket_addr.SocketAddr.{SocketAddr}
-use Rattle.serve_core.specs.declared.peer.Peer.{Peer}
-use Rattle.serve_core.specs.declared.transport.Transport.TheVariants.{Tcp}
-use Rattle.requests.specs.Allowed.{IsPeer}
 use Rattle.requests.specs.Served.{Learned}
 use Rattle.tcp_connections.specs.Kept.{nothing_kept}
 use Rattle.std.specs.Net.Socket.{socket_ip}
@@ -35,16 +31,14 @@ nothing_counted = record {
 
 -- of connections under some keys, each that could go on is among the next ones: for any other key there is no connection any more, its
 -- stream would block, or its first request waits for its reply
-abbrev pub GoOn : {S M : Type 0} → (S → Type 0) → (Peer → List ℕ → Type 0) → Slab (Connection S M) → List ℕ → List ℕ → Type 0
+abbrev pub GoOn : {S M : Type 0} → (S → Type 0) → (SocketAddr → List ℕ → Type 0) → Slab (Connection S M) → List ℕ → List ℕ → Type 0
 GoOn would_block is_later connections keys next = All (λ key. Contains next key ⊎ HasStopped would_block is_later (get connections key)) keys
 
 -- the address that a stream comes from, and what its octets are, as far as it reports them
 module _ {S M : Type 0} (origin : S → SocketAddr) (octets : S → Option (List ℕ × List ℕ)) where
-  -- a connection has begun at a time: its peer is the one at the address that its stream comes from, by that alone, and nothing is kept of
-  -- it
-  pub record HasBegun (allowed : List IpAddr) (now : ℕ) (connection : Connection S M) : Type 0 where
+  -- a connection has begun at a time: its peer's address is the one that its stream comes from, and nothing is kept of it
+  pub record HasBegun (now : ℕ) (connection : Connection S M) : Type 0 where
     pub from : connection.from ≡ origin connection.stream
-    pub peer : IsPeer allowed Tcp (origin connection.stream) connection.peer
     pub kept : connection.state ≡ nothing_kept
     pub begun : connection.begun ≡ now
     pub group : IsGroupOf (socket_ip (origin connection.stream)) connection.group
@@ -52,38 +46,38 @@ module _ {S M : Type 0} (origin : S → SocketAddr) (octets : S → Option (List
 
   -- a place is taken, or given up to another: a connection begins under a key that had none; the connection that has to gives up its place
   -- for a newcomer whose stream comes from an address of the newcomer's group; or nothing changes
-  pub data Move (allowed : List IpAddr) (now : ℕ) (old new : Slab (Connection S M)) : Type 0 where
-    begins : (key : ℕ) (connection : Connection S M) → get old key ≡ None → get new key ≡ Some connection → HasBegun allowed now connection → ((other : ℕ) → other ≢ key → get new other ≡ get old other) → Move allowed now old new
-    gives : (stream : S) (newcomer : PeerGroup) (key : ℕ) → IsGroupOf (socket_ip (origin stream)) newcomer → IsGiver newcomer old (Some key) → get new key ≡ None → ((other : ℕ) → other ≢ key → get new other ≡ get old other) → Move allowed now old new
-    rests : ((key : ℕ) → get new key ≡ get old key) → Move allowed now old new
+  pub data Move (now : ℕ) (old new : Slab (Connection S M)) : Type 0 where
+    begins : (key : ℕ) (connection : Connection S M) → get old key ≡ None → get new key ≡ Some connection → HasBegun now connection → ((other : ℕ) → other ≢ key → get new other ≡ get old other) → Move now old new
+    gives : (stream : S) (newcomer : PeerGroup) (key : ℕ) → IsGroupOf (socket_ip (origin stream)) newcomer → IsGiver newcomer old (Some key) → get new key ≡ None → ((other : ℕ) → other ≢ key → get new other ≡ get old other) → Move now old new
+    rests : ((key : ℕ) → get new key ≡ get old key) → Move now old new
 
   -- so many such moves, one after another
-  pub data Moves (allowed : List IpAddr) (now : ℕ) (old : Slab (Connection S M)) : Slab (Connection S M) → Type 0 where
-    stay : Moves allowed now old old
-    move : {between new : Slab (Connection S M)} → Moves allowed now old between → Move allowed now between new → Moves allowed now old new
+  pub data Moves (now : ℕ) (old : Slab (Connection S M)) : Slab (Connection S M) → Type 0 where
+    stay : Moves now old old
+    move : {between new : Slab (Connection S M)} → Moves now old between → Move now between new → Moves now old new
 
   -- places are given back at a time: by connections that are over by the limits, or by the limits when places are scarce; or nothing
   -- changes
   abbrev pub Sweeps : Limits → ℕ → Slab (Connection S M) → Slab (Connection S M) → Type 0
   Sweeps limits now old new = (new ≡ old) ⊎ ((key : ℕ) → get new key ≡ kept_at limits now (get old key)) ⊎ ((key : ℕ) → get new key ≡ kept_at (scarce limits) now (get old key))
 
-  -- what a reply is, by the peer, the list of what is known to be published before it and that of what is known when it is made, the
+  -- what a reply is, by the address of the peer, the list of what is known to be published before it and that of what is known when it is made, the
   -- request, and the reply's messages
-  module _ {T : Type 0} (IsReply : Peer → Learned T → Learned T → List ℕ → List (List ℕ) → Type 0) where
-    -- connections are served at a time, each by its own peer's rights and on its own stream
+  module _ {T : Type 0} (IsReply : SocketAddr → Learned T → Learned T → List ℕ → List (List ℕ) → Type 0) where
+    -- connections are served at a time, each as its own peer's address has it and on its own stream
     abbrev pub Serves : ℕ → (ℕ → Learned T) → Slab (Connection S M) → (ℕ → Learned T) → Slab (Connection S M) → Type 0
     Serves now seen old later new = (key : ℕ) → OwnServed IsReply now (seen key) (option_map (seen_of octets) (get old key)) (later key) (option_map (seen_of octets) (get new key))
 
     -- a turn at a time, by what is known on each connection to be published before it and after it: places are taken; connections are
     -- served; and places are given back
-    pub record HasTurned (allowed : List IpAddr) (limits : Limits) (now : ℕ) (seen : ℕ → Learned T) (old : Slab (Connection S M)) (later : ℕ → Learned T) (new : Slab (Connection S M)) : Type 0 where
+    pub record HasTurned (limits : Limits) (now : ℕ) (seen : ℕ → Learned T) (old : Slab (Connection S M)) (later : ℕ → Learned T) (new : Slab (Connection S M)) : Type 0 where
       pub come : Slab (Connection S M)
       pub served : Slab (Connection S M)
-      pub first : Moves allowed now old come
+      pub first : Moves now old come
       pub own : Serves now seen come later served
       pub last : Sweeps limits now served new
 
     -- turns, one after another
-    pub data Turned (allowed : List IpAddr) (limits : Limits) (seen : ℕ → Learned T) (old : Slab (Connection S M)) : (ℕ → Learned T) → Slab (Connection S M) → Type 0 where
-      unturned : Turned allowed limits seen old seen old
-      turned : {mid later : ℕ → Learned T} {between new : Slab (Connection S M)} (now : ℕ) → Turned allowed limits seen old mid between → HasTurned allowed limits now mid between later new → Turned allowed limits seen old later new
+    pub data Turned (limits : Limits) (seen : ℕ → Learned T) (old : Slab (Connection S M)) : (ℕ → Learned T) → Slab (Connection S M) → Type 0 where
+      unturned : Turned limits seen old seen old
+      turned : {mid later : ℕ → Learned T} {between new : Slab (Connection S M)} (now : ℕ) → Turned limits seen old mid between → HasTurned limits now mid between later new → Turned limits seen old later new

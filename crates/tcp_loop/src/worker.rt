@@ -1,7 +1,8 @@
 //! A worker thread's connections, and its turns.
 ghost use Rattle.std.specs.Prelude.{◌≡◌, ◌<◌, ◌≤◌, ◌⊎◌, ◌-◌, ◌/◌, ℕ, List, length, replicate, true, false, None, IfOk, OnOk};
-ghost use Rattle.std.specs.declared.net.ip_addr.IpAddr.{IpAddr};
 ghost use Rattle.dns_message.specs.Message.{message_limit};
+ghost use Rattle.requests.specs.Allowed.{IsReplyFrom, IsLaterFrom};
+ghost use Rattle.serve_core.specs.declared.transport.Transport.TheVariants.{Tcp};
 ghost use Rattle.tcp_connections.specs.Asked.{EachGrows};
 ghost use Rattle.std.specs.Net.Socket.{socket_ip};
 ghost use Rattle.tcp_connections.specs.Group.{IsGroupOf};
@@ -13,7 +14,6 @@ use crate::readiness::{NotWatched, Readiness};
 use crate::run_queue::RunQueue;
 use crate::tally::Tally;
 use requests::Allowed;
-use serve_core::Transport;
 use slab::Slab;
 use std::alloc::{AllocError, Global};
 use std::sync::Wait;
@@ -33,7 +33,7 @@ const ARRIVALS: usize = 128;
 pub struct Plan<'a> {
     /// How long each may wait for its peer.
     pub limits: Limits,
-    /// Which addresses may update and transfer.
+    /// The rules by which peers may update and transfer.
     pub allowed: Allowed<'a>,
 }
 
@@ -140,7 +140,7 @@ impl<S: Blocking + Remote + Drop, M: Messages> EventLoop<S, M> {
     /// Whether there is a place for one more connection, of a peer of a group, if need be that of the connection that has gone longest
     /// without a whole request, which is then ended.
     fn make_place(&mut self, newcomer: PeerGroup) -> bool
-        ensures moves { (allowed : List IpAddr) (now : ℕ) (stream : S) → IsGroupOf (socket_ip (S.origin stream)) newcomer → Moves S.origin S.octets allowed now self.old.connections self.new.connections }
+        ensures moves { (now : ℕ) (stream : S) → IsGroupOf (socket_ip (S.origin stream)) newcomer → Moves S.origin S.octets now self.old.connections self.new.connections }
         ensures places { self.new.places ≡ self.old.places }
         ensures room { result ≡ true → slab_len self.old.connections ≤ self.old.places → slab_len self.new.connections < self.new.places }
         ensures none { result ≡ false → self.new.connections ≡ self.old.connections }
@@ -167,14 +167,13 @@ impl<S: Blocking + Remote + Drop, M: Messages> EventLoop<S, M> {
     }
 
     /// Gives a new connection a place, as that of the peer at the address that it comes from.
-    fn put(&mut self, plan: Plan<'_>, stream: S, now: u64)
-        ensures moves { Moves S.origin S.octets plan.entry.allowed.addresses.now now self.old.connections self.new.connections }
+    fn put(&mut self, stream: S, now: u64)
+        ensures moves { Moves S.origin S.octets now self.old.connections self.new.connections }
         ensures places { self.new.places ≡ self.old.places }
         ensures few { slab_len self.old.connections < self.old.places → slab_len self.new.connections ≤ self.new.places }
     {
         let from = stream.address();
-        let peer = plan.allowed.peer(from, Transport::Tcp);
-        let connection = Connection::new(stream, self.alloc, peer, from, now);
+        let connection = Connection::new(stream, self.alloc, from, now);
         let put = self.connections.insert(connection).ok();
         self.note(put);
     }
@@ -193,8 +192,8 @@ impl<S: Blocking + Remote + Drop, M: Messages> EventLoop<S, M> {
     }
 
     /// Gives a new connection a place, if there is one, and watches it.
-    fn add_connection<P: Readiness<S>>(&mut self, poll: &mut P, plan: Plan<'_>, stream: S, now: u64)
-        ensures moves { Moves S.origin S.octets plan.entry.allowed.addresses.now now self.old.connections self.new.connections }
+    fn add_connection<P: Readiness<S>>(&mut self, poll: &mut P, stream: S, now: u64)
+        ensures moves { Moves S.origin S.octets now self.old.connections self.new.connections }
         ensures time { P.time poll.new ≡ P.time poll.old }
         ensures places { self.new.places ≡ self.old.places }
         ensures few { slab_len self.old.connections ≤ self.old.places → slab_len self.new.connections ≤ self.new.places }
@@ -207,25 +206,24 @@ impl<S: Blocking + Remote + Drop, M: Messages> EventLoop<S, M> {
             self.tally.no_room = self.tally.no_room.saturating_add(1);
             return;
         }
-        self.put(plan, stream, now);
+        self.put(stream, now);
     }
 
     /// Accepts the listener's next connection. Some if it is to accept no more in this turn: whether one may still be waiting there.
     fn take_one<P: Readiness<S>, L: Arrivals<Stream = S>>(
         &mut self,
         poll: &mut P,
-        plan: Plan<'_>,
         arrivals: &mut L,
         now: u64,
     ) -> Result<Option<bool>, TurnEnd>
-        ensures moves { Moves S.origin S.octets plan.entry.allowed.addresses.now now self.old.connections self.new.connections }
+        ensures moves { Moves S.origin S.octets now self.old.connections self.new.connections }
         ensures time { P.time poll.new ≡ P.time poll.old }
         ensures places { self.new.places ≡ self.old.places }
         ensures few { slab_len self.old.connections ≤ self.old.places → slab_len self.new.connections ≤ self.new.places }
     {
         match arrivals.take() {
             Ok(stream) => {
-                self.add_connection(poll, plan, stream, now);
+                self.add_connection(poll, stream, now);
                 Ok(None)
             }
             Err(Refusal::Blocked) => Ok(Some(false)),
@@ -244,17 +242,16 @@ impl<S: Blocking + Remote + Drop, M: Messages> EventLoop<S, M> {
     fn take_some<P: Readiness<S>, L: Arrivals<Stream = S>>(
         &mut self,
         poll: &mut P,
-        plan: Plan<'_>,
         arrivals: &mut L,
         now: u64,
     ) -> Result<bool, TurnEnd>
-        ensures moves { Moves S.origin S.octets plan.entry.allowed.addresses.now now self.old.connections self.new.connections }
+        ensures moves { Moves S.origin S.octets now self.old.connections self.new.connections }
         ensures time { P.time poll.new ≡ P.time poll.old }
         ensures places { self.new.places ≡ self.old.places }
         ensures few { slab_len self.old.connections ≤ self.old.places → slab_len self.new.connections ≤ self.new.places }
     {
         for _taken in 0..ARRIVALS.min(self.places) {
-            match self.take_one(poll, plan, arrivals, now)? {
+            match self.take_one(poll, arrivals, now)? {
                 Some(may_come) => return Ok(may_come),
                 None => {}
             }
@@ -281,12 +278,11 @@ impl<S: Blocking + Remote + Drop, M: Messages> EventLoop<S, M> {
     fn take_at<P: Readiness<S>, L: Arrivals<Stream = S>>(
         &mut self,
         poll: &mut P,
-        plan: Plan<'_>,
         arrivals: &mut L,
         place: usize,
         now: u64,
     ) -> Result<(), TurnEnd>
-        ensures moves { Moves S.origin S.octets plan.entry.allowed.addresses.now now self.old.connections self.new.connections }
+        ensures moves { Moves S.origin S.octets now self.old.connections self.new.connections }
         ensures time { P.time poll.new ≡ P.time poll.old }
         ensures places { self.new.places ≡ self.old.places }
         ensures few { slab_len self.old.connections ≤ self.old.places → slab_len self.new.connections ≤ self.new.places }
@@ -294,7 +290,7 @@ impl<S: Blocking + Remote + Drop, M: Messages> EventLoop<S, M> {
         if self.shut_until != 0 || !self.may_wait(place) {
             return Ok(());
         }
-        let more = self.take_some(poll, plan, arrivals, now)?;
+        let more = self.take_some(poll, arrivals, now)?;
         self.mark_place(place, more);
         Ok(())
     }
@@ -303,11 +299,10 @@ impl<S: Blocking + Remote + Drop, M: Messages> EventLoop<S, M> {
     fn take_all<P: Readiness<S>, L: Arrivals<Stream = S>>(
         &mut self,
         poll: &mut P,
-        plan: Plan<'_>,
         places: &mut [L],
         now: u64,
     ) -> Result<(), TurnEnd>
-        ensures moves { Moves S.origin S.octets plan.entry.allowed.addresses.now now self.old.connections self.new.connections }
+        ensures moves { Moves S.origin S.octets now self.old.connections self.new.connections }
         ensures time { P.time poll.new ≡ P.time poll.old }
         ensures places { self.new.places ≡ self.old.places }
         ensures few { slab_len self.old.connections ≤ self.old.places → slab_len self.new.connections ≤ self.new.places }
@@ -317,7 +312,7 @@ impl<S: Blocking + Remote + Drop, M: Messages> EventLoop<S, M> {
         }
         self.shut_until = 0;
         for (place, arrivals) in places.iter_mut().enumerate() {
-            self.take_at(poll, plan, arrivals, place, now)?;
+            self.take_at(poll, arrivals, place, now)?;
         }
         Ok(())
     }
@@ -339,7 +334,7 @@ impl<S: Blocking + Remote + Drop, M: Messages> EventLoop<S, M> {
     }
 
     /// One turn: waits until something may be ready, accepts new connections, serves those that may go on by a share each, and ends those
-    /// that are over. The peer of each connection is the one at its address; no connection gets another's replies. A connection is removed
+    /// that are over. Each request is answered by the rights that rules give to its sender, of its own connection's address; no connection gets another's replies. A connection is removed
     /// only if it ends, if its peer takes too long, or, when all places are taken, if it has gone longest without a whole request. Of the
     /// connections that are served, each that is still open, whose stream wouldn't block, and whose first request doesn't wait for its
     /// reply, is among those that could go on.
@@ -359,20 +354,21 @@ impl<S: Blocking + Remote + Drop, M: Messages> EventLoop<S, M> {
         ensures grows { EachGrows (A.seen handler.new) (A.seen handler.old) }
         ensures places { self.new.places ≡ self.old.places }
         ensures few { slab_len self.old.connections ≤ self.old.places → slab_len self.new.connections ≤ self.new.places }
-        ensures turned { HasTurned S.origin S.octets A.is_reply plan.entry.allowed.addresses.now plan.entry.limits (P.time poll.new) (A.seen handler.old) self.old.connections (A.seen handler.new) self.new.connections }
-        ensures going { OnOk result (GoOn S.would_block A.is_later self.new.connections self.new.served.items self.new.next.items) }
+        ensures turned { HasTurned S.origin S.octets (IsReplyFrom A.is_reply plan.entry.allowed.rules.now Tcp) plan.entry.limits (P.time poll.new) (A.seen handler.old) self.old.connections (A.seen handler.new) self.new.connections }
+        ensures going { OnOk result (GoOn S.would_block (IsLaterFrom A.is_later plan.entry.allowed.rules.now Tcp) self.new.connections self.new.served.items self.new.next.items) }
     {
         let Ok(now) = poll.wait(self.patience(), &mut self.ready) else {
             return Err(TurnEnd::Device);
         };
         self.mark();
-        self.take_all(poll, plan, places, now)?;
+        self.take_all(poll, places, now)?;
         self.served.clear();
         self.run_queue.take(&mut self.served);
         self.next.clear();
         let served = serve_ready(
             rt,
             handler,
+            plan.allowed,
             &mut self.connections,
             &self.served,
             &mut self.next,

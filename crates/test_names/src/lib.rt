@@ -7,6 +7,8 @@ mod data;
 #[cfg(test)]
 mod made;
 #[cfg(test)]
+mod may;
+#[cfg(test)]
 mod order;
 #[cfg(test)]
 mod parts;

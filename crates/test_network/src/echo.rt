@@ -77,7 +77,7 @@ impl Echo {
     }
 
     /// Writes the message that is the reply to a request, and returns its length in octets: [`LARGE`] for a request that starts with `L`, and 1
-    /// for one that starts with `?`, whose octet is 1 if the peer is allowed to update, else 0.
+    /// for one that starts with `?`, whose octet is 1 if the peer is allowed to transfer, else 0.
     fn message(&self, request: &[u8], out: &mut [u8]) -> usize
         requires { 65535 ≤ length out.old }
         ensures most { result ≤ 65535 }
@@ -88,7 +88,7 @@ impl Echo {
             return LARGE;
         }
         if first == b'?' {
-            out[0] = u8::from(self.peer.may_update);
+            out[0] = u8::from(self.peer.may_transfer);
             return 1;
         }
         let len = request.len().min(LARGE);
@@ -110,9 +110,12 @@ impl Handler<Both> for Echo {
 
     ghost spent = { λ echo. echo.left ≡ 0 };
 
-    fn turn_to(&mut self, other: Peer, _from: SocketAddr, key: usize) {
-        self.peer = other;
+    fn turn_to(&mut self, _from: SocketAddr, key: usize) {
         self.asker = key;
+    }
+
+    fn set_peer(&mut self, other: Peer) {
+        self.peer = other;
     }
 
     fn reply<R: Wait>(

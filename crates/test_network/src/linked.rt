@@ -2,8 +2,9 @@
 
 use crate::echo::{Both, Echo};
 use crate::pieces::{After, Output, Pieces, address, room_of, written};
-use crate::running::SECOND;
-use serve_core::{Peer, Transport};
+use crate::running::{SECOND, may};
+use requests::Allowed;
+use rights::Rule;
 use slab::Slab;
 use std::alloc::{AllocError, Global};
 use std::rc::Rc;
@@ -20,6 +21,7 @@ pub(crate) struct Served {
     pub(crate) outputs: Vec<Output>,
     pub(crate) ends: Ends,
     echo: Echo,
+    rules: Vec<Rule>,
     /// The keys of connections that could continue after the last share.
     next: Vec<usize>,
     room: Vec<u8>,
@@ -35,34 +37,24 @@ impl Served {
             outputs: Vec::new(alloc),
             ends: Ends::default(),
             echo: Echo::new(u32::MAX),
+            rules: may(alloc)?,
             next: Vec::new(alloc),
             room: room_of(alloc, 512)?,
             out: room_of(alloc, 65_535)?,
         })
     }
 
-    /// Adds a connection under the next key, whose peer is or is not allowed to update, at a time.
+    /// Adds a connection under the next key, whose peer is or is not allowed to transfer, at a time.
     pub(crate) fn put(&mut self, stream: Pieces, may: bool, now: u64) -> Result<(), AllocError> {
-        self.put_from(1, stream, may, now)
+        self.put_from(if may { 1 } else { 2 }, stream, now)
     }
 
     /// The same, for a peer with an address in 192.0.2.0/24.
-    fn put_from(
-        &mut self,
-        last: u8,
-        stream: Pieces,
-        may: bool,
-        now: u64,
-    ) -> Result<(), AllocError> {
-        let peer = Peer::over(Transport::Tcp, may);
+    fn put_from(&mut self, last: u8, stream: Pieces, now: u64) -> Result<(), AllocError> {
         self.outputs.push(Rc::clone(&stream.output)?)?;
-        let _key = self.links.insert(Connection::new(
-            stream,
-            self.alloc,
-            peer,
-            address(last),
-            now,
-        ))?;
+        let _key = self
+            .links
+            .insert(Connection::new(stream, self.alloc, address(last), now))?;
         Ok(())
     }
 
@@ -80,6 +72,7 @@ impl Served {
         serve_ready(
             rt,
             &mut self.echo,
+            Allowed::new(self.alloc, &self.rules),
             &mut self.links,
             keys,
             &mut self.next,
@@ -272,7 +265,7 @@ const HOARDED: [(u8, &[u8], u64); 5] = [
 fn the_longest_without_a_request_gives_its_place(rt: HostRuntime) -> Result<(), Fail> {
     let mut served = Served::new(rt.alloc())?;
     for (last, octets, begun) in HOARDED {
-        served.put_from(last, Pieces::new(rt.alloc(), octets, 1)?, false, begun)?;
+        served.put_from(last, Pieces::new(rt.alloc(), octets, 1)?, begun)?;
     }
     for _share in 0..8u32 {
         served.serve(&rt, &[0, 1, 2, 3, 4], 5)?;
@@ -327,7 +320,7 @@ fn who_takes_too_slowly_is_ended(rt: HostRuntime) -> Result<(), Fail> {
     Ok(())
 }
 
-/// Whether the peer of each connection is allowed to update, and what follows its octets.
+/// Whether the peer of each connection is allowed to transfer, and what follows its octets.
 const PEERS: [(bool, After); 5] = [
     (true, After::Nothing),
     (false, After::Nothing),

@@ -4,9 +4,9 @@ use crate::echo::{Both, Echo};
 use crate::pieces::{Output, room_of};
 use crate::polls::Comers;
 use requests::Allowed;
+use rights::{Rule, parse_rule};
 use std::alloc::{AllocError, Global};
 use std::io::{self, ErrorKind};
-use std::net::{IpAddr, Ipv4Addr};
 use std::sync::Wait;
 use tcp_connections::{Blocking, Limits};
 use tcp_loop::{Arrivals, EventLoop, Plan, Readiness, Remote, TurnEnd};
@@ -14,13 +14,18 @@ use tcp_loop::{Arrivals, EventLoop, Plan, Readiness, Remote, TurnEnd};
 /// A second, in nanoseconds.
 pub(crate) const SECOND: u64 = 1_000_000_000;
 
-/// The addresses from which updates are allowed: only 192.0.2.1.
-fn may() -> [IpAddr; 1] {
-    [IpAddr::V4(Ipv4Addr::new(192, 0, 2, 1))]
+/// The rule by which 192.0.2.1 may transfer.
+pub(crate) fn may(alloc: Global) -> Result<Vec<Rule>, AllocError> {
+    let mut rules = Vec::new(alloc);
+    match parse_rule(alloc, "192.0.2.1: transfer") {
+        Ok(rule) => rules.push(rule)?,
+        Err(_) => return Err(AllocError),
+    }
+    Ok(rules)
 }
 
-/// Ten seconds for each time limit, and the addresses from which updates are allowed.
-fn plan(addresses: &[IpAddr]) -> Plan<'_> {
+/// Ten seconds for each time limit, and the rules by which peers may update and transfer.
+fn plan(alloc: Global, rules: &[Rule]) -> Plan<'_> {
     Plan {
         limits: Limits {
             idle: 10 * SECOND,
@@ -28,13 +33,15 @@ fn plan(addresses: &[IpAddr]) -> Plan<'_> {
             reply: 10 * SECOND,
             rate: 0,
         },
-        allowed: Allowed::new(addresses),
+        allowed: Allowed::new(alloc, rules),
     }
 }
 
 /// A worker with a poll, one listener, and a handler.
 #[derive(Drop)]
 pub(crate) struct Running<S: Drop, P, L> {
+    alloc: Global,
+    rules: Vec<Rule>,
     pub(crate) turns: EventLoop<S, Both>,
     pub(crate) poll: P,
     pub(crate) places: Vec<L>,
@@ -53,6 +60,8 @@ impl<S: Blocking + Remote + Drop, P: Readiness<S> + Drop, L: Arrivals<Stream = S
         let mut places = Vec::new(alloc);
         places.push(place)?;
         Ok(Running {
+            alloc,
+            rules: may(alloc)?,
             turns: EventLoop::new(alloc, 8, 1)?,
             poll,
             places,
@@ -64,7 +73,6 @@ impl<S: Blocking + Remote + Drop, P: Readiness<S> + Drop, L: Arrivals<Stream = S
 
     /// Runs `count` turns.
     pub(crate) fn turn<R: Wait>(&mut self, rt: &R, count: usize) -> io::Result<()> {
-        let addresses = may();
         for _turn in 0..count {
             if self.room.is_empty() || self.out.len() < 65_535 {
                 return Err(io::Error::from(ErrorKind::InvalidInput));
@@ -72,7 +80,7 @@ impl<S: Blocking + Remote + Drop, P: Readiness<S> + Drop, L: Arrivals<Stream = S
             let turned = self.turns.poll_once(
                 rt,
                 &mut self.poll,
-                plan(&addresses),
+                plan(self.alloc, &self.rules),
                 &mut self.places,
                 &mut self.echo,
                 &mut self.room,
@@ -87,7 +95,6 @@ impl<S: Blocking + Remote + Drop, P: Readiness<S> + Drop, L: Arrivals<Stream = S
 
     /// Runs turns until `gone` connections have given up their slots, or no more turns are possible.
     pub(crate) fn run<R: Wait>(&mut self, rt: &R, gone: u64) -> Result<(), TurnEnd> {
-        let addresses = may();
         for _ in rt.forever() {
             if self.gone() >= gone {
                 return Ok(());
@@ -98,7 +105,7 @@ impl<S: Blocking + Remote + Drop, P: Readiness<S> + Drop, L: Arrivals<Stream = S
             self.turns.poll_once(
                 rt,
                 &mut self.poll,
-                plan(&addresses),
+                plan(self.alloc, &self.rules),
                 &mut self.places,
                 &mut self.echo,
                 &mut self.room,

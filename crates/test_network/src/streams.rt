@@ -2,8 +2,8 @@
 ghost use Rattle.std.specs.Prelude.{◌<◌, ◌≤◌, length};
 
 use crate::echo::Echo;
-use crate::pieces::{After, Pieces, room_of};
-use requests::StreamEnd;
+use crate::pieces::{After, Pieces, address, room_of};
+use requests::{Allowed, StreamEnd};
 use std::alloc::{AllocError, Global};
 use std::sync::Wait;
 use std::test::Fail;
@@ -24,7 +24,17 @@ fn serve_to_end<R: Wait>(
     let mut echo = Echo::new(requests);
     let mut conversation = ConnectionState::new(alloc);
     for _ in rt.forever() {
-        match serve_some(rt, &mut echo, &mut conversation, stream, room, out) {
+        let rules = Allowed::new(alloc, &[]);
+        match serve_some(
+            rt,
+            &mut echo,
+            rules,
+            address(1),
+            &mut conversation,
+            stream,
+            room,
+            out,
+        ) {
             Ok(_) => {}
             Err(end) => return end,
         }

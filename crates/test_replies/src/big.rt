@@ -5,8 +5,9 @@ use dns_name::Name;
 use dns_rdata::{RData, RRset, RType, Ttl};
 use memory_devices::{
     Kept, MemoryStream, OpenGate, Play, Played, answer_stream, asker, is_played, octets_of,
-    server_of,
+    rules_if, server_of,
 };
+use requests::Allowed;
 use serve_core::{Peer, Transport, is_permitted, respond_to_peer, transfer_reply};
 use std::alloc::Global;
 use std::sync::Wait;
@@ -126,12 +127,15 @@ fn by_places<R: Wait, Z: FirstZone, N: ServerName>(
         peer,
         asker(4711),
     );
+    let rules = rules_if(alloc, peer.may_transfer)?;
     let mut room = [0u8; 4_096];
     let mut out = [0u8; 65_535];
     let (_end, stream) = answer_stream(
         rt,
         alloc,
         &mut replies,
+        Allowed::new(alloc, &rules),
+        asker(4711),
         stream,
         &OpenGate,
         &mut room,

@@ -3,12 +3,11 @@ use crate::served::{Course, first_wrong};
 use crate::streams::ALL;
 use dns_engine::{FirstZone, VersionReader};
 use memory_devices::{
-    Datagram, MemoryDatagrams, NoLog, OpenGate, answer_datagrams, asker, octets_of,
+    Datagram, MemoryDatagrams, NoLog, OpenGate, answer_datagrams, asker, octets_of, rules_if,
 };
 use requests::{Allowed, Datagrams, DatagramsEnd, Gate};
 use serve_core::{Peer, Transport};
 use std::alloc::Global;
-use std::net::IpAddr;
 use std::sync::Wait;
 use zone_server::{DatagramHandler, Server, ServerName, ServiceLog};
 
@@ -273,8 +272,8 @@ pub(crate) fn serve<R: Wait, Z: FirstZone, N: ServerName, L: ServiceLog, G: Gate
     let mut asked = DatagramHandler::new(alloc, server, reader, log, peer, asker(0));
     let mut request = [0u8; 65_535];
     let mut out = [0u8; 65_535];
-    let own = [IpAddr::from([192, 0, 2, 7])];
-    let allowed = Allowed::new(if row.may { &own } else { &[] });
+    let rules = rules_if(alloc, row.may)?;
+    let allowed = Allowed::new(alloc, &rules);
     let served = answer_datagrams(
         rt,
         &mut asked,

@@ -1,8 +1,8 @@
 //! Streams of requests, and the octets that are written on them, as RFC 1035, 4 and RFC 2136, 2 give them, written by hand.
 use crate::served::{Course, first_wrong};
 use dns_engine::{FirstZone, VersionReader};
-use memory_devices::{Kept, MemoryStream, OpenGate, answer_stream, asker, octets_of};
-use requests::{Gate, StreamEnd};
+use memory_devices::{Kept, MemoryStream, OpenGate, answer_stream, asker, octets_of, rules_if};
+use requests::{Allowed, Gate, StreamEnd};
 use serve_core::{Peer, Transport};
 use std::alloc::Global;
 use std::sync::Wait;
@@ -74,7 +74,7 @@ const STREAMS: &[Course] = &[
         may: false,
         input: "0032432128000001000000010000076578616d706c6504746573740000060001036e6577c00c0001000100000e100004c000024d003e432128000001000100010000076578616d706c6504746573740000060001036e6577c00c00ff00fe000000000000c01e0001000100000e100004c000024d001e123401000001000000000000076578616d706c6504746573740000060001",
         written: "000c4321a8050000000000000000000c4321a8050000000000000000004c123485000001000100000000076578616d706c6504746573740000060001c00c0006000100000e100022036e7331c00c0561646d696ec00c0000000100001c2000000384001275000000012c",
-        outcome: "update from 192.0.2.7:4711 refused: not permitted by --allow;update from 192.0.2.7:4711 refused: not permitted by --allow;",
+        outcome: "update from 192.0.2.7:4711 refused: not permitted by --allow or --may;update from 192.0.2.7:4711 refused: not permitted by --allow or --may;",
         ..TRANSFER
     }),
     // an update that adds an address next to an alias and deletes the alias; the same again
@@ -132,7 +132,7 @@ const STREAMS: &[Course] = &[
         may: false,
         input: "001e123400000001000000000000076578616d706c6504746573740000fc00010040123400000001000000010000076578616d706c6504746573740000fb0001c00c0006000100000000001600000000000100000000000000000000000000000000",
         written: "001e123480050001000000000000076578616d706c6504746573740000fc0001001e123480050001000000000000076578616d706c6504746573740000fb0001",
-        outcome: "transfer from 192.0.2.7:4711 refused: not permitted by --allow;transfer from 192.0.2.7:4711 refused: not permitted by --allow;",
+        outcome: "transfer from 192.0.2.7:4711 refused: not permitted by --allow or --may;transfer from 192.0.2.7:4711 refused: not permitted by --allow or --may;",
         ..TRANSFER
     }),
     // a transfer on a stream that takes 150 octets
@@ -155,7 +155,7 @@ const STREAMS: &[Course] = &[
         may: false,
         input: "000c432128000001000000000000",
         written: "000c4321a8010000000000000000",
-        outcome: "update from 192.0.2.7:4711 refused: not permitted by --allow;",
+        outcome: "update from 192.0.2.7:4711 refused: not permitted by --allow or --may;",
         ..TRANSFER
     }),
     // two queries, one octet at a time
@@ -230,15 +230,22 @@ pub(crate) fn serve<R: Wait, Z: FirstZone, N: ServerName, L: ServiceLog, G: Gate
 ) -> Option<(StreamEnd, MemoryStream)> {
     let stream = stream_of(alloc, row)?;
     let reader = readers.pop()?;
-    let peer = Peer {
-        may_update: row.may,
-        may_transfer: row.may,
-        transport: Transport::Tcp,
-    };
+    let peer = Peer::over(Transport::Tcp, false);
     let mut replies = ConnectionHandler::new(alloc, server, reader, log, peer, asker(4711));
     let mut room = [0u8; 4_096];
     let mut out = [0u8; 65_535];
-    let served = answer_stream(rt, alloc, &mut replies, stream, gate, &mut room, &mut out);
+    let rules = rules_if(alloc, row.may)?;
+    let served = answer_stream(
+        rt,
+        alloc,
+        &mut replies,
+        Allowed::new(alloc, &rules),
+        asker(4711),
+        stream,
+        gate,
+        &mut room,
+        &mut out,
+    );
     let _ = readers.push(replies.into_reader());
     Some(served)
 }

@@ -41,7 +41,8 @@ fn is_later<R: Wait, Z: FirstZone, N: ServerName>(
     request: &[u8],
 ) -> Option<bool> {
     let mut out = [0u8; 65_535];
-    replies.turn_to(updater(), asker(port), key);
+    replies.turn_to(asker(port), key);
+    replies.set_peer(updater());
     match replies.reply(rt, request, &mut out) {
         Ok(Reply::One(_)) => Some(false),
         Ok(Reply::Later) => Some(true),

@@ -5,6 +5,7 @@ use crate::nowhere::Nowhere;
 use dns_engine::SharedVersion;
 use memory_devices::zone;
 use requests::Allowed;
+use rights::parse_rule;
 use serve_workers::{
     ConnectionPlan, Most, Plan, ServeFault, Shutdown, Sockets, ThreadSpec, UpdateConfig, WorkLimit,
     serve_zone,
@@ -13,7 +14,7 @@ use sockets::{Turn, bind_datagrams, bind_listener};
 use std::alloc::Global;
 use std::io;
 use std::marker::Brand;
-use std::net::{IpAddr, Net, Shutdown as Close, SocketAddr, TcpListener, TcpStream, UdpSocket};
+use std::net::{Net, Shutdown as Close, SocketAddr, TcpListener, TcpStream, UdpSocket};
 use std::os::fd::OwnedFd;
 use std::sync::Wait;
 use std::sync::atomic::{AtomicU64, Ordering};
@@ -136,7 +137,10 @@ pub(crate) fn served<R: Net + Threads + Wait + Clock + Sync>(
         return None;
     }
     let shutdown = Shutdown::new(threads);
-    let host = [IpAddr::from(HOST)];
+    let mut rules = Vec::new(alloc);
+    rules
+        .push(parse_rule(alloc, "127.0.0.1: update, transfer").ok()?)
+        .ok()?;
     let plan = Plan {
         shutdown: &shutdown,
         keep: 0,
@@ -148,7 +152,7 @@ pub(crate) fn served<R: Net + Threads + Wait + Clock + Sync>(
                 reply: SECOND,
                 rate: 0,
             },
-            allowed: Allowed::new(&host),
+            allowed: Allowed::new(alloc, &rules),
         },
     };
     let zone = zone(alloc)?;

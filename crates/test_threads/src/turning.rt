@@ -167,9 +167,13 @@ impl Handler<Transfer> for Putting<'_> {
     ghost spent = { λ _. ⊥ };
 
     #[tactic(auto, using(tcp_connections::proofs::AskedLemmas::each_itself))]
-    fn turn_to(&mut self, other: Peer, _from: SocketAddr, key: usize) {
-        self.peer = other;
+    fn turn_to(&mut self, _from: SocketAddr, key: usize) {
         self.asker = key;
+    }
+
+    #[tactic(auto, using(tcp_connections::proofs::AskedLemmas::each_itself))]
+    fn set_peer(&mut self, other: Peer) {
+        self.peer = other;
     }
 
     #[tactic(auto, using(tcp_connections::proofs::AskedLemmas::each_itself))]
@@ -360,7 +364,7 @@ fn job_of<'a>(
             reply: LIMIT,
             rate: 0,
         },
-        allowed: Allowed::new(&[]),
+        allowed: Allowed::new(alloc, &[]),
     };
     let poll = Poll {
         keys: case.keys,

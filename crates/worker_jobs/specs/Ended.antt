@@ -1,6 +1,6 @@
 -- How a job has ended, and what it has answered until then.
 use Rattle.std.specs.Prelude.{◌≡◌, ◌⊎◌, ℕ, List, Option}
-use Rattle.std.specs.declared.net.ip_addr.IpAddr.{IpAddr}
+use Rattle.rights.specs.declared.rule.Rule.{Rule}
 use Rattle.serve_core.specs.declared.peer.Peer.{Peer}
 use Rattle.requests.specs.Datagrams.{Datagram}
 use Rattle.requests.specs.Exchanged.{EndsBy}
@@ -31,9 +31,9 @@ EndsSo HasFailed reported = (reported ≡ HasFailed) ⊎ ((count : ℕ) × (repo
 EndsSo IsSpent reported = reported ≡ IsSpent
 EndsSo IsStarved reported = reported ≡ IsStarved
 
--- a job's datagrams are answered, at most this many, each as its peer's, by the addresses that may update and transfer. The job's end is the one
+-- a job's datagrams are answered, at most this many, each as its peer's, by the rules by which peers may update and transfer. The job's end is the one
 -- from the end of its datagrams (RFC 1035, 4.2.1)
-abbrev pub JobEndsBy : {T : Type 0} → (Peer → Learned T → Learned T → List ℕ → List (List ℕ) → Type 0) → List IpAddr → JobEnd
+abbrev pub JobEndsBy : {T : Type 0} → (Peer → Learned T → Learned T → List ℕ → List (List ℕ) → Type 0) → List Rule → JobEnd
     → Learned T → List Datagram × List Datagram → ℕ → ℕ → Learned T → Option (List Datagram × List Datagram) → ℕ → Type 0
-JobEndsBy IsReply addresses reported start old faults most seen new more =
-    (end : DatagramsEnd) × (reported ≡ job_end end most) × EndsBy IsReply addresses end start old faults most seen new more
+JobEndsBy IsReply rules reported start old faults most seen new more =
+    (end : DatagramsEnd) × (reported ≡ job_end end most) × EndsBy IsReply rules end start old faults most seen new more

@@ -1,5 +1,7 @@
 //! A worker's job on connections (RFC 7766, 6.2).
 ghost use Rattle.std.specs.Prelude.{◌≡◌, ◌⊎◌, Some};
+ghost use Rattle.requests.specs.Allowed.{IsReplyFrom};
+ghost use Rattle.serve_core.specs.declared.transport.Transport.TheVariants.{Tcp};
 ghost use Rattle.tcp_connections.specs.Asked.{EachGrows};
 ghost use Rattle.tcp_loop.specs.Steps.{Turned};
 ghost use Rattle.worker_jobs.specs.Ended.{end_by};
@@ -10,6 +12,7 @@ use crate::scratch::Scratch;
 use crate::wake_list::WakeList;
 use crate::waking_poll::WakingPoll;
 use crossbeam_utils::CachePadded;
+use requests::Allowed;
 use std::alloc::Global;
 use std::sync::Wait;
 use std::time::{Clock, Duration};
@@ -162,6 +165,11 @@ impl<
         hearing
     }
 
+    /// The rules by which peers may update and transfer.
+    pub fn allowed(&self) -> Allowed<'a> {
+        self.plan.allowed
+    }
+
     /// How the job has ended. None where it hasn't yet.
     pub fn end(&self) -> Option<JobEnd>
         ensures { result ≡ self.now.end }
@@ -213,7 +221,7 @@ impl<
         log: &O,
     ) -> Option<JobEnd>
         ensures grows { EachGrows (A.seen handler.new) (A.seen handler.old) }
-        ensures turned { Turned S.origin S.octets A.is_reply self.old.plan.allowed.addresses.now self.old.plan.limits (A.seen handler.old) self.old.event_loop.connections (A.seen handler.new) self.new.event_loop.connections }
+        ensures turned { Turned S.origin S.octets (IsReplyFrom A.is_reply self.old.plan.allowed.rules.now Tcp) self.old.plan.limits (A.seen handler.old) self.old.event_loop.connections (A.seen handler.new) self.new.event_loop.connections }
         ensures number { self.new.number ≡ self.old.number }
         ensures plan { self.new.plan ≡ self.old.plan }
     {
@@ -249,7 +257,7 @@ impl<
         log: &O,
     ) -> JobEnd
         ensures grows { EachGrows (A.seen handler.new) (A.seen handler.old) }
-        ensures turned { Turned S.origin S.octets A.is_reply self.old.plan.allowed.addresses.now self.old.plan.limits (A.seen handler.old) self.old.event_loop.connections (A.seen handler.new) self.new.event_loop.connections }
+        ensures turned { Turned S.origin S.octets (IsReplyFrom A.is_reply self.old.plan.allowed.rules.now Tcp) self.old.plan.limits (A.seen handler.old) self.old.event_loop.connections (A.seen handler.new) self.new.event_loop.connections }
         ensures number { self.new.number ≡ self.old.number }
         ensures plan { self.new.plan ≡ self.old.plan }
         ensures end { self.new.end ≡ Some result }

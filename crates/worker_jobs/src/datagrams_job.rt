@@ -69,6 +69,11 @@ impl<'a, D: Datagrams> DatagramsJob<'a, D> {
         }
     }
 
+    /// The rules by which peers may update and transfer.
+    pub fn allowed(&self) -> Allowed<'a> {
+        self.job.allowed()
+    }
+
     /// How the job has ended. None where it hasn't yet.
     pub fn end(&self) -> Option<JobEnd>
         ensures { result ≡ self.now.end }
@@ -79,7 +84,7 @@ impl<'a, D: Datagrams> DatagramsJob<'a, D> {
     /// Answers datagrams as they come, until none can be received any more or no version can be loaded, and gives how that ended. Each peer may
     /// update and transfer by its own address (RFC 1035, 4.2.1).
     pub fn serve<R: Wait, A: Handler>(&mut self, rt: &R, handler: &mut A) -> JobEnd
-        ensures served { IfSome (D.datagrams self.old.job.datagrams) (λ o. (end : EndOfJob) × EndsSo end result × JobEndsBy A.is_reply self.old.job.allowed.addresses.now end (A.seen handler.old) o (D.failed self.old.job.datagrams) self.old.job.most (A.seen handler.new) (D.datagrams self.new.job.datagrams) (D.failed self.new.job.datagrams)) }
+        ensures served { IfSome (D.datagrams self.old.job.datagrams) (λ o. (end : EndOfJob) × EndsSo end result × JobEndsBy A.is_reply self.old.job.allowed.rules.now end (A.seen handler.old) o (D.failed self.old.job.datagrams) self.old.job.most (A.seen handler.new) (D.datagrams self.new.job.datagrams) (D.failed self.new.job.datagrams)) }
         ensures grows { Grows (A.seen handler.new) (A.seen handler.old) }
         ensures end { self.new.end ≡ Some result }
         ensures number { self.new.number ≡ self.old.number }

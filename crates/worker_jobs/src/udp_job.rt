@@ -69,6 +69,11 @@ impl<'a, D: Datagrams> UdpJob<'a, D> {
         }
     }
 
+    /// The rules by which peers may update and transfer.
+    pub(crate) fn allowed(&self) -> Allowed<'a> {
+        self.allowed
+    }
+
     /// How the job has ended. None where it hasn't yet.
     pub fn end(&self) -> Option<JobEnd>
         ensures { result ≡ self.now.end }
@@ -79,7 +84,7 @@ impl<'a, D: Datagrams> UdpJob<'a, D> {
     /// Answers the job's number of datagrams as they come, and gives how that ended. It answers fewer where one can't be received, or no
     /// version can be loaded. Each peer may update and transfer by its own address (RFC 1035, 4.2.1).
     pub fn serve<R: Wait, A: Handler>(&mut self, rt: &R, handler: &mut A) -> JobEnd
-        ensures served { IfSome (D.datagrams self.old.datagrams) (λ o. JobEndsBy A.is_reply self.old.allowed.addresses.now result (A.seen handler.old) o (D.failed self.old.datagrams) self.old.most (A.seen handler.new) (D.datagrams self.new.datagrams) (D.failed self.new.datagrams)) }
+        ensures served { IfSome (D.datagrams self.old.datagrams) (λ o. JobEndsBy A.is_reply self.old.allowed.rules.now result (A.seen handler.old) o (D.failed self.old.datagrams) self.old.most (A.seen handler.new) (D.datagrams self.new.datagrams) (D.failed self.new.datagrams)) }
         ensures grows { Grows (A.seen handler.new) (A.seen handler.old) }
         ensures end { self.new.end ≡ Some result }
         ensures same { self.new.number ≡ self.old.number }
@@ -106,7 +111,7 @@ impl<D: Datagrams + Send + Drop> Job for UdpJob<'_, D> {
     ghost is_done = { λ job. IsSome job.end };
 
     fn run<R: Wait, A: Handler, L: ServiceLog>(&mut self, rt: &R, handler: &mut A, log: &L)
-        ensures served { IfSome (D.datagrams self.old.datagrams) (λ o. (end : EndOfJob) × (self.new.end ≡ Some end) × JobEndsBy A.is_reply self.old.allowed.addresses.now end (A.seen handler.old) o (D.failed self.old.datagrams) self.old.most (A.seen handler.new) (D.datagrams self.new.datagrams) (D.failed self.new.datagrams)) }
+        ensures served { IfSome (D.datagrams self.old.datagrams) (λ o. (end : EndOfJob) × (self.new.end ≡ Some end) × JobEndsBy A.is_reply self.old.allowed.rules.now end (A.seen handler.old) o (D.failed self.old.datagrams) self.old.most (A.seen handler.new) (D.datagrams self.new.datagrams) (D.failed self.new.datagrams)) }
         ensures grows { Grows (A.seen handler.new) (A.seen handler.old) }
         ensures number { self.new.number ≡ self.old.number }
         ensures done { IsSome self.new.end }

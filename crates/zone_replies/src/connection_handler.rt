@@ -21,7 +21,7 @@ use crate::pending_updates::{PendingUpdate, PendingUpdates, Place, outcome_at};
 use crate::transfer::Transfer;
 use dns_engine::{FirstZone, SharedVersion, VersionChain, VersionOwner, VersionReader};
 use dns_message::{Query, is_update};
-use requests::StreamEnd;
+use requests::{Allowed, StreamEnd};
 use serve_core::{Peer, Transport};
 use std::alloc::Global;
 use std::marker::Model;
@@ -33,8 +33,8 @@ use tcp_connections::{Handler, Reply};
 use wire_names::NameWriter;
 use zone_server::{
     Answer, Poll, Server, ServerName, ServiceLog, Submitted, UpdateResult, UpdateSender,
-    answer_request, serve_update, start_transfer, submit_stream, tell_refused, tell_signed,
-    tell_update, write_done, write_transfer,
+    answer_request, serve_update, start_transfer, submit_stream, tell_refused, tell_served,
+    tell_signed, tell_update, write_done, write_transfer,
 };
 
 /// Answers the peers of connections from a server, with a worker's reader, and logs updates. Contracts see which versions the reader has seen
@@ -51,6 +51,8 @@ pub struct ConnectionHandler<'a, 's, Z: FirstZone, N: ServerName, L> {
     asker: usize,
     query: Query,
     names: NameWriter,
+    /// The rules by which the log names a record that isn't permitted.
+    allowed: Option<Allowed<'a>>,
     /// The sender to the update thread. None where the engine answers updates at once.
     sender: Option<UpdateSender<'a>>,
     taken: PendingUpdates<N>,
@@ -142,6 +144,7 @@ impl<'a, 's, Z: FirstZone, N: ServerName, L: ServiceLog> ConnectionHandler<'a, '
             asker: 0,
             query: Query::blank(),
             names: NameWriter::new(),
+            allowed: None,
             sender: None,
             taken: PendingUpdates::new(alloc),
         }
@@ -157,6 +160,19 @@ impl<'a, 's, Z: FirstZone, N: ServerName, L: ServiceLog> ConnectionHandler<'a, '
     {
         let mut handler = self;
         handler.sender = Some(sender);
+        handler
+    }
+
+    /// The same handler, whose log names the first record of an update that these rules don't permit.
+    pub fn with_rules(self, allowed: Allowed<'a>) -> ConnectionHandler<'a, 's, Z, N, L>
+        ensures reader { result.reader ≡ self.entry.reader }
+        ensures peer { result.peer ≡ self.entry.peer }
+        ensures asker { result.asker ≡ self.entry.asker }
+        ensures taken { result.taken ≡ self.entry.taken }
+        ensures submits { result.submits ≡ self.entry.submits }
+    {
+        let mut handler = self;
+        handler.allowed = Some(allowed);
         handler
     }
 
@@ -336,7 +352,15 @@ impl<'a, 's, Z: FirstZone, N: ServerName, L: ServiceLog> ConnectionHandler<'a, '
             request,
             out,
         );
-        tell_update(rt, self.log, peer, self.from, outcome);
+        tell_served(
+            rt,
+            self.log,
+            self.allowed,
+            peer,
+            self.from,
+            request,
+            outcome,
+        );
         len
     }
 
@@ -379,10 +403,13 @@ impl<'a, 's, Z: FirstZone, N: ServerName, L: ServiceLog> Handler<Transfer>
     ghost spent = { λ replies. replies.reader.left ≡ 0 };
 
     #[tactic(auto, using(tcp_connections::proofs::AskedLemmas::each_itself))]
-    fn turn_to(&mut self, other: Peer, from: SocketAddr, key: usize) {
-        self.peer = other;
+    fn turn_to(&mut self, from: SocketAddr, key: usize) {
         self.from = from;
         self.asker = key;
+    }
+
+    fn set_peer(&mut self, other: Peer) {
+        self.peer = other;
     }
 
     #[tactic(auto, using(zone_server::proofs::ReplyLemmas::limit_most, zone_server::proofs::ReplyLemmas::room_most, zone_server::proofs::ReplyLemmas::silent_replied, tcp_connections::proofs::AskedLemmas::each_itself))]

@@ -1,6 +1,9 @@
 //! A server that answers datagrams.
-ghost use Rattle.std.specs.Prelude.{◌≡◌, ◌≤◌, true, length, None, Some, IfOk, IfSome, OnErr};
+ghost use Rattle.std.specs.Prelude.{◌≡◌, ◌≤◌, true, [], ◌∷◌, length, take, None, Some, IfOk, IfSome, OnErr};
 ghost use Rattle.dns_message.specs.Message.{message_limit};
+ghost use Rattle.dns_message.specs.Request.{IsWant};
+ghost use Rattle.dns_message.specs.declared.query.Parsed.TheVariants.{NoMemory as no_memory};
+ghost use Rattle.serve_core.specs.declared.peer.Peer.{Peer as PeerAsking};
 ghost use Rattle.zone_tree.specs.Version.{Version};
 ghost use Rattle.zone_server.specs.Known.{learned_by};
 ghost use Rattle.requests.specs.Octets.{messages_in};
@@ -16,13 +19,14 @@ use crate::right::ServerName;
 use crate::server::Server;
 use crate::service_log::ServiceLog;
 use crate::submit::{DatagramSubmitted, UpdateSender, submit_datagram};
-use crate::telling::{tell_refused, tell_signed, tell_update};
+use crate::telling::{tell_refused, tell_served, tell_signed, tell_update};
 use crate::transfer::answer_transfer;
 use dns_engine::{FirstZone, VersionReader};
-use dns_message::Query;
+use dns_message::{Head, Query};
+use dns_rdata::Rcode;
 use notify::Notifier;
-use requests::Handler;
-use serve_core::{Peer, Transport};
+use requests::{Allowed, Handler};
+use serve_core::{Heading, Peer, Transport, write_code};
 use signed_replies::SignsLater;
 use snapshot_cell::Spent;
 use std::alloc::Global;
@@ -42,6 +46,8 @@ pub struct DatagramHandler<'a, 's, Z: FirstZone, N: ServerName, L> {
     from: SocketAddr,
     query: Query,
     names: NameWriter,
+    /// The rules by which the log names a record that isn't permitted.
+    allowed: Option<Allowed<'a>>,
     /// The queue for updates, unless the engine answers them.
     sender: Option<UpdateSender<'a>>,
     /// The TSIG that the request came with, if it was signed.
@@ -70,6 +76,7 @@ impl<'a, 's, Z: FirstZone, N: ServerName, L: ServiceLog> DatagramHandler<'a, 's,
             from,
             query: Query::blank(),
             names: NameWriter::new(),
+            allowed: None,
             sender: None,
             tsig: None,
         }
@@ -83,6 +90,17 @@ impl<'a, 's, Z: FirstZone, N: ServerName, L: ServiceLog> DatagramHandler<'a, 's,
     {
         let mut handler = self;
         handler.sender = Some(sender);
+        handler
+    }
+
+    /// The same handler, whose log names the first record of an update that these rules don't permit.
+    pub fn with_rules(self, allowed: Allowed<'a>) -> DatagramHandler<'a, 's, Z, N, L>
+        ensures reader { result.reader ≡ self.entry.reader }
+        ensures peer { result.peer ≡ self.entry.peer }
+        ensures sender { result.sender ≡ self.entry.sender }
+    {
+        let mut handler = self;
+        handler.allowed = Some(allowed);
         handler
     }
 
@@ -168,7 +186,15 @@ impl<'a, 's, Z: FirstZone, N: ServerName, L: ServiceLog> DatagramHandler<'a, 's,
             request,
             out,
         );
-        tell_update(rt, self.log, peer, self.from, outcome);
+        tell_served(
+            rt,
+            self.log,
+            self.allowed,
+            peer,
+            self.from,
+            request,
+            outcome,
+        );
         Some(len)
     }
 }
@@ -186,6 +212,20 @@ impl<'a, 's, Z: FirstZone, N: ServerName, L: ServiceLog> Handler
     fn turn_to(&mut self, other: Peer, from: SocketAddr) {
         self.peer = other;
         self.from = from;
+    }
+
+    #[tactic(auto, using(crate::proofs::ReplyLemmas::limit_most, crate::proofs::ReplyLemmas::room_most, requests::proofs::TurnLemmas::grows_itself))]
+    fn answer_unread(&mut self, request: &[u8], head: Head, out: &mut [u8]) -> usize
+        requires room { message_limit ≤ length out.old }
+        requires wanted { IsWant request.now (no_memory head) }
+        ensures same { self.new.reader ≡ self.old.reader }
+        ensures grows { Grows {T = Version} (learned_by self.new.reader) (learned_by self.old.reader) }
+        ensures bound { (result ≤ message_limit) × (result ≤ length out.new) }
+        ensures replied { (peer : PeerAsking) → IsReplied Z.zone (by_datagram peer) (learned_by self.old.reader) (learned_by self.new.reader) request.now (take result out.new ∷ []) }
+        ensures reply { (peer : PeerAsking) → IsAnswered Z.zone (by_datagram peer) (learned_by self.old.reader) (learned_by self.new.reader) request.now (take result out.new ∷ []) }
+    {
+        let heading = Heading::header_alone(head);
+        write_code(&heading, Rcode::ServFail, Transport::Udp, out)
     }
 
     #[tactic(auto, using(crate::proofs::ReplyLemmas::limit_most, crate::proofs::ReplyLemmas::room_most, crate::proofs::ReplyLemmas::silent_replied, requests::proofs::TurnLemmas::grows_itself))]

@@ -51,7 +51,7 @@ pub use service_log::{Event, JobEnd, Losses, ServiceLog, Wanted};
 pub use submit::{
     DatagramSubmitted, Submitted, UpdateSender, submit_datagram, submit_stream, write_done,
 };
-pub use telling::{tell_refused, tell_signed, tell_update};
+pub use telling::{tell_refused, tell_served, tell_signed, tell_update};
 pub use transfer::write_transfer;
 pub use transfer_start::start_transfer;
 pub use tsig_lines::TsigLines;

@@ -2,6 +2,8 @@
 use dns_name::Name;
 use dns_rdata::Rcode;
 use notify::Large;
+use requests::Uncovered;
+use rights::TypeWord;
 use serve_core::Transport;
 use signed_replies::TsigFault;
 use std::fmt::{self, Display, Formatter};
@@ -33,6 +35,8 @@ pub enum Event {
         from: SocketAddr,
         /// The request.
         wanted: Wanted,
+        /// The first record of an update that no rule covers, if its sender may update other records.
+        record: Option<Uncovered>,
     },
     /// A request is signed (RFC 8945), but no keys are configured, so the signature is not checked.
     Signed {
@@ -155,8 +159,27 @@ impl Display for Event {
                 write!(f, "update from {from}: {code}")?;
                 write_serials(f, *serials)
             }
-            Event::Refused { from, wanted } => {
-                write!(f, "{wanted} from {from} refused: not permitted by --allow")
+            Event::Refused {
+                from,
+                wanted,
+                record: Some(record),
+            } => {
+                let Uncovered { owner, rtype } = record;
+                let word = TypeWord(*rtype);
+                write!(
+                    f,
+                    "{wanted} from {from} refused: no rule permits {owner} {word}"
+                )
+            }
+            Event::Refused {
+                from,
+                wanted,
+                record: None,
+            } => {
+                write!(
+                    f,
+                    "{wanted} from {from} refused: not permitted by --allow or --may"
+                )
             }
             Event::Signed { from, wanted, key } => {
                 let key = key.to_text();

@@ -1,5 +1,5 @@
 //! Logging of requests: updates, updates and transfers that are refused, and those that are signed although there are no keys.
-ghost use Rattle.std.specs.Prelude.{◌≡◌, ◌≤◌, ◌↔◌, IsTrue, length, if◌then◌else◌};
+ghost use Rattle.std.specs.Prelude.{◌≡◌, ◌≤◌, ◌↔◌, IsTrue, None, length, if◌then◌else◌};
 ghost use Rattle.zone_server.specs.Refused.{IsRefusal, AsksTransfer};
 ghost use Rattle.zone_server.specs.Signed.{key_in};
 ghost use Rattle.zone_server.specs.declared.service_log.Event.TheVariants.{Update as UpdateEvent, Refused as RefusedEvent};
@@ -10,6 +10,7 @@ use crate::service_log::{Event, ServiceLog, Wanted};
 use dns_message::{HEADER, Place, Query, is_update, tsig_place};
 use dns_name::Name;
 use dns_rdata::RType;
+use requests::Allowed;
 use serve_core::Peer;
 use std::net::SocketAddr;
 use std::sync::Wait;
@@ -20,12 +21,13 @@ const REFUSED: u8 = 5;
 
 /// The event of a peer's update from an address: its code and its serials if the peer may update, otherwise that it was refused (own).
 fn event_of(peer: Peer, from: SocketAddr, reported: UpdateOutcome) -> Event
-    ensures { result ≡ (if peer.may_update then UpdateEvent from reported.code reported.serials else RefusedEvent from AnUpdate) }
+    ensures { result ≡ (if peer.may_update then UpdateEvent from reported.code reported.serials else RefusedEvent from AnUpdate None) }
 {
     if !peer.may_update {
         return Event::Refused {
             from,
             wanted: Wanted::Update,
+            record: None,
         };
     }
     Event::Update {
@@ -46,6 +48,34 @@ pub fn tell_update<R: Wait, L: ServiceLog>(
     log.tell(rt, event_of(peer, from, reported));
 }
 
+/// Logs a peer's update from an address, as [`tell_update`] does; of one that rules don't permit also the first record that none covers (own).
+pub fn tell_served<R: Wait, L: ServiceLog>(
+    rt: &R,
+    log: &L,
+    allowed: Option<Allowed<'_>>,
+    peer: Peer,
+    from: SocketAddr,
+    request: &[u8],
+    reported: UpdateOutcome,
+) {
+    if peer.may_update {
+        tell_update(rt, log, peer, from, reported);
+        return;
+    }
+    let record = match allowed {
+        Some(allowed) => allowed.uncovered(from, peer.transport, request),
+        None => None,
+    };
+    log.tell(
+        rt,
+        Event::Refused {
+            from,
+            wanted: Wanted::Update,
+            record,
+        },
+    );
+}
+
 /// Logs a peer's query for a transfer from an address, if the reply refuses it because the peer may not have transfers (own).
 pub fn tell_refused<R: Wait, L: ServiceLog>(
     rt: &R,
@@ -57,7 +87,14 @@ pub fn tell_refused<R: Wait, L: ServiceLog>(
 ) {
     if !peer.may_transfer && is_refused(reply) && asks_transfer(query) {
         let wanted = Wanted::Transfer;
-        log.tell(rt, Event::Refused { from, wanted });
+        log.tell(
+            rt,
+            Event::Refused {
+                from,
+                wanted,
+                record: None,
+            },
+        );
     }
 }
 

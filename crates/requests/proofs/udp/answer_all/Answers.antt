@@ -10,23 +10,23 @@ loop-done-init g c = (grows_itself _, known_first _ _ _ _ _)
 
 pub loop-done-preserved : goal.loop-done-preserved
 loop-done-preserved g c =
-    let made = turn_made g.A.Handler.is_reply c.args.allowed.addresses.now _ _ _ _ _ _ _ _ _ _ c.in-Some.ensures.receives c.in-Some.ensures.same c.in-Ok.ensures.answered in
+    let made = turn_made g.A.Handler.is_reply c.args.allowed.rules.now _ _ _ _ _ _ _ _ _ _ c.in-Some.ensures.receives c.in-Some.ensures.same c.in-Ok.ensures.answered in
     (grows_more _ _ _ c.loop-done.invariant.0 c.answer_from.ensures.grows, known_more _ _ _ _ _ _ _ _ _ _ _ _ c.loop-done.invariant.1 made)
 
 pub returns-in_default-clause-answered : goal.returns-in_default-clause-answered
 returns-in_default-clause-answered g c =
-    let fails = turn_fails g.A.Handler.is_reply c.args.allowed.addresses.now _ _ _ _ _ (c.in_default.ensures.nothing refl) (c.in_default.ensures.counted refl) in
-    known_ends g.A.Handler.is_reply c.args.allowed.addresses.now Device _ _ _ _ _ _ _ _ _ _ _ c.loop-done-test.true c.loop-done.invariant.1 fails
+    let fails = turn_fails g.A.Handler.is_reply c.args.allowed.rules.now _ _ _ _ _ (c.in_default.ensures.nothing refl) (c.in_default.ensures.counted refl) in
+    known_ends g.A.Handler.is_reply c.args.allowed.rules.now Device _ _ _ _ _ _ _ _ _ _ _ c.loop-done-test.true c.loop-done.invariant.1 fails
 
 pub returns-in-Err-clause-grows : goal.returns-in-Err-clause-grows
 returns-in-Err-clause-grows g c = grows_more _ _ _ c.loop-done.invariant.0 c.answer_from.ensures.grows
 
 pub returns-in-Err-clause-answered : goal.returns-in-Err-clause-answered
 returns-in-Err-clause-answered g c =
-    let spent = turn_spent g.A.Handler.is_reply c.args.allowed.addresses.now _ _ _ _ _ _ _ _ _ c.answer_from.ensures.grows c.in-Some.ensures.receives c.in-Some.ensures.same c.in-Err.ensures.spent c.in-Err.ensures.same in
-    known_ends g.A.Handler.is_reply c.args.allowed.addresses.now Spent _ _ _ _ _ _ _ _ _ _ _ c.loop-done-test.true c.loop-done.invariant.1 spent
+    let spent = turn_spent g.A.Handler.is_reply c.args.allowed.rules.now _ _ _ _ _ _ _ _ _ c.answer_from.ensures.grows c.in-Some.ensures.receives c.in-Some.ensures.same c.in-Err.ensures.spent c.in-Err.ensures.same in
+    known_ends g.A.Handler.is_reply c.args.allowed.rules.now Spent _ _ _ _ _ _ _ _ _ _ _ c.loop-done-test.true c.loop-done.invariant.1 spent
 
 pub returns-clause-answered : goal.returns-clause-answered
 returns-clause-answered g c =
     let all : c.loop-done._done ≡ c.args.most = omega arith in
-    known_done g.A.Handler.is_reply c.args.allowed.addresses.now _ _ _ _ _ _ _ _ all c.loop-done.invariant.1
+    known_done g.A.Handler.is_reply c.args.allowed.rules.now _ _ _ _ _ _ _ _ all c.loop-done.invariant.1

@@ -18,6 +18,6 @@ loop-spec-preserved g c =
       kinds =
           map_more (λ job. takes_datagrams job) _ _ _ _ _ pushed c.loop-spec.invariant.kinds c.in-Ok-into_job.ensures.kind ∙ sym (map_push (λ spec. are_datagrams spec.sockets) c.loop-spec.yielded c.in-Some.spec);
       rights =
-          subst (λ jobs. All (λ job. HasRights c.args.plan.connections.allowed.addresses.now job) jobs) (sym pushed)
-          (All-push (λ job. HasRights c.args.plan.connections.allowed.addresses.now job) c.loop-spec.jobs.items c.in-Ok-into_job.job c.loop-spec.invariant.rights c.in-Ok-into_job.ensures.rights);
+          subst (λ jobs. All (λ job. HasRights c.args.plan.connections.allowed.rules.now job) jobs) (sym pushed)
+          (All-push (λ job. HasRights c.args.plan.connections.allowed.rules.now job) c.loop-spec.jobs.items c.in-Ok-into_job.job c.loop-spec.invariant.rights c.in-Ok-into_job.ensures.rights);
     }

@@ -11,5 +11,5 @@ invariant-loop-spec g l = record {
   room : vec_len l.jobs + into_iter_len l.spec-iterator ≤ vec_capacity l.jobs;
   numbers : map (λ job. number_of job) l.jobs.items ≡ map (λ spec. spec.worker) l.yielded;
   kinds : map (λ job. takes_datagrams job) l.jobs.items ≡ map (λ spec. are_datagrams spec.sockets) l.yielded;
-  rights : All (λ job. HasRights l.fn.plan.connections.allowed.addresses.now job) l.jobs.items;
+  rights : All (λ job. HasRights l.fn.plan.connections.allowed.rules.now job) l.jobs.items;
 }

@@ -1,6 +1,7 @@
 -- One request behind the other.
 use Rattle.std.proofs.Common.{ℕ, refl, ap, Ok, ◌∙◌, subst}
-use Rattle.serve_core.specs.declared.peer.Peer.{Peer}
+use Rattle.requests.specs.Allowed.{IsReplyFrom, IsLaterFrom}
+use Rattle.serve_core.specs.declared.transport.Transport.TheVariants.{Tcp}
 use Rattle.dns_message.specs.Frame.{frame_in}
 use Rattle.requests.specs.Turns.{Turn}
 use Rattle.tcp_connections.specs.Kept.{Kept, due}
@@ -11,25 +12,22 @@ use Rattle.tcp_connections.proofs.serve.answer_some.Goals as goal
 pub loop-answered-init : goal.loop-answered-init
 loop-answered-init g c = record {
   grows = each_itself _;
-  peer = refl;
   asker = refl;
-  keeps = keeps_itself (g.A.Handler.is_reply (g.A.Handler.peer c.args.handler.now)) (g.A.Handler.seen c.args.handler.now (g.A.Handler.asker c.args.handler.now)) c.args.state.now;
+  keeps = keeps_itself (IsReplyFrom g.A.Handler.is_reply c.args.allowed.rules.now Tcp c.args.from) (g.A.Handler.seen c.args.handler.now (g.A.Handler.asker c.args.handler.now)) c.args.state.now;
 }
 
 pub loop-answered-preserved : goal.loop-answered-preserved
 loop-answered-preserved g c =
     let so_far = c.loop-answered.invariant in
-    let Reply = g.A.Handler.is_reply (g.A.Handler.peer c.args.handler.now) in
+    let Reply = IsReplyFrom g.A.Handler.is_reply c.args.allowed.rules.now Tcp c.args.from in
     let key = g.A.Handler.asker c.args.handler.now in
     let seen = g.A.Handler.seen c.loop-answered.handler in
     let later = g.A.Handler.seen c.answer.new.handler in
     let k = c.loop-answered.state in
     let m = c.answer.new.self in
-    let keyed = subst (λ (n : ℕ). Turn (g.A.Handler.is_reply (g.A.Handler.peer c.loop-answered.handler)) (seen n) (k.held, due k) (later n) (m.held, due m)) so_far.asker (c.in-Ok.ensures.turn (ap (λ s. Ok s) c.in-More.is)) in
-    let moved = subst (λ (peer : Peer). Turn (g.A.Handler.is_reply peer) (seen key) (k.held, due k) (later key) (m.held, due m)) so_far.peer keyed in
+    let moved = subst (λ (n : ℕ). Turn Reply (seen n) (k.held, due k) (later n) (m.held, due m)) so_far.asker (c.in-Ok.ensures.turn (ap (λ s. Ok s) c.in-More.is)) in
     record {
       grows = each_more _ _ _ so_far.grows c.in-Ok.ensures.grows;
-      peer = c.in-Ok.ensures.peer ∙ so_far.peer;
       asker = c.in-Ok.ensures.asker ∙ so_far.asker;
       keeps = keeps_more Reply (g.A.Handler.seen c.args.handler.now key) (seen key) (later key) c.args.state.now k m so_far.keeps (keeps_turn Reply (seen key) (later key) k m moved);
     }
@@ -37,7 +35,7 @@ loop-answered-preserved g c =
 pub returns-in_default-clause-keeps : goal.returns-in_default-clause-keeps
 returns-in_default-clause-keeps g c =
     let so_far = c.loop-answered.invariant in
-    let Reply = g.A.Handler.is_reply (g.A.Handler.peer c.args.handler.now) in
+    let Reply = IsReplyFrom g.A.Handler.is_reply c.args.allowed.rules.now Tcp c.args.from in
     let key = g.A.Handler.asker c.args.handler.now in
     let seen = g.A.Handler.seen c.loop-answered.handler key in
     let later = g.A.Handler.seen c.answer.new.handler key in
@@ -51,7 +49,7 @@ returns-in_default-clause-grows g c = each_more _ _ _ c.loop-answered.invariant.
 pub returns-in-Err-clause-keeps : goal.returns-in-Err-clause-keeps
 returns-in-Err-clause-keeps g c =
     let so_far = c.loop-answered.invariant in
-    let Reply = g.A.Handler.is_reply (g.A.Handler.peer c.args.handler.now) in
+    let Reply = IsReplyFrom g.A.Handler.is_reply c.args.allowed.rules.now Tcp c.args.from in
     let key = g.A.Handler.asker c.args.handler.now in
     let seen = g.A.Handler.seen c.loop-answered.handler key in
     let later = g.A.Handler.seen c.answer.new.handler key in
@@ -68,5 +66,5 @@ returns-in_default-clause-none g c = λ is.
 
 pub returns-in_default-clause-later : goal.returns-in_default-clause-later
 returns-in_default-clause-later g c = λ is.
-    waits_as g.A.Handler.is_later (g.A.Handler.peer c.args.handler.now) (g.A.Handler.peer c.loop-answered.handler) c.loop-answered.state.held c.answer.new.self.held c.loop-answered.invariant.peer
+    waits_as (IsLaterFrom g.A.Handler.is_later c.args.allowed.rules.now Tcp c.args.from) c.loop-answered.state.held c.answer.new.self.held
     (ap (λ (k : Kept). k.held) (c.in-Ok.ensures.same c.in_default.not-More)) (c.in-Ok.ensures.later is)

@@ -1,5 +1,7 @@
 -- The connection under the key has gone on, or has ended; the others are as they were.
 use Rattle.std.proofs.Common.{◌≡◌, refl, ◌∙◌, rules}
+use Rattle.requests.specs.Allowed.{IsReplyFrom, IsLaterFrom}
+use Rattle.serve_core.specs.declared.transport.Transport.TheVariants.{Tcp}
 use Rattle.requests.proofs.TurnLemmas.{grows_itself}
 use Rattle.slab.specs.Slab.{get, with_value, slab_len}
 use Rattle.slab.proofs.SlabLemmas.{Updates-with_value}
@@ -15,8 +17,7 @@ returns-in-Ok-clause-own g c =
     let connections = c.args.connections.now in
     let new = c.serve_connection.new.connection in
     let here = Updates-with_value connections c.args.key new (search rules) in
-    own_gone g.A.Handler.is_reply (seen_of g.S.Blocking.octets) c.args.now (g.A.Handler.seen c.args.handler.now c.args.key) (g.A.Handler.seen c.serve_connection.new.handler c.args.key) (get connections c.args.key) (get (with_value connections c.args.key new) c.args.key) c.in-Some.connection.now new c.in-Some.ensures.value here.changed (record {
-      peer = c.in-Ok.ensures.peer;
+    own_gone (IsReplyFrom g.A.Handler.is_reply c.args.allowed.rules.now Tcp) (seen_of g.S.Blocking.octets) c.args.now (g.A.Handler.seen c.args.handler.now c.args.key) (g.A.Handler.seen c.serve_connection.new.handler c.args.key) (get connections c.args.key) (get (with_value connections c.args.key new) c.args.key) c.in-Some.connection.now new c.in-Some.ensures.value here.changed (record {
       from = c.in-Ok.ensures.from;
       group = c.in-Ok.ensures.group;
       window = c.in-Ok.ensures.window;
@@ -27,7 +28,7 @@ returns-in-Ok-clause-own g c =
 
 pub returns-in-Err-clause-own : goal.returns-in-Err-clause-own
 returns-in-Err-clause-own g c =
-    own_ended g.A.Handler.is_reply (seen_of g.S.Blocking.octets) c.args.now (g.A.Handler.seen c.args.handler.now c.args.key) (g.A.Handler.seen c.serve_connection.new.handler c.args.key) (get c.args.connections.now c.args.key) (get c.try_remove.new.self c.args.key) c.in-Some.connection.now c.in-Some.ensures.value c.try_remove.ensures.updates.changed (record {
+    own_ended (IsReplyFrom g.A.Handler.is_reply c.args.allowed.rules.now Tcp) (seen_of g.S.Blocking.octets) c.args.now (g.A.Handler.seen c.args.handler.now c.args.key) (g.A.Handler.seen c.serve_connection.new.handler c.args.key) (get c.args.connections.now c.args.key) (get c.try_remove.new.self c.args.key) c.in-Some.connection.now c.in-Some.ensures.value c.try_remove.ensures.updates.changed (record {
       end = c.in-Err.end;
       known = g.A.Handler.seen c.serve_connection.new.handler c.args.key;
       octets = g.S.Blocking.octets c.serve_connection.new.connection.stream;
@@ -57,4 +58,4 @@ pub returns-in-Ok-clause-stopped : goal.returns-in-Ok-clause-stopped
 returns-in-Ok-clause-stopped g c = λ is.
     let new = c.serve_connection.new.connection in
     let here = Updates-with_value c.args.connections.now c.args.key new (search rules) in
-    stopped_by_step g.S.Blocking.would_block g.A.Handler.is_later (get (with_value c.args.connections.now c.args.key new) c.args.key) new c.in-Ok.step here.changed (c.has_stopped.ensures.0 (search rules)) c.in-Ok.ensures.blocked c.in-Ok.ensures.waits
+    stopped_by_step g.S.Blocking.would_block (IsLaterFrom g.A.Handler.is_later c.args.allowed.rules.now Tcp) (get (with_value c.args.connections.now c.args.key new) c.args.key) new c.in-Ok.step here.changed (c.has_stopped.ensures.0 (search rules)) c.in-Ok.ensures.blocked c.in-Ok.ensures.waits

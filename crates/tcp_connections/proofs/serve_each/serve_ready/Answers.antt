@@ -3,6 +3,8 @@ use Rattle.std.proofs.Common.{ℕ, List, refl, sym, subst, option_map, arith, ge
 use Rattle.std.specs.List.{All, Contains}
 use Rattle.std.proofs.lemmas.List.{take_all}
 use Rattle.std.proofs.lemmas.List.Elements.{All-nil, Contains-push}
+use Rattle.requests.specs.Allowed.{IsReplyFrom, IsLaterFrom}
+use Rattle.serve_core.specs.declared.transport.Transport.TheVariants.{Tcp}
 use Rattle.requests.proofs.TurnLemmas.{begins_itself, begins_more, grows_itself}
 use Rattle.tcp_connections.proofs.AskedLemmas.{each_itself, each_more}
 use Rattle.slab.specs.Slab.{get, slab_len}
@@ -15,7 +17,7 @@ use Rattle.tcp_connections.proofs.serve_each.serve_ready.Goals.{then-serve_key+i
 
 pub returns-in_err-reserve-clause-own : goal.returns-in_err-reserve-clause-own
 returns-in_err-reserve-clause-own g c = λ key.
-    own_same g.A.Handler.is_reply c.args.now (g.A.Handler.seen c.args.handler.now key) (g.A.Handler.seen c.args.handler.now key) (option_map (seen_of g.S.Blocking.octets) (get c.args.connections.now key)) (grows_itself _)
+    own_same (IsReplyFrom g.A.Handler.is_reply c.args.allowed.rules.now Tcp) c.args.now (g.A.Handler.seen c.args.handler.now key) (g.A.Handler.seen c.args.handler.now key) (option_map (seen_of g.S.Blocking.octets) (get c.args.connections.now key)) (grows_itself _)
 
 pub returns-in_err-reserve-clause-ended : goal.returns-in_err-reserve-clause-ended
 returns-in_err-reserve-clause-ended g c = counted_none c.args.ends.now (slab_len c.args.connections.now) (slab_len c.args.connections.now) refl
@@ -23,7 +25,7 @@ returns-in_err-reserve-clause-ended g c = counted_none c.args.ends.now (slab_len
 pub loop-key-init : goal.loop-key-init
 loop-key-init g c = record {
   grows = each_itself _;
-  own = λ key. own_same g.A.Handler.is_reply c.args.now (g.A.Handler.seen c.args.handler.now key) (g.A.Handler.seen c.args.handler.now key) (option_map (seen_of g.S.Blocking.octets) (get c.args.connections.now key)) (grows_itself _);
+  own = λ key. own_same (IsReplyFrom g.A.Handler.is_reply c.args.allowed.rules.now Tcp) c.args.now (g.A.Handler.seen c.args.handler.now key) (g.A.Handler.seen c.args.handler.now key) (option_map (seen_of g.S.Blocking.octets) (get c.args.connections.now key)) (grows_itself _);
   ended = counted_none c.args.ends.now (slab_len c.args.connections.now) (slab_len c.args.connections.now) refl;
   next = begins_itself _;
   going = All-nil _;
@@ -36,10 +38,10 @@ loop-key-preserved g c =
     let seen = g.A.Handler.seen c.args.handler.now in
     let mid = g.A.Handler.seen c.loop-key.handler in
     let later = g.A.Handler.seen c.serve_key.new.handler in
-    let stopped = HasStopped g.S.Blocking.would_block g.A.Handler.is_later in
+    let stopped = HasStopped g.S.Blocking.would_block (IsLaterFrom g.A.Handler.is_later c.args.allowed.rules.now Tcp) in
     record {
       grows = each_more _ _ _ so_far.grows c.serve_key.ensures.grows;
-      own = own_each g.A.Handler.is_reply (seen_of g.S.Blocking.octets) c.args.now seen mid later (λ key. get c.args.connections.now key) (λ key. get c.loop-key.connections key) (λ key. get c.serve_key.new.connections key) _ c.serve_key.ensures.grows so_far.own c.serve_key.ensures.own c.serve_key.ensures.others;
+      own = own_each (IsReplyFrom g.A.Handler.is_reply c.args.allowed.rules.now Tcp) (seen_of g.S.Blocking.octets) c.args.now seen mid later (λ key. get c.args.connections.now key) (λ key. get c.loop-key.connections key) (λ key. get c.serve_key.new.connections key) _ c.serve_key.ensures.grows so_far.own c.serve_key.ensures.own c.serve_key.ensures.others;
       ended = counted_then c.args.ends.now c.loop-key.ends c.serve_key.new.ends (slab_len c.args.connections.now) (slab_len c.loop-key.connections) (slab_len c.serve_key.new.connections) so_far.ended c.serve_key.ensures.ended;
       next = elim c.if-serve_key.branch [ then-serve_key+in-Ok w ↦ rw w.next-is (begins_more c.reserve.new.self.items c.loop-key.next.items w.push.new.self.items so_far.next (get_or c.args.keys.now c.loop-key.key-index 0 ∷ [], w.in-Ok.ensures.items)) | else-serve_key w ↦ rw w.next-is so_far.next ];
       going = elim c.if-serve_key.branch [
@@ -51,5 +53,5 @@ loop-key-preserved g c =
 
 pub returns-clause-going : goal.returns-clause-going
 returns-clause-going g c =
-    let Goes = λ (key : ℕ). Contains c.loop-key.next.items key ⊎ HasStopped g.S.Blocking.would_block g.A.Handler.is_later (get c.loop-key.connections key) in
+    let Goes = λ (key : ℕ). Contains c.loop-key.next.items key ⊎ HasStopped g.S.Blocking.would_block (IsLaterFrom g.A.Handler.is_later c.args.allowed.rules.now Tcp) (get c.loop-key.connections key) in
     subst (All Goes) (take_all c.loop-key.key-index c.args.keys.now (omega (arith, c.loop-key-test.false))) c.loop-key.invariant.going

@@ -2,6 +2,8 @@
 use Rattle.std.proofs.Common.{ℕ, ◌+◌, ◌≤◌, ◌⊎◌, length, take, option_map}
 use Rattle.std.specs.List.{All, Contains}
 use Rattle.std.specs.Vec.{vec_len, vec_capacity}
+use Rattle.requests.specs.Allowed.{IsReplyFrom, IsLaterFrom}
+use Rattle.serve_core.specs.declared.transport.Transport.TheVariants.{Tcp}
 use Rattle.requests.specs.Served.{BeginsWith}
 use Rattle.tcp_connections.specs.Asked.{EachGrows}
 use Rattle.slab.specs.Slab.{get, slab_len}
@@ -12,9 +14,9 @@ use Rattle.tcp_connections.proofs.serve_each.serve_ready.Given as goal
 abbrev pub invariant-loop-key : goal.invariant-loop-key
 invariant-loop-key g l = record {
   grows : EachGrows (g.A.Handler.seen l.handler) (g.A.Handler.seen l.initial.handler);
-  own : (key : ℕ) → OwnServed g.A.Handler.is_reply l.now (g.A.Handler.seen l.initial.handler key) (option_map (seen_of g.S.Blocking.octets) (get l.initial.connections key)) (g.A.Handler.seen l.handler key) (option_map (seen_of g.S.Blocking.octets) (get l.connections key));
+  own : (key : ℕ) → OwnServed (IsReplyFrom g.A.Handler.is_reply l.fn.allowed.rules.now Tcp) l.now (g.A.Handler.seen l.initial.handler key) (option_map (seen_of g.S.Blocking.octets) (get l.initial.connections key)) (g.A.Handler.seen l.handler key) (option_map (seen_of g.S.Blocking.octets) (get l.connections key));
   ended : AreCounted l.initial.ends l.ends (slab_len l.initial.connections) (slab_len l.connections);
   next : BeginsWith l.next.items l.initial.next.items;
-  going : All (λ key. Contains l.next.items key ⊎ HasStopped g.S.Blocking.would_block g.A.Handler.is_later (get l.connections key)) (take l.key-index l.keys);
+  going : All (λ key. Contains l.next.items key ⊎ HasStopped g.S.Blocking.would_block (IsLaterFrom g.A.Handler.is_later l.fn.allowed.rules.now Tcp) (get l.connections key)) (take l.key-index l.keys);
   room : vec_len l.next + length l.keys ≤ vec_capacity l.next + l.key-index;
 }

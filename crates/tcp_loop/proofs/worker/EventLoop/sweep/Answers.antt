@@ -4,4 +4,4 @@ use Rattle.tcp_loop.proofs.worker.EventLoop.sweep.Goals as goal
 
 pub returns-clause-swept : goal.returns-clause-swept
 returns-clause-swept g c =
-    sweeps_over g.S.Remote.origin g.S.Blocking.octets c.args.plan.allowed.addresses.now c.args.now c.args.plan.limits c.limits_at-limits.result c.args.self.now.connections c.sweep.new.connections c.limits_at-limits.ensures.either c.sweep.ensures.swept
+    sweeps_over g.S.Remote.origin g.S.Blocking.octets c.args.now c.args.plan.limits c.limits_at-limits.result c.args.self.now.connections c.sweep.new.connections c.limits_at-limits.ensures.either c.sweep.ensures.swept

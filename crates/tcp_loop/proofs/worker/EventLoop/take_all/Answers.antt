@@ -12,11 +12,11 @@ loop-place-init g c = record { moves = stay; time = refl; places = refl; few = �
 
 pub loop-place-preserved : goal.loop-place-preserved
 loop-place-preserved g c = record {
-  moves = moves_more g.S.Remote.origin g.S.Blocking.octets c.args.plan.allowed.addresses.now c.args.now c.args.self.now.connections c.loop-place.self.connections c.take_at.new.self.connections c.loop-place.invariant.moves c.take_at.ensures.moves;
+  moves = moves_more g.S.Remote.origin g.S.Blocking.octets c.args.now c.args.self.now.connections c.loop-place.self.connections c.take_at.new.self.connections c.loop-place.invariant.moves c.take_at.ensures.moves;
   time = c.take_at.ensures.time ∙ c.loop-place.invariant.time;
   places = c.take_at.ensures.places ∙ c.loop-place.invariant.places;
   few = λ few. c.take_at.ensures.few (c.loop-place.invariant.few few);
 }
 
 pub returns-in_err-take_at-clause-moves : goal.returns-in_err-take_at-clause-moves
-returns-in_err-take_at-clause-moves g c = moves_more g.S.Remote.origin g.S.Blocking.octets c.args.plan.allowed.addresses.now c.args.now c.args.self.now.connections c.loop-place.self.connections c.take_at.new.self.connections c.loop-place.invariant.moves c.take_at.ensures.moves
+returns-in_err-take_at-clause-moves g c = moves_more g.S.Remote.origin g.S.Blocking.octets c.args.now c.args.self.now.connections c.loop-place.self.connections c.take_at.new.self.connections c.loop-place.invariant.moves c.take_at.ensures.moves

@@ -8,7 +8,7 @@ pub returns-then-is_over-clause-turned : goal.returns-then-is_over-clause-turned
 returns-then-is_over-clause-turned g c = unturned
 
 pub returns-in-Ok-clause-turned : goal.returns-in-Ok-clause-turned
-returns-in-Ok-clause-turned g c = one_turned _ _ _ _ _ _ _ _ _ _ _ c.poll_once-taken.ensures.turned (c.tell.ensures.event_loop ∙ c.count.ensures.event_loop)
+returns-in-Ok-clause-turned g c = one_turned _ _ _ _ _ _ _ _ _ _ c.poll_once-taken.ensures.turned (c.tell.ensures.event_loop ∙ c.count.ensures.event_loop)
 
 pub returns-in-Err-clause-turned : goal.returns-in-Err-clause-turned
-returns-in-Err-clause-turned g c = one_turned _ _ _ _ _ _ _ _ _ _ _ c.poll_once-taken.ensures.turned (c.tell.ensures.event_loop ∙ c.count.ensures.event_loop)
+returns-in-Err-clause-turned g c = one_turned _ _ _ _ _ _ _ _ _ _ c.poll_once-taken.ensures.turned (c.tell.ensures.event_loop ∙ c.count.ensures.event_loop)

@@ -1,0 +1,67 @@
+//! Rules, each of which gives rights.
+use crate::prefix::Prefix;
+use dns_name::Name;
+use dns_rdata::RType;
+
+/// Names at which records may be updated.
+pub enum NameScope {
+    /// Each name.
+    Every,
+    /// This name alone.
+    Exact(Name),
+    /// This name, and each name below it (RFC 1034, 3.1).
+    AtOrBelow(Name),
+}
+
+// By hand: a derived drop is proved once more in each crate that lets such a value go.
+impl Drop for NameScope {
+    fn drop(self) {
+        match self {
+            NameScope::Every => {}
+            NameScope::Exact(_) => {}
+            NameScope::AtOrBelow(_) => {}
+        }
+    }
+}
+
+/// A right to update records (RFC 2136, 3.3).
+pub struct UpdateRight {
+    /// The names at which it holds.
+    pub names: NameScope,
+    /// The types of which it holds; every type if there are none.
+    pub types: Vec<RType>,
+    /// Whether it holds over TCP alone.
+    pub needs_tcp: bool,
+}
+
+// By hand: a derived drop is proved once more in each crate that lets such a value go.
+impl Drop for UpdateRight {
+    fn drop(self) {
+        let UpdateRight {
+            names: _,
+            types: _,
+            needs_tcp: _,
+        } = self;
+    }
+}
+
+/// A rule: the rights of the addresses of a prefix.
+pub struct Rule {
+    /// The addresses that have them.
+    pub prefix: Prefix,
+    /// Whether they may transfer the zone (RFC 5936, 5).
+    pub transfer: bool,
+    /// What they may update, if anything.
+    pub update: Option<UpdateRight>,
+}
+
+// By hand: a derived drop is proved once more in each crate that lets such a value go.
+impl Drop for Rule {
+    fn drop(self) {
+        let Rule {
+            prefix: _,
+            transfer: _,
+            update: _,
+        } = self;
+    }
+}
