@@ -15,7 +15,7 @@ use crate::store_options::{
 use clap::ArgMatches;
 use commands::Source;
 use dns_name::Name;
-use rights::Rule;
+use rights::{KeyRules, Rule};
 use std::alloc::{AllocError, Global};
 use std::net::SocketAddr;
 use tcp_connections::Limits;
@@ -36,8 +36,10 @@ pub struct Serve<'a> {
     pub keep: usize,
     /// The number of datagrams and connections, counted together, after which a worker exits.
     pub most: u64,
-    /// The rules by which peers may update and transfer.
+    /// The rules by which peers may update and transfer whose requests aren't signed.
     pub rules: Vec<Rule>,
+    /// Those by which the holders of keys may.
+    pub key_rules: Vec<KeyRules>,
     /// The maximum number of open connections per worker.
     pub places: usize,
     /// The timeouts of a connection, and the minimum rate at which its peer must accept what is written to it.
@@ -74,6 +76,7 @@ impl<'a> Drop for Serve<'a> {
             keep: _,
             most: _,
             rules: _,
+            key_rules: _,
             places: _,
             limits: _,
             udp_buffer: _,
@@ -143,7 +146,7 @@ pub fn serve_of<'a>(
         return Err(CommandFault::Threads(workers, listen.len()));
     }
     let keep = number_for(found.get_str(KEEP), KEEP, 0, MAX_KEEP, MAX_KEEP)?;
-    let rules = served_rules(alloc, found)?;
+    let (rules, key_rules) = served_rules(alloc, found)?;
     let most = count_of(found.get_str(COUNT))?;
     let places = number_for(
         found.get_str(CONNECTIONS),
@@ -165,6 +168,7 @@ pub fn serve_of<'a>(
         keep,
         most,
         rules,
+        key_rules,
         places,
         limits,
         udp_buffer,

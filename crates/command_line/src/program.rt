@@ -2,7 +2,7 @@
 use crate::command::{
     ADDRESS, BEFORE_FAULT, DIR, HEX, KEEP, NEW, OLD, ORIGIN, REQUEST, TCP, WARN, WINDOW, ZONE,
 };
-use crate::may::{ALLOW, MAY};
+use crate::may::{ALLOW, KEY, MAY};
 use crate::options::{CONNECTIONS, COUNT, IDLE, KEYS, LISTEN, MESSAGE, REPLY, WORKERS};
 use crate::secondaries::NOTIFY;
 use crate::store_options::{JOURNAL, STORE, TAKE, TRANSFER_RATE, UDP_BUFFER, UPDATE_QUEUE};
@@ -207,12 +207,17 @@ const STORED_WORDS: &[WordRow] = &[
 const MAY_ROW: WordRow = WordRow {
     name: MAY,
     form: Form::Several("'WHO: RIGHTS'"),
-    help: "rule: WHO is an address or prefix, RIGHTS are transfer and update, separated by a comma; after update may follow exact NAME or at-or-below NAME, then types, and tcp; may be repeated",
+    help: "rule: WHO is an address or prefix, or key NAME, or both; RIGHTS are transfer and update, separated by a comma; after update may follow exact NAME or at-or-below NAME, then types, and tcp; may be repeated",
 };
 
 /// The arguments of `may`.
 const MAY_WORDS: &[WordRow] = &[
     MAY_ROW,
+    WordRow {
+        name: KEY,
+        form: Form::Value("NAME"),
+        help: "judge as a request signed by this key, by the rules that name it (default: by those that name none)",
+    },
     WordRow {
         name: TCP,
         form: Form::Flag,

@@ -7,6 +7,7 @@ use crate::secondaries::{SecondarySockets, secondaries_for};
 use crate::thread_specs::{thread_specs_for, work_limits_of};
 use command_line::{BAD_COMMAND, MAX_THREADS, Serve, StorePlan, is_routed};
 use commands::{DONE, FAILED};
+use dns_name::Name;
 use dnsd_setup::{
     BoundSockets, Entries, Listening, Log, LogLine, ServedZone, StartedZone, WorkerSockets,
     ZoneStore, bind_sockets, descriptors, keys_for, read_text_for, start_entries, start_store_for,
@@ -15,7 +16,7 @@ use dnsd_setup::{
 use key_file::KeyFile;
 use notify::large_in;
 use requests::Allowed;
-use rights::Rule;
+use rights::{KeyRules, Rule};
 use serve_workers::{
     ConnectionPlan, Most, Plan, ServeFault, SharedKeys, Shutdown, ThreadSpec, UpdateConfig,
     WorkLimit, serve_zone,
@@ -32,7 +33,7 @@ use std::thread::Threads;
 use std::time::Clock;
 use std::{io, mem};
 use store_compaction::{TextWriter, ThreadTextWriter};
-use tsig::Keys;
+use tsig::{Keys, MAX_KEYS};
 use zone_tree::ZoneRead;
 
 /// The maximum number of updates that may wait for the update thread, whatever their size (own).
@@ -213,6 +214,11 @@ fn serve_on_sockets<
     if tell_outside(rt, serve.rules.as_slice(), begun.zone().apex())? {
         return Ok(BAD_COMMAND);
     }
+    for own in serve.key_rules.iter() {
+        if tell_outside(rt, own.rules.as_slice(), begun.zone().apex())? {
+            return Ok(BAD_COMMAND);
+        }
+    }
     let Bound {
         sockets,
         secondaries,
@@ -238,7 +244,16 @@ fn serve_on_sockets<
 }
 
 /// Whether a rule gives anybody a right to update.
-fn may_update(rules: &[Rule]) -> bool {
+fn may_update(serve: &Serve<'_>) -> bool {
+    gives_update(serve.rules.as_slice())
+        || serve
+            .key_rules
+            .iter()
+            .any(|own| gives_update(own.rules.as_slice()))
+}
+
+/// Whether one of these rules gives a right to update.
+fn gives_update(rules: &[Rule]) -> bool {
     rules.iter().any(|rule| rule.update.is_some())
 }
 
@@ -255,7 +270,7 @@ fn listening_for(
         apex: zone.apex().copy(),
         serial: zone.serial(),
         records: begun.records(),
-        loses_updates: serve.store.is_none() && may_update(serve.rules.as_slice()),
+        loses_updates: serve.store.is_none() && may_update(serve),
         kept,
         wanted: serve.udp_buffer,
     }
@@ -383,7 +398,7 @@ fn serve_with_specs<
     let Ok(dir) = format!(in alloc; "{dir}") else {
         return Err(ServeFault::NoMemory);
     };
-    let Ok(rights) = rights_of(alloc, keys) else {
+    let Ok(rights) = rights_of(alloc, keys, serve.key_rules.as_slice()) else {
         return Err(ServeFault::NoMemory);
     };
     let shutdown = Shutdown::new(specs.len());
@@ -406,22 +421,40 @@ fn serve_with_specs<
 }
 
 /// What the holders of keys may do, in the order of the keys.
-fn rights_of(alloc: Global, keys: Option<&KeyFile>) -> Result<Vec<KeyRights>, AllocError> {
+fn rights_of<'a>(
+    alloc: Global,
+    keys: Option<&KeyFile>,
+    key_rules: &'a [KeyRules],
+) -> Result<Vec<KeyRights<'a>>, AllocError> {
     let mut rights = Vec::new(alloc);
     let Some(file) = keys else {
         return Ok(rights);
     };
-    for _ in 0..file.keys.len() {
-        rights.push(KeyRights {
-            may_update: true,
-            may_transfer: true,
-        })?;
+    for index in 0..MAX_KEYS {
+        let Some(key) = file.keys.get(index as u16) else {
+            break;
+        };
+        let rules = rules_of(key_rules, key.name());
+        rights.push(KeyRights { rules })?;
     }
     Ok(rights)
 }
 
+/// The rules that name the key of this name.
+fn rules_of<'a>(key_rules: &'a [KeyRules], name: &Name) -> &'a [Rule] {
+    for own in key_rules {
+        if own.key == *name {
+            return own.rules.as_slice();
+        }
+    }
+    &[]
+}
+
 /// The keys of a file with these rights, if there is one.
-fn shared_keys<'a>(keys: Option<&'a KeyFile>, rights: &'a [KeyRights]) -> Option<SharedKeys<'a>> {
+fn shared_keys<'a>(
+    keys: Option<&'a KeyFile>,
+    rights: &'a [KeyRights<'a>],
+) -> Option<SharedKeys<'a>> {
     let file = keys?;
     Some(SharedKeys {
         keys: &file.keys,

@@ -1,6 +1,7 @@
 //! Reading the keys that clients sign by (RFC 8945).
-use command_line::Serve;
+use command_line::{BAD_COMMAND, Serve};
 use commands::FAILED;
+use dns_name::Name;
 use key_file::{KeyFile, parse_keys};
 use log_lines::Level;
 use std::alloc::Global;
@@ -27,14 +28,18 @@ impl From<io::Error> for KeysFault {
     }
 }
 
-/// The keys of a server; None without the option for them. The program's status if their file cannot be read, if its group or others have a right to it, or if it is refused;
+/// The keys of a server; None without the option for them. The program's status if their file cannot be read, if its group or others have a right to it, if it is refused, or if a rule
+/// names a key that it hasn't;
 /// standard error then has the reason, with no word of the file.
 pub fn keys_for<R: Files + Env + Eprint + AllocGlobal>(
     rt: &R,
     serve: &Serve<'_>,
 ) -> io::Result<Result<Option<KeyFile>, u8>> {
     let Some(path) = serve.keys else {
-        return Ok(Ok(None));
+        return match serve.key_rules.first() {
+            None => Ok(Ok(None)),
+            Some(own) => Ok(Err(tell_no_key(rt, &own.key)?)),
+        };
     };
     let mark = Level::Error.mark_for(rt);
     let text = match read_secret(rt, rt.alloc(), path) {
@@ -52,6 +57,11 @@ pub fn keys_for<R: Files + Env + Eprint + AllocGlobal>(
     };
     match parse_keys(rt.alloc(), text.as_slice()) {
         Ok(file) => {
+            for own in serve.key_rules.iter() {
+                if file.keys.index_named(&own.key).is_none() {
+                    return Ok(Err(tell_no_key(rt, &own.key)?));
+                }
+            }
             warn_of_short(rt, path, &file)?;
             Ok(Ok(Some(file)))
         }
@@ -74,8 +84,20 @@ fn read_secret<R: Files>(rt: &R, alloc: Global, path: &str) -> Result<Vec<u8>, K
     Ok(text)
 }
 
+/// Writes on standard error that a rule names a key that the server hasn't, and returns the program's status.
+fn tell_no_key<R: Env + Eprint + AllocGlobal>(rt: &R, name: &Name) -> io::Result<u8> {
+    let mark = Level::Error.mark_for(rt);
+    let name = name.to_text();
+    eprintln!(rt; "{mark}error: --may: there is no key '{name}' in the file of --keys")?;
+    Ok(BAD_COMMAND)
+}
+
 /// Warns of each key whose secret is short.
-fn warn_of_short<R: Env + Eprint>(rt: &R, path: &str, file: &KeyFile) -> io::Result<()> {
+fn warn_of_short<R: Env + Eprint + AllocGlobal>(
+    rt: &R,
+    path: &str,
+    file: &KeyFile,
+) -> io::Result<()> {
     let mark = Level::Warning.mark_for(rt);
     for name in file.short.iter() {
         let name = name.to_text();

@@ -16,20 +16,12 @@ pub(crate) struct KeyText<'a> {
 }
 
 /// A clause of a `key` statement.
+#[derive(Clone, Copy)]
 enum Clause<'a> {
     /// Its algorithm.
     Algorithm(&'a [u8]),
     /// Its secret.
     Secret(&'a [u8]),
-}
-
-impl<'a> Drop for Clause<'a> {
-    fn drop(self) {
-        match self {
-            Clause::Algorithm(_) => {}
-            Clause::Secret(_) => {}
-        }
-    }
 }
 
 /// The words and marks that are left of a file.

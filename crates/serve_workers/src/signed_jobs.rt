@@ -11,7 +11,7 @@ pub struct SharedKeys<'a> {
     /// The keys.
     pub keys: &'a Keys,
     /// What their holders may do.
-    pub rights: &'a [KeyRights],
+    pub rights: &'a [KeyRights<'a>],
 }
 
 /// A job whose requests may be signed, with the keys and the clock by which they are verified, and room for one without its TSIG.

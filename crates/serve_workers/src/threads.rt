@@ -1,5 +1,5 @@
 //! What the threads of a server do: each has a job on sockets, and answers its requests by a handler.
-ghost use Rattle.std.specs.Prelude.{◌≡◌, Some};
+ghost use Rattle.std.specs.Prelude.{◌≡◌, Some, map};
 ghost use Rattle.requests.specs.Served.{BeginsWith};
 ghost use Rattle.serve_workers.specs.Numbers.{number_of, end_of};
 
@@ -109,7 +109,7 @@ fn serve_signed_datagrams<
     signed: &mut SignedJob<'g, UdpJob<'g>, C>,
 ) -> (VersionReader<N>, JobEnd)
     requires keys { signed.old.keys.keys.now ≡ K.keys }
-    requires rights { signed.old.keys.rights.now ≡ K.rights }
+    requires rights { map (λ own. own.rules.now) signed.old.keys.rights.now ≡ K.rights }
     ensures number { signed.new.job.number ≡ signed.old.job.number }
     ensures seen { BeginsWith result.0.seen reader.seen }
     ensures end { signed.new.job.end ≡ Some result.1 }
@@ -123,7 +123,7 @@ fn serve_signed_datagrams<
         clock,
         room,
     } = signed;
-    let ring: RingKeys<'_, K> = RingKeys::new(keys.keys, keys.rights);
+    let ring: RingKeys<'_, K> = RingKeys::new(alloc, keys.keys, keys.rights);
     let clock = SystemClock::new(*clock);
     let mut handler = SignedDatagrams::new(
         handler,
@@ -158,7 +158,7 @@ fn serve_signed_connections<
     signed: &mut SignedTcpJob<'g, C>,
 ) -> (VersionReader<N>, JobEnd)
     requires keys { signed.old.keys.keys.now ≡ K.keys }
-    requires rights { signed.old.keys.rights.now ≡ K.rights }
+    requires rights { map (λ own. own.rules.now) signed.old.keys.rights.now ≡ K.rights }
     ensures number { signed.new.job.number ≡ signed.old.job.number }
     ensures seen { BeginsWith result.0.seen reader.seen }
     ensures end { signed.new.job.end ≡ Some result.1 }
@@ -172,7 +172,7 @@ fn serve_signed_connections<
         clock,
         room,
     } = signed;
-    let ring: RingKeys<'g, K> = RingKeys::new(keys.keys, keys.rights);
+    let ring: RingKeys<'g, K> = RingKeys::new(alloc, keys.keys, keys.rights);
     let clock = SystemClock::new(*clock);
     let mut handler = SignedConnections::new(
         alloc,

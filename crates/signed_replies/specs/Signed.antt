@@ -1,5 +1,6 @@
 -- What a request gets, by its TSIG (RFC 8945, 5.2 and 5.3).
 use Rattle.std.specs.Prelude.{◌≡◌, ℕ, List, [], ◌∷◌, length, map, nat_lt, Option, Some, None, slice_get, if◌then◌else◌}
+use Rattle.std.specs.declared.net.socket_addr.SocketAddr.{SocketAddr}
 use Rattle.dns_rdata.specs.declared.numbers.Rcode.{Rcode}
 use Rattle.dns_rdata.specs.declared.numbers.Rcode.TheVariants.{FormErr, NotAuth}
 use Rattle.dns_message.specs.Message.{message_limit, number_at}
@@ -9,7 +10,9 @@ use Rattle.dns_message.specs.Request.{is_update, reads}
 use Rattle.dns_message.specs.declared.edns.Edns.{Edns}
 use Rattle.dns_message.specs.declared.query.Parsed.{Parsed}
 use Rattle.dns_message.specs.declared.query.Parsed.TheVariants as parsed
+use Rattle.requests.specs.Allowed.{IsPeer}
 use Rattle.requests.specs.Served.{Learned, Grows}
+use Rattle.rights.specs.declared.rule.Rule.{Rule}
 use Rattle.serve_core.specs.Heading.{header_alone, coded}
 use Rattle.serve_core.specs.Transport.{limit_of}
 use Rattle.serve_core.specs.declared.peer.Peer.{Peer}
@@ -24,8 +27,7 @@ use Rattle.tsig.specs.declared.stamp.Stamp.{Stamp}
 use Rattle.tsig.specs.declared.tsig_error.TsigError.TheVariants as error
 use Rattle.tsig.specs.declared.verifying.Verification.{Verification}
 use Rattle.tsig.specs.declared.verifying.Verification.TheVariants.{Unsigned, Silent, Malformed, BadKey, BadSig, BadTime, BadTrunc, Signed}
-use Rattle.signed_replies.specs.Rights.{rights_of, peer_by}
-use Rattle.signed_replies.specs.declared.key_ring.KeyRights.{KeyRights}
+use Rattle.signed_replies.specs.Rights.{rules_of}
 
 -- a request without its TSIG, which stands at a position: with its own ID, and not Original ID, so that the reply has that one (RFC 1035, 4.1.1)
 abbrev pub plain_of : List ℕ → ℕ → List ℕ
@@ -86,15 +88,16 @@ received keys now request = if nat_lt message_limit (length request) then Silent
 abbrev pub AreSignedAlone : SharedKey → ℕ → RequestTsig → ℕ → List (List ℕ) → List (List ℕ) → Type 0
 AreSignedAlone key now tsig limit plains messages = messages ≡ map (signed_reply key tsig.mac.items (stamp_at now) limit) plains
 
--- the keys, the rights of their holders, what a reply is to a request without TSIG, by the peer and by what is known before it and when it is made, and how its messages are signed, by the key, the
+-- the keys, the rules of their holders, what a reply is to a request without TSIG, by the peer and by what is known before it and when it is made, and how its messages are signed, by the key, the
 -- time, the request's TSIG and the limit
-module _ {T : Type 0} (keys : List SharedKey) (rights : List KeyRights) (IsReply : Peer → Learned T → Learned T → List ℕ → List (List ℕ) → Type 0) (AreSigned : SharedKey → ℕ → RequestTsig → ℕ → List (List ℕ) → List (List ℕ) → Type 0) where
-  -- the messages of a reply to the request without its TSIG, to a peer with the rights of the key's holder, signed at a time (RFC 8945, 5.3)
+module _ {T : Type 0} (keys : List SharedKey) (rights : List (List Rule)) (IsReply : Peer → Learned T → Learned T → List ℕ → List (List ℕ) → Type 0) (AreSigned : SharedKey → ℕ → RequestTsig → ℕ → List (List ℕ) → List (List ℕ) → Type 0) where
+  -- the messages of a reply to the request without its TSIG, to the peer that the rules of the key's holder make of who sends that from an address, signed at a time (RFC 8945, 5.3)
   abbrev pub IsSignedReply : Option SharedKey → ℕ → RequestTsig → Peer → Learned T → Learned T → List ℕ → List (List ℕ) → Type 0
   IsSignedReply None now tsig peer before later request messages = messages ≡ []
   IsSignedReply (Some key) now tsig peer before later request messages =
       let plain = plain_of request tsig.start in
-      (plains : List (List ℕ)) × IsReply (peer_by (rights_of rights tsig.key) peer) before later plain plains × AreSigned key now tsig (reply_limit peer.transport plain) plains messages
+      (from : SocketAddr) × (own : Peer) × IsPeer (rules_of rights tsig.key) peer.transport from plain own
+      × (plains : List (List ℕ)) × IsReply own before later plain plains × AreSigned key now tsig (reply_limit peer.transport plain) plains messages
 
   -- by what the request is by its TSIG (RFC 8945, 5.2)
   abbrev pub IsReplyBy : Verification → ℕ → Peer → Learned T → Learned T → List ℕ → List (List ℕ) → Type 0
@@ -112,9 +115,9 @@ module _ {T : Type 0} (keys : List SharedKey) (rights : List KeyRights) (IsReply
   IsReplyTo peer seen later request messages =
       (now : ℕ) × (before : Learned T) × Grows before seen × Grows later before × IsReplyBy (received keys now request) now peer before later request messages
 
--- the keys, the rights of their holders, and which requests without TSIG may be answered later, by the peer
-module _ (keys : List SharedKey) (rights : List KeyRights) (IsLater : Peer → List ℕ → Type 0) where
-  -- a request may be answered later that may without its TSIG, by a peer with the rights of the key's holder
+-- the keys, the rules of their holders, and which requests without TSIG may be answered later, by the peer
+module _ (keys : List SharedKey) (rights : List (List Rule)) (IsLater : Peer → List ℕ → Type 0) where
+  -- a request may be answered later that may without its TSIG, by the peer that the rules of the key's holder make of who sends that from an address
   abbrev pub IsLaterBy : Verification → Peer → List ℕ → Type 0
   IsLaterBy Unsigned peer request = IsLater peer request
   IsLaterBy Silent peer request = ⊥
@@ -123,7 +126,9 @@ module _ (keys : List SharedKey) (rights : List KeyRights) (IsLater : Peer → L
   IsLaterBy (BadSig tsig) peer request = ⊥
   IsLaterBy (BadTime tsig) peer request = ⊥
   IsLaterBy (BadTrunc tsig) peer request = ⊥
-  IsLaterBy (Signed tsig) peer request = IsLater (peer_by (rights_of rights tsig.key) peer) (plain_of request tsig.start)
+  IsLaterBy (Signed tsig) peer request =
+      let plain = plain_of request tsig.start in
+      (from : SocketAddr) × (own : Peer) × IsPeer (rules_of rights tsig.key) peer.transport from plain own × IsLater own plain
 
   abbrev pub IsLaterTo : Peer → List ℕ → Type 0
   IsLaterTo peer request = (now : ℕ) × IsLaterBy (received keys now request) peer request

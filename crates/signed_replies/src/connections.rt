@@ -1,13 +1,13 @@
 //! Requests of connections that are signed (RFC 8945, 5).
-ghost use Rattle.std.specs.Prelude.{◌≡◌, ◌≢◌, ◌≤◌, ◌↔◌, ℕ, List, Some, length, slice_get, IfOk, IfErr, OnErr};
+ghost use Rattle.std.specs.Prelude.{◌≡◌, ◌≢◌, ◌≤◌, ◌↔◌, ◌⊎◌, ℕ, List, Some, length, slice_get, IfOk, IfErr};
 ghost use Rattle.dns_message.specs.Message.{message_limit};
 ghost use Rattle.requests.specs.Served.{Learned, Grows};
 ghost use Rattle.requests.specs.declared.stream_end.StreamEnd.{StreamEnd as EndOf};
 ghost use Rattle.requests.specs.Octets.{messages_in};
-ghost use Rattle.signed_replies.specs.Rights.{rights_of, peer_by};
 ghost use Rattle.signed_replies.specs.Signed.{received, plain_of, IsReplyBy, IsReplyTo, IsSignedReply, IsLaterBy, IsLaterTo};
 ghost use Rattle.signed_replies.specs.Stream.{AreSignedInOrder, stream_by};
 ghost use Rattle.tcp_connections.specs.Asked.{EachGrows};
+ghost use Rattle.tsig.specs.declared.verifying.Verification.TheVariants.{Signed as signed_by};
 ghost use Rattle.tcp_connections.specs.Kept.{messages_of};
 ghost use Rattle.tcp_connections.specs.declared.handler.Reply.{Reply as ReplyOf};
 ghost use Rattle.zone_tree.specs.Version.{Version};
@@ -79,10 +79,11 @@ fn reply_as<R: Wait, M: Messages, A: Handler<M>>(
     ensures reply { IfOk result (λ reply. reply ≢ ReplyOf.Later → (before : Learned Version) × Grows before (A.seen inner.old asker) × Grows (A.seen inner.new asker) before
         × A.is_reply peer before (A.seen inner.new asker) request.now (messages_of M.left reply out.new)) }
     ensures later { IfOk result (λ reply. reply ≡ ReplyOf.Later → A.is_later peer request.now) }
-    ensures end { IfErr result (λ end. end ≡ EndOf.Spent) }
-    ensures spent { OnErr result (A.spent inner.new) }
+    ensures end { IfErr result (λ end. (end ≡ EndOf.Spent) ⊎ (end ≡ EndOf.NoMemory)) }
+    ensures spent { IfErr result (λ end. end ≡ EndOf.Spent → A.spent inner.new) }
 {
-    inner.turn_to(peer, from, asker);
+    inner.turn_to(from, asker);
+    inner.set_peer(peer);
     inner.reply(rt, request, out)
 }
 
@@ -203,17 +204,20 @@ impl<
         ensures asker { self.new.asker ≡ self.old.asker }
         ensures grows { EachGrows {T = Version} (A.seen self.new.inner) (A.seen self.old.inner) }
         ensures bound { IfOk result (λ reply. (len : ℕ) → reply ≡ ReplyOf.One len → (len ≤ message_limit) × (len ≤ length out.new)) }
-        ensures end { IfErr result (λ end. end ≡ EndOf.Spent) }
-        ensures spent { OnErr result (A.spent self.new.inner) }
+        ensures end { IfErr result (λ end. (end ≡ EndOf.Spent) ⊎ (end ≡ EndOf.NoMemory)) }
+        ensures spent { IfErr result (λ end. end ≡ EndOf.Spent → A.spent self.new.inner) }
         ensures reply { IfOk result (λ reply. reply ≢ ReplyOf.Later → (before : Learned Version) × Grows before (A.seen self.old.inner self.old.asker) × Grows (A.seen self.new.inner self.old.asker) before
             × IsSignedReply {T = Version} K.keys K.rights A.is_reply AreSignedInOrder (slice_get K.keys tsig.key) now tsig self.old.peer before (A.seen self.new.inner self.old.asker) request.now (messages_of (λ s. stream_by s.signer (M.left s.inner)) reply out.new)) }
-        ensures later { IfOk result (λ reply. reply ≡ ReplyOf.Later → A.is_later (peer_by (rights_of K.rights tsig.key) self.old.peer) (plain_of request.now tsig.start)) }
+        ensures later { IfOk result (λ reply. reply ≡ ReplyOf.Later → IsLaterBy K.keys K.rights A.is_later (signed_by tsig) self.old.peer request.now) }
     {
         let Some(key) = self.ring.keys().get(tsig.key) else {
             return Ok(Reply::Silent);
         };
-        let peer = self.ring.peer_by(tsig.key, self.peer);
         let plain = self.room.plain(request, tsig.start);
+        let transport = self.peer.transport;
+        let Ok(peer) = self.ring.peer_by(tsig.key, self.from, transport, plain) else {
+            return Err(StreamEnd::NoMemory);
+        };
         let made = reply_as(rt, &mut self.inner, peer, self.from, self.asker, plain, out)?;
         Ok(signed(made, key, tsig, now, out))
     }
@@ -235,8 +239,8 @@ impl<
         ensures asker { self.new.asker ≡ self.old.asker }
         ensures grows { EachGrows {T = Version} (A.seen self.new.inner) (A.seen self.old.inner) }
         ensures bound { IfOk result (λ reply. (len : ℕ) → reply ≡ ReplyOf.One len → (len ≤ message_limit) × (len ≤ length out.new)) }
-        ensures end { IfErr result (λ end. end ≡ EndOf.Spent) }
-        ensures spent { OnErr result (A.spent self.new.inner) }
+        ensures end { IfErr result (λ end. (end ≡ EndOf.Spent) ⊎ (end ≡ EndOf.NoMemory)) }
+        ensures spent { IfErr result (λ end. end ≡ EndOf.Spent → A.spent self.new.inner) }
         ensures reply { IfOk result (λ reply. reply ≢ ReplyOf.Later → (before : Learned Version) × Grows before (A.seen self.old.inner self.old.asker) × Grows (A.seen self.new.inner self.old.asker) before
             × IsReplyBy {T = Version} K.keys K.rights A.is_reply AreSignedInOrder verified.entry now self.old.peer before (A.seen self.new.inner self.old.asker) request.now (messages_of (λ s. stream_by s.signer (M.left s.inner)) reply out.new)) }
         ensures later { IfOk result (λ reply. reply ≡ ReplyOf.Later → IsLaterBy K.keys K.rights A.is_later verified.entry self.old.peer request.now) }
@@ -298,8 +302,8 @@ impl<
         ensures asker { self.new.asker ≡ self.old.asker }
         ensures grows { EachGrows {T = Version} (A.seen self.new.inner) (A.seen self.old.inner) }
         ensures bound { IfOk result (λ reply. (len : ℕ) → reply ≡ ReplyOf.One len → (len ≤ message_limit) × (len ≤ length out.new)) }
-        ensures end { IfErr result (λ end. end ≡ EndOf.Spent) }
-        ensures spent { OnErr result (A.spent self.new.inner) }
+        ensures end { IfErr result (λ end. (end ≡ EndOf.Spent) ⊎ (end ≡ EndOf.NoMemory)) }
+        ensures spent { IfErr result (λ end. end ≡ EndOf.Spent → A.spent self.new.inner) }
         ensures reply { IfOk result (λ reply. reply ≢ ReplyOf.Later → IsReplyTo {T = Version} K.keys K.rights A.is_reply AreSignedInOrder self.old.peer (A.seen self.old.inner self.old.asker) (A.seen self.new.inner self.old.asker) request.now (messages_of (λ s. stream_by s.signer (M.left s.inner)) reply out.new)) }
         ensures later { IfOk result (λ reply. reply ≡ ReplyOf.Later → IsLaterTo K.keys K.rights A.is_later self.old.peer request.now) }
     {
@@ -330,8 +334,8 @@ impl<
         ensures asker { self.new.asker ≡ self.old.asker }
         ensures grows { EachGrows {T = Version} (A.seen self.new.inner) (A.seen self.old.inner) }
         ensures bound { IfOk result (λ reply. (len : ℕ) → reply ≡ ReplyOf.One len → (len ≤ message_limit) × (len ≤ length out.new)) }
-        ensures end { IfErr result (λ end. end ≡ EndOf.Spent) }
-        ensures spent { OnErr result (A.spent self.new.inner) }
+        ensures end { IfErr result (λ end. (end ≡ EndOf.Spent) ⊎ (end ≡ EndOf.NoMemory)) }
+        ensures spent { IfErr result (λ end. end ≡ EndOf.Spent → A.spent self.new.inner) }
         ensures reply { IfOk result (λ reply. reply ≢ ReplyOf.Later → IsReplyTo {T = Version} K.keys K.rights A.is_reply AreSignedInOrder self.old.peer (A.seen self.old.inner self.old.asker) (A.seen self.new.inner self.old.asker) request.now (messages_of (λ s. stream_by s.signer (M.left s.inner)) reply out.new)) }
         ensures later { IfOk result (λ reply. reply ≡ ReplyOf.Later → IsLaterTo K.keys K.rights A.is_later self.old.peer request.now) }
     {
@@ -371,8 +375,8 @@ impl<
         ensures asker { self.new.asker ≡ self.old.asker }
         ensures grows { EachGrows {T = Version} (A.seen self.new.inner) (A.seen self.old.inner) }
         ensures bound { IfOk result (λ reply. (len : ℕ) → reply ≡ ReplyOf.One len → (len ≤ message_limit) × (len ≤ length out.new)) }
-        ensures end { IfErr result (λ end. end ≡ EndOf.Spent) }
-        ensures spent { OnErr result (A.spent self.new.inner) }
+        ensures end { IfErr result (λ end. (end ≡ EndOf.Spent) ⊎ (end ≡ EndOf.NoMemory)) }
+        ensures spent { IfErr result (λ end. end ≡ EndOf.Spent → A.spent self.new.inner) }
         ensures reply { IfOk result (λ reply. reply ≢ ReplyOf.Later → IsReplyTo {T = Version} K.keys K.rights A.is_reply AreSignedInOrder self.old.peer (A.seen self.old.inner self.old.asker) (A.seen self.new.inner self.old.asker) request.now (messages_of (λ s. stream_by s.signer (M.left s.inner)) reply out.new)) }
         ensures later { IfOk result (λ reply. reply ≡ ReplyOf.Later → IsLaterTo K.keys K.rights A.is_later self.old.peer request.now) }
     {
@@ -404,11 +408,14 @@ impl<
 
     ghost spent = { λ signed. A.spent signed.inner };
 
-    fn turn_to(&mut self, other: Peer, from: SocketAddr, key: usize) {
-        self.inner.turn_to(other, from, key);
-        self.peer = other;
+    fn turn_to(&mut self, from: SocketAddr, key: usize) {
+        self.inner.turn_to(from, key);
         self.from = from;
         self.asker = key;
+    }
+
+    fn set_peer(&mut self, other: Peer) {
+        self.peer = other;
     }
 
     fn reply<R: Wait>(

@@ -1,6 +1,8 @@
 //! Datagrams that are signed (RFC 8945, 5).
 ghost use Rattle.std.specs.Prelude.{◌≡◌, ◌≤◌, length, slice_get, IfOk, IfSome};
 ghost use Rattle.dns_message.specs.Message.{message_limit};
+ghost use Rattle.dns_message.specs.Request.{IsWant};
+ghost use Rattle.dns_message.specs.declared.query.Parsed.TheVariants.{NoMemory as no_memory};
 ghost use Rattle.requests.specs.Datagrams.{by_datagram};
 ghost use Rattle.requests.specs.Octets.{messages_in};
 ghost use Rattle.requests.specs.Served.{Learned, Grows};
@@ -15,7 +17,7 @@ use crate::plain_room::PlainRoom;
 use crate::signing::{sign_reply, stamp_at, stamp_late, stamp_short, write_signed};
 use crate::signs_later::SignsLater;
 use crate::tsig_log::{TsigFault, TsigLog, tell_fault};
-use dns_message::{HEADER, MAX_LIMIT};
+use dns_message::{HEADER, Head, MAX_LIMIT};
 use dns_rdata::Rcode;
 use requests::Handler;
 use serve_core::{Peer, Transport};
@@ -211,14 +213,82 @@ impl<'r, 'k, K: KeyRing, A: SignsLater + Drop, C: UnixClock, O: TsigLog + Drop> 
         let Some(key) = self.ring.keys().get(tsig.key) else {
             return Ok(None);
         };
-        let peer = self.ring.peer_by(tsig.key, self.peer);
         let plain = self.room.plain(request, tsig.start);
         let limit = reply_limit(plain, Transport::Udp);
+        let peer = match self
+            .ring
+            .peer_by(tsig.key, self.from, Transport::Udp, plain)
+        {
+            Ok(peer) => peer,
+            Err(head) => {
+                let len = self.inner.answer_unread(plain, head, out);
+                return Ok(Some(sign_reply(key, tsig, &stamp_at(now), limit, out, len)));
+            }
+        };
         let (from, own) = (self.from, Some(tsig.copy()));
         let Some(len) = answer_as(rt, &mut self.inner, peer, from, own, plain, out)? else {
             return Ok(None);
         };
         Ok(Some(sign_reply(key, tsig, &stamp_at(now), limit, out, len)))
+    }
+}
+
+impl<'r, 'k, K: KeyRing, A: SignsLater + Drop, C: UnixClock, O: TsigLog + Drop> SignedDatagrams<
+    'r,
+    'k,
+    K,
+    A,
+    C,
+    O,
+> {
+    /// Answers an update that there is no memory to read, by what it is by its TSIG.
+    fn unread_by(
+        &mut self,
+        now: u64,
+        verified: Verification<'_>,
+        request: &[u8],
+        head: Head,
+        out: &mut [u8],
+    ) -> usize
+        requires verified { verified ≡ received K.keys now request.now }
+        requires header { HEADER ≤ length request.now }
+        requires short { length request.now ≤ message_limit }
+        requires room { message_limit ≤ length out.old }
+        requires wanted { IsWant request.now (no_memory head) }
+        ensures grows { Grows {T = Version} (A.seen self.new.inner) (A.seen self.old.inner) }
+        ensures bound { (result ≤ message_limit) × (result ≤ length out.new) }
+    {
+        match verified {
+            Verification::Unsigned => self.inner.answer_unread(request, head, out),
+            Verification::Silent => 0,
+            Verification::Malformed => write_error(request, Rcode::FormErr, Transport::Udp, out),
+            Verification::BadKey(tsig) => {
+                write_unsigned(request, &tsig, TsigError::BadKey, Transport::Udp, out)
+            }
+            Verification::BadSig(tsig) => {
+                write_unsigned(request, &tsig, TsigError::BadSig, Transport::Udp, out)
+            }
+            Verification::BadTime(tsig) => {
+                let key = self.ring.keys().get(tsig.key);
+                let stamp = stamp_late(&tsig, now);
+                write_signed(request, key, tsig, &stamp, Transport::Udp, out).unwrap_or(0)
+            }
+            Verification::BadTrunc(tsig) => {
+                let key = self.ring.keys().get(tsig.key);
+                write_signed(request, key, tsig, &stamp_short(now), Transport::Udp, out).unwrap_or(
+                    0,
+                )
+            }
+            Verification::Signed(tsig) => {
+                let Some(key) = self.ring.keys().get(tsig.key) else {
+                    return 0;
+                };
+                let plain = self.room.plain(request, tsig.start);
+                let limit = reply_limit(plain, Transport::Udp);
+                let len = self.inner.answer_unread(plain, head, out);
+                sign_reply(key, tsig, &stamp_at(now), limit, out, len)
+            }
+        }
     }
 }
 
@@ -255,6 +325,16 @@ impl<'r, 'k, K: KeyRing, A: SignsLater + Drop, C: UnixClock, O: TsigLog + Drop> 
         self.inner.turn_to(other, from);
         self.peer = other;
         self.from = from;
+    }
+
+    fn answer_unread(&mut self, request: &[u8], head: Head, out: &mut [u8]) -> usize {
+        if request.len() < HEADER || request.len() > MAX_LIMIT {
+            return self.inner.answer_unread(request, head, out);
+        }
+        let now = self.clock.now();
+        let message = Message::new(request);
+        let verified = verify(self.ring.keys(), now, &message);
+        self.unread_by(now, verified, request, head, out)
     }
 
     fn answer<R: Wait>(

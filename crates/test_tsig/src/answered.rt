@@ -1,13 +1,15 @@
 //! Requests that other programs signed, answered by a handler that knows nothing of TSIG behind one that does.
-ghost use Rattle.std.specs.Prelude.{◌≡◌, [], Unit};
+ghost use Rattle.std.specs.Prelude.{◌≡◌, [], Unit, map};
 
 use crate::made::keys;
 use crate::messages::{
     ANSWER, ANSWER_BARE, OLD, OLD_TOLD, QUERY, QUERY_BARE, SHORT, SHORT_TOLD, UNKNOWN,
     UNKNOWN_TOLD, UPDATE, UPDATE_BARE, UPDATED, UPDATED_BARE, WRONG, WRONG_TOLD,
 };
+use dns_message::{Head, is_update};
 use dns_name::Name;
 use requests::Handler;
+use rights::parse_rule;
 use serve_core::{Peer, Transport};
 use signed_replies::{
     KeyRights, KeyRing, PlainRoom, RingKeys, SignedDatagrams, SignsLater, TsigFault, TsigLog,
@@ -39,7 +41,7 @@ impl TsigLog for NoLog {
     fn tell_fault<R: Wait>(&self, _rt: &R, _from: SocketAddr, _key: &Name, _fault: TsigFault) {}
 }
 
-/// A handler that has a reply to one request of who may update, and none to any other.
+/// A handler that has a reply to one request, if an update one of who may, and none to any other.
 #[derive(Drop)]
 struct Fixed {
     request: Vec<u8>,
@@ -60,6 +62,11 @@ impl Handler for Fixed {
     }
 
     #[tactic(auto, using(requests::proofs::TurnLemmas::grows_itself))]
+    fn answer_unread(&mut self, _request: &[u8], _head: Head, _out: &mut [u8]) -> usize {
+        0
+    }
+
+    #[tactic(auto, using(requests::proofs::TurnLemmas::grows_itself))]
     fn answer<R: Wait>(
         &mut self,
         _rt: &R,
@@ -67,7 +74,10 @@ impl Handler for Fixed {
         out: &mut [u8],
     ) -> Result<Option<usize>, Spent> {
         let len = self.reply.len();
-        if len > 512 || !self.peer.may_update || request != self.request.as_slice() {
+        if is_update(request) && !self.peer.may_update {
+            return Ok(None);
+        }
+        if len > 512 || request != self.request.as_slice() {
             return Ok(None);
         }
         out[..len].copy_from_slice(&self.reply);
@@ -90,15 +100,15 @@ fn reply_to<R: Wait, K: KeyRing>(
     rt: &R,
     alloc: Global,
     keys: &Keys,
-    rights: &[KeyRights],
+    rights: &[KeyRights<'_>],
     now: u64,
     inner: Fixed,
     request: &[u8],
 ) -> Result<Option<Vec<u8>>, Fail>
     requires keys { keys.now ≡ K.keys }
-    requires rights { rights.now ≡ K.rights }
+    requires rights { map (λ own. own.rules.now) rights.now ≡ K.rights }
 {
-    let ring: RingKeys<'_, K> = RingKeys::new(keys, rights);
+    let ring: RingKeys<'_, K> = RingKeys::new(alloc, keys, rights);
     let peer = Peer::over(Transport::Udp, false);
     let mut room = PlainRoom::new(alloc)?;
     let clock = Still(now);
@@ -135,10 +145,11 @@ fn is_like(own: &[u8], want: &[u8]) -> bool {
 fn is_right<R: Wait>(rt: &R, alloc: Global, exchange: &Exchange) -> Result<bool, Fail> {
     let Exchange(request, now, plain, reply, want) = exchange;
     let keys = keys(alloc)?;
-    let rights = [KeyRights {
-        may_update: true,
-        may_transfer: false,
-    }];
+    let Ok(rule) = parse_rule(alloc, "key key.example.test: update") else {
+        return Ok(false);
+    };
+    let rules = [rule];
+    let rights = [KeyRights { rules: &rules }];
     let inner = Fixed {
         request: hex::decode(alloc, plain)?,
         reply: hex::decode(alloc, reply)?,
