@@ -160,7 +160,8 @@ def tries(kind, *words):
         told(re.search(rf"from 127\.0\.0\.{last}:\d+ refused: {re.escape(line)}", log), f"{kind}: the log says of 127.0.0.{last}: {line}")
 
 
-tries("without a store")
-with tempfile.TemporaryDirectory() as folder:
-    tries("with a store", "--store", folder)
-sys.exit(failed > 0)
+if __name__ == "__main__":
+    tries("without a store")
+    with tempfile.TemporaryDirectory() as folder:
+        tries("with a store", "--store", folder)
+    sys.exit(failed > 0)

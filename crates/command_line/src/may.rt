@@ -129,7 +129,7 @@ fn allowed_of<'a>(alloc: Global, list: &'a str) -> Result<Vec<Rule>, CommandFaul
         return Ok(rules);
     }
     for part in list.split(',') {
-        let prefix = parse_prefix(part.trim_ascii()).map_err(CommandFault::Allow)?;
+        let prefix = parse_prefix(part.trim_ascii()).map_err(|fault| CommandFault::Allow(fault))?;
         if rules.push(whole_rule(alloc, prefix)).is_err() {
             return Err(CommandFault::from(AllocError));
         }

@@ -53,8 +53,8 @@ pub fn answer_stream<R: Wait, M: Messages, A: tcp_connections::Handler<M>, G: Ga
 }
 
 /// Answers at most `most` datagrams held in memory, one after another. Returns how that ended, and the datagrams. The replies are sent in the
-/// order of the requests, each to the client that sent the request, which may update and transfer according to its own address and the request. Replies whose
-/// send fails are left out, and are counted (RFC 1035, 4.2.1). Nothing that was known is forgotten.
+/// order of the requests, each to the client that sent the request, which may update and transfer according to its own address and the request.
+/// Replies whose send fails are left out, and are counted (RFC 1035, 4.2.1). Nothing that was known is forgotten.
 pub fn answer_datagrams<R: Wait, A: Handler, G: Gate>(
     rt: &R,
     handler: &mut A,

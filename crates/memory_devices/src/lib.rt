@@ -31,7 +31,7 @@ pub use cells::{
 };
 pub use datagram::Datagram;
 pub use gate::OpenGate;
-pub use logs::{Kept, NoLog, asker, rules_if};
+pub use logs::{Kept, NoLog, asker, rule_of, rules_if};
 pub use memory_datagrams::MemoryDatagrams;
 pub use memory_disk::{DiskFault, MemoryDisk};
 pub use memory_stream::MemoryStream;

@@ -12,12 +12,16 @@ pub fn asker(port: u16) -> SocketAddr {
 
 /// The rule by which that client may update and transfer, if it may; else none. None if memory allocation fails.
 pub fn rules_if(alloc: Global, may: bool) -> Option<Vec<Rule>> {
-    let mut rules = Vec::new(alloc);
     if may {
-        rules
-            .push(parse_rule(alloc, "192.0.2.7: update, transfer").ok()?)
-            .ok()?;
+        return rule_of(alloc, "192.0.2.7: update, transfer");
     }
+    Some(Vec::new(alloc))
+}
+
+/// The rule that a text is. None if it is none, or memory allocation fails.
+pub fn rule_of(alloc: Global, text: &str) -> Option<Vec<Rule>> {
+    let mut rules = Vec::new(alloc);
+    rules.push(parse_rule(alloc, text).ok()?).ok()?;
     Some(rules)
 }
 

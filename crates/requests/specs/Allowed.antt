@@ -1,12 +1,13 @@
 -- Which requests update, and which peers may transfer (RFC 2136, 3.3; RFC 5936, 5).
-use Rattle.std.specs.Prelude.{◌≡◌, ℕ, Bool, false, List}
+use Rattle.std.specs.Prelude.{◌≡◌, ℕ, Bool, ◌&&◌, List}
+use Rattle.std.specs.List.{list_any}
 use Rattle.std.specs.Net.Socket.{socket_ip}
 use Rattle.std.specs.declared.net.socket_addr.SocketAddr.{SocketAddr}
 use Rattle.dns_message.specs.declared.query.Parsed.{Parsed}
 use Rattle.dns_message.specs.declared.query.Parsed.TheVariants.{Silent, Fault, BadOpt, Query, Update, NoMemory}
-use Rattle.dns_message.specs.Request.{reads}
+use Rattle.dns_message.specs.Request.{is_update, reads}
 use Rattle.rights.specs.Address.{number_of}
-use Rattle.rights.specs.Rights.{is_permitted, may_transfer}
+use Rattle.rights.specs.Rights.{lets_update, is_permitted, may_transfer}
 use Rattle.rights.specs.declared.requestor.Requestor.{Requestor}
 use Rattle.rights.specs.declared.rule.Rule.{Rule}
 use Rattle.serve_core.specs.Transport.{is_stream}
@@ -18,20 +19,20 @@ use Rattle.requests.specs.Served.{Learned}
 abbrev pub requestor_at : Transport → SocketAddr → Requestor
 requestor_at transport from = record { bits = number_of (socket_ip from); is_tcp = is_stream transport }
 
--- whether what a request says is an update that rules permit: each record of its update section is covered by a rule of who asks
+-- whether rules permit the update that a request says; of what can't be read as one, whether they give who asks a right to update
 abbrev pub permits : List Rule → Requestor → Parsed → Bool
-permits rules who Silent = false
-permits rules who (Fault head code) = false
-permits rules who (BadOpt head question code dnssec_ok) = false
-permits rules who (Query query) = false
+permits rules who Silent = list_any (lets_update who) rules
+permits rules who (Fault head code) = list_any (lets_update who) rules
+permits rules who (BadOpt head question code dnssec_ok) = list_any (lets_update who) rules
+permits rules who (Query query) = list_any (lets_update who) rules
 permits rules who (Update update) = is_permitted rules who update
-permits rules who (NoMemory head) = false
+permits rules who (NoMemory head) = list_any (lets_update who) rules
 
--- the peer that sends a request from an address and a port, over a transport: it may update exactly if rules permit the update that the request
--- is, and it may transfer exactly if one gives it that right
+-- the peer that sends a request from an address and a port, over a transport: it may update exactly if the request asks for an update, by its
+-- header, and rules permit that, and it may transfer exactly if one gives it that right
 pub record IsPeer (rules : List Rule) (transport : Transport) (from : SocketAddr) (request : List ℕ) (peer : Peer) : Type 0 where
   pub over : peer.transport ≡ transport
-  pub update : peer.may_update ≡ permits rules (requestor_at transport from) (reads request)
+  pub update : peer.may_update ≡ is_update request && permits rules (requestor_at transport from) (reads request)
   pub transfer : peer.may_transfer ≡ may_transfer rules (requestor_at transport from)
 
 -- what a reply is, by the address that the request comes from: the reply to the peer that rules make of who sends that request from there

@@ -88,8 +88,8 @@ fn answer_all<R: Wait, A: Handler, D: Datagrams>(
 
 /// Answers at most `most` requests that come as datagrams, one after another; fewer if one can't be received, or no version can be loaded.
 /// For a device that reports its datagrams, the replies are sent in the order of the requests, each to the sender of the request, which may
-/// update and transfer according to its own address and the request. Replies that fail to be sent are left out, and are counted (RFC 1035, 4.2.1). None is
-/// kept unsent at the end.
+/// update and transfer according to its own address and the request. Replies that fail to be sent are left out, and are counted (RFC 1035, 4.2.1).
+/// None is kept unsent at the end.
 pub fn serve_datagrams<R: Wait, A: Handler, D: Datagrams>(
     rt: &R,
     handler: &mut A,

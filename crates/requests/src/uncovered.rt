@@ -3,7 +3,7 @@ use crate::allowed::Allowed;
 use dns_message::{Parsed, parse};
 use dns_name::Name;
 use dns_rdata::RType;
-use rights::{Requestor, are_permitted, covering};
+use rights::{Requestor, covering, has_right};
 use serve_core::Transport;
 use std::net::SocketAddr;
 
@@ -29,14 +29,14 @@ impl Allowed<'_> {
             return None;
         };
         let who = Requestor::new(from.ip(), transport.is_stream());
-        let apex = &update.zone.name;
-        if !are_permitted(self.rules, who, apex, &[]) {
+        let (rules, apex) = (self.rules, &update.zone.name);
+        if !has_right(rules, who) {
             return None;
         }
         let records = update.updates.as_slice();
         let place = records
             .iter()
-            .position(|record| covering(self.rules, who, apex, record).is_none())?;
+            .position(|record| covering(rules, who, apex, record).is_none())?;
         let record = records.get(place)?;
         Some(Uncovered {
             owner: record.owner.copy(),

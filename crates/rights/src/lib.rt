@@ -22,7 +22,9 @@ pub use address::parse_prefix;
 pub use fault::RuleFault;
 pub use key_rules::{KeyRules, split_by_key};
 pub use parse::parse_rule;
-pub use permission::{are_permitted, covering, first_outside, may_transfer, transferring};
+pub use permission::{
+    are_permitted, covering, first_outside, has_right, may_transfer, transferring,
+};
 pub use prefix::Prefix;
 pub use report::{Judgement, RequestFault, is_permitted, judge, judge_digits};
 pub use requestor::Requestor;

@@ -62,7 +62,7 @@ fn is_within(update: &Option<UpdateRight>, apex: &Name) -> bool
 }
 
 /// Whether a rule gives who asks a right to update.
-fn has_right(rules: &[Rule], who: Requestor) -> bool
+pub fn has_right(rules: &[Rule], who: Requestor) -> bool
     ensures { result ≡ list_any (lets_update who) rules.now }
 {
     rules.iter().any(|rule| lets_update(rule, who))

@@ -131,8 +131,8 @@ fn begun_by(passed: u64, more: u64, begun: u64, now: u64) -> u64
     now
 }
 
-/// Serves the connection under a key by a share, each request by the rights of who sends it from its peer's address, at a time. If the peer has finished something, it is waited for anew from
-/// then on.
+/// Serves the connection under a key by a share, each request by the rights of who sends it from its peer's address, at a time. If the peer has
+/// finished something, it is waited for anew from then on.
 pub(crate) fn serve_connection<R: Wait, S: Blocking + Drop, M: Messages, A: Handler<M>>(
     rt: &R,
     handler: &mut A,

@@ -182,8 +182,8 @@ impl<M: Messages> ConnectionState<M> {
     /// Answers the first whole request that is held, as that of the peer that rules make of who sends it from an address, and adds the reply after
     /// what is to be written: `More`. If so much is to be written that
     /// this comes first, it is `Full`, and if no whole request is held, `Done`. The connection ends if no version can be loaded, or there is no
-    /// memory for the reply or to read an update. Unless the request is answered, nothing changes. It is here alone that the length of a request's frame is read
-    /// before the request is answered (RFC 1035, 4.2.2).
+    /// memory for the reply or to read an update. Unless the request is answered, nothing changes. It is here alone that the length of a request's
+    /// frame is read before the request is answered (RFC 1035, 4.2.2).
     #[tactic(auto, using(crate::proofs::AskedLemmas::each_itself))]
     pub fn answer<R: Wait, A: Handler<M>>(
         &mut self,

@@ -55,8 +55,9 @@ fn serve_key<R: Wait, S: Blocking + Drop, M: Messages, A: Handler<M>>(
 
 /// Serves the connections under some keys, each by a share, at a time, and appends to `next` those keys whose connections could go on: a
 /// key that isn't among them has no connection, one whose stream would block, or one whose first request waits for its reply. A connection
-/// that ends is removed, and counted by how it ended. Each request is answered by the rights that rules give to its sender, of its own connection's address, on its own stream; none appears, and none
-/// is removed that hasn't ended, whatever the keys. If there is no memory for the keys, nothing is served.
+/// that ends is removed, and counted by how it ended. Each request is answered by the rights that rules give to its sender, of its own connection's
+/// address, on its own stream; none appears, and none is removed that hasn't ended, whatever the keys. If there is no memory for the keys, nothing
+/// is served.
 #[tactic(auto, using(crate::proofs::AskedLemmas::each_itself))]
 pub fn serve_ready<R: Wait, S: Blocking + Drop, M: Messages, A: Handler<M>>(
     rt: &R,

@@ -48,10 +48,10 @@ fn answer_through<R: Wait, M: Messages, A: Handler<M>, G: Gate>(
     answered
 }
 
-/// Answers the requests of a stream one after another, each as that of the peer that rules make of who sends it from an address, until it ends. If the stream reports its octets, what is written is the frames of
-/// the replies, in the order of the requests: all of them, with nothing left to be read, if the stream ends by itself; otherwise a prefix
-/// of them (RFC 1035, 4.2.2). Each request passes the gate, which is left once its reply is made. A request whose reply is made later is
-/// answered again and again until it is made.
+/// Answers the requests of a stream one after another, each as that of the peer that rules make of who sends it from an address, until it ends. If
+/// the stream reports its octets, what is written is the frames of the replies, in the order of the requests: all of them, with nothing left to be
+/// read, if the stream ends by itself; otherwise a prefix of them (RFC 1035, 4.2.2). Each request passes the gate, which is left once its reply is
+/// made. A request whose reply is made later is answered again and again until it is made.
 pub fn serve_stream<R: Wait, M: Messages, A: Handler<M>, S: Stream, G: Gate>(
     rt: &R,
     alloc: Global,

@@ -334,10 +334,10 @@ impl<S: Blocking + Remote + Drop, M: Messages> EventLoop<S, M> {
     }
 
     /// One turn: waits until something may be ready, accepts new connections, serves those that may go on by a share each, and ends those
-    /// that are over. Each request is answered by the rights that rules give to its sender, of its own connection's address; no connection gets another's replies. A connection is removed
-    /// only if it ends, if its peer takes too long, or, when all places are taken, if it has gone longest without a whole request. Of the
-    /// connections that are served, each that is still open, whose stream wouldn't block, and whose first request doesn't wait for its
-    /// reply, is among those that could go on.
+    /// that are over. Each request is answered by the rights that rules give to its sender, of its own connection's address; no connection gets
+    /// another's replies. A connection is removed only if it ends, if its peer takes too long, or, when all places are taken, if it has gone
+    /// longest without a whole request. Of the connections that are served, each that is still open, whose stream wouldn't block, and whose first
+    /// request doesn't wait for its reply, is among those that could go on.
     #[tactic(auto, using(tcp_connections::proofs::AskedLemmas::each_itself))]
     pub fn poll_once<R: Wait, P: Readiness<S>, L: Arrivals<Stream = S>, A: Handler<M>>(
         &mut self,

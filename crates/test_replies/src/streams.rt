@@ -1,7 +1,9 @@
 //! Streams of requests, and the octets that are written on them, as RFC 1035, 4 and RFC 2136, 2 give them, written by hand.
 use crate::served::{Course, first_wrong};
 use dns_engine::{FirstZone, VersionReader};
-use memory_devices::{Kept, MemoryStream, OpenGate, answer_stream, asker, octets_of, rules_if};
+use memory_devices::{
+    Kept, MemoryStream, OpenGate, answer_stream, asker, octets_of, rule_of, rules_if,
+};
 use requests::{Allowed, Gate, StreamEnd};
 use serve_core::{Peer, Transport};
 use std::alloc::Global;
@@ -17,6 +19,8 @@ pub(crate) const ALL: u64 = u64::MAX;
 pub(crate) struct Row {
     /// Whether the peer is allowed to update and transfer.
     pub(crate) may: bool,
+    /// The rule of the peer; if it is empty, that one or none.
+    pub(crate) rule: &'static str,
     /// How many octets can be written.
     pub(crate) room: usize,
     /// The maximum number of octets that a read gives or a write takes.
@@ -35,6 +39,7 @@ pub(crate) struct Row {
 /// A stream with no input and no failures, of a peer that is allowed to update and transfer.
 pub(crate) const TRANSFER: Row = Row {
     may: true,
+    rule: "",
     room: 9999,
     step: 3,
     calls: ALL,
@@ -143,6 +148,14 @@ const STREAMS: &[Course] = &[
         written: "00b4123484000001000600000000076578616d706c6504746573740000fc0001c00c0006000100000e100022036e7331c00c0561646d696ec00c0000000100001c2000000384001275000000012cc00c0002000100000e100002c02ac02a0001000100000e100004c000020103776562c00c0001000100000e100004c000020a03777777c00c0005000100000e100002c06ac00c0006",
         ..TRANSFER
     }),
+    // updates by a rule of one name and type: a record of it, one more beside it at another name, one of another type, and a deletion of all sets
+    Course::Stream(Row {
+        rule: "192.0.2.7: update exact new.example.test. A",
+        input: "0032432128000001000000010000076578616d706c6504746573740000060001036e6577c00c0001000100000e100004c000024d0046432128000001000000020000076578616d706c6504746573740000060001036e6577c00c0001000100000e100004c000024e03626164c00c0001000100000e100004c000024e0030432128000001000000010000076578616d706c6504746573740000060001036e6577c00c0010000100000e1000020161002e432128000001000000010000076578616d706c6504746573740000060001036e6577c00c00ff00ff000000000000",
+        written: "000c4321a8000000000000000000000c4321a8050000000000000000000c4321a8050000000000000000000c4321a8050000000000000000",
+        outcome: "update from 192.0.2.7:4711: NOERROR, serial 1 to 2;update from 192.0.2.7:4711 refused: no rule permits bad.example.test. A;update from 192.0.2.7:4711 refused: no rule permits new.example.test. TXT;update from 192.0.2.7:4711 refused: no rule permits new.example.test. ANY;",
+        ..TRANSFER
+    }),
     // an update that cannot be read
     Course::Stream(Row {
         input: "000c432128000001000000000000",
@@ -231,15 +244,20 @@ pub(crate) fn serve<R: Wait, Z: FirstZone, N: ServerName, L: ServiceLog, G: Gate
     let stream = stream_of(alloc, row)?;
     let reader = readers.pop()?;
     let peer = Peer::over(Transport::Tcp, false);
-    let mut replies = ConnectionHandler::new(alloc, server, reader, log, peer, asker(4711));
+    let rules = match row.rule {
+        "" => rules_if(alloc, row.may)?,
+        rule => rule_of(alloc, rule)?,
+    };
+    let allowed = Allowed::new(alloc, &rules);
+    let replies = ConnectionHandler::new(alloc, server, reader, log, peer, asker(4711));
+    let mut replies = replies.with_rules(allowed);
     let mut room = [0u8; 4_096];
     let mut out = [0u8; 65_535];
-    let rules = rules_if(alloc, row.may)?;
     let served = answer_stream(
         rt,
         alloc,
         &mut replies,
-        Allowed::new(alloc, &rules),
+        allowed,
         asker(4711),
         stream,
         gate,

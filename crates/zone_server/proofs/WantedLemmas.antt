@@ -1,8 +1,9 @@
 -- What a request gets for whose reading there is no memory.
-use Rattle.std.proofs.Common.{◌≡◌, ℕ, ◌==◌, true, Bool, List, Some, None, Ok, Err, refl, ap, sym, ◌∙◌}
+use Rattle.std.proofs.Common.{◌≡◌, ℕ, ◌==◌, true, false, not, ◌&&◌, Bool, List, length, nat_lt, Some, None, Ok, Err, refl, ap, sym, ◌∙◌, arith}
+use Rattle.std.proofs.lemmas.Bool.Decides.{nat_tests}
 use Rattle.dns_rdata.specs.Record.{Record}
-use Rattle.dns_message.specs.Reads.{header_of}
-use Rattle.dns_message.specs.Request.{update_of, reads, IsWant}
+use Rattle.dns_message.specs.Reads.{header_of, is_reply, opcode_of}
+use Rattle.dns_message.specs.Request.{is_update, update_of, reads, IsWant}
 use Rattle.dns_message.specs.Updates.{update_in}
 use Rattle.dns_message.proofs.UpdatesLemmas.{head_kept}
 use Rattle.dns_message.specs.declared.query.Head.{Head}
@@ -39,3 +40,10 @@ wanted_got transport may wants zone msg reported want =
     ∙ told_already transport may wants zone (header_of msg)
     ∙ ap (got_for transport may zone) (sym want.is)
     ∙ ap (got_for transport may zone) (sym (starved_request msg reported want))
+
+-- it asks for an update by its header
+pub want_asks : (msg : List ℕ) (reported : Parsed) → IsWant msg reported → is_update msg ≡ true
+want_asks msg reported want =
+    let least = want.whole in
+    let whole : nat_lt (length msg) 12 ≡ false = grind (arith, nat_tests) in
+    ap (λ b. not b && not (is_reply msg) && (opcode_of msg == 5)) whole ∙ ap (λ b. not b && (opcode_of msg == 5)) want.asks ∙ ap (λ (n : ℕ). n == 5) want.update
