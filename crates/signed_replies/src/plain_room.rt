@@ -1,14 +1,15 @@
 //! Room for a request without its TSIG, or a reply that is signed.
-ghost use Rattle.std.specs.Prelude.{◌≡◌, ◌<◌, ◌≤◌, length, take, MatchOption};
+ghost use Rattle.std.specs.Prelude.{◌≡◌, ◌≤◌, ◌∷◌, [], length, slice_get, IfSome};
 ghost use Rattle.dns_message.specs.Message.{message_limit};
-ghost use Rattle.signed_replies.specs.Signed.{plain_of};
+ghost use Rattle.signed_replies.specs.Signed.{plain_of, signed_queued};
 
+use crate::signing::sign_queued;
 use dns_message::{HEADER, MAX_LIMIT};
 use std::alloc::{AllocError, Global};
 use std::marker::Model;
-use tsig::write_without_tsig;
+use tsig::{Keys, RequestTsig, write_without_tsig};
 
-/// Room for a message without its TSIG.
+/// Room for a message.
 #[derive(Drop)]
 pub struct PlainRoom {
     octets: Vec<u8>,
@@ -32,15 +33,23 @@ impl PlainRoom {
         Ok(PlainRoom { octets })
     }
 
-    /// The room, in whose first octets these are; None where they are more than a message has.
-    pub(crate) fn with(&mut self, octets: &[u8]) -> Option<&mut [u8]>
-        ensures { MatchOption result (message_limit < length octets.now) (λ out. (take (length octets.now) out.now ≡ octets.now) × (length octets.now ≤ message_limit) × (message_limit ≤ length out.now)) }
+    /// The reply of these octets to a request with this TSIG, signed at a time by the key of a server that the TSIG names; None where they are more than a message has, or that key isn't one of these.
+    pub(crate) fn signed(
+        &mut self,
+        keys: &Keys,
+        tsig: RequestTsig,
+        now: u64,
+        octets: &[u8],
+    ) -> Option<&[u8]>
+        ensures { IfSome result (λ signed. signed_queued (slice_get keys.now tsig.key) tsig now octets.now ≡ signed.now ∷ []) }
     {
-        if octets.len() > MAX_LIMIT {
+        let len = octets.len();
+        if len > MAX_LIMIT {
             return None;
         }
-        self.octets[..octets.len()].copy_from_slice(octets);
-        Some(self.octets.as_mut_slice())
+        self.octets[..len].copy_from_slice(octets);
+        let len = sign_queued(keys, tsig, now, &mut self.octets, len)?;
+        Some(&self.octets[..len])
     }
 
     /// A request without its TSIG, which stands at a position, and with its own ID: the reply repeats that one. Original ID is of the digest alone (RFC 8945, 4.3.2).

@@ -4,7 +4,6 @@ ghost use Rattle.signed_replies.specs.Signed.{signed_queued};
 
 use crate::clock::UnixClock;
 use crate::plain_room::PlainRoom;
-use crate::signing::sign_queued;
 use std::alloc::{AllocError, Global};
 use tsig::{Keys, RequestTsig};
 
@@ -31,8 +30,6 @@ impl<'k, C: UnixClock> QueuedSigner<'k, C> {
         ensures { IfSome result (λ signed. (now : ℕ) × (signed_queued (slice_get self.old.keys.now tsig.key) tsig now octets.now ≡ signed.now ∷ [])) }
     {
         let now = self.clock.now();
-        let out = self.room.with(octets)?;
-        let len = sign_queued(self.keys, tsig, now, out, octets.len())?;
-        Some(&out[..len])
+        self.room.signed(self.keys, tsig, now, octets)
     }
 }
