@@ -48,9 +48,12 @@ pub fn parse_rule<'a>(alloc: Global, text: &'a str) -> Result<Rule, RuleFault<'a
 
 /// The name of a key, in lower case, and the prefix, if there are these, of who has a rule's rights.
 fn who_of<'a>(text: &'a str) -> Result<(Option<Name>, Option<Prefix>), RuleFault<'a>> {
-    let Some((KEY, rest)) = text.split_once(' ') else {
+    let Some((first, rest)) = text.split_once(' ') else {
         return Ok((None, Some(parse_prefix(text)?)));
     };
+    if first != KEY {
+        return Ok((None, Some(parse_prefix(text)?)));
+    }
     let rest = rest.trim_ascii();
     let (word, prefix) = match rest.split_once(' ') {
         None => (rest, None),
