@@ -7,17 +7,19 @@ use Rattle.dns_message.specs.Message.{message_limit}
 use Rattle.dns_message.specs.Reads.{is_reply}
 use Rattle.dns_message.specs.Tsig.{place_in}
 use Rattle.requests.proofs.TurnLemmas.{grows_itself}
+use Rattle.requests.specs.Allowed.{IsPeer}
 use Rattle.requests.specs.Octets.{messages_in}
 use Rattle.requests.specs.Served.{Learned, Grows}
+use Rattle.rights.specs.declared.rule.Rule.{Rule}
 use Rattle.serve_core.specs.declared.peer.Peer.{Peer}
+use Rattle.std.specs.declared.net.socket_addr.SocketAddr.{SocketAddr}
 use Rattle.tsig.specs.Keys.{SharedKey}
 use Rattle.tsig.specs.Verification.{verified, by_place}
 use Rattle.tsig.specs.declared.request_tsig.RequestTsig.{RequestTsig}
 use Rattle.tsig.specs.declared.verifying.Verification.{Verification}
 use Rattle.tsig.specs.declared.verifying.Verification.TheVariants.{Silent}
-use Rattle.signed_replies.specs.Rights.{peer_by, rights_of}
+use Rattle.signed_replies.specs.Rights.{rules_of}
 use Rattle.signed_replies.specs.Signed.{received, plain_of, reply_limit, IsReplyBy, IsReplyTo, IsSignedReply}
-use Rattle.signed_replies.specs.declared.key_ring.KeyRights.{KeyRights}
 
 not_fewer : (a b : ℕ) → b ≤ a → nat_lt a b ≡ false
 not_fewer a b e = grind (arith, nat_tests)
@@ -39,13 +41,13 @@ too_few keys now request few =
     ∙ ap (λ b. if b then Silent else (if is_reply request then Silent else by_place keys now request (place_in request))) (fewer (length request) 12 few)
 
 -- nothing is replied to what isn't answered
-pub silent_to : {T : Type 0} (keys : List SharedKey) (rights : List KeyRights) (IsReply : Peer → Learned T → Learned T → List ℕ → List (List ℕ) → Type 0)
+pub silent_to : {T : Type 0} (keys : List SharedKey) (rights : List (List Rule)) (IsReply : Peer → Learned T → Learned T → List ℕ → List (List ℕ) → Type 0)
     (AreSigned : SharedKey → ℕ → RequestTsig → ℕ → List (List ℕ) → List (List ℕ) → Type 0) (peer : Peer) (seen : Learned T) (request : List ℕ)
     → received keys 0 request ≡ Silent → IsReplyTo keys rights IsReply AreSigned peer seen seen request []
 silent_to keys rights IsReply AreSigned peer seen request is = (0, seen, grows_itself seen, grows_itself seen, subst (λ v. IsReplyBy keys rights IsReply AreSigned v 0 peer seen seen request []) (sym is) refl)
 
 -- what a request gets by what it is, it gets
-pub reply_to : {T : Type 0} (keys : List SharedKey) (rights : List KeyRights) (IsReply : Peer → Learned T → Learned T → List ℕ → List (List ℕ) → Type 0)
+pub reply_to : {T : Type 0} (keys : List SharedKey) (rights : List (List Rule)) (IsReply : Peer → Learned T → Learned T → List ℕ → List (List ℕ) → Type 0)
     (AreSigned : SharedKey → ℕ → RequestTsig → ℕ → List (List ℕ) → List (List ℕ) → Type 0) (verification : Verification) (now : ℕ) (peer : Peer)
     (seen later : Learned T) (request : List ℕ) (messages : List (List ℕ)) → verification ≡ received keys now request
     → (before : Learned T) × Grows before seen × Grows later before × IsReplyBy keys rights IsReply AreSigned verification now peer before later request messages
@@ -59,15 +61,16 @@ pub replied_as : {T E : Type 0} (IsReply : Peer → Learned T → Learned T → 
 replied_as IsReply peer seen mid later request out made first then said = IfOk-weaker made _ _ (λ len is. (mid, first, then, is)) said
 
 -- a reply whose messages are signed by the key that the request names
-pub signed_reply_by : {T : Type 0} (keys : List SharedKey) (rights : List KeyRights) (IsReply : Peer → Learned T → Learned T → List ℕ → List (List ℕ) → Type 0)
+pub signed_reply_by : {T : Type 0} (keys : List SharedKey) (rights : List (List Rule)) (IsReply : Peer → Learned T → Learned T → List ℕ → List (List ℕ) → Type 0)
     (AreSigned : SharedKey → ℕ → RequestTsig → ℕ → List (List ℕ) → List (List ℕ) → Type 0) (found : Option SharedKey) (key : SharedKey) (now : ℕ) (tsig : RequestTsig) (peer : Peer) (before later : Learned T)
-    (request : List ℕ) (plains messages : List (List ℕ)) → found ≡ Some key → IsReply (peer_by (rights_of rights tsig.key) peer) before later (plain_of request tsig.start) plains
+    (request : List ℕ) (from : SocketAddr) (own : Peer) (plains messages : List (List ℕ)) → found ≡ Some key
+    → IsPeer (rules_of rights tsig.key) peer.transport from (plain_of request tsig.start) own → IsReply own before later (plain_of request tsig.start) plains
     → AreSigned key now tsig (reply_limit peer.transport (plain_of request tsig.start)) plains messages → IsSignedReply keys rights IsReply AreSigned found now tsig peer before later request messages
-signed_reply_by keys rights IsReply AreSigned found key now tsig peer before later request plains messages is reply are =
-    subst (λ f. IsSignedReply keys rights IsReply AreSigned f now tsig peer before later request messages) (sym is) (plains, reply, are)
+signed_reply_by keys rights IsReply AreSigned found key now tsig peer before later request from own plains messages is by reply are =
+    subst (λ f. IsSignedReply keys rights IsReply AreSigned f now tsig peer before later request messages) (sym is) (from, own, by, plains, reply, are)
 
 -- and none without a key
-pub signed_reply_none : {T : Type 0} (keys : List SharedKey) (rights : List KeyRights) (IsReply : Peer → Learned T → Learned T → List ℕ → List (List ℕ) → Type 0)
+pub signed_reply_none : {T : Type 0} (keys : List SharedKey) (rights : List (List Rule)) (IsReply : Peer → Learned T → Learned T → List ℕ → List (List ℕ) → Type 0)
     (AreSigned : SharedKey → ℕ → RequestTsig → ℕ → List (List ℕ) → List (List ℕ) → Type 0) (found : Option SharedKey) (now : ℕ) (tsig : RequestTsig) (peer : Peer) (before later : Learned T) (request : List ℕ)
     → found ≡ None → IsSignedReply keys rights IsReply AreSigned found now tsig peer before later request []
 signed_reply_none keys rights IsReply AreSigned found now tsig peer before later request is =
