@@ -104,7 +104,7 @@ fn signed_tcp_job<'a, R: Clock + Net + Wait>(
 ) -> io::Result<SocketJob<'a, R>>
     ensures number { IfOk result (λ job. number_of job ≡ worker) }
     ensures kind { IfOk result (λ job. takes_datagrams job ≡ false) }
-    ensures rights { IfOk result (λ job. HasRights plan.entry.connections.allowed.addresses.now job) }
+    ensures rights { IfOk result (λ job. HasRights plan.entry.connections.allowed.rules.now job) }
 {
     let job = match tcp_job(rt, alloc, worker, listeners, plan, stop, wakes, scratch) {
         Ok(job) => job,
