@@ -31,7 +31,7 @@ use std::marker::PhantomData;
 use std::net::SocketAddr;
 use std::sync::Wait;
 use tcp_connections::{Handler, Messages, Reply};
-use tsig::{Key, RequestTsig, Stamp, TsigError, Verification, verify};
+use tsig::{Key, RequestTsig, Stamp, TsigError, Verification, is_unsigned, verify};
 use wire_names::{MAX_TARGETS, Message};
 
 /// Verifies the requests of connections by the keys of a server, has another handler answer those that are signed, without their TSIG, and those without a TSIG, and signs the replies
@@ -307,6 +307,9 @@ impl<
         ensures reply { IfOk result (λ reply. reply ≢ ReplyOf.Later → IsReplyTo {T = Version} K.keys K.rights A.is_reply AreSignedInOrder self.old.peer (A.seen self.old.inner self.old.asker) (A.seen self.new.inner self.old.asker) request.now (messages_of (λ s. stream_by s.signer (M.left s.inner)) reply out.new)) }
         ensures later { IfOk result (λ reply. reply ≡ ReplyOf.Later → IsLaterTo K.keys K.rights A.is_later self.old.peer request.now) }
     {
+        if is_unsigned(message) {
+            return self.reply_by(rt, 0, Verification::Unsigned, request, out);
+        }
         let now = self.clock.now();
         let verified = verify(self.ring.keys(), now, message);
         let time = self.judged_at(now, &verified);

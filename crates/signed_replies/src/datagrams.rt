@@ -24,7 +24,7 @@ use serve_core::{Peer, Transport};
 use snapshot_cell::Spent;
 use std::net::SocketAddr;
 use std::sync::Wait;
-use tsig::{RequestTsig, TsigError, Verification, verify};
+use tsig::{RequestTsig, TsigError, Verification, is_unsigned, verify};
 use wire_names::{MAX_TARGETS, Message};
 
 /// The most octets of a request whose pointers are followed anew for each name (own).
@@ -97,8 +97,11 @@ impl<'r, 'k, K: KeyRing, A: SignsLater + Drop, C: UnixClock, O: TsigLog + Drop> 
         ensures bound { IfOk result (λ len. IfSome len (λ n. (n ≤ message_limit) × (n ≤ length out.new))) }
         ensures reply { IfOk result (λ len. IsReplyTo {T = Version} K.keys K.rights A.is_reply AreSignedAlone (by_datagram self.old.peer) (A.seen self.old.inner) (A.seen self.new.inner) request.now (messages_in len out.new)) }
     {
-        let now = self.clock.now();
         let message = Message::new(request);
+        if is_unsigned(&message) {
+            return self.answer_by(rt, 0, Verification::Unsigned, request, out);
+        }
+        let now = self.clock.now();
         let verified = verify(self.ring.keys(), now, &message);
         self.answer_by(rt, now, verified, request, out)
     }
@@ -119,10 +122,13 @@ impl<'r, 'k, K: KeyRing, A: SignsLater + Drop, C: UnixClock, O: TsigLog + Drop> 
         ensures bound { IfOk result (λ len. IfSome len (λ n. (n ≤ message_limit) × (n ≤ length out.new))) }
         ensures reply { IfOk result (λ len. IsReplyTo {T = Version} K.keys K.rights A.is_reply AreSignedAlone (by_datagram self.old.peer) (A.seen self.old.inner) (A.seen self.new.inner) request.now (messages_in len out.new)) }
     {
-        let now = self.clock.now();
         let mut ends = [0; MAX_TARGETS];
         let mut sizes = [0; MAX_TARGETS];
         let message = Message::with_room(request, &mut ends, &mut sizes);
+        if is_unsigned(&message) {
+            return self.answer_by(rt, 0, Verification::Unsigned, request, out);
+        }
+        let now = self.clock.now();
         let verified = verify(self.ring.keys(), now, &message);
         self.answer_by(rt, now, verified, request, out)
     }

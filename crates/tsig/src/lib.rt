@@ -32,5 +32,5 @@ pub use request_tsig::RequestTsig;
 pub use signing::{MAX_TSIG, sign, sign_later};
 pub use stamp::{FUDGE, Stamp};
 pub use tsig_error::TsigError;
-pub use verifying::{Verification, verify};
+pub use verifying::{Verification, is_unsigned, verify};
 pub use without_tsig::write_without_tsig;

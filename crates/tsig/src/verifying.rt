@@ -1,11 +1,13 @@
 //! How a request is judged by its TSIG (RFC 8945, 5.2).
-ghost use Rattle.std.specs.Prelude.{◌≡◌, ◌≤◌, length};
+ghost use Rattle.std.specs.Prelude.{◌≡◌, ◌≤◌, ℕ, List, length};
 ghost use Rattle.std.specs.Bool.{OnTrue};
 ghost use Rattle.dns_message.specs.Message.{number_at};
 ghost use Rattle.dns_message.specs.Tsig.{place_in};
 ghost use Rattle.hmac.specs.Hmac.{mac_size};
 ghost use Rattle.tsig.specs.Verification.{is_size, is_timely, after_mac, by_mac, by_tsig, by_place, verified};
+ghost use Rattle.tsig.specs.Keys.{SharedKey};
 ghost use Rattle.tsig.specs.Tsig.{tsig_at};
+ghost use Rattle.tsig.specs.declared.verifying.Verification.TheVariants.{Unsigned as says_unsigned};
 
 use crate::digest::is_right;
 use crate::fields::Data;
@@ -59,6 +61,30 @@ pub fn verify<'m>(keys: &Keys, now: u64, octets: &Message<'m>) -> Verification<'
         return Verification::Silent;
     }
     verify_placed(keys, now, octets)
+}
+
+/// Whether a request has no TSIG, by which [`verify`] says that it is unsigned, whatever the keys and the time.
+pub fn is_unsigned(octets: &Message<'_>) -> bool
+    ensures { OnTrue result ((keys : List SharedKey) (now : ℕ) → verified keys now octets.now ≡ says_unsigned) }
+{
+    let msg = octets.octets();
+    msg.len() >= HEADER && msg[2] < QR && is_bare(octets)
+}
+
+/// Whether a request has no TSIG by where one would stand.
+fn is_bare(octets: &Message<'_>) -> bool
+    requires { HEADER ≤ length octets.now }
+    ensures { OnTrue result ((keys : List SharedKey) (now : ℕ) → by_place keys now octets.now (place_in octets.now) ≡ says_unsigned) }
+{
+    if has_no_records(octets.octets()) {
+        return true;
+    }
+    match tsig_place(octets) {
+        None => true,
+        Some(Place::Bare) => true,
+        Some(Place::Bad) => false,
+        Some(Place::At(_)) => false,
+    }
 }
 
 /// What a request is by where its TSIG stands.
