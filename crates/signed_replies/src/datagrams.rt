@@ -1,11 +1,12 @@
 //! Datagrams that are signed (RFC 8945, 5).
-ghost use Rattle.std.specs.Prelude.{◌≡◌, ◌≤◌, length, slice_get, IfOk, IfSome};
+ghost use Rattle.std.specs.Prelude.{◌≡◌, ◌≤◌, [], ◌∷◌, length, take, slice_get, IfOk, IfSome};
 ghost use Rattle.dns_message.specs.Message.{message_limit};
 ghost use Rattle.dns_message.specs.Request.{IsWant};
 ghost use Rattle.dns_message.specs.declared.query.Parsed.TheVariants.{NoMemory as no_memory};
 ghost use Rattle.requests.specs.Datagrams.{by_datagram};
 ghost use Rattle.requests.specs.Octets.{messages_in};
 ghost use Rattle.requests.specs.Served.{Learned, Grows};
+ghost use Rattle.serve_core.specs.declared.peer.Peer.{Peer as PeerAsking};
 ghost use Rattle.signed_replies.specs.Signed.{received, AreSignedAlone, IsReplyBy, IsSignedReply, IsReplyTo};
 ghost use Rattle.zone_tree.specs.Version.{Version};
 
@@ -263,10 +264,13 @@ impl<'r, 'k, K: KeyRing, A: SignsLater + Drop, C: UnixClock, O: TsigLog + Drop> 
         requires wanted { IsWant request.now (no_memory head) }
         ensures grows { Grows {T = Version} (A.seen self.new.inner) (A.seen self.old.inner) }
         ensures bound { (result ≤ message_limit) × (result ≤ length out.new) }
+        ensures reply { (before : Learned Version) × Grows before (A.seen self.old.inner) × Grows (A.seen self.new.inner) before
+            × ((asking : PeerAsking) → IsReplyBy {T = Version} K.keys K.rights A.is_reply AreSignedAlone verified.entry now (by_datagram asking) before (A.seen self.new.inner) request.now (take result out.new ∷ [])) }
     {
         match verified {
             Verification::Unsigned => self.inner.answer_unread(request, head, out),
-            Verification::Silent => 0,
+            // It has a header, and is no reply.
+            Verification::Silent => unreachable!(),
             Verification::Malformed => write_error(request, Rcode::FormErr, Transport::Udp, out),
             Verification::BadKey(tsig) => {
                 write_unsigned(request, &tsig, TsigError::BadKey, Transport::Udp, out)
@@ -277,17 +281,15 @@ impl<'r, 'k, K: KeyRing, A: SignsLater + Drop, C: UnixClock, O: TsigLog + Drop> 
             Verification::BadTime(tsig) => {
                 let key = self.ring.keys().get(tsig.key);
                 let stamp = stamp_late(&tsig, now);
-                write_signed(request, key, tsig, &stamp, Transport::Udp, out).unwrap_or(0)
+                write_signed(request, key, tsig, &stamp, Transport::Udp, out).unwrap()
             }
             Verification::BadTrunc(tsig) => {
                 let key = self.ring.keys().get(tsig.key);
-                write_signed(request, key, tsig, &stamp_short(now), Transport::Udp, out).unwrap_or(
-                    0,
-                )
+                write_signed(request, key, tsig, &stamp_short(now), Transport::Udp, out).unwrap()
             }
             Verification::Signed(tsig) => {
                 let Some(key) = self.ring.keys().get(tsig.key) else {
-                    return 0;
+                    unreachable!()
                 };
                 let plain = self.room.plain(request, tsig.start);
                 let limit = reply_limit(plain, Transport::Udp);
