@@ -1,7 +1,8 @@
 //! Answering the requests of streams and datagrams held in memory.
 ghost use Rattle.std.specs.Prelude.{◌<◌, ◌≤◌, length, Some};
 ghost use Rattle.dns_message.specs.Message.{message_limit};
-ghost use Rattle.requests.specs.Served.{EndsAs, Grows};
+ghost use Rattle.requests.specs.Served.{Grows};
+ghost use Rattle.tcp_connections.specs.Served.{EndsAs};
 ghost use Rattle.requests.specs.Exchanged.{EndsBy};
 ghost use Rattle.tcp_connections.specs.Asked.{EachGrows};
 ghost use Rattle.memory_devices.specs.MemoryStream.{stream_octets};

@@ -8,6 +8,7 @@ pub mod OwnLemmas
 pub mod PassLemmas
 pub mod PlaceLemmas
 pub mod QueueLemmas
+pub mod StreamOctetLemmas
 pub mod SurveyLemmas
 pub mod SweepLemmas
-pub mod StreamOctetLemmas
+pub mod TurnLemmas

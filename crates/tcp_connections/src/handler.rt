@@ -2,7 +2,7 @@
 ghost use Rattle.std.specs.Prelude.{◌≡◌, ◌≢◌, ℕ, ◌≤◌, List, [], ◌∷◌, length, take, IfOk, IfErr, OnErr, MatchOption};
 ghost use Rattle.dns_message.specs.Message.{message_limit};
 ghost use Rattle.zone_tree.specs.Version.{Version};
-ghost use Rattle.requests.specs.Served.{Learned};
+ghost use Rattle.tcp_connections.specs.Served.{Knowledge};
 ghost use Rattle.requests.specs.declared.stream_end.StreamEnd.{StreamEnd as EndOf};
 ghost use Rattle.serve_core.specs.declared.peer.Peer.{Peer as PeerAsking};
 ghost use Rattle.tcp_connections.specs.Asked.{EachGrows};
@@ -41,9 +41,9 @@ pub enum Reply<M> {
 /// which requests it may answer later.
 pub trait Handler<M: Messages> {
     /// What is known of versions, by the key of a connection: those that are published, the first one first, and the numbers of those that
-    /// are buried. If a connection's request is to be answered later, what was known when that request was taken up; otherwise what is
-    /// known.
-    ghost seen: { Self → ℕ → Learned Version };
+    /// are buried. It is what was known when the first of the connection's requests that are to be answered later was taken up, or what is
+    /// known if there is none; and what is known.
+    ghost seen: { Self → ℕ → Knowledge Version };
 
     /// The peer that sends the request.
     ghost peer: { Self → PeerAsking };
@@ -53,7 +53,7 @@ pub trait Handler<M: Messages> {
 
     /// What the messages of a reply to a request are, by the peer, by the versions known before the reply, and by those known when it is
     /// made.
-    ghost is_reply: { PeerAsking → Learned Version → Learned Version → List ℕ → List (List ℕ) → Type 0 };
+    ghost is_reply: { PeerAsking → Knowledge Version → Knowledge Version → List ℕ → List (List ℕ) → Type 0 };
 
     /// Which requests may be answered later, by the peer.
     ghost is_later: { PeerAsking → List ℕ → Type 0 };
@@ -85,4 +85,12 @@ pub trait Handler<M: Messages> {
         ensures later { IfOk result (λ reply. reply ≡ Reply.Later → is_later (peer self.old) request.now) }
         ensures end { IfErr result (λ end. end ≡ EndOf.Spent) }
         ensures spent { OnErr result (spent self.new) };
+
+    /// Takes up a request that comes after one whose reply is to be made later, with so many requests between the two, all of which are taken
+    /// up: whether it is, and its reply is to be made later, too. If not, it is answered in its turn.
+    fn prepare<R: Wait>(&mut self, rt: &R, between: usize, request: &[u8], out: &mut [u8]) -> bool
+        requires { message_limit ≤ length out.old }
+        ensures same { peer self.new ≡ peer self.old }
+        ensures asker { asker self.new ≡ asker self.old }
+        ensures grows { EachGrows (seen self.new) (seen self.old) };
 }

@@ -2,7 +2,7 @@
 ghost use Rattle.std.specs.Prelude.{◌≡◌, ◌⊎◌, ◌-◌, ◌^◌, ◌<◌, ◌≤◌, None, length, IfSome, IfErr};
 ghost use Rattle.dns_message.specs.Frame.{frame_in};
 ghost use Rattle.dns_message.specs.Message.{message_limit};
-ghost use Rattle.requests.specs.Served.{EndsAs};
+ghost use Rattle.tcp_connections.specs.Served.{EndsAs};
 ghost use Rattle.requests.specs.declared.stream_end.StreamEnd.{StreamEnd as End};
 ghost use Rattle.tcp_connections.specs.Asked.{EachGrows};
 ghost use Rattle.tcp_connections.specs.Going.{Keeps};

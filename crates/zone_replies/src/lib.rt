@@ -8,6 +8,7 @@
 mod connection_handler;
 mod pending_updates;
 mod transfer;
+mod transfer_reply;
 
 pub use connection_handler::ConnectionHandler;
 pub use transfer::Transfer;

@@ -2,6 +2,7 @@
 use Rattle.std.proofs.Common.{◌≡◌, ◌++◌, ◌∙◌, ap, drop, sym, subst}
 use Rattle.dns_message.specs.Frame.{frame_of}
 use Rattle.tcp_connections.specs.Kept.{Kept, due}
+use Rattle.tcp_connections.proofs.AskedLemmas.{each_more}
 use Rattle.tcp_connections.proofs.FrameLemmas.{turn_made}
 use Rattle.tcp_connections.proofs.machine.ConnectionState.answer.Goals as goal
 
@@ -23,3 +24,6 @@ returns-in-Later-clause-later g c = λ later.
     let count = c.in-Some.count in
     let whole : held ≡ frame_of request ++ drop count held = subst (λ l. l ≡ frame_of request ++ drop count l) (c.as_slice.ensures ∙ ap (λ (k : Kept). k.held) c.self.view_is) c.in-Some.ensures.frame in
     (request, drop count held, whole, c.in-Ok.ensures.later c.in-Later.is)
+
+pub returns-in-Later-clause-grows : goal.returns-in-Later-clause-grows
+returns-in-Later-clause-grows g c = each_more _ _ _ c.reply.ensures.grows c.prepare_next.ensures.grows
