@@ -1,26 +1,29 @@
 //! Updates submitted on connections, which are still pending.
-ghost use Rattle.std.specs.Prelude.{◌≡◌, ◌<◌, ◌++◌, ℕ, [], None, Some, length, replicate, slice_set};
+ghost use Rattle.std.specs.Prelude.{◌≡◌, ◌<◌, ◌++◌, ℕ, [], None, Some, IfSome, length, option_map, replicate, slice_get, slice_set};
 ghost use Rattle.std.specs.Bool.{OnTrue};
-ghost use Rattle.zone_replies.specs.PendingUpdates.{place_in, IsToldAt};
+ghost use Rattle.zone_replies.specs.PendingUpdates.{after_first, more_of, next_of, place_in, with_more, IsToldAt};
 
 use dns_engine::VersionReader;
 use dns_rdata::Rcode;
 use snapshot_cell::Naming;
 use std::alloc::Global;
 use std::marker::Model;
+use std::mem;
 use std::net::SocketAddr;
 use std::snapshot::Snapshot;
 use zone_server::{UpdateOutcome, UpdateResult};
 
-/// A pending update.
+/// The pending updates of a connection. They wait together: each was submitted while one before it was pending.
 pub(crate) struct PendingUpdate<N: Naming> {
     /// The address of its connection's peer.
     pub from: SocketAddr,
-    /// The ticket for its result.
+    /// The ticket for the first one's result.
     pub ticket: usize,
-    /// The number of the last version that was published when it was submitted.
+    /// The tickets for the results of those after it, in the order in which they were submitted.
+    pub more: Vec<usize>,
+    /// The number of the last version that was published when the first of those that wait together was submitted.
     pub number: u64,
-    /// What the reader knew before it was submitted.
+    /// What the reader knew before that.
     pub known: Snapshot<VersionReader<N>>,
 }
 
@@ -29,6 +32,7 @@ impl<N: Naming> Drop for PendingUpdate<N> {
         let PendingUpdate {
             from: _,
             ticket: _,
+            more: _,
             number: _,
             known: _,
         } = self;
@@ -40,7 +44,19 @@ impl<N: Naming> Model for PendingUpdate<N> {
 
     ghost Value = { PendingState };
 
-    ghost view = { λ t. record { from = t.from; ticket = t.ticket; number = t.number; known = t.known.value } };
+    ghost view = { λ t. record { from = t.from; ticket = t.ticket; more = t.more.items; number = t.number; known = t.known.value } };
+}
+
+/// The pending updates once the first one has its reply, which is removed. None where no other one is pending.
+fn after_first<N: Naming>(taken: PendingUpdate<N>) -> Option<PendingUpdate<N>>
+    ensures { result ≡ after_first taken taken.more }
+{
+    let mut next = taken;
+    if next.more.is_empty() {
+        return None;
+    }
+    next.ticket = next.more.remove(0);
+    Some(next)
 }
 
 /// Where the reply to a pending update will be.
@@ -65,7 +81,7 @@ pub(crate) fn outcome_at(place: Place, done: &UpdateResult) -> UpdateOutcome
     UpdateOutcome::code(Rcode::ServFail)
 }
 
-/// The pending updates, at most one per connection, indexed by the connection's key. Contracts see them in the order of the keys.
+/// The pending updates, indexed by the keys of their connections. Contracts see them in the order of the keys.
 pub(crate) struct PendingUpdates<N: Naming> {
     entries: Vec<Option<PendingUpdate<N>>>,
 }
@@ -95,7 +111,7 @@ impl<N: Naming> PendingUpdates<N> {
         }
     }
 
-    /// Where the reply to the pending update under a key will be. None where no update is pending.
+    /// Where the reply to the first pending update under a key will be. None where no update is pending.
     pub fn at(&self, key: usize) -> Option<Place>
         ensures { result ≡ place_in self.now key }
     {
@@ -125,6 +141,31 @@ impl<N: Naming> PendingUpdates<N> {
         true
     }
 
+    /// How many updates are pending under a key after the first one. None where no update is pending.
+    pub fn more(&self, key: usize) -> Option<usize>
+        ensures { result ≡ option_map length (more_of (slice_get self.now key)) }
+    {
+        match self.entries.get(key)? {
+            Some(taken) => Some(taken.more.len()),
+            None => None,
+        }
+    }
+
+    /// Puts the tickets of updates under a key in place of those of the updates after the first one there, and gives these back. Without a pending
+    /// update nothing changes, and it gives back the same tickets.
+    pub fn replace_more(&mut self, key: usize, more: Vec<usize>) -> Vec<usize>
+        ensures old { IfSome (more_of (slice_get self.old key)) (λ tickets. result.items ≡ tickets) }
+        ensures new { self.new ≡ slice_set self.old key (with_more more.items (slice_get self.old key)) }
+    {
+        let Some(entry) = self.entries.get_mut(key) else {
+            return more;
+        };
+        match entry {
+            Some(taken) => mem::replace(&mut taken.more, more),
+            None => more,
+        }
+    }
+
     /// Puts an update under a key for which there is room.
     pub fn put(&mut self, key: usize, taken: PendingUpdate<N>)
         ensures { self.new ≡ slice_set self.old key (Some taken) }
@@ -134,12 +175,25 @@ impl<N: Naming> PendingUpdates<N> {
         }
     }
 
-    /// Removes the update under a key, if there is one.
-    pub fn remove(&mut self, key: usize)
+    /// Removes the first pending update under a key, if there is one. The next one is the first then.
+    pub fn remove_first(&mut self, key: usize)
+        ensures { self.new ≡ slice_set self.old key (next_of (slice_get self.old key)) }
+    {
+        let Some(entry) = self.entries.get_mut(key) else {
+            return;
+        };
+        if let Some(taken) = mem::replace(entry, None) {
+            *entry = after_first(taken);
+        }
+    }
+
+    /// Removes the updates under a key, if there are any.
+    pub fn remove(&mut self, key: usize) -> Option<PendingUpdate<N>>
         ensures { self.new ≡ slice_set self.old key None }
     {
-        if let Some(entry) = self.entries.get_mut(key) {
-            *entry = None;
+        match self.entries.get_mut(key) {
+            Some(entry) => mem::replace(entry, None),
+            None => None,
         }
     }
 }

@@ -1,24 +1,20 @@
--- What is told at a ticket is the reply by what was known when the update was taken up.
-use Rattle.std.proofs.Common.{◌≡◌, ◌≤◌, ℕ, true, [], ◌∷◌, Option, None, Some, length, take, sym, ap, ◌∙◌, subst}
+-- What is told at a ticket is the reply by what was known when the first of the updates that wait together was submitted.
+use Rattle.std.proofs.Common.{◌≡◌, ◌≤◌, ℕ, true, [], ◌∷◌, Some, length, take, sym, ap, ◌∙◌, subst}
 use Rattle.std.proofs.lemmas.Slice.Eq.{bytes_eq-Decides}
 use Rattle.dns_message.specs.Message.{message_limit}
 use Rattle.tcp_connections.specs.declared.handler.Reply.{Reply}
 use Rattle.tcp_connections.specs.declared.handler.Reply.TheVariants.{One}
 use Rattle.zone_replies.specs.declared.transfer.Transfer.{Transfer}
 use Rattle.zone_tree.specs.Version.{Version}
-use Rattle.requests.specs.Served.{Learned}
+use Rattle.tcp_connections.specs.Served.{waited}
 use Rattle.tcp_connections.specs.Asked.{EachGrows}
 use Rattle.zone_server.specs.UpdateResult.{IsFetched, IsDone}
 use Rattle.zone_server.specs.declared.update_result.Poll.{Poll}
-use Rattle.zone_server.specs.Replied.{IsReplied}
 use Rattle.zone_replies.specs.State.{HandlerState}
-use Rattle.zone_replies.specs.PendingUpdates.{known_at, place_in}
-use Rattle.zone_replies.proofs.PendingLemmas.{known_grows, gone_all, gone_grows, gone_none, none_known}
+use Rattle.zone_replies.specs.PendingUpdates.{known_at, place_in, IsLater, IsMadeBy}
+use Rattle.zone_replies.proofs.PendingLemmas.{known_grows, first_all, first_grows}
 use Rattle.zone_replies.proofs.PendingRepliedLemmas.{meets_grows, taken_replied}
 use Rattle.zone_replies.proofs.connection_handler.ConnectionHandler.reply_taken.Goals as goal
-
-apart : (len : ℕ) → ◌≡◌ {A = Option (Reply Transfer)} (Some (One len)) None → ⊥
-apart len is = cc
 
 same_len : (len same : ℕ) → ◌≡◌ {A = Reply Transfer} (One len) (One same) → len ≡ same
 same_len len same is = cc
@@ -32,17 +28,17 @@ returns-in-Pending-clause-grows g c =
 pub invariant_of-self-in_default-fetched-2 : goal.invariant_of-self-in_default-fetched-2
 invariant_of-self-in_default-fetched-2 g c =
     let grown = meets_grows g.Z.FirstZone.zone c.self.inside.reader c.fetch-fetched.new.reader _ c.fetch-fetched.ensures.met in
-    gone_all c.self.inside.taken c.self.inside.reader c.fetch-fetched.new.reader c.self.inside.asker grown c.remove.new.self c.remove.ensures c.self.invariant
+    first_all c.self.inside.reader c.fetch-fetched.new.reader grown c.self.inside.taken c.self.inside.asker c.remove_first.new.self c.remove_first.ensures c.self.invariant
 
 pub invariant_of-self-then-eq : goal.invariant_of-self-then-eq
 invariant_of-self-then-eq g c =
     let grown = meets_grows g.Z.FirstZone.zone c.self.inside.reader c.fetch-fetched.new.reader _ c.fetch-fetched.ensures.met in
-    gone_all c.self.inside.taken c.self.inside.reader c.fetch-fetched.new.reader c.self.inside.asker grown c.remove.new.self c.remove.ensures c.self.invariant
+    first_all c.self.inside.reader c.fetch-fetched.new.reader grown c.self.inside.taken c.self.inside.asker c.remove_first.new.self c.remove_first.ensures c.self.invariant
 
 pub invariant_of-self-2 : goal.invariant_of-self-2
 invariant_of-self-2 g c =
     let grown = meets_grows g.Z.FirstZone.zone c.self.inside.reader c.fetch-fetched.new.reader _ c.fetch-fetched.ensures.met in
-    gone_all c.self.inside.taken c.self.inside.reader c.fetch-fetched.new.reader c.self.inside.asker grown c.remove.new.self c.remove.ensures c.self.invariant
+    first_all c.self.inside.reader c.fetch-fetched.new.reader grown c.self.inside.taken c.self.inside.asker c.remove_first.new.self c.remove_first.ensures c.self.invariant
 
 pub returns-in_default-fetched-2 : goal.returns-in_default-fetched-2
 returns-in_default-fetched-2 g c =
@@ -51,9 +47,8 @@ returns-in_default-fetched-2 g c =
       peer = ap (λ (s : HandlerState). s.peer) c.self.view_is;
       asker = ap (λ (s : HandlerState). s.asker) c.self.view_is;
       grows =
-          subst (λ (s : HandlerState). EachGrows {T = Version} (known_at c.remove.new.self c.fetch-fetched.new.reader) (known_at s.taken s.reader)) c.self.view_is
-          (gone_grows c.self.inside.taken c.self.inside.reader c.fetch-fetched.new.reader c.self.inside.asker grown c.remove.new.self c.remove.ensures c.self.invariant);
-      none = λ _. subst (λ (s : HandlerState). place_in c.remove.new.self s.asker ≡ None) c.self.view_is (gone_none c.self.inside.taken c.self.inside.reader c.fetch-fetched.new.reader c.self.inside.asker grown c.remove.new.self c.remove.ensures);
+          subst (λ (s : HandlerState). EachGrows {T = Version} (known_at c.remove_first.new.self c.fetch-fetched.new.reader) (known_at s.taken s.reader)) c.self.view_is
+          (first_grows c.self.inside.reader c.fetch-fetched.new.reader grown c.self.inside.taken c.self.inside.asker c.remove_first.new.self c.remove_first.ensures c.self.invariant);
       bound = tt;
       replied = tt;
     }
@@ -65,9 +60,8 @@ returns g c =
       peer = ap (λ (s : HandlerState). s.peer) c.self.view_is;
       asker = ap (λ (s : HandlerState). s.asker) c.self.view_is;
       grows =
-          subst (λ (s : HandlerState). EachGrows {T = Version} (known_at c.remove.new.self c.fetch-fetched.new.reader) (known_at s.taken s.reader)) c.self.view_is
-          (gone_grows c.self.inside.taken c.self.inside.reader c.fetch-fetched.new.reader c.self.inside.asker grown c.remove.new.self c.remove.ensures c.self.invariant);
-      none = λ _. subst (λ (s : HandlerState). place_in c.remove.new.self s.asker ≡ None) c.self.view_is (gone_none c.self.inside.taken c.self.inside.reader c.fetch-fetched.new.reader c.self.inside.asker grown c.remove.new.self c.remove.ensures);
+          subst (λ (s : HandlerState). EachGrows {T = Version} (known_at c.remove_first.new.self c.fetch-fetched.new.reader) (known_at s.taken s.reader)) c.self.view_is
+          (first_grows c.self.inside.reader c.fetch-fetched.new.reader grown c.self.inside.taken c.self.inside.asker c.remove_first.new.self c.remove_first.ensures c.self.invariant);
       bound = tt;
       replied = tt;
     }
@@ -81,18 +75,15 @@ returns-then-eq g c =
     let octets : c.in-Ready.done.asked.octets.items ≡ c.args.request.now = sym c.octets.ensures.octets ∙ (bytes_eq-Decides c.octets.result.now c.args.request.now).0 (sym c.if-eq.ensures) in
     let may : c.in-Ready.done.asked.may ≡ true = sym c.may.ensures ∙ c.if-may.true in
     let permitted : c.self.inside.peer.may_update ≡ true = subst (λ (s : HandlerState). s.peer.may_update ≡ true) (sym c.self.view_is) c.requires.later.1 in
-    let none = gone_none c.self.inside.taken c.self.inside.reader c.fetch-fetched.new.reader c.self.inside.asker grown c.remove.new.self c.remove.ensures in
     let replied = taken_replied first c.self.inside.peer c.self.inside.taken c.self.inside.reader c.fetch-fetched.new.reader c.self.inside.asker _ c.in-Some.place c.in-Ready.done c.args.request.now c.reply_done.new.out c.reply_done.result c.self.invariant here c.fetch-fetched.ensures.met reported octets may permitted c.reply_done.ensures.octets in
     record {
       peer = ap (λ (s : HandlerState). s.peer) c.self.view_is;
       asker = ap (λ (s : HandlerState). s.asker) c.self.view_is;
       grows =
-          subst (λ (s : HandlerState). EachGrows {T = Version} (known_at c.remove.new.self c.fetch-fetched.new.reader) (known_at s.taken s.reader)) c.self.view_is
-          (gone_grows c.self.inside.taken c.self.inside.reader c.fetch-fetched.new.reader c.self.inside.asker grown c.remove.new.self c.remove.ensures c.self.invariant);
-      none = λ is. absurd (apart c.reply_done.result is);
+          subst (λ (s : HandlerState). EachGrows {T = Version} (known_at c.remove_first.new.self c.fetch-fetched.new.reader) (known_at s.taken s.reader)) c.self.view_is
+          (first_grows c.self.inside.reader c.fetch-fetched.new.reader grown c.self.inside.taken c.self.inside.asker c.remove_first.new.self c.remove_first.ensures c.self.invariant);
       bound = λ len is. subst (λ (n : ℕ). (n ≤ message_limit) × (n ≤ length c.reply_done.new.out)) (same_len c.reply_done.result len is) c.reply_done.ensures.bound;
       replied = λ _.
-          subst (λ (s : HandlerState). IsReplied first s.peer (known_at s.taken s.reader s.asker) (known_at c.remove.new.self c.fetch-fetched.new.reader s.asker) c.args.request.now (take c.reply_done.result c.reply_done.new.out ∷ [])) c.self.view_is
-          (subst (λ (l : Learned Version). IsReplied first c.self.inside.peer (known_at c.self.inside.taken c.self.inside.reader c.self.inside.asker) l c.args.request.now (take c.reply_done.result c.reply_done.new.out ∷ []))
-          (sym (none_known c.remove.new.self c.fetch-fetched.new.reader c.self.inside.asker none)) replied);
+          subst (λ (s : HandlerState). IsMadeBy first s.peer (known_at s.taken s.reader s.asker) (known_at c.remove_first.new.self c.fetch-fetched.new.reader s.asker) c.args.request.now (take c.reply_done.result c.reply_done.new.out ∷ [])) c.self.view_is
+          (waited (subst (λ (s : HandlerState). IsLater s.peer c.args.request.now) (sym c.self.view_is) c.requires.later) replied);
     }

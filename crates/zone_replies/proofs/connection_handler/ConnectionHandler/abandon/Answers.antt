@@ -1,4 +1,4 @@
--- What is given up leaves what the reader has learned.
+-- What is abandoned leaves what the reader has learned.
 use Rattle.std.proofs.Common.{subst}
 use Rattle.zone_tree.specs.Version.{Version}
 use Rattle.requests.proofs.TurnLemmas.{grows_itself}
@@ -7,10 +7,10 @@ use Rattle.zone_server.specs.Known.{learned_by}
 use Rattle.zone_replies.specs.State.{HandlerState}
 use Rattle.zone_replies.specs.PendingUpdates.{known_at}
 use Rattle.zone_replies.proofs.PendingLemmas.{gone_grows}
-use Rattle.zone_replies.proofs.connection_handler.ConnectionHandler.settle.Goals as goal
+use Rattle.zone_replies.proofs.connection_handler.ConnectionHandler.abandon.Goals as goal
 
 pub returns-clause-grows : goal.returns-clause-grows
 returns-clause-grows g c =
     let reader = c.self.inside.reader in
     subst (λ (s : HandlerState). EachGrows {T = Version} (known_at c.remove.new.self reader) (known_at s.taken s.reader)) c.self.view_is
-    (gone_grows c.self.inside.taken reader reader c.self.inside.asker (grows_itself (learned_by reader)) c.remove.new.self c.remove.ensures c.self.invariant)
+    (gone_grows reader reader (grows_itself (learned_by reader)) c.self.inside.taken c.self.inside.asker c.remove.new.self c.remove.ensures c.self.invariant)
