@@ -149,9 +149,9 @@ pub(crate) fn prepare_from<R: Wait, M: Messages, A: Handler<M>>(
     ensures asker { A.asker handler.new ≡ A.asker handler.old }
     ensures grows { EachGrows (A.seen handler.new) (A.seen handler.old) }
 {
-    let Ok(peer) = allowed.peer(from, Transport::Tcp, request) else {
+    let Ok(sender) = allowed.peer(from, Transport::Tcp, request) else {
         return false;
     };
-    handler.set_peer(peer);
+    handler.set_peer(sender);
     handler.prepare(rt, between, request, out)
 }

@@ -405,11 +405,7 @@ impl<'a, 's, Z: FirstZone, N: ServerName, L: ServiceLog> ConnectionHandler<'a, '
         );
         let is_pending = add_ticket(&mut more, submitted);
         let _ = self.taken.replace_more(key, more);
-        if !is_pending {
-            return false;
-        }
-        tell_signed(rt, self.log, self.from, request);
-        true
+        is_pending
     }
 }
 
@@ -495,9 +491,13 @@ impl<'a, 's, Z: FirstZone, N: ServerName, L: ServiceLog> Handler<Transfer>
         if between > more {
             return false;
         }
-        match self.sender_for(request) {
-            Some(sender) => self.submit_more(rt, sender, request, out),
-            None => false,
+        let Some(sender) = self.sender_for(request) else {
+            return false;
+        };
+        let is_pending = self.submit_more(rt, sender, request, out);
+        if is_pending {
+            tell_signed(rt, self.log, self.from, request);
         }
+        is_pending
     }
 }
