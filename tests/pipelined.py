@@ -1,5 +1,5 @@
 #!/usr/bin/env python3
-"""Tries updates that come one behind the other on one connection, before any reply: they share syncs, are answered in their order, and a query behind them sees them all.
+"""Tries updates that come one after another on one connection, before any reply: they share syncs, are answered in their order, and a query after them sees them all.
 Over a disk whose sync takes 20 ms (tests/disk.c), so that the first update is still being synced when the others are there. Of 32 updates that come in one write at most three
 syncs are made, and of 200, of which at most 64 wait together, at most one for each eight. The same updates, each sent once the reply to the one before is there, take a sync each.
 Usage: tests/pipelined.py PROGRAM. It prints a line a check, and its status is 1 where one failed. It takes ten seconds. It needs Linux, python3 and a C compiler, `cc` or $CC."""
@@ -18,7 +18,7 @@ MANY = 1 << 24
 failed = 0
 
 
-def told(is_right, what):
+def tell(is_right, what):
     global failed
     failed += not is_right
     print(("ok     " if is_right else "FAILED ") + what, flush=True)
@@ -61,15 +61,15 @@ def together(server, log, first, count, most):
     made = syncs(log) - before
     codes = [reply[3] & 15 for reply in replies]
     numbers = [struct.unpack(">H", reply[:2])[0] for reply in replies[:count]]
-    told(codes == [0] * (count + 1), f"{count} updates in one write, and a query: {codes.count(0)} replies with NOERROR")
-    told(numbers == [number & 0xFFFF for number in range(first, first + count)], "the replies come in the order of the requests")
+    tell(codes == [0] * (count + 1), f"{count} updates in one write, and a query: {codes.count(0)} replies with NOERROR")
+    tell(numbers == [number & 0xFFFF for number in range(first, first + count)], "the replies come in the order of the requests")
     serials = [crash_zone.serial_of(record) for record in crash_zone.records_of(replies[-1])] if len(replies) > count else []
-    told(serials == [first + count], f"the query behind them sees them all: serial {serials}")
-    told(made <= most, f"they share {made} syncs, at most {most}")
+    tell(serials == [first + count], f"the query after them sees them all: serial {serials}")
+    tell(made <= most, f"they share {made} syncs, at most {most}")
 
 
 def one_by_one(server, log, first, count):
-    """The same, each behind the reply to the one before."""
+    """The same, each after the reply to the one before."""
     before = syncs(log)
     with socket.create_connection(("127.0.0.1", server.port), timeout=20) as client:
         for number in range(first, first + count):
@@ -77,7 +77,7 @@ def one_by_one(server, log, first, count):
             if not received(client, 1):
                 break
     made = syncs(log) - before
-    told(made >= count, f"{count} updates, each behind the reply to the one before: {made} syncs")
+    tell(made >= count, f"{count} updates, each after the reply to the one before: {made} syncs")
 
 
 def main():

@@ -66,12 +66,12 @@ pub(crate) struct Place {
     pub from: SocketAddr,
     /// The ticket for its result.
     pub ticket: usize,
-    /// The number of the last version that was published when it was submitted.
+    /// The number of the last version that was published when the first of those that wait together was submitted.
     pub number: u64,
 }
 
-/// The outcome of a pending update: that of its result, or SERVFAIL where it was judged in a version older than the last that was published when it was
-/// submitted, which never happens.
+/// The outcome of a pending update: that of its result, or SERVFAIL where it was judged in a version older than the last that was published when the
+/// first of those that wait together was submitted, which never happens.
 pub(crate) fn outcome_at(place: Place, done: &UpdateResult) -> UpdateOutcome
     ensures { IsToldAt place done.now result }
 {
