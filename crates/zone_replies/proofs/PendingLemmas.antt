@@ -1,6 +1,6 @@
 -- What is known on connections on which updates are pending.
 use Rattle.std.proofs.Common.{◌≡◌, refl, ◌⊎◌, inl, inr, ⊎_elim, ◌++◌, ℕ, zero, suc, List, [], ◌∷◌, Option, None, Some, sym, ap, ◌∙◌, append_assoc, subst}
-use Rattle.std.specs.Prelude.{slice_get, slice_set, replicate}
+use Rattle.std.specs.Prelude.{◌≢◌, remove, slice_get, slice_index_or, slice_set, replicate}
 use Rattle.std.proofs.lemmas.List.Elements.{All-set, All-weaker, All-append, All-replicate}
 use Rattle.std.proofs.lemmas.Option.{slice_get_within, get_or_from_slice_get}
 use Rattle.zone_tree.specs.Version.{Version}
@@ -21,6 +21,15 @@ set_cases (y ∷ ys) zero (suc j) x = inl refl
 set_cases (y ∷ ys) (suc i) zero x = inl refl
 set_cases {X} (y ∷ ys) (suc i) (suc j) x =
     ⊎_elim (λ (e : slice_get (slice_set ys i x) j ≡ slice_get ys j). inl e) (λ (e : (slice_get (slice_set ys i x) j ≡ Some x) × (i ≡ j)). inr (e.0, ap suc e.1)) (set_cases ys i j x)
+
+-- the next ticket is the first one's, or there is none
+pub after_is : (taken : PendingState) (more rest : List ℕ) (ticket : ℕ) → more ≢ [] → ticket ≡ slice_index_or more 0 ticket → rest ≡ remove more 0 → Some (record taken { ticket = ticket; more = rest }) ≡ after_first taken more
+after_is taken [] rest ticket some first left = absurd (some refl)
+after_is taken (next ∷ more) rest ticket some first left =
+    ap (λ (n : ℕ). Some (record taken { ticket = n; more = rest })) first ∙ ap (λ (l : List ℕ). Some (record taken { ticket = next; more = l })) left
+
+pub after_none : (taken : PendingState) (more : List ℕ) → more ≡ [] → None ≡ after_first taken more
+after_none taken more none = ap (λ (l : List ℕ). after_first taken l) (sym none)
 
 -- what was known when the first update of an entry was submitted stays, and else grows with what the reader has learned
 asked_grows : (entry : Option (Option PendingState)) (before after : ReaderState Version) → Grows (learned_by after) (learned_by before) → Grows (asked_of entry after) (asked_of entry before)

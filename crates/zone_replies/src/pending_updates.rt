@@ -48,6 +48,7 @@ impl<N: Naming> Model for PendingUpdate<N> {
 }
 
 /// The pending updates once the first one has its reply, which is removed. None where no other one is pending.
+#[tactic(auto, using(crate::proofs::PendingLemmas::after_is, crate::proofs::PendingLemmas::after_none))]
 fn after_first<N: Naming>(taken: PendingUpdate<N>) -> Option<PendingUpdate<N>>
     ensures { result ≡ after_first taken taken.more }
 {
