@@ -69,7 +69,7 @@ fn serve_connections<'g, 's, R: Wait, Z: FirstZone, N: ServerName, L: ServiceLog
     let handler = handler.with_rules(job.allowed());
     let mut handler = handler.with_sender(sender);
     let end = job.serve(rt, &mut handler, log);
-    (handler.into_reader(), end)
+    (handler.into_reader(rt), end)
 }
 
 /// Does a job that notifies secondaries, with a handler that loads versions for it by a reader. Gives the reader back, and how the job ended.
