@@ -329,6 +329,11 @@ fn told(alloc: Global, text: &str) -> Result<String, AllocError> {
     }
 }
 
+/// Whether two texts are the same.
+fn is_same(a: &str, b: &str) -> bool {
+    a == b
+}
+
 /// The first text that is read as something else.
 fn first_misread(alloc: Global) -> Result<Option<&'static str>, AllocError> {
     for (text, right) in &TEXTS {
@@ -336,7 +341,7 @@ fn first_misread(alloc: Global) -> Result<Option<&'static str>, AllocError> {
             Err(_) => told(alloc, *text)?,
             Ok(got) => got,
         };
-        if got.as_str() != *right {
+        if !is_same(got.as_str(), right) {
             return Ok(Some(*text));
         }
     }
