@@ -33,6 +33,8 @@ pub enum CommandFault<'a> {
     Listen(&'a str),
     /// An entry in the list of those that may update and transfer is neither an address nor a prefix.
     Allow(RuleFault<'a>),
+    /// The name of the key is not a valid name.
+    Key(&'a str, NameFault),
     /// This many workers, for this many addresses, need too many threads.
     Threads(usize, usize),
     /// The value for a secondary is not an address.
@@ -74,6 +76,7 @@ impl<'a> Drop for CommandFault<'a> {
             CommandFault::Time(_, _) => {}
             CommandFault::Listen(_) => {}
             CommandFault::Allow(_) => {}
+            CommandFault::Key(_, _) => {}
             CommandFault::Threads(_, _) => {}
             CommandFault::Notify(_) => {}
             CommandFault::Secondaries(_) => {}
@@ -137,6 +140,9 @@ pub fn tell_fault<R: Print + Eprint>(rt: &R, fault: &CommandFault<'_>) -> io::Re
             )?;
         }
         CommandFault::Allow(fault) => eprintln!(rt; "error: --allow: {fault}")?,
+        CommandFault::Key(word, fault) => {
+            eprintln!(rt; "error: --key: '{word}' is not a name: {fault}")?;
+        }
         CommandFault::Threads(workers, addresses) => {
             eprintln!(rt;
                 "error: --workers {workers} with {addresses} addresses needs more than 62 threads: each worker has one for TCP, and one for UDP on each address; --notify needs one more"
@@ -144,7 +150,7 @@ pub fn tell_fault<R: Print + Eprint>(rt: &R, fault: &CommandFault<'_>) -> io::Re
         }
         CommandFault::Notify(word) => {
             eprintln!(rt;
-                "error: --notify: '{word}' is not an address, such as 192.0.2.7, 192.0.2.7:5353 or [2001:db8::7]:53@2001:db8::1"
+                "error: --notify: '{word}' is not an address, such as 192.0.2.7, 192.0.2.7:5353 or [2001:db8::7]:53@2001:db8::1, maybe with ' key NAME' after it"
             )?;
         }
         CommandFault::Secondaries(word) => {

@@ -11,12 +11,19 @@ use crate::command::{ADDRESS, REQUEST, TCP};
 use crate::fault::CommandFault;
 use clap::ArgMatches;
 use clap::parser::ValueSource;
-use rights::{NameScope, Prefix, Requestor, Rule, UpdateRight, parse_prefix, parse_rule};
+use dns_name::Name;
+use rights::{
+    KeyRules, NameScope, Prefix, Requestor, Rule, UpdateRight, parse_prefix, parse_rule,
+    split_by_key,
+};
 use std::alloc::{AllocError, Global};
 use std::net::IpAddr;
 
 /// The option for a rule.
 pub const MAY: &str = "may";
+
+/// The option for the key that a request is signed by.
+pub const KEY: &str = "key";
 
 /// The option for the addresses and prefixes that may update and transfer.
 pub const ALLOW: &str = "allow";
@@ -44,7 +51,11 @@ impl<'a> Drop for Trial<'a> {
 
 /// The trial given by the arguments. An error is a rule that is refused, an address that is none, or lack of memory.
 pub fn trial_of<'a>(alloc: Global, found: &ArgMatches<'a>) -> Result<Trial<'a>, CommandFault<'a>> {
-    let rules = rules_of(alloc, found)?;
+    let (unsigned, signed) = split_by_key(alloc, rules_of(alloc, found)?)?;
+    let rules = match found.get_str(KEY) {
+        None => unsigned,
+        Some(word) => rules_by(alloc, signed, word)?,
+    };
     let word = found.get_str(ADDRESS).unwrap_or("");
     let Ok(address) = word.parse::<IpAddr>() else {
         return Err(CommandFault::Address(word));
@@ -54,6 +65,23 @@ pub fn trial_of<'a>(alloc: Global, found: &ArgMatches<'a>) -> Result<Trial<'a>, 
         who: Requestor::new(address, found.get_flag(TCP)),
         request: found.get_str(REQUEST).unwrap_or(""),
     })
+}
+
+/// The rules that name the key of this name.
+fn rules_by<'a>(
+    alloc: Global,
+    signed: Vec<KeyRules>,
+    word: &'a str,
+) -> Result<Vec<Rule>, CommandFault<'a>> {
+    let name = Name::from_text(word.as_bytes(), &Name::root()).map_err(|fault| CommandFault::Key(
+        word, fault,
+    ))?;
+    for own in signed {
+        if own.key == name {
+            return Ok(own.into_rules());
+        }
+    }
+    Ok(Vec::new(alloc))
 }
 
 /// The rules given by the option, in order.
@@ -71,11 +99,11 @@ fn rules_of<'a>(alloc: Global, found: &ArgMatches<'a>) -> Result<Vec<Rule>, Comm
     Ok(rules)
 }
 
-/// The rules of a server: those of `--allow`, and after them those of `--may`. Where a rule is given, `--allow` has no default.
+/// The rules of a server: those of `--allow`, and after them those of `--may`; first those without a key, then those of each key. Where a rule is given, `--allow` has no default.
 pub(crate) fn served_rules<'a>(
     alloc: Global,
     found: &ArgMatches<'a>,
-) -> Result<Vec<Rule>, CommandFault<'a>> {
+) -> Result<(Vec<Rule>, Vec<KeyRules>), CommandFault<'a>> {
     let given = rules_of(alloc, found)?;
     let has_default = !matches!(found.value_source(ALLOW), Some(ValueSource::CommandLine));
     let list = if has_default && !given.is_empty() {
@@ -89,7 +117,7 @@ pub(crate) fn served_rules<'a>(
             return Err(CommandFault::from(AllocError));
         }
     }
-    Ok(rules)
+    Ok(split_by_key(alloc, rules)?)
 }
 
 /// The rules of the addresses and prefixes in a comma-separated list, which may have blanks around each; none for an empty list.
@@ -115,7 +143,8 @@ fn whole_rule(alloc: Global, prefix: Prefix) -> Rule
     ensures transfer { (who : Asker) → lets_transfer who result ≡ has_address prefix who.bits }
 {
     Rule {
-        prefix,
+        key: None,
+        prefix: Some(prefix),
         transfer: true,
         update: Some(UpdateRight {
             names: NameScope::Every,

@@ -15,7 +15,7 @@ use crate::store_options::{
 use clap::ArgMatches;
 use commands::Source;
 use dns_name::Name;
-use rights::Rule;
+use rights::{KeyRules, Rule};
 use std::alloc::{AllocError, Global};
 use std::net::SocketAddr;
 use tcp_connections::Limits;
@@ -36,8 +36,10 @@ pub struct Serve<'a> {
     pub keep: usize,
     /// The number of datagrams and connections, counted together, after which a worker exits.
     pub most: u64,
-    /// The rules by which peers may update and transfer.
+    /// The rules by which peers may update and transfer whose requests aren't signed.
     pub rules: Vec<Rule>,
+    /// Those by which the holders of keys may.
+    pub key_rules: Vec<KeyRules>,
     /// The maximum number of open connections per worker.
     pub places: usize,
     /// The timeouts of a connection, and the minimum rate at which its peer must accept what is written to it.
@@ -50,6 +52,8 @@ pub struct Serve<'a> {
     pub secondaries: Vec<Secondary>,
     /// The store in which updates survive a restart, if there is one.
     pub store: Option<StorePlan<'a>>,
+    /// The file of the keys that clients sign by, if signatures are checked.
+    pub keys: Option<&'a str>,
     ghost few_kept: { keep ≤ KEPT },
     ghost some_workers: { 0 < workers },
     ghost few_threads: { workers * (vec_len listen + 1) ≤ 62 },
@@ -72,12 +76,14 @@ impl<'a> Drop for Serve<'a> {
             keep: _,
             most: _,
             rules: _,
+            key_rules: _,
             places: _,
             limits: _,
             udp_buffer: _,
             update_queue: _,
             secondaries: _,
             store: _,
+            keys: _,
         } = self;
     }
 }
@@ -94,6 +100,9 @@ const MAX_WORKERS: usize = 31;
 /// The maximum number of worker threads in total, since each has a reader of the zone's versions. The engine has one more reader, and the update
 /// thread another.
 pub const MAX_THREADS: usize = 62;
+
+/// The option for the file of the keys that clients sign by.
+pub const KEYS: &str = "keys";
 
 /// The option for the number of datagrams and connections after which a worker exits.
 pub const COUNT: &str = "count";
@@ -137,7 +146,7 @@ pub fn serve_of<'a>(
         return Err(CommandFault::Threads(workers, listen.len()));
     }
     let keep = number_for(found.get_str(KEEP), KEEP, 0, MAX_KEEP, MAX_KEEP)?;
-    let rules = served_rules(alloc, found)?;
+    let (rules, key_rules) = served_rules(alloc, found)?;
     let most = count_of(found.get_str(COUNT))?;
     let places = number_for(
         found.get_str(CONNECTIONS),
@@ -159,12 +168,14 @@ pub fn serve_of<'a>(
         keep,
         most,
         rules,
+        key_rules,
         places,
         limits,
         udp_buffer,
         update_queue,
         secondaries,
         store,
+        keys: found.get_str(KEYS),
     })
 }
 

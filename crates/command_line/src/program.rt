@@ -2,8 +2,8 @@
 use crate::command::{
     ADDRESS, BEFORE_FAULT, DIR, HEX, KEEP, NEW, OLD, ORIGIN, REQUEST, TCP, WARN, WINDOW, ZONE,
 };
-use crate::may::{ALLOW, MAY};
-use crate::options::{CONNECTIONS, COUNT, IDLE, LISTEN, MESSAGE, REPLY, WORKERS};
+use crate::may::{ALLOW, KEY, MAY};
+use crate::options::{CONNECTIONS, COUNT, IDLE, KEYS, LISTEN, MESSAGE, REPLY, WORKERS};
 use crate::secondaries::NOTIFY;
 use crate::store_options::{JOURNAL, STORE, TAKE, TRANSFER_RATE, UDP_BUFFER, UPDATE_QUEUE};
 use clap::{Arg, ArgAction, Command as Parser};
@@ -207,12 +207,17 @@ const STORED_WORDS: &[WordRow] = &[
 const MAY_ROW: WordRow = WordRow {
     name: MAY,
     form: Form::Several("'WHO: RIGHTS'"),
-    help: "rule: WHO is an address or prefix, RIGHTS are transfer and update, separated by a comma; after update may follow exact NAME or at-or-below NAME, then types, and tcp; may be repeated",
+    help: "rule: WHO is an address or prefix, or key NAME, or both; RIGHTS are transfer and update, separated by a comma; after update may follow exact NAME or at-or-below NAME, then types, and tcp; may be repeated",
 };
 
 /// The arguments of `may`.
 const MAY_WORDS: &[WordRow] = &[
     MAY_ROW,
+    WordRow {
+        name: KEY,
+        form: Form::Value("NAME"),
+        help: "judge as a request signed by this key, by the rules that name it (default: by those that name none)",
+    },
     WordRow {
         name: TCP,
         form: Form::Flag,
@@ -256,14 +261,19 @@ const SERVE_WORDS: &[WordRow] = &[
     },
     MAY_ROW,
     WordRow {
+        name: KEYS,
+        form: Form::Value("FILE"),
+        help: "file of the keys that clients sign by (TSIG), as tsig-keygen prints them, or ALGORITHM:NAME:SECRET, one per line; its owner alone may read it",
+    },
+    WordRow {
         name: COUNT,
         form: Form::Value("N"),
         help: "number of datagrams and connections, counted together, after which a worker exits (default: never)",
     },
     WordRow {
         name: NOTIFY,
-        form: Form::Several("ADDR[:PORT][@FROM]"),
-        help: "secondary to notify of each version, from the address FROM, or else the first --listen address of its family; may be repeated, at most 32",
+        form: Form::Several("'ADDR[:PORT][@FROM][ key NAME]'"),
+        help: "secondary to notify of each version, from the address FROM, or else the first --listen address of its family, signed by a key of --keys if one is named; may be repeated, at most 32",
     },
     WordRow {
         name: STORE,

@@ -7,19 +7,22 @@ use crate::secondaries::{SecondarySockets, secondaries_for};
 use crate::thread_specs::{thread_specs_for, work_limits_of};
 use command_line::{BAD_COMMAND, MAX_THREADS, Serve, StorePlan, is_routed};
 use commands::{DONE, FAILED};
+use dns_name::Name;
 use dnsd_setup::{
     BoundSockets, Entries, Listening, Log, LogLine, ServedZone, StartedZone, WorkerSockets,
-    ZoneStore, bind_sockets, descriptors, read_text_for, start_entries, start_store_for,
+    ZoneStore, bind_sockets, descriptors, keys_for, read_text_for, start_entries, start_store_for,
     tell_outside, text_for,
 };
+use key_file::KeyFile;
 use notify::large_in;
 use requests::Allowed;
-use rights::Rule;
+use rights::{KeyRules, Rule};
 use serve_workers::{
-    ConnectionPlan, Most, Plan, ServeFault, Shutdown, ThreadSpec, UpdateConfig, WorkLimit,
-    serve_zone,
+    ConnectionPlan, Most, Plan, ServeFault, SharedKeys, Shutdown, ThreadSpec, UpdateConfig,
+    WorkLimit, serve_zone,
 };
-use std::alloc::Global;
+use signed_replies::KeyRights;
+use std::alloc::{AllocError, Global};
 use std::fs::{File, Files};
 use std::marker::Brand;
 use std::net::{Net, SocketAddr, TcpListener, TcpStream};
@@ -30,6 +33,7 @@ use std::thread::Threads;
 use std::time::Clock;
 use std::{io, mem};
 use store_compaction::{TextWriter, ThreadTextWriter};
+use tsig::{Keys, MAX_KEYS};
 use zone_tree::ZoneRead;
 
 /// The maximum number of updates that may wait for the update thread, whatever their size (own).
@@ -55,12 +59,17 @@ pub fn run_serve<
         + Drop
         + 'static,
 >(rt: &R, serve: &Serve<'_>) -> io::Result<u8> {
+    let keys = match keys_for(rt, serve) {
+        Ok(Ok(keys)) => keys,
+        Ok(Err(status)) => return Ok(status),
+        Err(fault) => return Err(fault),
+    };
     let Some(text) = text_for(rt, serve)? else {
         return Ok(FAILED);
     };
     match serve.store {
-        Some(plan) => serve_store(rt, serve, plan, text),
-        None => serve_zone_text(rt, serve, text),
+        Some(plan) => serve_store(rt, serve, plan, text, keys.as_ref()),
+        None => serve_zone_text(rt, serve, text, keys.as_ref()),
     }
 }
 
@@ -80,18 +89,18 @@ fn serve_zone_text<
         + Sync
         + Drop
         + 'static,
->(rt: &R, serve: &Serve<'_>, text: Vec<u8>) -> io::Result<u8> {
+>(rt: &R, serve: &Serve<'_>, text: Vec<u8>, keys: Option<&KeyFile>) -> io::Result<u8> {
     let begun = match read_text_for(rt, serve, text) {
         Ok(Ok(begun)) => begun,
         Ok(Err(status)) => return Ok(status),
         Err(fault) => return Err(fault),
     };
-    let bound = match bind(rt, serve) {
+    let bound = match bind(rt, serve, keys.map(|file| &file.keys)) {
         Ok(Some(bound)) => bound,
         Ok(None) => return Ok(FAILED),
         Err(fault) => return Err(fault),
     };
-    serve_on_sockets(rt, serve, begun, bound)
+    serve_on_sockets(rt, serve, begun, bound, keys)
 }
 
 /// Serves the zone of a store, or the zone of the text from which the store is created.
@@ -110,8 +119,14 @@ fn serve_store<
         + Sync
         + Drop
         + 'static,
->(rt: &R, serve: &Serve<'_>, plan: StorePlan<'_>, text: Vec<u8>) -> io::Result<u8> {
-    let bound = match bind(rt, serve) {
+>(
+    rt: &R,
+    serve: &Serve<'_>,
+    plan: StorePlan<'_>,
+    text: Vec<u8>,
+    keys: Option<&KeyFile>,
+) -> io::Result<u8> {
+    let bound = match bind(rt, serve, keys.map(|file| &file.keys)) {
         Ok(Some(bound)) => bound,
         Ok(None) => return Ok(FAILED),
         Err(fault) => return Err(fault),
@@ -121,7 +136,7 @@ fn serve_store<
         Ok(Err(status)) => return Ok(status),
         Err(fault) => return Err(fault),
     };
-    serve_on_sockets(rt, serve, begun, bound)
+    serve_on_sockets(rt, serve, begun, bound, keys)
 }
 
 /// What a server acquires from the system before it has a zone.
@@ -150,14 +165,14 @@ fn bind<
         + Send
         + Drop
         + 'static,
->(rt: &R, serve: &Serve<'_>) -> io::Result<Option<Bound>> {
+>(rt: &R, serve: &Serve<'_>, keys: Option<&Keys>) -> io::Result<Option<Bound>> {
     let sockets = match bind_sockets(rt, serve) {
         Ok(Some(sockets)) => sockets,
         Ok(None) => return Ok(None),
         Err(fault) => return Err(fault),
     };
     let (secondaries, listen) = (serve.secondaries.as_slice(), serve.listen.as_slice());
-    let secondaries = match secondaries_for(rt, secondaries, listen) {
+    let secondaries = match secondaries_for(rt, secondaries, listen, keys) {
         Ok(Some(secondaries)) => secondaries,
         Ok(None) => return Ok(None),
         Err(fault) => return Err(fault),
@@ -187,11 +202,22 @@ fn serve_on_sockets<
         + Sync
         + Drop
         + 'static,
->(rt: &R, serve: &Serve<'_>, begun: StartedZone, bound: Bound) -> io::Result<u8>
+>(
+    rt: &R,
+    serve: &Serve<'_>,
+    begun: StartedZone,
+    bound: Bound,
+    keys: Option<&KeyFile>,
+) -> io::Result<u8>
     requires { CanBegin begun }
 {
     if tell_outside(rt, serve.rules.as_slice(), begun.zone().apex())? {
         return Ok(BAD_COMMAND);
+    }
+    for own in serve.key_rules.iter() {
+        if tell_outside(rt, own.rules.as_slice(), begun.zone().apex())? {
+            return Ok(BAD_COMMAND);
+        }
     }
     let Bound {
         sockets,
@@ -202,14 +228,32 @@ fn serve_on_sockets<
     let log = Log::new(entries, listening_for(serve, &begun, addresses, kept));
     warn(rt, serve, &log);
     warn_of_zone(rt, serve, &begun, &log);
-    let served = serve_on_workers(rt, rt.alloc(), serve, begun, workers, secondaries, &log);
+    let served = serve_on_workers(
+        rt,
+        rt.alloc(),
+        serve,
+        begun,
+        workers,
+        secondaries,
+        keys,
+        &log,
+    );
     let status = status_of(rt, served, &log);
     log.end(rt);
     Ok(status)
 }
 
 /// Whether a rule gives anybody a right to update.
-fn may_update(rules: &[Rule]) -> bool {
+fn may_update(serve: &Serve<'_>) -> bool {
+    gives_update(serve.rules.as_slice())
+        || serve
+            .key_rules
+            .iter()
+            .any(|own| gives_update(own.rules.as_slice()))
+}
+
+/// Whether one of these rules gives a right to update.
+fn gives_update(rules: &[Rule]) -> bool {
     rules.iter().any(|rule| rule.update.is_some())
 }
 
@@ -226,7 +270,7 @@ fn listening_for(
         apex: zone.apex().copy(),
         serial: zone.serial(),
         records: begun.records(),
-        loses_updates: serve.store.is_none() && may_update(serve.rules.as_slice()),
+        loses_updates: serve.store.is_none() && may_update(serve),
         kept,
         wanted: serve.udp_buffer,
     }
@@ -304,6 +348,7 @@ fn serve_on_workers<
     begun: StartedZone,
     sockets: Vec<WorkerSockets>,
     secondaries: SecondarySockets,
+    keys: Option<&KeyFile>,
     log: &Log,
 ) -> Result<(), ServeFault>
     requires { CanBegin begun }
@@ -317,7 +362,7 @@ fn serve_on_workers<
     let Some(specs) = specs else {
         return Err(ServeFault::NoMemory);
     };
-    serve_with_specs(rt, alloc, serve, begun, specs, log)
+    serve_with_specs(rt, alloc, serve, begun, specs, keys, log)
 }
 
 /// Serves a zone with one thread for each of these specs.
@@ -338,6 +383,7 @@ fn serve_with_specs<
     serve: &Serve<'_>,
     begun: StartedZone,
     specs: Vec<ThreadSpec<'_>>,
+    keys: Option<&KeyFile>,
     log: &Log,
 ) -> Result<(), ServeFault>
     requires { CanBegin begun }
@@ -352,6 +398,9 @@ fn serve_with_specs<
     let Ok(dir) = format!(in alloc; "{dir}") else {
         return Err(ServeFault::NoMemory);
     };
+    let Ok(rights) = rights_of(alloc, keys, serve.key_rules.as_slice()) else {
+        return Err(ServeFault::NoMemory);
+    };
     let shutdown = Shutdown::new(specs.len());
     let plan = Plan {
         shutdown: &shutdown,
@@ -361,6 +410,7 @@ fn serve_with_specs<
             limits: serve.limits,
             allowed: Allowed::new(alloc, serve.rules.as_slice()),
         },
+        keys: shared_keys(keys, rights.as_slice()),
     };
     let texts = ThreadTextWriter::new(*rt, dir);
     let most = Most {
@@ -368,6 +418,48 @@ fn serve_with_specs<
         octets: serve.update_queue,
     };
     serve_with_store(rt, alloc, most, begun, texts, specs, plan, log)
+}
+
+/// What the holders of keys may do, in the order of the keys.
+fn rights_of<'a>(
+    alloc: Global,
+    keys: Option<&KeyFile>,
+    key_rules: &'a [KeyRules],
+) -> Result<Vec<KeyRights<'a>>, AllocError> {
+    let mut rights = Vec::new(alloc);
+    let Some(file) = keys else {
+        return Ok(rights);
+    };
+    for index in 0..MAX_KEYS {
+        let Some(key) = file.keys.get(index as u16) else {
+            break;
+        };
+        let rules = rules_of(key_rules, key.name());
+        rights.push(KeyRights { rules })?;
+    }
+    Ok(rights)
+}
+
+/// The rules that name the key of this name.
+fn rules_of<'a>(key_rules: &'a [KeyRules], name: &Name) -> &'a [Rule] {
+    for own in key_rules {
+        if own.key == *name {
+            return own.rules.as_slice();
+        }
+    }
+    &[]
+}
+
+/// The keys of a file with these rights, if there is one.
+fn shared_keys<'a>(
+    keys: Option<&'a KeyFile>,
+    rights: &'a [KeyRights<'a>],
+) -> Option<SharedKeys<'a>> {
+    let file = keys?;
+    Some(SharedKeys {
+        keys: &file.keys,
+        rights,
+    })
 }
 
 /// Serves a zone with one thread for each of these specs. At most `most` updates wait, and the store's zone texts are written by `texts`.

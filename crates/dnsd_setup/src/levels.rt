@@ -14,6 +14,7 @@ pub(crate) fn level_of_event(event: &Event) -> Level {
         | Event::Silent { .. }
         | Event::Refused { .. }
         | Event::Signed { .. }
+        | Event::BadTsig { .. }
         | Event::Large(_) => Level::Warning,
     }
 }

@@ -129,7 +129,9 @@ impl ServiceLog for Log {
     fn tell<R: Wait>(&self, rt: &R, event: Event) {
         match event {
             Event::Serving => self.add_listening(rt),
-            Event::Refused { .. } | Event::Signed { .. } => self.add_of_peer(rt, event),
+            Event::Refused { .. } | Event::Signed { .. } | Event::BadTsig { .. } => {
+                self.add_of_peer(rt, event);
+            }
             other => self.add(rt, LogLine::Event(other)),
         }
     }

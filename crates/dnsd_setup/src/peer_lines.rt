@@ -1,4 +1,4 @@
-//! Lines about clients whose requests were refused, or were signed although no keys are configured: at most one per client and kind of request in a
+//! Lines about clients whose requests were refused, by their signature too, or were signed although no keys are configured: at most one per client and kind of request in a
 //! second.
 use std::alloc::Global;
 use std::fmt::{self, Display, Formatter};
@@ -105,6 +105,14 @@ fn is_alike(one: &Event, other: &Event) -> bool {
                 ..
             },
         ) => wanted == other_wanted && is_one_peer(*from, *other_from),
+        (
+            Event::BadTsig { from, fault, .. },
+            Event::BadTsig {
+                from: other_from,
+                fault: other_fault,
+                ..
+            },
+        ) => fault == other_fault && is_one_peer(*from, *other_from),
         _ => false,
     }
 }

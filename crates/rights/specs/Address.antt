@@ -1,5 +1,5 @@
 -- Addresses as numbers of 128 bits, and the prefixes that have them (RFC 4632, 3.1; RFC 4291, 2.3 and 2.5.5.2).
-use Rattle.std.specs.Prelude.{ℕ, ◌/◌, ◌%◌, ◌-◌, ◌^◌, Bool, ◌&&◌, ◌||◌, ◌==◌, not, nat_le, List, ◌∷◌}
+use Rattle.std.specs.Prelude.{ℕ, ◌/◌, ◌%◌, ◌-◌, ◌^◌, Bool, true, ◌&&◌, ◌||◌, ◌==◌, not, nat_le, List, ◌∷◌, Option, Some, None}
 use Rattle.std.specs.Int.{w128, from_be_bytes}
 use Rattle.std.specs.Net.Addr.{ipv4_octets, ipv6_octets}
 use Rattle.std.specs.declared.net.ip_addr.IpAddr.{IpAddr}
@@ -26,6 +26,11 @@ is_ipv4 address = address / 2 ^ 32 == 65535
 -- whether a prefix has an address: one that begins with its bits, and an IPv4 address only a prefix of IPv4 addresses
 abbrev pub has_address : Prefix → ℕ → Bool
 has_address prefix address = shares_front prefix.length prefix.bits address && (nat_le 96 prefix.length || not (is_ipv4 address))
+
+-- the same of a prefix that there may be; without one each address
+abbrev pub has_prefix : Option Prefix → ℕ → Bool
+has_prefix None address = true
+has_prefix (Some prefix) address = has_address prefix address
 
 -- whether a number of 128 bits has bits set behind the first, so many of them
 abbrev pub has_rest : ℕ → ℕ → Bool

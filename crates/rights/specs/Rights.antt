@@ -9,7 +9,7 @@ use Rattle.dns_message.specs.declared.query.Query.{Query as Asked}
 use Rattle.dns_message.specs.declared.query.Parsed.{Parsed}
 use Rattle.dns_message.specs.declared.query.Parsed.TheVariants.{Silent, Fault, BadOpt, Query, Update, NoMemory}
 use Rattle.dns_message.specs.declared.update.Update.{Update as DynamicUpdate}
-use Rattle.rights.specs.Address.{has_address}
+use Rattle.rights.specs.Address.{has_prefix}
 use Rattle.rights.specs.declared.requestor.Requestor.{Requestor}
 use Rattle.rights.specs.declared.rule.NameScope.{NameScope}
 use Rattle.rights.specs.declared.rule.NameScope.TheVariants.{Every, Exact, AtOrBelow}
@@ -55,7 +55,7 @@ is_right_to (Some right) apex r = holds_at right.names r.owner && holds_of right
 
 -- whether a rule gives who asks a right to update
 abbrev pub lets_update : Requestor → Rule → Bool
-lets_update who rule = has_address rule.prefix who.bits && is_held rule.update who
+lets_update who rule = has_prefix rule.prefix who.bits && is_held rule.update who
 
 -- whether a rule gives who asks a right to this record
 abbrev pub covers : Requestor → Name → RawRecord → Rule → Bool
@@ -67,7 +67,7 @@ are_permitted rules who apex records = list_any (lets_update who) rules && list_
 
 -- whether a rule gives who asks the right to transfer the zone
 abbrev pub lets_transfer : Requestor → Rule → Bool
-lets_transfer who rule = rule.transfer && has_address rule.prefix who.bits
+lets_transfer who rule = rule.transfer && has_prefix rule.prefix who.bits
 
 -- the zone may be transferred where a rule gives who asks that right
 abbrev pub may_transfer : List Rule → Requestor → Bool

@@ -1,6 +1,6 @@
 //! Addresses as numbers of 128 bits, and the prefixes that have them.
 ghost use Rattle.std.specs.Prelude.{◌≡◌, ◌≤◌, ◌+◌, ◌-◌, false, IfOk};
-ghost use Rattle.rights.specs.Address.{number_of, shares_front, is_ipv4, has_address, has_rest, bits_in_front};
+ghost use Rattle.rights.specs.Address.{number_of, shares_front, is_ipv4, has_address, has_prefix, has_rest, bits_in_front};
 
 use crate::fault::RuleFault;
 use crate::prefix::Prefix;
@@ -24,6 +24,16 @@ pub(crate) fn has_address(prefix: Prefix, address: u128) -> bool
     ensures { result ≡ has_address prefix address }
 {
     shares_front(prefix.length, prefix.bits, address) && (prefix.length >= 96 || !is_ipv4(address))
+}
+
+/// Whether a prefix, if there is one, has an address.
+pub(crate) fn has_prefix(prefix: Option<Prefix>, address: u128) -> bool
+    ensures { result ≡ has_prefix prefix address }
+{
+    match prefix {
+        None => true,
+        Some(prefix) => has_address(prefix, address),
+    }
 }
 
 /// Whether a number of 128 bits is that of an IPv4 address.

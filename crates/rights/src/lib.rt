@@ -1,6 +1,6 @@
 //! Who may update a zone, and what of it, and who may transfer it (RFC 2136, 3.3; RFC 5936, 5).
 //!
-//! A [`Rule`] gives rights to the addresses of a prefix: to transfer, and to update the records of some names and types. Contracts see whether an
+//! A [`Rule`] gives rights to the addresses of a prefix, or to who signs by a key: to transfer, and to update the records of some names and types. Contracts see whether an
 //! update is permitted as one definition (`is_permitted`): a rule gives who asks a right to update, and each record of the update section is covered
 //! by such a rule, by its owner and its type. [`is_permitted`] and [`may_transfer`] equal their definitions, and take no memory. [`parse_rule`] reads a
 //! rule, and [`judge`] says what a request gets, and by which rules.
@@ -8,6 +8,7 @@
 
 mod address;
 mod fault;
+mod key_rules;
 mod parse;
 mod permission;
 mod prefix;
@@ -19,6 +20,7 @@ mod types;
 
 pub use address::parse_prefix;
 pub use fault::RuleFault;
+pub use key_rules::{KeyRules, split_by_key};
 pub use parse::parse_rule;
 pub use permission::{
     are_permitted, covering, first_outside, has_right, may_transfer, transferring,

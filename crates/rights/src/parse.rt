@@ -1,6 +1,7 @@
 //! Reading a rule.
 use crate::address::parse_prefix;
 use crate::fault::RuleFault;
+use crate::prefix::Prefix;
 use crate::rule::{NameScope, Rule, UpdateRight};
 use crate::types::type_named;
 use dns_name::Name;
@@ -22,15 +23,20 @@ const AT_OR_BELOW: &str = "at-or-below";
 /// The word for a right over TCP alone.
 const TCP: &str = "tcp";
 
-/// The rule that a text is: `WHO: RIGHTS`. WHO is an address or a prefix, and ends at the first colon that a blank follows. RIGHTS are `transfer` and
+/// The word for a key.
+const KEY: &str = "key";
+
+/// The rule that a text is: `WHO: RIGHTS`. WHO is an address or a prefix, `key NAME`, or `key NAME` and one of these, and ends at the first colon that a blank follows. RIGHTS are `transfer` and
 /// `update`, with a comma between both. Behind `update` may stand `exact NAME` or `at-or-below NAME`, then types, and then `tcp`. Names without a
 /// final dot are below the root.
 pub fn parse_rule<'a>(alloc: Global, text: &'a str) -> Result<Rule, RuleFault<'a>> {
     let Some((who, rights)) = text.split_once(": ") else {
         return Err(RuleFault::NoColon);
     };
+    let (key, prefix) = who_of(who.trim_ascii())?;
     let mut rule = Rule {
-        prefix: parse_prefix(who.trim_ascii())?,
+        key,
+        prefix,
         transfer: false,
         update: None,
     };
@@ -38,6 +44,25 @@ pub fn parse_rule<'a>(alloc: Global, text: &'a str) -> Result<Rule, RuleFault<'a
         add_right(alloc, &mut rule, right)?;
     }
     Ok(rule)
+}
+
+/// The name of a key, in lower case, and the prefix, if there are these, of who has a rule's rights.
+fn who_of<'a>(text: &'a str) -> Result<(Option<Name>, Option<Prefix>), RuleFault<'a>> {
+    let Some((first, rest)) = text.split_once(' ') else {
+        return Ok((None, Some(parse_prefix(text)?)));
+    };
+    if first != KEY {
+        return Ok((None, Some(parse_prefix(text)?)));
+    }
+    let rest = rest.trim_ascii();
+    let (word, prefix) = match rest.split_once(' ') {
+        None => (rest, None),
+        Some((word, prefix)) => (word, Some(parse_prefix(prefix.trim_ascii())?)),
+    };
+    match Name::from_text(word.as_bytes(), &Name::root()) {
+        Ok(name) => Ok((Some(name.fold()), prefix)),
+        Err(fault) => Err(RuleFault::Name(word, fault)),
+    }
 }
 
 /// Adds the right that a text is to a rule.

@@ -3,7 +3,7 @@ ghost use Rattle.std.specs.Prelude.{◌≡◌, ◌==◌, not, position};
 ghost use Rattle.std.specs.List.{list_any, list_all};
 ghost use Rattle.rights.specs.Rights.{holds_at, takes_every_type, holds_of, is_held, is_right_to, lets_update, covers, are_permitted, lets_transfer, may_transfer, is_within};
 
-use crate::address::has_address;
+use crate::address::has_prefix;
 use crate::requestor::Requestor;
 use crate::rule::{NameScope, Rule, UpdateRight};
 use dns_name::Name;
@@ -95,14 +95,14 @@ fn covers(rule: &Rule, who: Requestor, apex: &Name, record: &RawRecord) -> bool
 fn lets_update(rule: &Rule, who: Requestor) -> bool
     ensures { result ≡ lets_update who rule.now }
 {
-    has_address(rule.prefix, who.bits) && is_held(&rule.update, who)
+    has_prefix(rule.prefix, who.bits) && is_held(&rule.update, who)
 }
 
 /// Whether a rule gives who asks the right to transfer the zone.
 fn lets_transfer(rule: &Rule, who: Requestor) -> bool
     ensures { result ≡ lets_transfer who rule.now }
 {
-    rule.transfer && has_address(rule.prefix, who.bits)
+    rule.transfer && has_prefix(rule.prefix, who.bits)
 }
 
 /// Whether a right to update, where there is one, holds over the transport of who asks.

@@ -46,11 +46,25 @@ impl fmt::Display for UpdateRight {
     }
 }
 
+/// Writes whose rights a rule gives.
+fn write_who<W: fmt::Write>(f: &mut fmt::Formatter<W>, rule: &Rule) -> fmt::Result {
+    if let Some(key) = &rule.key {
+        write!(f, "key {key}")?;
+        if rule.prefix.is_some() {
+            write!(f, " ")?;
+        }
+    }
+    if let Some(prefix) = rule.prefix {
+        write!(f, "{prefix}")?;
+    }
+    Ok(())
+}
+
 /// The rule as [`crate::parse_rule`] reads it.
 impl fmt::Display for Rule {
     fn fmt<W: fmt::Write>(&self, f: &mut fmt::Formatter<W>) -> fmt::Result {
-        let prefix = self.prefix;
-        write!(f, "{prefix}: ")?;
+        write_who(f, self)?;
+        write!(f, ": ")?;
         if let Some(right) = &self.update {
             write!(f, "{right}")?;
             if self.transfer {

@@ -45,10 +45,12 @@ impl Drop for UpdateRight {
     }
 }
 
-/// A rule: the rights of the addresses of a prefix.
+/// A rule: the rights of those who ask from the addresses of a prefix, or by a key.
 pub struct Rule {
-    /// The addresses that have them.
-    pub prefix: Prefix,
+    /// The name of the key by which their requests are signed (RFC 8945), in lower case. None if they aren't signed.
+    pub key: Option<Name>,
+    /// The addresses that they ask from. None if from any.
+    pub prefix: Option<Prefix>,
     /// Whether they may transfer the zone (RFC 5936, 5).
     pub transfer: bool,
     /// What they may update, if anything.
@@ -59,6 +61,7 @@ pub struct Rule {
 impl Drop for Rule {
     fn drop(self) {
         let Rule {
+            key: _,
             prefix: _,
             transfer: _,
             update: _,

@@ -8,18 +8,22 @@ use Rattle.worker_jobs.specs.declared.serve_fault.ServeFault.TheVariants.{Device
 use Rattle.serve_workers.specs.declared.thread_spec.Sockets.{Sockets}
 use Rattle.serve_workers.specs.declared.thread_spec.Sockets.TheVariants.{Datagrams as OfDatagrams, Connections as OfConnections, Secondaries as OfSecondaries}
 use Rattle.serve_workers.specs.declared.threads.SocketJob.{SocketJob}
-use Rattle.serve_workers.specs.declared.threads.SocketJob.TheVariants.{Datagrams, Connections, Secondaries}
+use Rattle.serve_workers.specs.declared.threads.SocketJob.TheVariants.{Datagrams, Connections, SignedDatagrams, SignedConnections, Secondaries}
 
 -- the job's number
 abbrev pub number_of : {C : Type 0} → SocketJob C → ℕ
 number_of (Datagrams job) = job.number
 number_of (Connections job) = job.number
+number_of (SignedDatagrams signed) = signed.job.number
+number_of (SignedConnections signed) = signed.job.number
 number_of (Secondaries job) = job.number
 
 -- whether the job takes datagrams
 abbrev pub takes_datagrams : {C : Type 0} → SocketJob C → Bool
 takes_datagrams (Datagrams job) = true
 takes_datagrams (Connections job) = false
+takes_datagrams (SignedDatagrams signed) = true
+takes_datagrams (SignedConnections signed) = false
 takes_datagrams (Secondaries job) = false
 
 -- whether the sockets are of datagrams
@@ -32,12 +36,16 @@ are_datagrams (OfSecondaries secondaries) = false
 abbrev pub HasRights : {C : Type 0} → List Rule → SocketJob C → Type 0
 HasRights rules (Datagrams job) = job.job.allowed.rules.now ≡ rules
 HasRights rules (Connections job) = job.plan.allowed.rules.now ≡ rules
+HasRights rules (SignedDatagrams signed) = signed.job.job.allowed.rules.now ≡ rules
+HasRights rules (SignedConnections signed) = signed.job.plan.allowed.rules.now ≡ rules
 HasRights rules (Secondaries job) = Unit {0}
 
 -- the job's end; none where it hasn't ended
 abbrev pub end_of : {C : Type 0} → SocketJob C → Option JobEnd
 end_of (Datagrams job) = job.end
 end_of (Connections job) = job.end
+end_of (SignedDatagrams signed) = signed.job.end
+end_of (SignedConnections signed) = signed.job.end
 end_of (Secondaries job) = job.end
 
 -- why a zone is no longer served, from a job's end; none where the job ended without a failure or hasn't ended

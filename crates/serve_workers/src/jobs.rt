@@ -16,6 +16,7 @@ use std::mem;
 use std::net::{Net, TcpListener};
 use std::sync::Wait;
 use std::time::Clock;
+use tcp_connections::Messages;
 use tcp_loop::EventLoop;
 use worker_jobs::{ConnectionsJob, Scratch, ServeFault, StopFlag, WakeList};
 
@@ -48,7 +49,7 @@ fn places_of<C: Clock>(
 }
 
 /// The job of the worker with a number on nonblocking listeners. An error where they can't be polled, or an allocation fails.
-pub(crate) fn tcp_job<'a, R: Clock + Net + Wait>(
+pub(crate) fn tcp_job<'a, R: Clock + Net + Wait, M: Messages>(
     rt: &'a R,
     alloc: Global,
     worker: usize,
@@ -57,7 +58,7 @@ pub(crate) fn tcp_job<'a, R: Clock + Net + Wait>(
     stop: StopFlag<'a>,
     wakes: Option<&'a WakeList>,
     scratch: Scratch,
-) -> io::Result<TcpJob<'a, R>>
+) -> io::Result<TcpJob<'a, M, R>>
     ensures number { IfOk result (λ job. job.number ≡ worker) }
     ensures plan { IfOk result (λ job. job.plan ≡ plan.entry.connections) }
 {

@@ -1,12 +1,14 @@
 //! The update thread: it judges updates while other threads submit them (RFC 2136, 3).
 
 use crate::reply_routes::ReplyRoutes;
+use crate::signed_jobs::SharedKeys;
 use crate::thread_spec::ThreadSpec;
 use crate::updates::Updates;
 use dns_engine::{FirstZone, VersionReader};
 use std::alloc::Global;
 use std::io;
 use std::sync::Wait;
+use std::time::Clock;
 use update_batches::{Most, UpdatePublisher, UpdateStore, UpdateThread};
 use worker_jobs::{MainTask, Shutdown};
 use zone_server::{PublishRight, Server, ServerName, ServerPublisher, ServiceLog};
@@ -22,27 +24,29 @@ pub struct UpdateConfig<S: UpdateStore> {
 
 /// What the update thread needs to judge updates.
 #[derive(Drop)]
-pub(crate) struct UpdateContext<'a, S: UpdateStore> {
+pub(crate) struct UpdateContext<'a, C, S: UpdateStore> {
     /// The updates that wait.
     pub(crate) updates: &'a Updates,
     /// Brings the replies to the threads.
-    pub(crate) routes: ReplyRoutes<'a>,
+    pub(crate) routes: ReplyRoutes<'a, C>,
     /// Where batches are stored before their updates get their replies.
     pub(crate) store: S,
 }
 
-impl<'a, S: UpdateStore> UpdateContext<'a, S> {
-    /// What is needed to judge the updates that the threads of these specs submit. An error where a socket can't be shared, or an allocation fails.
+impl<'a, C: Clock, S: UpdateStore> UpdateContext<'a, C, S> {
+    /// What is needed to judge the updates that the threads of these specs submit, and to sign their replies by these keys with the time of a clock. An error where a socket can't be shared, or an allocation fails.
     pub(crate) fn new(
         alloc: Global,
         config: UpdateConfig<S>,
         specs: &[ThreadSpec<'_>],
         updates: &'a Updates,
-    ) -> io::Result<UpdateContext<'a, S>> {
+        keys: Option<SharedKeys<'a>>,
+        clock: &'a C,
+    ) -> io::Result<UpdateContext<'a, C, S>> {
         let UpdateConfig { store, .. } = config;
         Ok(UpdateContext {
             updates,
-            routes: ReplyRoutes::new(alloc, specs, updates)?,
+            routes: ReplyRoutes::new(alloc, specs, updates, keys, clock)?,
             store,
         })
     }
@@ -73,13 +77,13 @@ impl<'a, 'b, P: UpdatePublisher, S: UpdateStore> MainTask for Judge<'a, 'b, P, S
 }
 
 /// What publishes in a server, and replies by the routes to its threads.
-pub(crate) type RoutedPublisher<'g, 's, Z, N, L> = ServerPublisher<
+pub(crate) type RoutedPublisher<'g, 's, Z, N, L, C> = ServerPublisher<
     'g,
     's,
     Z,
     N,
     L,
-    ReplyRoutes<'g>,
+    ReplyRoutes<'g, C>,
 >;
 
 /// The update thread's task in a server, with a reader and the right to publish. The reader comes back if an allocation fails.
@@ -90,17 +94,18 @@ pub(crate) fn judge_for<
     Z: FirstZone,
     N: ServerName,
     L: ServiceLog,
+    C: Clock,
     S: UpdateStore,
 >(
     rt: &R,
     alloc: Global,
     server: &'g Server<'s, Z, N>,
     shutdown: &'g Shutdown,
-    context: UpdateContext<'g, S>,
+    context: UpdateContext<'g, C, S>,
     reader: VersionReader<N>,
     right: PublishRight<N>,
     log: &'g L,
-) -> Result<Judge<'g, 'g, RoutedPublisher<'g, 's, Z, N, L>, S>, VersionReader<N>> {
+) -> Result<Judge<'g, 'g, RoutedPublisher<'g, 's, Z, N, L, C>, S>, VersionReader<N>> {
     let UpdateContext {
         updates,
         routes,
@@ -120,8 +125,8 @@ pub(crate) fn judge_for<
 }
 
 /// Ends the update thread's task, and gives its reader back.
-pub(crate) fn reader_of<Z: FirstZone, N: ServerName, L: ServiceLog, S: UpdateStore>(
-    judge: Judge<'_, '_, RoutedPublisher<'_, '_, Z, N, L>, S>,
+pub(crate) fn reader_of<Z: FirstZone, N: ServerName, L: ServiceLog, C: Clock, S: UpdateStore>(
+    judge: Judge<'_, '_, RoutedPublisher<'_, '_, Z, N, L, C>, S>,
 ) -> VersionReader<N> {
     let (reader, _replying) = judge.into_publisher().into_parts();
     reader

@@ -10,12 +10,14 @@ mod judge;
 mod reply_routes;
 mod server_thread;
 mod service;
+mod signed_jobs;
 mod thread_spec;
 mod threads;
 mod updates;
 
 pub use judge::UpdateConfig;
 pub use service::{Plan, serve_zone};
+pub use signed_jobs::SharedKeys;
 pub use tcp_loop::Plan as ConnectionPlan;
 pub use thread_spec::{Sockets, ThreadSpec};
 pub use update_batches::Most;

@@ -1,12 +1,16 @@
 //! Brings the replies of updates that waited back to their threads (RFC 2136, 3.8).
 ghost use Rattle.std.specs.Prelude.{None};
 
+use crate::signed_jobs::SharedKeys;
 use crate::thread_spec::{Sockets, ThreadSpec};
 use crate::updates::Updates;
+use signed_replies::{QueuedSigner, SystemClock};
 use std::alloc::Global;
 use std::io;
 use std::net::{SocketAddr, UdpSocket};
 use std::sync::Wait;
+use std::time::Clock;
+use tsig::RequestTsig;
 use worker_jobs::{WakeList, is_sent};
 use zone_server::{AtTicket, ReplySender};
 
@@ -23,8 +27,22 @@ enum Path<'a> {
 
 /// The routes by which replies get to threads, by the threads' places.
 #[derive(Drop)]
-pub(crate) struct ReplyRoutes<'a> {
+pub(crate) struct ReplyRoutes<'a, C> {
     paths: Vec<Path<'a>>,
+    /// Signs the replies to updates that were signed, where there are keys.
+    signer: Option<QueuedSigner<'a, SystemClock<'a, C>>>,
+}
+
+/// What signs the replies by these keys, if there are any. An error where an allocation fails.
+fn signer_of<'a, C: Clock>(
+    alloc: Global,
+    keys: Option<SharedKeys<'a>>,
+    clock: &'a C,
+) -> io::Result<Option<QueuedSigner<'a, SystemClock<'a, C>>>> {
+    match keys {
+        None => Ok(None),
+        Some(keys) => Ok(Some(QueuedSigner::new(alloc, keys.keys, SystemClock::new(clock))?)),
+    }
 }
 
 /// How replies get to the thread of a spec at a place. An error where its socket can't be shared.
@@ -39,13 +57,15 @@ fn path_to<'a>(spec: &ThreadSpec<'_>, updates: &'a Updates, place: usize) -> io:
     }
 }
 
-impl<'a> ReplyRoutes<'a> {
-    /// Makes the routes to the threads of these specs, which submit their updates to `updates`. An error where a socket can't be shared, or an allocation fails.
+impl<'a, C: Clock> ReplyRoutes<'a, C> {
+    /// Makes the routes to the threads of these specs, which submit their updates to `updates`. Replies are signed by these keys, if there are any, with the time of a clock. An error where a socket can't be shared, or an allocation fails.
     pub(crate) fn new(
         alloc: Global,
         specs: &[ThreadSpec<'_>],
         updates: &'a Updates,
-    ) -> io::Result<ReplyRoutes<'a>> {
+        keys: Option<SharedKeys<'a>>,
+        clock: &'a C,
+    ) -> io::Result<ReplyRoutes<'a, C>> {
         let mut paths = Vec::new(alloc);
         let mut place = 0usize;
         for spec in specs {
@@ -53,11 +73,12 @@ impl<'a> ReplyRoutes<'a> {
             paths.push(path)?;
             place = place.saturating_add(1);
         }
-        Ok(ReplyRoutes { paths })
+        let signer = signer_of(alloc, keys, clock)?;
+        Ok(ReplyRoutes { paths, signer })
     }
 }
 
-impl ReplySender for ReplyRoutes<'_> {
+impl<C: Clock> ReplySender for ReplyRoutes<'_, C> {
     ghost brought = { λ _. None };
 
     fn tell<R: Wait>(&mut self, rt: &R, worker: usize, key: usize, _told: AtTicket) {
@@ -66,8 +87,16 @@ impl ReplySender for ReplyRoutes<'_> {
         }
     }
 
-    fn send(&mut self, worker: usize, to: SocketAddr, octets: &[u8]) {
-        if let Some(Path::Socket(socket)) = self.paths.get(worker) {
+    fn send(&mut self, worker: usize, to: SocketAddr, tsig: Option<RequestTsig>, octets: &[u8]) {
+        let Some(Path::Socket(socket)) = self.paths.get(worker) else {
+            return;
+        };
+        let octets = match (tsig, &mut self.signer) {
+            (Some(tsig), Some(signer)) => signer.sign(tsig, octets),
+            (Some(_), None) => None,
+            (None, _) => Some(octets),
+        };
+        if let Some(octets) = octets {
             let _ = is_sent(socket, octets, to);
         }
     }

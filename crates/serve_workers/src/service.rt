@@ -11,6 +11,7 @@ use crate::ending::{end_cell, end_named};
 use crate::jobs::{fault_of, jobs_of};
 use crate::judge::{Judge, RoutedPublisher, UpdateConfig, UpdateContext, judge_for, reader_of};
 use crate::server_thread::{ServerThread, put_readers, run_threads};
+use crate::signed_jobs::SharedKeys;
 use crate::thread_spec::ThreadSpec;
 use crate::threads::SocketJob;
 use crate::updates::Updates;
@@ -43,6 +44,8 @@ pub struct Plan<'a> {
     pub places: usize,
     /// How long connections may wait for their peers, and the rules by which peers may update and transfer.
     pub connections: ConnectionPlan<'a>,
+    /// The keys by which requests are verified. None where signatures aren't checked.
+    pub keys: Option<SharedKeys<'a>>,
 }
 
 impl<C: Clock> SocketJob<'_, C> {
@@ -53,6 +56,8 @@ impl<C: Clock> SocketJob<'_, C> {
         let end = match self {
             SocketJob::Datagrams(job) => job.end(),
             SocketJob::Connections(job) => job.end(),
+            SocketJob::SignedDatagrams(signed) => signed.job.end(),
+            SocketJob::SignedConnections(signed) => signed.job.end(),
             SocketJob::Secondaries(job) => job.end(),
         };
         match end {
@@ -80,13 +85,15 @@ fn updates_for<R: Wait>(
 }
 
 /// What is needed to judge the updates that the threads of these specs submit. Fails where a socket can't be shared, or an allocation fails.
-fn context_for<'a, S: UpdateStore>(
+fn context_for<'a, C: Clock, S: UpdateStore>(
     alloc: Global,
     config: UpdateConfig<S>,
     specs: &[ThreadSpec<'_>],
     updates: &'a Updates,
-) -> Result<UpdateContext<'a, S>, ServeFault> {
-    match UpdateContext::new(alloc, config, specs, updates) {
+    keys: Option<SharedKeys<'a>>,
+    clock: &'a C,
+) -> Result<UpdateContext<'a, C, S>, ServeFault> {
+    match UpdateContext::new(alloc, config, specs, updates, keys, clock) {
         Ok(context) => Ok(context),
         Err(fault) => Err(fault_of(&fault)),
     }
@@ -146,7 +153,7 @@ fn serve_specs<
     requires kept { plan.keep ≤ KEPT }
 {
     let threads = specs.len();
-    let context = match context_for(alloc, config, &specs, updates) {
+    let context = match context_for(alloc, config, &specs, updates, plan.keys, rt) {
         Ok(context) => context,
         Err(fault) => return Err(fault),
     };
@@ -181,7 +188,7 @@ fn serve_with_readers<
     ledgers: ServerLedgers,
     jobs: Vec<SocketJob<'_, R>>,
     plan: Plan<'_>,
-    context: UpdateContext<'_, S>,
+    context: UpdateContext<'_, R, S>,
     log: &L,
 ) -> Result<(), ServeFault>
     requires named { parts.cell ≡ N.cell }
@@ -242,7 +249,7 @@ fn serve_with_engine<
     readers: &mut Vec<VersionReader<N>>,
     jobs: Vec<SocketJob<'_, R>>,
     plan: Plan<'_>,
-    context: UpdateContext<'_, S>,
+    context: UpdateContext<'_, R, S>,
     log: &L,
 ) -> (Result<(), ServeFault>, VersionPublisher<Z, N>)
     requires first { publisher.number ≡ 0 }
@@ -302,7 +309,7 @@ fn serve_with_server<
     server: Server<'_, Z, N>,
     right: PublishRight<N>,
     shutdown: &Shutdown,
-    context: UpdateContext<'_, S>,
+    context: UpdateContext<'_, R, S>,
     reader: VersionReader<N>,
     readers: &mut Vec<VersionReader<N>>,
     jobs: Vec<SocketJob<'_, R>>,
@@ -333,7 +340,7 @@ fn serve_with_updates<
     alloc: Global,
     server: &Server<'_, Z, N>,
     shutdown: &Shutdown,
-    context: UpdateContext<'_, S>,
+    context: UpdateContext<'_, R, S>,
     reader: VersionReader<N>,
     right: PublishRight<N>,
     readers: &mut Vec<VersionReader<N>>,
@@ -371,7 +378,7 @@ fn serve_with_judge<
     server: &Server<'_, Z, N>,
     shutdown: &Shutdown,
     updates: &Updates,
-    judge: Judge<'_, '_, RoutedPublisher<'_, '_, Z, N, L>, S>,
+    judge: Judge<'_, '_, RoutedPublisher<'_, '_, Z, N, L, R>, S>,
     readers: &mut Vec<VersionReader<N>>,
     jobs: Vec<SocketJob<'_, R>>,
     log: &L,

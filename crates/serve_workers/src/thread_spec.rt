@@ -1,9 +1,10 @@
 //! What a thread serves, and the job that is made of it.
-ghost use Rattle.std.specs.Prelude.{◌≡◌, IfOk};
+ghost use Rattle.std.specs.Prelude.{◌≡◌, false, IfOk};
 ghost use Rattle.serve_workers.specs.Numbers.{number_of, takes_datagrams, are_datagrams, HasRights};
 
 use crate::jobs::tcp_job;
 use crate::service::Plan;
+use crate::signed_jobs::{SharedKeys, SignedJob};
 use crate::threads::SocketJob;
 use std::alloc::Global;
 use std::io;
@@ -59,21 +60,59 @@ impl Sockets {
                     Err(fault) => return Err(fault),
                 };
                 let job = DatagramsJob::new(worker, socket, allowed, stop, scratch);
-                Ok(SocketJob::Datagrams(job))
-            }
-            Sockets::Connections(listeners) => {
-                match tcp_job(rt, alloc, worker, listeners, plan, stop, wakes, scratch) {
-                    Ok(job) => Ok(SocketJob::Connections(job)),
-                    Err(fault) => Err(fault),
+                match plan.keys {
+                    None => Ok(SocketJob::Datagrams(job)),
+                    Some(keys) => match SignedJob::new(alloc, job, keys, rt) {
+                        Ok(job) => Ok(SocketJob::SignedDatagrams(job)),
+                        Err(fault) => Err(io::Error::from(fault)),
+                    },
                 }
             }
+            Sockets::Connections(listeners) => match plan.keys {
+                None => match tcp_job(rt, alloc, worker, listeners, plan, stop, wakes, scratch) {
+                    Ok(job) => Ok(SocketJob::Connections(job)),
+                    Err(fault) => Err(fault),
+                },
+                Some(keys) => {
+                    signed_tcp_job(
+                        rt, alloc, worker, listeners, plan, stop, wakes, scratch, keys,
+                    )
+                }
+            },
             Sockets::Secondaries(secondaries) => {
-                match NotifyJob::new(alloc, worker, secondaries, rt, plan.shutdown) {
+                let keys = plan.keys.map(|shared| shared.keys);
+                match NotifyJob::new(alloc, worker, secondaries, rt, plan.shutdown, keys) {
                     Ok(job) => Ok(SocketJob::Secondaries(job)),
                     Err(fault) => Err(io::Error::from(fault)),
                 }
             }
         }
+    }
+}
+
+/// The job on nonblocking listeners, whose requests may be signed by these keys. An error where they can't be polled, or an allocation fails.
+fn signed_tcp_job<'a, R: Clock + Net + Wait>(
+    rt: &'a R,
+    alloc: Global,
+    worker: usize,
+    listeners: Vec<TcpListener>,
+    plan: Plan<'a>,
+    stop: StopFlag<'a>,
+    wakes: Option<&'a WakeList>,
+    scratch: Scratch,
+    keys: SharedKeys<'a>,
+) -> io::Result<SocketJob<'a, R>>
+    ensures number { IfOk result (λ job. number_of job ≡ worker) }
+    ensures kind { IfOk result (λ job. takes_datagrams job ≡ false) }
+    ensures rights { IfOk result (λ job. HasRights plan.entry.connections.allowed.rules.now job) }
+{
+    let job = match tcp_job(rt, alloc, worker, listeners, plan, stop, wakes, scratch) {
+        Ok(job) => job,
+        Err(fault) => return Err(fault),
+    };
+    match SignedJob::new(alloc, job, keys, rt) {
+        Ok(job) => Ok(SocketJob::SignedConnections(job)),
+        Err(fault) => Err(io::Error::from(fault)),
     }
 }
 

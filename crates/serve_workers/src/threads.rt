@@ -1,29 +1,46 @@
 //! What the threads of a server do: each has a job on sockets, and answers its requests by a handler.
-ghost use Rattle.std.specs.Prelude.{◌≡◌, Some};
+ghost use Rattle.std.specs.Prelude.{◌≡◌, Some, map};
 ghost use Rattle.requests.specs.Served.{BeginsWith};
 ghost use Rattle.serve_workers.specs.Numbers.{number_of, end_of};
 
+use crate::signed_jobs::SignedJob;
 use crate::updates::Updates;
 use dns_engine::{FirstZone, VersionReader};
 use serve_core::{Peer, Transport};
+use signed_replies::{
+    KeyRing, RingKeys, SignedConnections, SignedDatagrams, SignedMessages, SystemClock,
+};
 use sockets::{TcpPeer, TcpPlace, Watch};
 use std::alloc::Global;
+use std::marker::Brand;
 use std::sync::Wait;
 use std::time::Clock;
 use worker_jobs::{ConnectionsJob, DatagramsJob, NotifyJob, WorkerSocket, nobody};
-use zone_replies::ConnectionHandler;
-use zone_server::{DatagramHandler, Event, JobEnd, Server, ServerName, ServiceLog, UpdateSender};
+use zone_replies::{ConnectionHandler, Transfer};
+use zone_server::{
+    DatagramHandler, Event, JobEnd, Server, ServerName, ServiceLog, TsigLines, UpdateSender,
+};
 
-/// A job on the system's TCP connections.
-pub type TcpJob<'a, C> = ConnectionsJob<'a, TcpPeer, Watch<'a, C>, TcpPlace, C>;
+/// A job on the system's TCP connections, whose replies of several messages are made by an `M`.
+pub type TcpJob<'a, M, C> = ConnectionsJob<'a, TcpPeer, Watch<'a, C>, TcpPlace, M, C>;
+
+/// A job on UDP datagrams.
+type UdpJob<'a> = DatagramsJob<'a, WorkerSocket<'a>>;
+
+/// A job on TCP connections whose requests may be signed.
+type SignedTcpJob<'a, C> = SignedJob<'a, TcpJob<'a, SignedMessages<'a, Transfer>, C>, C>;
 
 /// A thread's job on sockets.
 #[derive(Drop)]
 pub enum SocketJob<'a, C> {
     /// Answers requests by UDP.
-    Datagrams(DatagramsJob<'a, WorkerSocket<'a>>),
+    Datagrams(UdpJob<'a>),
     /// Serves TCP connections.
-    Connections(TcpJob<'a, C>),
+    Connections(TcpJob<'a, Transfer, C>),
+    /// Answers requests by UDP, which may be signed.
+    SignedDatagrams(SignedJob<'a, UdpJob<'a>, C>),
+    /// Serves TCP connections, whose requests may be signed.
+    SignedConnections(SignedTcpJob<'a, C>),
     /// Notifies the secondaries of each version.
     Secondaries(NotifyJob<'a, C>),
 }
@@ -36,7 +53,7 @@ fn serve_datagrams<'g, 's, R: Wait, Z: FirstZone, N: ServerName, L: ServiceLog>(
     log: &'g L,
     sender: UpdateSender<'g>,
     reader: VersionReader<N>,
-    job: &mut DatagramsJob<'g, WorkerSocket<'g>>,
+    job: &mut UdpJob<'g>,
 ) -> (VersionReader<N>, JobEnd)
     ensures number { job.new.number ≡ job.old.number }
     ensures seen { BeginsWith result.0.seen reader.seen }
@@ -58,7 +75,7 @@ fn serve_connections<'g, 's, R: Wait, Z: FirstZone, N: ServerName, L: ServiceLog
     log: &'g L,
     sender: UpdateSender<'g>,
     reader: VersionReader<N>,
-    job: &mut TcpJob<'g, C>,
+    job: &mut TcpJob<'g, Transfer, C>,
 ) -> (VersionReader<N>, JobEnd)
     ensures number { job.new.number ≡ job.old.number }
     ensures seen { BeginsWith result.0.seen reader.seen }
@@ -70,6 +87,105 @@ fn serve_connections<'g, 's, R: Wait, Z: FirstZone, N: ServerName, L: ServiceLog
     let mut handler = handler.with_sender(sender);
     let end = job.serve(rt, &mut handler, log);
     (handler.into_reader(), end)
+}
+
+/// Does a job on a UDP socket whose requests may be signed, as [`serve_datagrams`] does.
+fn serve_signed_datagrams<
+    'g,
+    's,
+    R: Wait,
+    Z: FirstZone,
+    N: ServerName,
+    L: ServiceLog,
+    C: Clock,
+    K: KeyRing,
+>(
+    rt: &R,
+    alloc: Global,
+    server: &'g Server<'s, Z, N>,
+    log: &'g L,
+    sender: UpdateSender<'g>,
+    reader: VersionReader<N>,
+    signed: &mut SignedJob<'g, UdpJob<'g>, C>,
+) -> (VersionReader<N>, JobEnd)
+    requires keys { signed.old.keys.keys.now ≡ K.keys }
+    requires rights { map (λ own. own.rules.now) signed.old.keys.rights.now ≡ K.rights }
+    ensures number { signed.new.job.number ≡ signed.old.job.number }
+    ensures seen { BeginsWith result.0.seen reader.seen }
+    ensures end { signed.new.job.end ≡ Some result.1 }
+{
+    let peer = Peer::over(Transport::Udp, false);
+    let handler = DatagramHandler::new(alloc, server, reader, log, peer, nobody());
+    let handler = handler.with_sender(sender);
+    let SignedJob {
+        job,
+        keys,
+        clock,
+        room,
+    } = signed;
+    let ring: RingKeys<'_, K> = RingKeys::new(alloc, keys.keys, keys.rights);
+    let clock = SystemClock::new(*clock);
+    let mut handler = SignedDatagrams::new(
+        handler,
+        ring,
+        clock,
+        TsigLines::new(log),
+        room,
+        peer,
+        nobody(),
+    );
+    let end = job.serve(rt, &mut handler);
+    (handler.into_inner().into_reader(), end)
+}
+
+/// Does a job on connections whose requests may be signed, as [`serve_connections`] does.
+fn serve_signed_connections<
+    'g,
+    's,
+    R: Wait,
+    Z: FirstZone,
+    N: ServerName,
+    L: ServiceLog,
+    C: Clock,
+    K: KeyRing,
+>(
+    rt: &R,
+    alloc: Global,
+    server: &'g Server<'s, Z, N>,
+    log: &'g L,
+    sender: UpdateSender<'g>,
+    reader: VersionReader<N>,
+    signed: &mut SignedTcpJob<'g, C>,
+) -> (VersionReader<N>, JobEnd)
+    requires keys { signed.old.keys.keys.now ≡ K.keys }
+    requires rights { map (λ own. own.rules.now) signed.old.keys.rights.now ≡ K.rights }
+    ensures number { signed.new.job.number ≡ signed.old.job.number }
+    ensures seen { BeginsWith result.0.seen reader.seen }
+    ensures end { signed.new.job.end ≡ Some result.1 }
+{
+    let peer = Peer::over(Transport::Udp, false);
+    let handler = ConnectionHandler::new(alloc, server, reader, log, peer, nobody());
+    let handler = handler.with_sender(sender);
+    let SignedJob {
+        job,
+        keys,
+        clock,
+        room,
+    } = signed;
+    let ring: RingKeys<'g, K> = RingKeys::new(alloc, keys.keys, keys.rights);
+    let clock = SystemClock::new(*clock);
+    let mut handler = SignedConnections::new(
+        alloc,
+        handler,
+        ring,
+        clock,
+        TsigLines::new(log),
+        room,
+        peer,
+        nobody(),
+    );
+    let end = job.serve(rt, &mut handler, log);
+    (handler.into_inner().into_reader(), end)
 }
 
 /// Does a job that notifies secondaries, with a handler that loads versions for it by a reader. Gives the reader back, and how the job ended.
@@ -114,6 +230,14 @@ impl<'g, C: Clock> SocketJob<'g, C> {
             SocketJob::Connections(job) => {
                 serve_connections(rt, alloc, server, log, sender, reader, job)
             }
+            SocketJob::SignedDatagrams(signed) => serve_signed_datagrams::<R, Z, N, L, C, Brand>(
+                rt, alloc, server, log, sender, reader, signed,
+            ),
+            SocketJob::SignedConnections(signed) => {
+                serve_signed_connections::<R, Z, N, L, C, Brand>(
+                    rt, alloc, server, log, sender, reader, signed,
+                )
+            }
             SocketJob::Secondaries(job) => serve_secondaries(rt, alloc, server, log, reader, job),
         }
     }
@@ -122,8 +246,8 @@ impl<'g, C: Clock> SocketJob<'g, C> {
     pub(crate) fn event_of(&self, end: JobEnd) -> Event {
         let worker = self.number();
         let transport = match self {
-            SocketJob::Datagrams(_) => Transport::Udp,
-            SocketJob::Connections(_) => Transport::Tcp,
+            SocketJob::Datagrams(_) | SocketJob::SignedDatagrams(_) => Transport::Udp,
+            SocketJob::Connections(_) | SocketJob::SignedConnections(_) => Transport::Tcp,
             SocketJob::Secondaries(_) => return Event::Unlogged { end },
         };
         Event::End {
@@ -138,6 +262,8 @@ impl<'g, C: Clock> SocketJob<'g, C> {
         match self {
             SocketJob::Datagrams(_) => updates.leave(rt),
             SocketJob::Connections(_) => updates.leave(rt),
+            SocketJob::SignedDatagrams(_) => updates.leave(rt),
+            SocketJob::SignedConnections(_) => updates.leave(rt),
             SocketJob::Secondaries(_) => {}
         }
     }
@@ -149,6 +275,8 @@ impl<'g, C: Clock> SocketJob<'g, C> {
         match self {
             SocketJob::Datagrams(job) => job.number,
             SocketJob::Connections(job) => job.number,
+            SocketJob::SignedDatagrams(signed) => signed.job.number,
+            SocketJob::SignedConnections(signed) => signed.job.number,
             SocketJob::Secondaries(job) => job.number,
         }
     }

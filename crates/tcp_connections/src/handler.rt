@@ -76,7 +76,7 @@ pub trait Handler<M: Messages> {
 
     /// Makes the reply to a request: its one message at the start of a buffer, or what makes its messages. A reply that is to be made later
     /// is made by another call with the same request, once the key of its connection is reported; until then each such call says that it is
-    /// to be made later. The connection ends if no version can be loaded.
+    /// to be made later. The connection ends if no version can be loaded, or there is no memory to read an update.
     fn reply<R: Wait>(
         &mut self,
         rt: &R,
@@ -90,8 +90,8 @@ pub trait Handler<M: Messages> {
         ensures bound { IfOk result (λ reply. (len : ℕ) → reply ≡ Reply.One len → (len ≤ message_limit) × (len ≤ length out.new)) }
         ensures reply { IfOk result (λ reply. reply ≢ Reply.Later → is_reply (peer self.old) (seen self.old (asker self.old)) (seen self.new (asker self.old)) request.now (messages_of M.left reply out.new)) }
         ensures later { IfOk result (λ reply. reply ≡ Reply.Later → is_later (peer self.old) request.now) }
-        ensures end { IfErr result (λ end. end ≡ EndOf.Spent) }
-        ensures spent { OnErr result (spent self.new) };
+        ensures end { IfErr result (λ end. (end ≡ EndOf.Spent) ⊎ (end ≡ EndOf.NoMemory)) }
+        ensures spent { IfErr result (λ end. end ≡ EndOf.Spent → spent self.new) };
 }
 
 /// The reply to a request, as that of the peer that rules make of who sends it from an address. The connection ends if there is no memory to read

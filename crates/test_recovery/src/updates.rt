@@ -92,6 +92,7 @@ fn update_of(alloc: Global, number: u16) -> Result<QueuedUpdate, Fail> {
     let reply_to = ReplyTo::Datagram {
         worker: 0,
         to: SocketAddr::from(([192, 0, 2, 7], 4711)),
+        tsig: None,
     };
     Ok(QueuedUpdate { request, reply_to })
 }

@@ -57,8 +57,8 @@ fn one_key<R: Wait>(rt: &R, alloc: Global, queue: &Queue<QueuedUpdate>) -> Optio
         return None;
     }
     let waiting = taken.pop()?;
-    match waiting.reply_to {
-        ReplyTo::Connection { worker: 1, key, .. } => Some(key),
+    match &waiting.reply_to {
+        ReplyTo::Connection { worker: 1, key, .. } => Some(*key),
         _ => None,
     }
 }

@@ -49,6 +49,7 @@ pub(crate) fn to_client() -> ReplyTo {
     ReplyTo::Datagram {
         worker: 2,
         to: asker(4711),
+        tsig: None,
     }
 }
 

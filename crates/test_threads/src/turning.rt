@@ -317,11 +317,11 @@ fn places_of(alloc: Global, comers: &[Comes]) -> Option<Vec<Comers>> {
 
 /// The job of a case, with the wake list if the case says so.
 fn heard<'a>(
-    job: ConnectionsJob<'a, Comer, Poll, Comers, Steps>,
+    job: ConnectionsJob<'a, Comer, Poll, Comers, Transfer, Steps>,
     alloc: Global,
     case: &Case,
     wake_list: &'a WakeList,
-) -> ConnectionsJob<'a, Comer, Poll, Comers, Steps> {
+) -> ConnectionsJob<'a, Comer, Poll, Comers, Transfer, Steps> {
     if case.hears {
         job.with_wake_list(alloc, wake_list)
     } else {
@@ -356,7 +356,7 @@ fn job_of<'a>(
     alloc: Global,
     case: &Case,
     shared: &'a Shared,
-) -> Option<ConnectionsJob<'a, Comer, Poll, Comers, Steps>> {
+) -> Option<ConnectionsJob<'a, Comer, Poll, Comers, Transfer, Steps>> {
     let plan = Plan {
         limits: Limits {
             idle: LIMIT,

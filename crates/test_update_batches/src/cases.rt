@@ -142,6 +142,7 @@ fn put_all<R: Wait>(
         let reply_to = ReplyTo::Datagram {
             worker: 1,
             to: asker(4711),
+            tsig: None,
         };
         put(rt, alloc, queue, update, reply_to)?;
     }

@@ -4,6 +4,7 @@ ghost use Rattle.std.specs.Prelude.{None};
 use std::alloc::Global;
 use std::net::SocketAddr;
 use std::sync::Wait;
+use tsig::RequestTsig;
 use zone_server::{AtTicket, ReplySender};
 
 /// A datagram that was sent.
@@ -45,7 +46,7 @@ impl ReplySender for SentReplies {
         let _ = self.keys.push((worker, key));
     }
 
-    fn send(&mut self, worker: usize, to: SocketAddr, octets: &[u8]) {
+    fn send(&mut self, worker: usize, to: SocketAddr, _tsig: Option<RequestTsig>, octets: &[u8]) {
         if let Ok(octets) = octets.to_vec(self.alloc) {
             let _ = self.datagrams.push(SentDatagram { worker, to, octets });
         }

@@ -45,6 +45,7 @@ fn put_three<R: Wait>(
     let first = ReplyTo::Datagram {
         worker: 3,
         to: asker(4711),
+        tsig: None,
     };
     let second = ReplyTo::Connection {
         worker: 1,
@@ -54,6 +55,7 @@ fn put_three<R: Wait>(
     let third = ReplyTo::Datagram {
         worker: 2,
         to: asker(4712),
+        tsig: None,
     };
     put(rt, alloc, queue, ADD_1, first)?;
     put(rt, alloc, queue, ADD_2, second)?;

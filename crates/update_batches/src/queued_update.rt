@@ -3,9 +3,10 @@ ghost use Rattle.std.specs.Prelude.{◌≡◌, true};
 
 use crate::update_request::UpdateRequest;
 use std::net::SocketAddr;
+use tsig::RequestTsig;
 
 /// The destination of the reply to a queued update.
-#[derive(Clone, Copy)]
+#[derive(Drop)]
 pub enum ReplyTo {
     /// A connection: the result is put at a ticket, and the worker gets the connection's key.
     Connection {
@@ -22,6 +23,8 @@ pub enum ReplyTo {
         worker: usize,
         /// The address it came from.
         to: SocketAddr,
+        /// Its TSIG, behind whose MAC the reply is signed (RFC 8945, 5.3). None if it is not signed.
+        tsig: Option<RequestTsig>,
     },
 }
 

@@ -18,6 +18,7 @@ use Rattle.sockets.specs.contracts.peer.TcpPeer as peer
 use Rattle.sockets.specs.contracts.place.TcpPlace as place
 use Rattle.sockets.specs.contracts.watch.Watch as watch
 use Rattle.wire_names.specs.contracts.write.NameWriter as names
+use Rattle.tcp_connections.specs.declared.handler.Messages as messages
 use Rattle.zone_server.specs.declared.right.ServerName as server_names
 use Rattle.zone_server.proofs.ServerSendLemmas.{server_sync, sender_send}
 use Rattle.zone_server.specs.contracts.datagram_handler.DatagramHandler as asked
@@ -36,7 +37,7 @@ query_send = search (array_vec.the_send, option.the_field_send, crossing.crosses
 names_send : IsSend names.the_row
 names_send = search (array_vec.the_send, crossing.crosses, sendable) depth 60 fits 20000
 
-transfer_send : IsSend transfer.the_row
+pub transfer_send : IsSend transfer.the_row
 transfer_send = search (engine.shared_send, engine.shared_sync, array_vec.the_send, cells.the_field_send, option.the_field_send, option.the_send, crossing.crosses, sendable) depth 60 fits 20000
 
 watch_send : (a : NamedLft) (C : RattleType) → IsSync C → IsSend (watch.the_row a C)
@@ -57,13 +58,13 @@ woken_sync = recorded_sync (keys.the_field).row _ _ (keys.the_type).to_one (stru
 waking_send : (a : NamedLft) (P : RattleType) → IsSend P → IsSend (waking.the_field a P).row
 waking_send a P polls = search (woken_sync, option.the_field_send, option.the_send, crossing.crosses, sendable) depth 60 fits 20000
 
-connections_send : (a : NamedLft) (S P L C : RattleType) → IsSend S → IsSend P → IsSend L → IsSync C → IsSend (connections.the_field a S P L C).row
-connections_send a S P L C peers polls places ticks =
-    struct_send (shape (connections.the_type a S P L C))
-    (search (crossing.crosses, sendable) depth 60 fits 20000, (waking_send a P polls, (search (crossing.crosses, sendable) depth 60 fits 20000, (search (transfer_send, global.the_field_send, crossing.crosses, sendable) depth 60 fits 20000, (search (allowed_send, crossing.crosses, sendable) depth 60 fits 20000, (search (crossing.crosses, sendable) depth 60 fits 20000, (search (crossing.crosses, sendable) depth 60 fits 20000, (search (crossing.crosses, sendable) depth 60 fits 20000, (search (crossing.crosses, sendable) depth 60 fits 20000, (search (crossing.crosses, sendable) depth 60 fits 20000, (search (crossing.crosses, sendable) depth 60 fits 20000, (search (crossing.crosses, sendable) depth 60 fits 20000, tt))))))))))))
+connections_send : (a : NamedLft) (S P L M C : RattleType) (m : messages.Ghosts M.Denot) → IsSend S → IsSend P → IsSend L → IsSend M → IsSync C → IsSend (connections.the_field a S P L M C m).row
+connections_send a S P L M C m peers polls places makes ticks =
+    struct_send (shape (connections.the_type a S P L M C m))
+    (search (crossing.crosses, sendable) depth 60 fits 20000, (waking_send a P polls, (search (crossing.crosses, sendable) depth 60 fits 20000, (search (makes, global.the_field_send, crossing.crosses, sendable) depth 60 fits 20000, (search (allowed_send, crossing.crosses, sendable) depth 60 fits 20000, (search (crossing.crosses, sendable) depth 60 fits 20000, (search (crossing.crosses, sendable) depth 60 fits 20000, (search (crossing.crosses, sendable) depth 60 fits 20000, (search (crossing.crosses, sendable) depth 60 fits 20000, (search (crossing.crosses, sendable) depth 60 fits 20000, (search (crossing.crosses, sendable) depth 60 fits 20000, (search (crossing.crosses, sendable) depth 60 fits 20000, tt))))))))))))
 
-pub tcp_send : (a : NamedLft) (C : RattleType) → IsSync C → IsSend (connections.the_field a peer.the_row (watch.the_row a C) place.the_row C).row
-tcp_send a C ticks = connections_send a peer.the_row (watch.the_row a C) place.the_row C peer_send (watch_send a C ticks) place_send ticks
+pub tcp_send : (a : NamedLft) (M C : RattleType) (m : messages.Ghosts M.Denot) → IsSend M → IsSync C → IsSend (connections.the_field a peer.the_row (watch.the_row a C) place.the_row M C m).row
+tcp_send a M C m makes ticks = connections_send a peer.the_row (watch.the_row a C) place.the_row M C m peer_send (watch_send a C ticks) place_send makes ticks
 
 pub telling_send : (a : NamedLft) (C : RattleType) → IsSync C → IsSend (telling.the_field a C).row
 telling_send a C ticks = search (global.the_field_send, crossing.crosses, sendable) depth 60 fits 20000

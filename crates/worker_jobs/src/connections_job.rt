@@ -16,21 +16,20 @@ use requests::Allowed;
 use std::alloc::Global;
 use std::sync::Wait;
 use std::time::{Clock, Duration};
-use tcp_connections::{Blocking, Handler};
+use tcp_connections::{Blocking, Handler, Messages};
 use tcp_loop::{Arrivals, EventLoop, Plan, Readiness, Remote, Tally, TurnEnd};
-use zone_replies::Transfer;
 use zone_server::{Event, JobEnd, Losses, ServiceLog};
 
 /// The shortest time between two log lines on lost connections, in seconds (own).
 const SILENCE: u64 = 1;
 
-/// A worker's job on connections: an event loop over those that its listeners accept.
-pub struct ConnectionsJob<'a, S: Drop, P, L, C> {
+/// A worker's job on connections: an event loop over those that its listeners accept. Replies of several messages are made by an `M`.
+pub struct ConnectionsJob<'a, S: Drop, P, L, M: Messages, C> {
     /// The number of its worker.
     pub number: usize,
     poll: WakingPoll<'a, P>,
     places: Vec<L>,
-    event_loop: EventLoop<S, Transfer>,
+    event_loop: EventLoop<S, M>,
     plan: Plan<'a>,
     stop: StopFlag<'a>,
     clock: &'a C,
@@ -43,7 +42,7 @@ pub struct ConnectionsJob<'a, S: Drop, P, L, C> {
     scratch: CachePadded<Scratch>,
 }
 
-impl<'a, S: Drop, P: Drop, L: Drop, C> Drop for ConnectionsJob<'a, S, P, L, C> {
+impl<'a, S: Drop, P: Drop, L: Drop, M: Messages, C> Drop for ConnectionsJob<'a, S, P, L, M, C> {
     fn drop(self) {
         let ConnectionsJob {
             number: _,
@@ -116,20 +115,21 @@ impl<
     S: Blocking + Remote + Drop,
     P: Readiness<S>,
     L: Arrivals<Stream = S>,
+    M: Messages,
     C: Clock,
-> ConnectionsJob<'a, S, P, L, C> {
+> ConnectionsJob<'a, S, P, L, M, C> {
     /// The job of the worker with this number: an event loop over the connections that the listeners in `places` accept, which the poll watches. The
     /// clock limits the rate of log lines.
     pub fn new(
         number: usize,
         poll: P,
         places: Vec<L>,
-        event_loop: EventLoop<S, Transfer>,
+        event_loop: EventLoop<S, M>,
         plan: Plan<'a>,
         stop: StopFlag<'a>,
         clock: &'a C,
         scratch: Scratch,
-    ) -> ConnectionsJob<'a, S, P, L, C>
+    ) -> ConnectionsJob<'a, S, P, L, M, C>
         ensures number { result.number ≡ number }
         ensures plan { result.plan ≡ plan.entry }
         ensures event_loop { result.event_loop ≡ event_loop }
@@ -155,7 +155,7 @@ impl<
         self,
         alloc: Global,
         wake_list: &'a WakeList,
-    ) -> ConnectionsJob<'a, S, P, L, C>
+    ) -> ConnectionsJob<'a, S, P, L, M, C>
         ensures number { result.number ≡ self.entry.number }
         ensures plan { result.plan ≡ self.entry.plan }
         ensures event_loop { result.event_loop ≡ self.entry.event_loop }
@@ -214,7 +214,7 @@ impl<
 
     /// Takes a turn of the event loop, unless the worker is to end. Gives an end where the worker is to end, or where no more turns can be taken.
     #[tactic(auto, using(tcp_connections::proofs::AskedLemmas::each_itself))]
-    fn turn<R: Wait, A: Handler<Transfer>, O: ServiceLog>(
+    fn turn<R: Wait, A: Handler<M>, O: ServiceLog>(
         &mut self,
         rt: &R,
         handler: &mut A,
@@ -250,7 +250,7 @@ impl<
 
     /// Serves connections in turns until the worker is to end, or no more turns can be taken. Each turn accepts connections, answers each as the
     /// peer of its own address, on its own stream, and ends those whose peers take too long (RFC 7766, 6.2).
-    pub fn serve<R: Wait, A: Handler<Transfer>, O: ServiceLog>(
+    pub fn serve<R: Wait, A: Handler<M>, O: ServiceLog>(
         &mut self,
         rt: &R,
         handler: &mut A,

@@ -4,15 +4,21 @@ ghost use Rattle.requests.specs.Served.{Grows};
 
 use crate::interrupted::is_interrupted;
 use crate::progress::Shutdown;
+use arrayvec::ArrayVec;
+use dns_message::HEADER;
 use dns_name::Name;
+use hmac::MAX_MAC;
 use notify::{Due, Heard, MAX_NOTIFY, Notifier};
 use rand_chacha::ChaCha20Rng;
 use rand_core::{Rng, SeedableRng};
+use signed_replies::{SystemClock, UnixClock};
 use std::alloc::{AllocError, Global};
 use std::net::{SocketAddr, UdpSocket};
 use std::sync::Wait;
 use std::time::{Clock, Duration};
 use std::{io, thread};
+use tsig::{FUDGE, Key, Keys, Stamp, TsigError, sign, verify_reply, write_without_tsig};
+use wire_names::Message;
 use zone_server::{Event, JobEnd, NextTurn, Notifying, ServiceLog};
 
 /// The longest wait before the worker checks for a newer version, in milliseconds, since no thread notifies it of one (own).
@@ -27,10 +33,17 @@ const MOST_REPLIES: usize = 16;
 /// The number of 16-bit IDs (RFC 1035, 4.1.1).
 const IDS: u32 = 65_536;
 
+/// The most octets of a NOTIFY that is signed, and of a reply to one that is taken (own).
+const MAX_SIGNED: usize = 1024;
+
 /// The socket for a secondary, which receives datagrams only from its address.
 pub struct NotifySocket {
     address: SocketAddr,
     socket: UdpSocket,
+    /// Which of the server's keys its NOTIFYs are signed by. None if they aren't signed.
+    key: Option<u16>,
+    /// The MAC of the NOTIFY that was sent last.
+    mac: ArrayVec<u8, MAX_MAC>,
 }
 
 impl Drop for NotifySocket {
@@ -38,16 +51,76 @@ impl Drop for NotifySocket {
         let NotifySocket {
             address: _,
             socket: _,
+            key: _,
+            mac: _,
         } = self;
     }
 }
 
 impl NotifySocket {
-    /// A socket that sends to a secondary at this address, receives only its replies, and doesn't block.
-    pub fn new(socket: UdpSocket, address: SocketAddr) -> io::Result<NotifySocket> {
+    /// A socket that sends to a secondary at this address, receives only its replies, and doesn't block. NOTIFYs are signed by this one of the server's keys, if there is one.
+    pub fn new(
+        socket: UdpSocket,
+        address: SocketAddr,
+        key: Option<u16>,
+    ) -> io::Result<NotifySocket> {
         socket.connect(address)?;
         socket.set_nonblocking(true)?;
-        Ok(NotifySocket { address, socket })
+        Ok(NotifySocket {
+            address,
+            socket,
+            key,
+            mac: ArrayVec::new(),
+        })
+    }
+
+    /// Sends a NOTIFY, signed at a time by the secondary's key, if it has one: the reply must be signed behind its MAC (RFC 8945, 5.3). One that can't be sent, or signed, is lost, like
+    /// one lost in transit (RFC 1996, 3.6).
+    fn send(&mut self, keys: Option<&Keys>, now: u64, octets: &[u8]) {
+        let Some(index) = self.key else {
+            let _ = self.socket.send(octets);
+            return;
+        };
+        let Some(key) = key_at(keys, index) else {
+            return;
+        };
+        let mut out = [0u8; MAX_SIGNED];
+        let len = octets.len();
+        if len < HEADER || len > MAX_NOTIFY {
+            return;
+        }
+        out[..len].copy_from_slice(octets);
+        let stamp = Stamp {
+            time: now,
+            fudge: FUDGE,
+            error: TsigError::NoError,
+        };
+        let mut mac = ArrayVec::new();
+        let len = sign(key, &mut mac, &stamp, MAX_SIGNED, &mut out, len);
+        self.mac = mac;
+        let _ = self.socket.send(&out[..len]);
+    }
+
+    /// What counts of a reply that has come at a time: all of it where NOTIFYs aren't signed, else what it is without its TSIG, written to the front of `out`. None where it isn't signed
+    /// behind the MAC of the NOTIFY that was sent last (RFC 8945, 5.4).
+    fn plain<'o>(
+        &self,
+        keys: Option<&Keys>,
+        now: u64,
+        octets: &'o [u8],
+        out: &'o mut [u8; MAX_SIGNED],
+    ) -> Option<&'o [u8]> {
+        let Some(index) = self.key else {
+            return Some(octets);
+        };
+        let key = key_at(keys, index)?;
+        let start = verify_reply(key, &self.mac, now, &Message::new(octets))?;
+        if octets.len() < HEADER || octets.len() > MAX_SIGNED {
+            return None;
+        }
+        let id = u16::from_be_bytes([octets[0], octets[1]]);
+        let len = write_without_tsig(octets, start, id, out);
+        Some(&out[..len])
     }
 
     /// The secondary's address.
@@ -72,6 +145,11 @@ impl NotifySocket {
         }
         None
     }
+}
+
+/// The key at an index of a server's keys; None where there is none.
+fn key_at(keys: Option<&Keys>, index: u16) -> Option<&Key> {
+    keys?.get(index)
 }
 
 /// The secondaries of a zone, and what is needed to notify them.
@@ -116,6 +194,8 @@ pub struct NotifyJob<'a, C> {
     ids: ChaCha20Rng,
     clock: &'a C,
     shutdown: &'a Shutdown,
+    /// The server's keys, if it has any.
+    keys: Option<&'a Keys>,
     sent: u64,
     end: Option<JobEnd>,
 }
@@ -130,6 +210,7 @@ impl<'a, C> Drop for NotifyJob<'a, C> {
             ids: _,
             clock: _,
             shutdown: _,
+            keys: _,
             sent: _,
             end: _,
         } = self;
@@ -137,13 +218,14 @@ impl<'a, C> Drop for NotifyJob<'a, C> {
 }
 
 impl<'a, C: Clock> NotifyJob<'a, C> {
-    /// The job of the worker with this number: notifies secondaries until the other threads have ended. `AllocError` where there is no memory.
+    /// The job of the worker with this number: notifies secondaries until the other threads have ended, by these keys, if the server has any. `AllocError` where there is no memory.
     pub fn new(
         alloc: Global,
         number: usize,
         secondaries: Secondaries,
         clock: &'a C,
         shutdown: &'a Shutdown,
+        keys: Option<&'a Keys>,
     ) -> Result<NotifyJob<'a, C>, AllocError>
         ensures { IfOk result (λ job. job.number ≡ number) }
     {
@@ -160,6 +242,7 @@ impl<'a, C: Clock> NotifyJob<'a, C> {
             ids: ChaCha20Rng::from_seed(seed),
             clock,
             shutdown,
+            keys,
             sent: 0,
             end: None,
         })
@@ -203,11 +286,14 @@ impl<'a, C: Clock> NotifyJob<'a, C> {
         Ok(Some(0))
     }
 
-    /// Sends a NOTIFY to a secondary. One that can't be sent is lost, like one lost in transit (RFC 1996, 3.6).
-    fn send(&self, to: SocketAddr, octets: &[u8]) {
-        for socket in self.sockets.iter() {
+    /// Sends a NOTIFY to a secondary.
+    fn send(&mut self, to: SocketAddr, octets: &[u8])
+        ensures { self.new.number ≡ self.old.number }
+    {
+        let now = SystemClock::new(self.clock).now();
+        for socket in self.sockets.iter_mut() {
             if socket.address == to {
-                let _ = socket.socket.send(octets);
+                socket.send(self.keys, now, octets);
             }
         }
     }
@@ -232,6 +318,8 @@ impl<'a, C: Clock> NotifyJob<'a, C> {
         take_replies(
             rt,
             self.sockets.as_slice(),
+            self.keys,
+            SystemClock::new(self.clock).now(),
             &mut self.notifier,
             &self.apex,
             log,
@@ -264,24 +352,43 @@ impl<'a, C: Clock> NotifyJob<'a, C> {
     }
 }
 
-/// Takes the replies that have come from the secondaries of the zone at an apex.
+/// Takes the replies that have come at a time from the secondaries of the zone at an apex, by the server's keys.
 fn take_replies<R: Wait, L: ServiceLog>(
     rt: &R,
     sockets: &[NotifySocket],
+    keys: Option<&Keys>,
+    now: u64,
     notifier: &mut Notifier,
     apex: &Name,
     log: &L,
 ) {
-    let mut octets = [0u8; MAX_NOTIFY];
     for socket in sockets {
-        for _ in 0..MOST_REPLIES {
-            let Some(len) = socket.receive(&mut octets) else {
-                break;
-            };
-            let secondary = socket.address;
-            if notifier.receive(apex, secondary, &octets[..len]) == Some(Heard::Again) {
-                log.tell(rt, Event::Again { secondary });
-            }
+        take_from(rt, socket, keys, now, notifier, apex, log);
+    }
+}
+
+/// Takes the replies that have come from a secondary at a time.
+fn take_from<R: Wait, L: ServiceLog>(
+    rt: &R,
+    socket: &NotifySocket,
+    keys: Option<&Keys>,
+    now: u64,
+    notifier: &mut Notifier,
+    apex: &Name,
+    log: &L,
+) {
+    let mut octets = [0u8; MAX_SIGNED];
+    let mut out = [0u8; MAX_SIGNED];
+    for _ in 0..MOST_REPLIES {
+        let Some(len) = socket.receive(&mut octets) else {
+            return;
+        };
+        let secondary = socket.address;
+        let Some(plain) = socket.plain(keys, now, &octets[..len], &mut out) else {
+            continue;
+        };
+        if notifier.receive(apex, secondary, plain) == Some(Heard::Again) {
+            log.tell(rt, Event::Again { secondary });
         }
     }
 }

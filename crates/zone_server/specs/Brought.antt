@@ -1,4 +1,5 @@
 -- What a reply sender was given for updates that waited (RFC 2136, 3.8).
+use Rattle.tsig.specs.declared.request_tsig.RequestTsig.{RequestTsig}
 use Rattle.std.specs.Prelude.{◌≡◌, ◌≤◌, ℕ, true, List, [], ◌∷◌, ◌++◌, length, drop, Option, None, option_map}
 use Rattle.std.specs.declared.net.socket_addr.SocketAddr.{SocketAddr}
 use Rattle.dns_rdata.specs.Record.{Record}
@@ -27,10 +28,10 @@ use Rattle.update_batches.specs.declared.queued_update.ReplyTo.TheVariants.{Conn
 abbrev pub brought_after : {T : Type 0} → Option (List T) → List T → Option (List T)
 brought_after old more = option_map (λ before. before ++ more) old
 
--- a worker was given the key of a connection, or a datagram was sent from a worker's socket
+-- a worker was given the key of a connection, or a datagram was sent from a worker's socket, to be signed behind the MAC of a request's TSIG if there is one
 pub data Brought : Type 0 where
   key_to : (worker key : ℕ) → Brought
-  sent_by : (worker : ℕ) (to : SocketAddr) (octets : List ℕ) → Brought
+  sent_by : (worker : ℕ) (to : SocketAddr) (tsig : Option RequestTsig) (octets : List ℕ) → Brought
 
 -- octets are the reply by datagram to a request, for any peer that may update, if the peer knew no more than was published when the batch was begun (RFC 2136, 3 and 3.8)
 abbrev pub IsReplyTo : List Record → List Version → ℕ → List ℕ → List ℕ → Type 0
@@ -45,7 +46,7 @@ coded_reply request code = fit (coded (heading_of_update request.update) code) (
 -- what the reply sender gets for an update with a code: the connection's key for its worker, or the reply, to be sent from the socket that received the update
 abbrev pub brought_by : ReplyTo → UpdateRequest → Rcode → Brought
 brought_by (Connection worker key ticket) request code = key_to worker key
-brought_by (Datagram worker to) request code = sent_by worker to (coded_reply request code)
+brought_by (Datagram worker to tsig) request code = sent_by worker to tsig (coded_reply request code)
 
 -- the same for a result
 abbrev pub brought_for : QueuedResult → Brought
@@ -54,7 +55,7 @@ brought_for result = brought_by result.reply_to result.done.asked result.done.co
 -- what is left to be done for the reply of a result: the worker of its connection is woken, by the receipt that the result was put at the update's own ticket; or a datagram is sent
 abbrev pub outgoing_by : ReplyTo → UpdateResult → Outgoing
 outgoing_by (Connection worker key ticket) done = Wake worker key (receipt_for ticket done)
-outgoing_by (Datagram worker to) done = Send worker to done
+outgoing_by (Datagram worker to tsig) done = Send worker to tsig done
 
 abbrev pub outgoing_for : QueuedResult → Outgoing
 outgoing_for result = outgoing_by result.reply_to result.done
@@ -62,7 +63,7 @@ outgoing_for result = outgoing_by result.reply_to result.done
 -- what the reply sender gets for what is left to be done for a reply
 abbrev pub brought_from : Outgoing → Brought
 brought_from (Wake worker key at) = key_to worker key
-brought_from (Send worker to done) = sent_by worker to (coded_reply done.asked done.code)
+brought_from (Send worker to tsig done) = sent_by worker to tsig (coded_reply done.asked done.code)
 
 -- the same for a batch, each update of it with its verdict, SERVFAIL where there are too few
 abbrev pub all_brought : List Verdict → List QueuedUpdate → List Brought

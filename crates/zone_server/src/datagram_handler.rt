@@ -27,10 +27,12 @@ use dns_rdata::Rcode;
 use notify::Notifier;
 use requests::{Allowed, Handler};
 use serve_core::{Heading, Peer, Transport, write_code};
+use signed_replies::SignsLater;
 use snapshot_cell::Spent;
 use std::alloc::Global;
 use std::net::SocketAddr;
 use std::sync::Wait;
+use tsig::RequestTsig;
 use wire_names::NameWriter;
 
 /// Answers the datagrams of peers for a server, with a worker's reader. Contracts know what the reader has seen published and buried. Updates are logged.
@@ -48,6 +50,8 @@ pub struct DatagramHandler<'a, 's, Z: FirstZone, N: ServerName, L> {
     allowed: Option<Allowed<'a>>,
     /// The queue for updates, unless the engine answers them.
     sender: Option<UpdateSender<'a>>,
+    /// The TSIG that the request came with, if it was signed.
+    tsig: Option<RequestTsig>,
 }
 
 impl<'a, 's, Z: FirstZone, N: ServerName, L: ServiceLog> DatagramHandler<'a, 's, Z, N, L> {
@@ -74,6 +78,7 @@ impl<'a, 's, Z: FirstZone, N: ServerName, L: ServiceLog> DatagramHandler<'a, 's,
             names: NameWriter::new(),
             allowed: None,
             sender: None,
+            tsig: None,
         }
     }
 
@@ -126,6 +131,7 @@ impl<'a, 's, Z: FirstZone, N: ServerName, L: ServiceLog> DatagramHandler<'a, 's,
         ensures replied { IsAnswered Z.zone peer (learned_by self.old.reader) (learned_by self.new.reader) request.now (messages_in result out.new) }
     {
         let from = self.from;
+        let tsig = self.tsig.take();
         let submitted = submit_datagram(
             rt,
             self.alloc,
@@ -133,6 +139,7 @@ impl<'a, 's, Z: FirstZone, N: ServerName, L: ServiceLog> DatagramHandler<'a, 's,
             &mut self.reader,
             sender,
             from,
+            tsig,
             peer,
             request,
             out,
@@ -276,6 +283,14 @@ impl<'a, 's, Z: FirstZone, N: ServerName, L: ServiceLog> Handler
             }
             Answer::Spent => Err(Spent),
         }
+    }
+}
+
+impl<'a, 's, Z: FirstZone, N: ServerName, L: ServiceLog> SignsLater
+    for DatagramHandler<'a, 's, Z, N, L> {
+    #[tactic(auto, using(requests::proofs::TurnLemmas::grows_itself))]
+    fn set_tsig(&mut self, tsig: Option<RequestTsig>) {
+        self.tsig = tsig;
     }
 }
 

@@ -31,6 +31,7 @@ mod submit;
 mod telling;
 mod transfer;
 mod transfer_start;
+mod tsig_lines;
 mod update_result;
 
 pub use answer::{Now, UpdateOutcome, answer_now, serve_update};
@@ -53,5 +54,6 @@ pub use submit::{
 pub use telling::{tell_refused, tell_served, tell_signed, tell_update};
 pub use transfer::write_transfer;
 pub use transfer_start::start_transfer;
+pub use tsig_lines::TsigLines;
 pub use update_batches::{QueuedUpdate, ReplyTo, Serials};
 pub use update_result::{Poll, QueuedResult, UpdateResult};

@@ -2,6 +2,7 @@
 use crate::pending_replies::AtTicket;
 use crate::update_result::UpdateResult;
 use std::net::SocketAddr;
+use tsig::RequestTsig;
 
 /// What is left to be done for the reply to a queued update.
 #[derive(Drop)]
@@ -21,6 +22,8 @@ pub enum Outgoing {
         worker: usize,
         /// Its destination.
         to: SocketAddr,
+        /// The update's TSIG, behind whose MAC it is signed. None if the update was not signed.
+        tsig: Option<RequestTsig>,
         /// The result.
         done: UpdateResult,
     },

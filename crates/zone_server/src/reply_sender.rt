@@ -5,6 +5,7 @@ ghost use Rattle.zone_server.specs.Brought.{Brought, brought_after, key_to, sent
 use crate::pending_replies::AtTicket;
 use std::net::SocketAddr;
 use std::sync::Wait;
+use tsig::RequestTsig;
 
 /// Sends the replies to updates that waited. An implementation that keeps what it was given may give it to contracts.
 pub trait ReplySender {
@@ -15,7 +16,7 @@ pub trait ReplySender {
     fn tell<R: Wait>(&mut self, rt: &R, worker: usize, key: usize, reported: AtTicket)
         ensures { brought self.new ≡ brought_after (brought self.old) (key_to worker key ∷ []) };
 
-    /// Sends a datagram from a worker's socket. A datagram that cannot be sent is lost.
-    fn send(&mut self, worker: usize, to: SocketAddr, octets: &[u8])
-        ensures { brought self.new ≡ brought_after (brought self.old) (sent_by worker to octets.now ∷ []) };
+    /// Sends a datagram from a worker's socket, signed behind the MAC of this TSIG if there is one. A datagram that cannot be sent is lost.
+    fn send(&mut self, worker: usize, to: SocketAddr, tsig: Option<RequestTsig>, octets: &[u8])
+        ensures { brought self.new ≡ brought_after (brought self.old) (sent_by worker to tsig octets.now ∷ []) };
 }

@@ -121,11 +121,16 @@ fn send_one<R: Wait, L: ServiceLog, P: ReplySender>(
 {
     match one {
         Outgoing::Wake { worker, key, at } => replying.tell(rt, worker, key, at),
-        Outgoing::Send { worker, to, done } => {
+        Outgoing::Send {
+            worker,
+            to,
+            tsig,
+            done,
+        } => {
             let peer = Peer::over(Transport::Udp, true);
             tell_update(rt, log, peer, to, UpdateOutcome::of(&done));
             let len = write_done(names, &done.asked, done.code, peer, out);
-            replying.send(worker, to, &out[..len]);
+            replying.send(worker, to, tsig, &out[..len]);
         }
     }
 }

@@ -311,7 +311,12 @@ impl<'a, Z: FirstZone, N: ServerName> ServerState<'a, Z, N> {
                 let at = self.replies.tell(ticket, done);
                 Outgoing::Wake { worker, key, at }
             }
-            ReplyTo::Datagram { worker, to } => Outgoing::Send { worker, to, done },
+            ReplyTo::Datagram { worker, to, tsig } => Outgoing::Send {
+                worker,
+                to,
+                tsig,
+                done,
+            },
         }
     }
 

@@ -5,6 +5,7 @@ use notify::Large;
 use requests::Uncovered;
 use rights::TypeWord;
 use serve_core::Transport;
+use signed_replies::TsigFault;
 use std::fmt::{self, Display, Formatter};
 use std::net::SocketAddr;
 use std::sync::Wait;
@@ -45,6 +46,15 @@ pub enum Event {
         wanted: Wanted,
         /// The name of the key.
         key: Name,
+    },
+    /// A signed request is refused by its TSIG (RFC 8945, 5.2).
+    BadTsig {
+        /// The peer's address.
+        from: SocketAddr,
+        /// The name of the key.
+        key: Name,
+        /// The reason why.
+        fault: TsigFault,
     },
     /// An update has added records to an owner that then has more than stock secondaries take.
     Large(Large),
@@ -178,6 +188,13 @@ impl Display for Event {
                     "{wanted} from {from}: signed with key {key}, but no keys are configured; signature not checked"
                 )
             }
+            Event::BadTsig { from, key, fault } => {
+                let (key, reason) = (key.to_text(), reason_of(*fault));
+                write!(
+                    f,
+                    "request from {from} refused: signed with key {key}, {reason}"
+                )
+            }
             Event::Large(large) => write!(f, "{large}"),
             Event::End {
                 worker,
@@ -204,6 +221,16 @@ impl Display for Event {
                 write_unlogged(f, *end)
             }
         }
+    }
+}
+
+/// The reason why a signed request is refused, in words.
+fn reason_of(fault: TsigFault) -> &'static str {
+    match fault {
+        TsigFault::BadKey => "which isn't known with that algorithm (BADKEY)",
+        TsigFault::BadSig => "whose secret is another (BADSIG)",
+        TsigFault::BadTime => "at a time too far from this server's (BADTIME)",
+        TsigFault::BadTrunc => "with a MAC that is cut short (BADTRUNC)",
     }
 }
 

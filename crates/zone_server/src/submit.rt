@@ -19,6 +19,7 @@ use serve_core::{Heading, Peer, write_code, write_code_by};
 use std::alloc::Global;
 use std::net::SocketAddr;
 use std::sync::Wait;
+use tsig::RequestTsig;
 use update_batches::{Put, Queue, QueuedUpdate, ReplyTo, UpdateRequest};
 use wire_names::NameWriter;
 
@@ -172,7 +173,7 @@ pub fn submit_stream<R: Wait, Z: FirstZone, N: ServerName>(
     Submitted::Replied(len, outcome)
 }
 
-/// Submits an update of a peer that may update, which came by datagram. It is answered at once in the same cases as by [`submit_stream`].
+/// Submits an update of a peer that may update, which came by datagram, with this TSIG if it was signed. It is answered at once in the same cases as by [`submit_stream`].
 pub fn submit_datagram<R: Wait, Z: FirstZone, N: ServerName>(
     rt: &R,
     alloc: Global,
@@ -180,6 +181,7 @@ pub fn submit_datagram<R: Wait, Z: FirstZone, N: ServerName>(
     reader: &mut VersionReader<N>,
     sender: UpdateSender<'_>,
     to: SocketAddr,
+    tsig: Option<RequestTsig>,
     peer: Peer,
     request: &[u8],
     out: &mut [u8],
@@ -198,7 +200,7 @@ pub fn submit_datagram<R: Wait, Z: FirstZone, N: ServerName>(
     };
     let heading = Heading::of_update(&update);
     let worker = sender.worker;
-    let reply_to = ReplyTo::Datagram { worker, to };
+    let reply_to = ReplyTo::Datagram { worker, to, tsig };
     if let Some(put) = put_update(rt, alloc, sender, update, request, reply_to) {
         return DatagramSubmitted::Waits(put);
     }

@@ -16,5 +16,5 @@ returns-in-Send-clause-brought g c =
     let written : octets ≡ coded_reply done.asked done.code =
     c.write_done-len.ensures.octets ∙ ap (λ (p : Transport). fit (coded (heading_of_update done.asked.update) done.code) (limit_of p None)) c.over-peer.ensures.carried in
     c.send.ensures
-    ∙ (ap (λ (o : List ℕ). brought_after before (sent_by c.in-Send.worker c.in-Send.to o ∷ [])) written
+    ∙ (ap (λ (o : List ℕ). brought_after before (sent_by c.in-Send.worker c.in-Send.to c.in-Send.tsig o ∷ [])) written
     ∙ ap (λ (l : Outgoing). brought_after before (brought_from l ∷ [])) (sym c.in-Send.is))

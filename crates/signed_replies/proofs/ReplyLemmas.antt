@@ -1,0 +1,77 @@
+-- What a request gets, by what it is by its TSIG.
+use Rattle.std.proofs.Common.{◌≡◌, ℕ, ◌<◌, ◌≤◌, Bool, true, false, List, [], ◌∷◌, length, Option, None, Some, Result, IfOk, refl, sym, ap, subst, ◌∙◌, arith, if◌then◌else◌}
+use Rattle.std.specs.Prelude.{nat_lt}
+use Rattle.std.proofs.lemmas.Bool.Decides.{nat_tests}
+use Rattle.std.proofs.lemmas.Result.{IfOk-weaker}
+use Rattle.dns_message.specs.Message.{message_limit}
+use Rattle.dns_message.specs.Reads.{is_reply}
+use Rattle.dns_message.specs.Tsig.{place_in}
+use Rattle.requests.proofs.TurnLemmas.{grows_itself}
+use Rattle.requests.specs.Allowed.{IsPeer}
+use Rattle.requests.specs.Octets.{messages_in}
+use Rattle.requests.specs.Served.{Learned, Grows}
+use Rattle.rights.specs.declared.rule.Rule.{Rule}
+use Rattle.serve_core.specs.declared.peer.Peer.{Peer}
+use Rattle.std.specs.declared.net.socket_addr.SocketAddr.{SocketAddr}
+use Rattle.tsig.specs.Keys.{SharedKey}
+use Rattle.tsig.specs.Verification.{verified, by_place}
+use Rattle.tsig.specs.declared.request_tsig.RequestTsig.{RequestTsig}
+use Rattle.tsig.specs.declared.verifying.Verification.{Verification}
+use Rattle.tsig.specs.declared.verifying.Verification.TheVariants.{Silent}
+use Rattle.signed_replies.specs.Rights.{rules_of}
+use Rattle.signed_replies.specs.Signed.{received, plain_of, reply_limit, IsReplyBy, IsReplyTo, IsSignedReply}
+
+not_fewer : (a b : ℕ) → b ≤ a → nat_lt a b ≡ false
+not_fewer a b e = grind (arith, nat_tests)
+
+fewer : (a b : ℕ) → a < b → nat_lt a b ≡ true
+fewer a b e = grind (arith, nat_tests)
+
+-- octets that a message may have are what their TSIG says
+pub received_is : (keys : List SharedKey) (now : ℕ) (request : List ℕ) → length request ≤ message_limit → received keys now request ≡ verified keys now request
+received_is keys now request short = ap (λ b. if b then Silent else verified keys now request) (not_fewer message_limit (length request) short)
+
+-- and more octets are nothing that is answered, as are fewer than a header has
+pub too_many : (keys : List SharedKey) (now : ℕ) (request : List ℕ) → message_limit < length request → received keys now request ≡ Silent
+too_many keys now request long = ap (λ b. if b then Silent else verified keys now request) (fewer message_limit (length request) long)
+
+pub too_few : (keys : List SharedKey) (now : ℕ) (request : List ℕ) → length request < 12 → received keys now request ≡ Silent
+too_few keys now request few =
+    received_is keys now request (omega (arith, few))
+    ∙ ap (λ b. if b then Silent else (if is_reply request then Silent else by_place keys now request (place_in request))) (fewer (length request) 12 few)
+
+-- nothing is replied to what isn't answered
+pub silent_to : {T : Type 0} (keys : List SharedKey) (rights : List (List Rule)) (IsReply : Peer → Learned T → Learned T → List ℕ → List (List ℕ) → Type 0)
+    (AreSigned : SharedKey → ℕ → RequestTsig → ℕ → List (List ℕ) → List (List ℕ) → Type 0) (peer : Peer) (seen : Learned T) (request : List ℕ)
+    → received keys 0 request ≡ Silent → IsReplyTo keys rights IsReply AreSigned peer seen seen request []
+silent_to keys rights IsReply AreSigned peer seen request is = (0, seen, grows_itself seen, grows_itself seen, subst (λ v. IsReplyBy keys rights IsReply AreSigned v 0 peer seen seen request []) (sym is) refl)
+
+-- what a request gets by what it is, it gets
+pub reply_to : {T : Type 0} (keys : List SharedKey) (rights : List (List Rule)) (IsReply : Peer → Learned T → Learned T → List ℕ → List (List ℕ) → Type 0)
+    (AreSigned : SharedKey → ℕ → RequestTsig → ℕ → List (List ℕ) → List (List ℕ) → Type 0) (verification : Verification) (now : ℕ) (peer : Peer)
+    (seen later : Learned T) (request : List ℕ) (messages : List (List ℕ)) → verification ≡ received keys now request
+    → (before : Learned T) × Grows before seen × Grows later before × IsReplyBy keys rights IsReply AreSigned verification now peer before later request messages
+    → IsReplyTo keys rights IsReply AreSigned peer seen later request messages
+reply_to keys rights IsReply AreSigned verification now peer seen later request messages is r = (now, r.0, r.1, r.2, subst (λ v. IsReplyBy keys rights IsReply AreSigned v now peer r.0 later request messages) is r.3)
+
+-- what is known when a handler is asked lies between what was known before and what is known then
+pub replied_as : {T E : Type 0} (IsReply : Peer → Learned T → Learned T → List ℕ → List (List ℕ) → Type 0) (peer : Peer) (seen mid later : Learned T) (request out : List ℕ) (made : Result (Option ℕ) E) → Grows mid seen
+    → Grows later mid → IfOk made (λ len. IsReply peer mid later request (messages_in len out))
+    → IfOk made (λ len. (before : Learned T) × Grows before seen × Grows later before × IsReply peer before later request (messages_in len out))
+replied_as IsReply peer seen mid later request out made first then said = IfOk-weaker made _ _ (λ len is. (mid, first, then, is)) said
+
+-- a reply whose messages are signed by the key that the request names
+pub signed_reply_by : {T : Type 0} (keys : List SharedKey) (rights : List (List Rule)) (IsReply : Peer → Learned T → Learned T → List ℕ → List (List ℕ) → Type 0)
+    (AreSigned : SharedKey → ℕ → RequestTsig → ℕ → List (List ℕ) → List (List ℕ) → Type 0) (found : Option SharedKey) (key : SharedKey) (now : ℕ) (tsig : RequestTsig) (peer : Peer) (before later : Learned T)
+    (request : List ℕ) (from : SocketAddr) (own : Peer) (plains messages : List (List ℕ)) → found ≡ Some key
+    → IsPeer (rules_of rights tsig.key) peer.transport from (plain_of request tsig.start) own → IsReply own before later (plain_of request tsig.start) plains
+    → AreSigned key now tsig (reply_limit peer.transport (plain_of request tsig.start)) plains messages → IsSignedReply keys rights IsReply AreSigned found now tsig peer before later request messages
+signed_reply_by keys rights IsReply AreSigned found key now tsig peer before later request from own plains messages is by reply are =
+    subst (λ f. IsSignedReply keys rights IsReply AreSigned f now tsig peer before later request messages) (sym is) (from, own, by, plains, reply, are)
+
+-- and none without a key
+pub signed_reply_none : {T : Type 0} (keys : List SharedKey) (rights : List (List Rule)) (IsReply : Peer → Learned T → Learned T → List ℕ → List (List ℕ) → Type 0)
+    (AreSigned : SharedKey → ℕ → RequestTsig → ℕ → List (List ℕ) → List (List ℕ) → Type 0) (found : Option SharedKey) (now : ℕ) (tsig : RequestTsig) (peer : Peer) (before later : Learned T) (request : List ℕ)
+    → found ≡ None → IsSignedReply keys rights IsReply AreSigned found now tsig peer before later request []
+signed_reply_none keys rights IsReply AreSigned found now tsig peer before later request is =
+    subst (λ f. IsSignedReply keys rights IsReply AreSigned f now tsig peer before later request []) (sym is) refl

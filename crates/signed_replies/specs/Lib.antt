@@ -1,0 +1,3 @@
+pub mod Rights
+pub mod Signed
+pub mod Stream

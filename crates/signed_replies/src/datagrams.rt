@@ -1,0 +1,362 @@
+//! Datagrams that are signed (RFC 8945, 5).
+ghost use Rattle.std.specs.Prelude.{◌≡◌, ◌≤◌, [], ◌∷◌, length, take, slice_get, IfOk, IfSome};
+ghost use Rattle.dns_message.specs.Message.{message_limit};
+ghost use Rattle.dns_message.specs.Request.{IsWant};
+ghost use Rattle.dns_message.specs.declared.query.Parsed.TheVariants.{NoMemory as no_memory};
+ghost use Rattle.requests.specs.Datagrams.{by_datagram};
+ghost use Rattle.requests.specs.Octets.{messages_in};
+ghost use Rattle.requests.specs.Served.{Learned, Grows};
+ghost use Rattle.serve_core.specs.declared.peer.Peer.{Peer as PeerAsking};
+ghost use Rattle.signed_replies.specs.Signed.{received, AreSignedAlone, IsReplyBy, IsSignedReply, IsReplyTo};
+ghost use Rattle.zone_tree.specs.Version.{Version};
+
+use crate::clock::UnixClock;
+use crate::errors::{write_error, write_unsigned};
+use crate::key_ring::{KeyRing, RingKeys};
+use crate::limit::reply_limit;
+use crate::plain_room::PlainRoom;
+use crate::signing::{sign_reply, stamp_at, stamp_late, stamp_short, write_signed};
+use crate::signs_later::SignsLater;
+use crate::tsig_log::{TsigFault, TsigLog, tell_fault};
+use dns_message::{HEADER, Head, MAX_LIMIT};
+use dns_rdata::Rcode;
+use requests::Handler;
+use serve_core::{Peer, Transport};
+use snapshot_cell::Spent;
+use std::net::SocketAddr;
+use std::sync::Wait;
+use tsig::{RequestTsig, TsigError, Verification, is_unsigned, verify};
+use wire_names::{MAX_TARGETS, Message};
+
+/// The most octets of a request whose pointers are followed anew for each name (own).
+const MAX_SHORT: usize = 512;
+
+/// Verifies the datagrams of peers by the keys of a server, has another handler answer those that are signed, without their TSIG, and those without a TSIG, and signs the replies to
+/// the first. Contracts see that handler and the peer.
+#[derive(Drop)]
+pub struct SignedDatagrams<'r, 'k, K: KeyRing, A: SignsLater, C, O> {
+    inner: A,
+    ring: RingKeys<'k, K>,
+    clock: C,
+    log: O,
+    peer: Peer,
+    from: SocketAddr,
+    room: &'r mut PlainRoom,
+}
+
+impl<'r, 'k, K: KeyRing, A: SignsLater + Drop, C: UnixClock, O: TsigLog + Drop> SignedDatagrams<
+    'r,
+    'k,
+    K,
+    A,
+    C,
+    O,
+> {
+    /// Such a handler before another one, which logs refused requests, with room for requests without their TSIG. Its first peer is this one, which sends from this address.
+    pub fn new(
+        inner: A,
+        ring: RingKeys<'k, K>,
+        clock: C,
+        log: O,
+        room: &'r mut PlainRoom,
+        peer: Peer,
+        from: SocketAddr,
+    ) -> SignedDatagrams<'r, 'k, K, A, C, O>
+        ensures inner { result.inner ≡ inner }
+        ensures peer { result.peer ≡ peer }
+    {
+        SignedDatagrams {
+            inner,
+            ring,
+            clock,
+            log,
+            peer,
+            from,
+            room,
+        }
+    }
+
+    /// The handler after it.
+    pub fn into_inner(self) -> A
+        ensures { result ≡ self.entry.inner }
+    {
+        self.inner
+    }
+
+    /// Answers a request of few octets.
+    fn answer_short<R: Wait>(
+        &mut self,
+        rt: &R,
+        request: &[u8],
+        out: &mut [u8],
+    ) -> Result<Option<usize>, Spent>
+        requires header { HEADER ≤ length request.now }
+        requires short { length request.now ≤ message_limit }
+        requires room { message_limit ≤ length out.old }
+        ensures same { self.new.peer ≡ self.old.peer }
+        ensures grows { Grows {T = Version} (A.seen self.new.inner) (A.seen self.old.inner) }
+        ensures bound { IfOk result (λ len. IfSome len (λ n. (n ≤ message_limit) × (n ≤ length out.new))) }
+        ensures reply { IfOk result (λ len. IsReplyTo {T = Version} K.keys K.rights A.is_reply AreSignedAlone (by_datagram self.old.peer) (A.seen self.old.inner) (A.seen self.new.inner) request.now (messages_in len out.new)) }
+    {
+        let message = Message::new(request);
+        if is_unsigned(&message) {
+            return self.answer_by(rt, 0, Verification::Unsigned, request, out);
+        }
+        let now = self.clock.now();
+        let verified = verify(self.ring.keys(), now, &message);
+        self.answer_by(rt, now, verified, request, out)
+    }
+
+    /// Answers a request of many octets: no pointer among them is followed twice.
+    #[inline(never)]
+    fn answer_long<R: Wait>(
+        &mut self,
+        rt: &R,
+        request: &[u8],
+        out: &mut [u8],
+    ) -> Result<Option<usize>, Spent>
+        requires header { HEADER ≤ length request.now }
+        requires short { length request.now ≤ message_limit }
+        requires room { message_limit ≤ length out.old }
+        ensures same { self.new.peer ≡ self.old.peer }
+        ensures grows { Grows {T = Version} (A.seen self.new.inner) (A.seen self.old.inner) }
+        ensures bound { IfOk result (λ len. IfSome len (λ n. (n ≤ message_limit) × (n ≤ length out.new))) }
+        ensures reply { IfOk result (λ len. IsReplyTo {T = Version} K.keys K.rights A.is_reply AreSignedAlone (by_datagram self.old.peer) (A.seen self.old.inner) (A.seen self.new.inner) request.now (messages_in len out.new)) }
+    {
+        let mut ends = [0; MAX_TARGETS];
+        let mut sizes = [0; MAX_TARGETS];
+        let message = Message::with_room(request, &mut ends, &mut sizes);
+        if is_unsigned(&message) {
+            return self.answer_by(rt, 0, Verification::Unsigned, request, out);
+        }
+        let now = self.clock.now();
+        let verified = verify(self.ring.keys(), now, &message);
+        self.answer_by(rt, now, verified, request, out)
+    }
+
+    /// Answers a request by what it is by its TSIG (RFC 8945, 5.2).
+    fn answer_by<R: Wait>(
+        &mut self,
+        rt: &R,
+        now: u64,
+        verified: Verification<'_>,
+        request: &[u8],
+        out: &mut [u8],
+    ) -> Result<Option<usize>, Spent>
+        requires verified { verified ≡ received K.keys now request.now }
+        requires header { HEADER ≤ length request.now }
+        requires short { length request.now ≤ message_limit }
+        requires room { message_limit ≤ length out.old }
+        ensures same { self.new.peer ≡ self.old.peer }
+        ensures grows { Grows {T = Version} (A.seen self.new.inner) (A.seen self.old.inner) }
+        ensures bound { IfOk result (λ len. IfSome len (λ n. (n ≤ message_limit) × (n ≤ length out.new))) }
+        ensures reply { IfOk result (λ len. (before : Learned Version) × Grows before (A.seen self.old.inner) × Grows (A.seen self.new.inner) before
+            × IsReplyBy {T = Version} K.keys K.rights A.is_reply AreSignedAlone verified.entry now (by_datagram self.old.peer) before (A.seen self.new.inner) request.now (messages_in len out.new)) }
+    {
+        match verified {
+            Verification::Unsigned => {
+                answer_as(
+                    rt,
+                    &mut self.inner,
+                    self.peer,
+                    self.from,
+                    None,
+                    request,
+                    out,
+                )
+            }
+            Verification::Silent => Ok(None),
+            Verification::Malformed => Ok(Some(write_error(
+                request,
+                Rcode::FormErr,
+                Transport::Udp,
+                out,
+            ))),
+            Verification::BadKey(tsig) => {
+                self.log
+                    .tell_fault(rt, self.from, tsig.owner(), TsigFault::BadKey);
+                let error = TsigError::BadKey;
+                Ok(Some(write_unsigned(request, &tsig, error, Transport::Udp, out)))
+            }
+            Verification::BadSig(tsig) => {
+                self.log
+                    .tell_fault(rt, self.from, tsig.owner(), TsigFault::BadSig);
+                let error = TsigError::BadSig;
+                Ok(Some(write_unsigned(request, &tsig, error, Transport::Udp, out)))
+            }
+            Verification::BadTime(tsig) => {
+                let key = self.ring.keys().get(tsig.key);
+                tell_fault(rt, &self.log, self.from, key, TsigFault::BadTime);
+                let stamp = stamp_late(&tsig, now);
+                Ok(write_signed(request, key, tsig, &stamp, Transport::Udp, out))
+            }
+            Verification::BadTrunc(tsig) => {
+                let key = self.ring.keys().get(tsig.key);
+                tell_fault(rt, &self.log, self.from, key, TsigFault::BadTrunc);
+                Ok(write_signed(request, key, tsig, &stamp_short(now), Transport::Udp, out))
+            }
+            Verification::Signed(tsig) => self.answer_signed(rt, now, tsig, request, out),
+        }
+    }
+
+    /// Answers a request that the holder of a key signed, and signs the reply.
+    fn answer_signed<R: Wait>(
+        &mut self,
+        rt: &R,
+        now: u64,
+        tsig: RequestTsig,
+        request: &[u8],
+        out: &mut [u8],
+    ) -> Result<Option<usize>, Spent>
+        requires header { HEADER ≤ length request.now }
+        requires short { length request.now ≤ message_limit }
+        requires room { message_limit ≤ length out.old }
+        ensures same { self.new.peer ≡ self.old.peer }
+        ensures grows { Grows {T = Version} (A.seen self.new.inner) (A.seen self.old.inner) }
+        ensures bound { IfOk result (λ len. IfSome len (λ n. (n ≤ message_limit) × (n ≤ length out.new))) }
+        ensures reply { IfOk result (λ len. (before : Learned Version) × Grows before (A.seen self.old.inner) × Grows (A.seen self.new.inner) before
+            × IsSignedReply {T = Version} K.keys K.rights A.is_reply AreSignedAlone (slice_get K.keys tsig.key) now tsig (by_datagram self.old.peer) before (A.seen self.new.inner) request.now (messages_in len out.new)) }
+    {
+        let Some(key) = self.ring.keys().get(tsig.key) else {
+            return Ok(None);
+        };
+        let plain = self.room.plain(request, tsig.start);
+        let limit = reply_limit(plain, Transport::Udp);
+        let peer = match self
+            .ring
+            .peer_by(tsig.key, self.from, Transport::Udp, plain)
+        {
+            Ok(peer) => peer,
+            Err(head) => {
+                let len = self.inner.answer_unread(plain, head, out);
+                return Ok(Some(sign_reply(key, tsig, &stamp_at(now), limit, out, len)));
+            }
+        };
+        let (from, own) = (self.from, Some(tsig.copy()));
+        let Some(len) = answer_as(rt, &mut self.inner, peer, from, own, plain, out)? else {
+            return Ok(None);
+        };
+        Ok(Some(sign_reply(key, tsig, &stamp_at(now), limit, out, len)))
+    }
+}
+
+impl<'r, 'k, K: KeyRing, A: SignsLater + Drop, C: UnixClock, O: TsigLog + Drop> SignedDatagrams<
+    'r,
+    'k,
+    K,
+    A,
+    C,
+    O,
+> {
+    /// Answers an update that there is no memory to read, by what it is by its TSIG.
+    fn unread_by(
+        &mut self,
+        now: u64,
+        verified: Verification<'_>,
+        request: &[u8],
+        head: Head,
+        out: &mut [u8],
+    ) -> usize
+        requires verified { verified ≡ received K.keys now request.now }
+        requires header { HEADER ≤ length request.now }
+        requires short { length request.now ≤ message_limit }
+        requires room { message_limit ≤ length out.old }
+        requires wanted { IsWant request.now (no_memory head) }
+        ensures grows { Grows {T = Version} (A.seen self.new.inner) (A.seen self.old.inner) }
+        ensures bound { (result ≤ message_limit) × (result ≤ length out.new) }
+        ensures reply { (before : Learned Version) × Grows before (A.seen self.old.inner) × Grows (A.seen self.new.inner) before
+            × ((asking : PeerAsking) → IsReplyBy {T = Version} K.keys K.rights A.is_reply AreSignedAlone verified.entry now (by_datagram asking) before (A.seen self.new.inner) request.now (take result out.new ∷ [])) }
+    {
+        match verified {
+            Verification::Unsigned => self.inner.answer_unread(request, head, out),
+            // It has a header, and is no reply.
+            Verification::Silent => unreachable!(),
+            Verification::Malformed => write_error(request, Rcode::FormErr, Transport::Udp, out),
+            Verification::BadKey(tsig) => {
+                write_unsigned(request, &tsig, TsigError::BadKey, Transport::Udp, out)
+            }
+            Verification::BadSig(tsig) => {
+                write_unsigned(request, &tsig, TsigError::BadSig, Transport::Udp, out)
+            }
+            Verification::BadTime(tsig) => {
+                let key = self.ring.keys().get(tsig.key);
+                let stamp = stamp_late(&tsig, now);
+                write_signed(request, key, tsig, &stamp, Transport::Udp, out).unwrap()
+            }
+            Verification::BadTrunc(tsig) => {
+                let key = self.ring.keys().get(tsig.key);
+                write_signed(request, key, tsig, &stamp_short(now), Transport::Udp, out).unwrap()
+            }
+            Verification::Signed(tsig) => {
+                let Some(key) = self.ring.keys().get(tsig.key) else {
+                    unreachable!()
+                };
+                let plain = self.room.plain(request, tsig.start);
+                let limit = reply_limit(plain, Transport::Udp);
+                let len = self.inner.answer_unread(plain, head, out);
+                sign_reply(key, tsig, &stamp_at(now), limit, out, len)
+            }
+        }
+    }
+}
+
+/// Has a handler answer a request of a peer that sends from an address, which came with this TSIG.
+fn answer_as<R: Wait, A: SignsLater>(
+    rt: &R,
+    inner: &mut A,
+    peer: Peer,
+    from: SocketAddr,
+    tsig: Option<RequestTsig>,
+    request: &[u8],
+    out: &mut [u8],
+) -> Result<Option<usize>, Spent>
+    requires room { message_limit ≤ length out.old }
+    ensures grows { Grows {T = Version} (A.seen inner.new) (A.seen inner.old) }
+    ensures bound { IfOk result (λ len. IfSome len (λ n. (n ≤ message_limit) × (n ≤ length out.new))) }
+    ensures reply { IfOk result (λ len. (before : Learned Version) × Grows before (A.seen inner.old) × Grows (A.seen inner.new) before
+        × A.is_reply (by_datagram peer) before (A.seen inner.new) request.now (messages_in len out.new)) }
+{
+    inner.turn_to(peer, from);
+    inner.set_tsig(tsig);
+    inner.answer(rt, request, out)
+}
+
+impl<'r, 'k, K: KeyRing, A: SignsLater + Drop, C: UnixClock, O: TsigLog + Drop> Handler
+    for SignedDatagrams<'r, 'k, K, A, C, O> {
+    ghost seen = { λ signed. A.seen signed.inner };
+
+    ghost peer = { λ signed. signed.peer };
+
+    ghost is_reply = { λ peer seen later request messages. IsReplyTo K.keys K.rights A.is_reply AreSignedAlone peer seen later request messages };
+
+    fn turn_to(&mut self, other: Peer, from: SocketAddr) {
+        self.inner.turn_to(other, from);
+        self.peer = other;
+        self.from = from;
+    }
+
+    fn answer_unread(&mut self, request: &[u8], head: Head, out: &mut [u8]) -> usize {
+        if request.len() < HEADER || request.len() > MAX_LIMIT {
+            return self.inner.answer_unread(request, head, out);
+        }
+        let now = self.clock.now();
+        let message = Message::new(request);
+        let verified = verify(self.ring.keys(), now, &message);
+        self.unread_by(now, verified, request, head, out)
+    }
+
+    fn answer<R: Wait>(
+        &mut self,
+        rt: &R,
+        request: &[u8],
+        out: &mut [u8],
+    ) -> Result<Option<usize>, Spent> {
+        if request.len() < HEADER || request.len() > MAX_LIMIT {
+            return Ok(None);
+        }
+        if request.len() > MAX_SHORT {
+            return self.answer_long(rt, request, out);
+        }
+        self.answer_short(rt, request, out)
+    }
+}

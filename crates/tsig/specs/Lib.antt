@@ -1,0 +1,8 @@
+pub mod Digested
+pub mod Fields
+pub mod Keys
+pub mod Replies
+pub mod Signing
+pub mod Taken
+pub mod Tsig
+pub mod Verification

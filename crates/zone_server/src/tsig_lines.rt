@@ -1,0 +1,26 @@
+//! The log of signed requests that are refused.
+use crate::service_log::{Event, ServiceLog};
+use dns_name::Name;
+use signed_replies::{TsigFault, TsigLog};
+use std::net::SocketAddr;
+use std::sync::Wait;
+
+/// Logs signed requests that are refused to the log of the service.
+#[derive(Drop)]
+pub struct TsigLines<'a, L> {
+    log: &'a L,
+}
+
+impl<'a, L: ServiceLog> TsigLines<'a, L> {
+    /// Such a log.
+    pub fn new(log: &'a L) -> TsigLines<'a, L> {
+        TsigLines { log }
+    }
+}
+
+impl<'a, L: ServiceLog> TsigLog for TsigLines<'a, L> {
+    fn tell_fault<R: Wait>(&self, rt: &R, from: SocketAddr, key: &Name, fault: TsigFault) {
+        let key = key.copy();
+        self.log.tell(rt, Event::BadTsig { from, key, fault });
+    }
+}

@@ -1,0 +1,376 @@
+#!/usr/bin/env bash
+# Tries a running `dnsd serve --keys` by the programs that people have, each with a key (RFC 8945): questions and transfers by dig and kdig,
+# updates by nsupdate, knsupdate and dnspython, and BIND, Knot and NSD as secondaries that transfer and are notified by their key alone. Keys that
+# aren't known, secrets that are others, a clock that is ten minutes off and MACs that are cut short get what RFC 8945, 5.2 says, and with
+# BIND as the server the same. It prints a line a check and a count, and its status is 1 where one failed. It listens on 127.0.0.1 alone, and
+# ends what it starts.
+# Usage: [DNSD=PROGRAM] tests/tsig.sh [--port N] [--without-secondaries]
+#   --port N                 dnsd listens on N (by default 15393), the secondaries on the three after it, BIND as a server on the next
+#   --without-secondaries    leaves out the secondaries
+# It needs Debian's packages bind9-dnsutils, knot-dnsutils, bind9, bind9-utils, knot, nsd and python3-dnspython, and the program that `make dnsd`
+# builds.
+set -euo pipefail
+cd "$(dirname "$0")/.."
+program=${DNSD:-$PWD/crates/dnsd/out/dnsd}
+port=15393
+secondaries=yes
+while [ $# -gt 0 ]; do
+    case $1 in
+        --port) port=$2; shift 2 ;;
+        --without-secondaries) secondaries=no; shift ;;
+        *) echo "tsig: no option $1" >&2; exit 2 ;;
+    esac
+done
+[ -x "$program" ] || { echo "tsig: no program at $program: run make dnsd first" >&2; exit 2; }
+PATH=$PATH:/usr/sbin:/sbin
+for command in dig kdig nsupdate knsupdate tsig-keygen named knotd nsd; do
+    command -v "$command" >/dev/null || {
+        echo "tsig: no $command: it needs Debian's bind9-dnsutils, knot-dnsutils, bind9, bind9-utils, knot and nsd" >&2
+        exit 2
+    }
+done
+# Debian packages dnspython for its own Python
+python=/usr/bin/python3
+"$python" -c 'import dns.tsig' 2>/dev/null || { echo "tsig: no dnspython: it needs Debian's python3-dnspython" >&2; exit 2; }
+
+. tests/asking.sh
+
+s1=AAECAwQFBgcICQoLDA0ODxAREhMUFRYXGBkaGxwdHh8=
+s2=AAECAwQFBgcICQoLDA0ODxAREhMUFRYXGBkaGxwdHh8gISIjJCUmJygpKissLS4vMDEyMzQ1Njc4OTo7PD0+Pw==
+s3=ZGlmZmVyZW50IHNlY3JldCBvZiBvY3RldHM=
+up=hmac-sha256:up.key:$s1
+xfr=hmac-sha512:xfr.key:$s2
+both=hmac-sha384:both.key:$s2
+far=hmac-sha256:far.key:$s1
+
+# The server's keys, in the forms of BIND and of dig.
+write_keys() {
+    {
+        echo "// keys"
+        echo "key \"up.key\" { algorithm hmac-sha256; secret \"$s1\"; };"
+        echo "key xfr.key. {"
+        echo "	secret \"$s2\"; # the secret first"
+        echo "	algorithm \"hmac-sha512\";"
+        echo "};"
+        echo "/* of dig */"
+        echo "hmac-sha384:BOTH.key:$s2"
+        echo "hmac-sha256:far.key:$s1"
+    } >"$work/keys"
+    chmod 600 "$work/keys"
+}
+rules=(--allow '' --may 'key up.key: update' --may 'key xfr.key: transfer' --may 'key both.key 127.0.0.0/8: update, transfer'
+    --may 'key far.key 192.0.2.0/24: update, transfer')
+
+# What dig or kdig prints of a signed question: the status, whether the TSIG was verified, and the error of the reply's TSIG.
+verified() {
+    local tool=$1 key=$2
+    shift 2
+    "$tool" @127.0.0.1 -p "$port" -y "$key" +retry=0 +timeout=5 "$@" >"$work/printed" 2>&1 || true
+    awk '
+        /->>HEADER<<-/ && !status { match($0, /status: [A-Z]+/); status = substr($0, RSTART + 8, RLENGTH - 8) }
+        /[Cc]ouldn.t verify|[Ff]ailed to verify|TSIG error|expected a TSIG|WARNING.*(TSIG|verif)|could not be validated/ { bad = 1 }
+        /PSEUDOSECTION|^;; TSIG/ { tsig = 1 }
+        END { print status, (tsig ? "signed" : "unsigned"), (bad ? "not verified" : "verified") }
+    ' "$work/printed"
+}
+
+# How many records dig or kdig prints of a signed transfer, and whether its messages were verified.
+transferred() {
+    verified "$@" >/dev/null
+    awk '
+        /[Cc]ouldn.t verify|[Ff]ailed to verify|TSIG error|could not be validated|WARNING/ { bad = 1 }
+        /^[^;].*[ \t]TSIG[ \t]/ { tsig = 1; next }
+        /^[^;]/ { n++ }
+        END { print n + 0 " records, " (bad || !tsig ? "not verified" : "verified") }
+    ' "$work/printed"
+}
+
+# Questions and transfers, signed.
+questions() {
+    local tool over key
+    for tool in dig kdig; do
+        for over in +notcp +tcp; do
+            for key in "$up" "$xfr" "$both" "$far"; do
+                check "$tool $over ${key%:*} SOA" "NOERROR signed verified" "$(verified $tool "$key" "$over" "$d" SOA)"
+                check "$tool $over ${key%:*} nope" "NXDOMAIN signed verified" "$(verified $tool "$key" "$over" "nope.$d" A)"
+            done
+        done
+        check "$tool, a reply that isn't in the zone" "REFUSED signed verified" "$(verified $tool "$up" host.example.net. A)"
+        check "$tool axfr by who may" "14 records, verified" "$(transferred $tool "$xfr" "$d" axfr)"
+        check "$tool axfr by who may by key and address" "14 records, verified" "$(transferred $tool "$both" "$d" axfr)"
+        check "$tool ixfr by who may" "14 records, verified" "$(transferred $tool "$xfr" "$d" ixfr=0)"
+    done
+    check "kdig axfr by a key that may only update" REFUSED "$(kdig @127.0.0.1 -p "$port" -y "$up" "$d" axfr 2>&1 | grep -o REFUSED | head -1)"
+    check "kdig axfr by a key from another address" REFUSED "$(kdig @127.0.0.1 -p "$port" -y "$far" "$d" axfr 2>&1 | grep -o REFUSED | head -1)"
+    check "kdig axfr unsigned" REFUSED "$(kdig @127.0.0.1 -p "$port" "$d" axfr 2>&1 | grep -o REFUSED | head -1)"
+}
+
+# What a request that isn't signed as it should be gets: the code, and the error in the reply's TSIG. The kind is one of key, secret, clock, short.
+refusal() {
+    "$python" - "$1" "$2" "$3" "$d" "$s1" "$s3" <<'end'
+import socket, struct, sys, time
+import dns.message, dns.name, dns.query, dns.rcode, dns.tsig
+port, over, kind, zone, secret, other = int(sys.argv[1]), *sys.argv[2:]
+name = "unknown.key." if kind == "key" else "up.key."
+key = dns.tsig.Key(name, other if kind == "secret" else secret, "hmac-sha256")
+message = dns.message.make_query(zone, "SOA")
+message.flags = 0
+message.use_tsig(key)
+real = time.time
+if kind == "clock":
+    time.time = lambda: real() - 600
+wire = message.to_wire()
+time.time = real
+if kind == "short":
+    # the MAC's size is behind the algorithm's name, the time and the fudge; the MAC is cut to its half
+    at = wire.index(b"\x0bhmac-sha256\0") + 13
+    rdlength = at - 2
+    wire = (wire[:rdlength] + struct.pack("!H", struct.unpack("!H", wire[rdlength:at])[0] - 16) + wire[at:at + 8]
+            + struct.pack("!H", 16) + wire[at + 10:at + 26] + wire[at + 42:])
+if over == "udp":
+    s = socket.socket(socket.AF_INET, socket.SOCK_DGRAM)
+    s.settimeout(5)
+    s.sendto(wire, ("127.0.0.1", port))
+    reply = s.recv(65535)
+else:
+    s = socket.create_connection(("127.0.0.1", port), 5)
+    s.sendall(struct.pack("!H", len(wire)) + wire)
+    size = struct.unpack("!H", s.recv(2, socket.MSG_WAITALL))[0]
+    reply = s.recv(size, socket.MSG_WAITALL)
+# read without verifying: the error, and the size of the MAC
+rcode = dns.rcode.to_text(reply[3] & 15)
+at = reply.find(b"\x0bhmac-sha256\0") + 13
+if at < 13:
+    print(rcode, "without a TSIG")
+    sys.exit()
+mac = struct.unpack("!H", reply[at + 8:at + 10])[0]
+error = struct.unpack("!H", reply[at + 12 + mac:at + 14 + mac])[0]
+print(rcode, {16: "BADSIG", 17: "BADKEY", 18: "BADTIME", 22: "BADTRUNC"}.get(error, error), "signed" if mac else "unsigned")
+end
+}
+
+# Requests that aren't signed as they should be, and those of BIND beside them.
+refusals() {
+    local over kind
+    serve_bind
+    for over in udp tcp; do
+        check "$over, an unknown key" "NOTAUTH BADKEY unsigned" "$(refusal "$port" $over key)"
+        check "$over, another secret" "NOTAUTH BADSIG unsigned" "$(refusal "$port" $over secret)"
+        check "$over, ten minutes ago" "NOTAUTH BADTIME signed" "$(refusal "$port" $over clock)"
+        check "$over, half a MAC" "NOTAUTH BADTRUNC signed" "$(refusal "$port" $over short)"
+        # BIND tells a MAC of half the size FORMERR
+        for kind in key secret clock; do
+            check "$over, $kind, as BIND" "$(refusal $((port + 4)) $over $kind)" "$(refusal "$port" $over $kind)"
+        done
+    done
+}
+
+# BIND as a server of the zone, with one of the keys.
+serve_bind() {
+    mkdir -p "$work/bind"
+    cp zones/example.test.zone "$work/bind/zone"
+    cat >"$work/bind/named.conf" <<end
+options { directory "$work/bind"; listen-on port $((port + 4)) { 127.0.0.1; }; listen-on-v6 { none; }; pid-file none; recursion no;
+    session-keyfile none; allow-query { any; }; dnssec-validation no; };
+controls { };
+key "up.key" { algorithm hmac-sha256; secret "$s1"; };
+zone "example.test" { type primary; file "zone"; allow-update { key up.key; }; };
+end
+    named -g -c "$work/bind/named.conf" >"$work/bind/log" 2>&1 &
+    started+=($!)
+    for _ in $(seq 100); do
+        ! grep -q ' running$' "$work/bind/log" || return 0
+        sleep 0.1
+    done
+    cat "$work/bind/log" >&2
+    echo "tsig: named doesn't start" >&2
+    exit 2
+}
+
+# Sends an update by a program with these options, its lines from standard input, and prints the code that it got, and what it says of the signature.
+sent() {
+    local told status=0
+    told=$({ echo "server 127.0.0.1 $port"; echo "zone $d"; cat; echo send; } | "$@" 2>&1) || status=$?
+    if grep -qiE "expected a TSIG|TSIG error|verif|BADSIG|BADKEY" <<<"$told"; then
+        echo "not verified"
+    elif [ $status = 0 ]; then
+        echo NOERROR
+    else
+        sed -nE "s/.*(failed: |with error ')([A-Z]+).*/\2/p" <<<"$told"
+    fi
+}
+
+held() {
+    dig @127.0.0.1 -p "$1" +short "$2" A 2>/dev/null | LC_ALL=C sort | tr '\n' ' '
+}
+
+# Updates by keys, over both transports.
+updates() {
+    local count=0 tool over key flag
+    for tool in nsupdate knsupdate; do
+        for over in udp tcp; do
+            flag=()
+            [ $over = udp ] || flag=(-v)
+            for key in "$up" "$both"; do
+                count=$((count + 1))
+                check "$tool $over ${key%:*} $1" NOERROR "$(sent $tool "${flag[@]}" -y "$key" <<<"update add u$count.$d 60 A 192.0.2.$count")"
+                check "$tool $over ${key%:*} $1, then" "192.0.2.$count " "$(held "$port" "u$count.$d")"
+            done
+            check "$tool $over by who may only transfer $1" REFUSED "$(sent $tool "${flag[@]}" -y "$xfr" <<<"update add no.$d 60 A 192.0.2.1")"
+            check "$tool $over from another address $1" REFUSED "$(sent $tool "${flag[@]}" -y "$far" <<<"update add no.$d 60 A 192.0.2.1")"
+            check "$tool $over unsigned $1" REFUSED "$(sent $tool "${flag[@]}" <<<"update add no.$d 60 A 192.0.2.1")"
+            check "$tool $over, another secret $1" "not verified" "$(sent $tool "${flag[@]}" -y "hmac-sha256:up.key:$s3" <<<"update add no.$d 60 A 192.0.2.1")"
+            check "$tool $over, then $1" "" "$(held "$port" "no.$d")"
+        done
+    done
+    printf 'key "up.key" { algorithm hmac-sha256; secret "%s"; };\n' "$s1" >"$work/up"
+    check "nsupdate -k $1" NOERROR "$(sent nsupdate -k "$work/up" <<<"update add file.$d 60 A 192.0.2.99")"
+    check "nsupdate -k $1, then" "192.0.2.99 " "$(held "$port" "file.$d")"
+}
+
+# The zone that a server holds, in order.
+zone_at() {
+    dig @127.0.0.1 -p "$1" "${@:2}" +noall +answer +onesoa "$d" axfr 2>&1 | awk 'NF && !/^;/ { $1 = $1; print }' | LC_ALL=C sort
+}
+
+serial_at() {
+    dig @127.0.0.1 -p "$1" +short "$d" SOA 2>/dev/null | awk '{ print $3 }'
+}
+
+# Waits until a server has this serial.
+waits() {
+    for _ in $(seq 100); do
+        [ "$(serial_at "$1")" != "$2" ] || return 0
+        sleep 0.1
+    done
+}
+
+start_secondaries() {
+    mkdir -p "$work/b" "$work/k" "$work/n"
+    cat >"$work/b/named.conf" <<end
+options { directory "$work/b"; listen-on port $((port + 1)) { 127.0.0.1; }; listen-on-v6 { none; }; pid-file none; recursion no;
+    session-keyfile none; allow-query { any; }; allow-transfer { 127.0.0.1; }; dnssec-validation no; notify no; };
+controls { };
+key "xfr.key" { algorithm hmac-sha512; secret "$s2"; };
+server 127.0.0.1 { keys { xfr.key; }; };
+zone "example.test" { type secondary; file "zone"; primaries port $port { 127.0.0.1 key xfr.key; }; allow-notify { key xfr.key; }; };
+end
+    named -g -c "$work/b/named.conf" >"$work/b/log" 2>&1 &
+    started+=($!)
+    cat >"$work/k/knotd.conf" <<end
+server:
+    rundir: "$work/k"
+    listen: 127.0.0.1@$((port + 2))
+    udp-workers: 1
+    tcp-workers: 1
+database:
+    storage: "$work/k"
+key:
+  - id: xfr.key.
+    algorithm: hmac-sha512
+    secret: "$s2"
+remote:
+  - id: primary
+    address: 127.0.0.1@$port
+    key: xfr.key.
+acl:
+  - id: readers
+    address: 127.0.0.1
+    action: transfer
+  - id: notes
+    key: xfr.key.
+    action: notify
+zone:
+  - domain: example.test.
+    storage: "$work/k"
+    file: zone
+    zonefile-sync: -1
+    master: primary
+    acl: [ readers, notes ]
+log:
+  - target: stderr
+    any: info
+end
+    knotd -c "$work/k/knotd.conf" >"$work/k/log" 2>&1 &
+    started+=($!)
+    cat >"$work/n/nsd.conf" <<end
+server:
+    ip-address: 127.0.0.1@$((port + 3))
+    username: ""
+    server-count: 1
+    zonesdir: "$work/n"
+    xfrdir: "$work/n"
+    database: ""
+    zonelistfile: "$work/n/zone.list"
+    xfrdfile: "$work/n/xfrd.state"
+    pidfile: ""
+    verbosity: 2
+remote-control:
+    control-enable: no
+key:
+    name: xfr.key
+    algorithm: hmac-sha512
+    secret: "$s2"
+zone:
+    name: example.test
+    zonefile: zone
+    request-xfr: 127.0.0.1@$port xfr.key
+    allow-notify: 127.0.0.1 xfr.key
+    provide-xfr: 127.0.0.1 NOKEY
+end
+    nsd -d -c "$work/n/nsd.conf" >"$work/n/log" 2>&1 &
+    started+=($!)
+}
+
+# Secondaries by their key alone: a transfer in whole, and each change once they are notified.
+follow() {
+    local place names=(BIND Knot NSD) serial
+    start_secondaries
+    for place in 1 2 3; do waits $((port + place)) "$(serial_at "$port")"; done
+    for place in 1 2 3; do
+        check "${names[place - 1]}, the zone" "$(zone_at "$port" -y "$xfr")" "$(zone_at $((port + place)))"
+    done
+    check "an update while they follow" NOERROR "$(sent nsupdate -y "$up" <<<"update add followed.$d 60 A 192.0.2.200")"
+    serial=$(serial_at "$port")
+    for place in 1 2 3; do waits $((port + place)) "$serial"; done
+    for place in 1 2 3; do
+        check "${names[place - 1]}, after a NOTIFY that is signed" "$(zone_at "$port" -y "$xfr")" "$(zone_at $((port + place)))"
+    done
+    sleep 3
+    check "the secondaries answer NOTIFY" "" "$(grep 'does not answer NOTIFY' "$work/dnsd.log" || true)"
+}
+
+notify=(--notify "127.0.0.1:$((port + 1)) key xfr.key" --notify "127.0.0.1:$((port + 2)) key xfr.key" --notify "127.0.0.1:$((port + 3)) key xfr.key")
+write_keys
+
+# A file that others may read, and one that isn't of keys, are refused, and nothing of a secret is told.
+chmod 640 "$work/keys"
+told=$("$program" serve --listen "127.0.0.1:$port" --keys "$work/keys" zones/example.test.zone 2>&1) && status=0 || status=$?
+check "a key file that the group may read" "3 0640" "$status $(grep -o 0640 <<<"$told")"
+chmod 600 "$work/keys"
+echo "hmac-sha256:$s1" >"$work/bad"
+chmod 600 "$work/bad"
+told=$("$program" serve --listen "127.0.0.1:$port" --keys "$work/bad" zones/example.test.zone 2>&1) && status=0 || status=$?
+check "a key without a name" "3 line 1 no secret" "$status $(grep -o 'line 1' <<<"$told") $(grep -q "$s1" <<<"$told" && echo secret || echo no secret)"
+
+serve zones/example.test.zone --keys "$work/keys" "${rules[@]}"
+questions
+refusals
+updates "without a store"
+check "no secret in the log" "" "$(grep -F -e "$s1" -e "$s2" -e "$s3" "$work/dnsd.log" || true)"
+check "the log has an unknown key" yes "$(grep -q 'signed with key unknown.key.*BADKEY' "$work/dnsd.log" && echo yes || echo no)"
+unserve
+
+mkdir "$work/store"
+serve zones/example.test.zone --keys "$work/keys" "${rules[@]}" --store "$work/store"
+updates "with a store"
+unserve
+
+if [ $secondaries = yes ]; then
+    serve zones/example.test.zone --keys "$work/keys" "${rules[@]}" "${notify[@]}"
+    follow
+    unserve
+fi
+
+echo "$passed checks passed, $failed failed"
+[ "$failed" = 0 ]
