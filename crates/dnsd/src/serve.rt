@@ -1,7 +1,7 @@
 //! Serving a zone on sockets (RFC 1035, 4.2).
 ghost use Rattle.std.specs.Prelude.{◌≤◌, vec_len};
 ghost use Rattle.transfer_core.specs.declared.kept.TheConstants.{KEPT};
-ghost use Rattle.dnsd_setup.specs.Begun.{CanBegin};
+ghost use Rattle.dnsd_setup.specs.Starts.{CanStart};
 
 use crate::secondaries::{SecondarySockets, secondaries_for};
 use crate::thread_specs::{thread_specs_for, work_limits_of};
@@ -209,7 +209,7 @@ fn serve_on_sockets<
     bound: Bound,
     keys: Option<&KeyFile>,
 ) -> io::Result<u8>
-    requires { CanBegin begun }
+    requires { CanStart begun }
 {
     if tell_outside(rt, serve.rules.as_slice(), begun.zone().apex())? {
         return Ok(BAD_COMMAND);
@@ -351,7 +351,7 @@ fn serve_on_workers<
     keys: Option<&KeyFile>,
     log: &Log,
 ) -> Result<(), ServeFault>
-    requires { CanBegin begun }
+    requires { CanStart begun }
 {
     let Some(progresses) = work_limits_of(alloc, serve.workers, serve.most) else {
         return Err(ServeFault::NoMemory);
@@ -386,7 +386,7 @@ fn serve_with_specs<
     keys: Option<&KeyFile>,
     log: &Log,
 ) -> Result<(), ServeFault>
-    requires { CanBegin begun }
+    requires { CanStart begun }
 {
     if specs.len() > MAX_THREADS {
         return Err(ServeFault::NotStarted);
@@ -476,7 +476,7 @@ fn serve_with_store<
     plan: Plan<'_>,
     log: &Log,
 ) -> Result<(), ServeFault>
-    requires begun { CanBegin begun }
+    requires begun { CanStart begun }
     requires threads { vec_len specs ≤ 62 }
     requires kept { plan.keep ≤ KEPT }
 {

@@ -1,6 +1,6 @@
 //! Starting a server whose updates survive a restart.
 ghost use Rattle.std.specs.Prelude.{IfOk};
-ghost use Rattle.dnsd_setup.specs.Begun.{CanBegin};
+ghost use Rattle.dnsd_setup.specs.Starts.{CanStart};
 ghost use Rattle.store_server.specs.Resumed.{IsGiven};
 
 use crate::started_zone::{StartedStore, StartedZone};
@@ -29,7 +29,7 @@ pub fn start_store_for<
     plan: StorePlan<'_>,
     text: Vec<u8>,
 ) -> io::Result<Result<StartedZone, u8>>
-    ensures { IfOk result (λ r. IfOk r CanBegin) }
+    ensures { IfOk result (λ r. IfOk r CanStart) }
 {
     let mut random = [0u8; SALT];
     rt.fill_bytes(&mut random)?;
@@ -51,7 +51,7 @@ fn started_in<R: Env + Eprint + AllocGlobal>(
     started: Started,
 ) -> io::Result<StartedZone>
     requires { IsGiven started.store }
-    ensures { IfOk result CanBegin }
+    ensures { IfOk result CanStart }
 {
     tell_started(rt, plan.dir, &started)?;
     let dir = format!(in rt.alloc(); "{}", plan.dir)?;
@@ -88,7 +88,7 @@ fn tell_served<R: Env + AllocGlobal + Eprint>(
 ) -> io::Result<()> {
     let (notice, warning) = (Level::Notice.mark_for(rt), Level::Warning.mark_for(rt));
     match served {
-        Served::Begun => eprintln!(rt; "{notice}created the store '{dir}' from ZONE"),
+        Served::Created => eprintln!(rt; "{notice}created the store '{dir}' from ZONE"),
         Served::Same => Ok(()),
         Served::Store => eprintln!(rt; "{notice}serving the store '{dir}'; ignoring ZONE"),
         Served::StoreThoughOther(serial) => {

@@ -33,7 +33,7 @@ pub(crate) fn level_of_store(event: &StoreEvent) -> Level {
         StoreEvent::Failing(_) | StoreEvent::Compaction(CompactionEvent::Unknown(_)) =>
             Level::Error,
         StoreEvent::Kept => Level::Notice,
-        StoreEvent::Compaction(CompactionEvent::Begun(_) | CompactionEvent::Replaced(_)) => {
+        StoreEvent::Compaction(CompactionEvent::Started(_) | CompactionEvent::Replaced(_)) => {
             Level::Info
         }
         StoreEvent::Compaction(_) => Level::Warning,

@@ -1,7 +1,7 @@
 //! What a server starts to serve.
 ghost use Rattle.std.specs.Prelude.{IfOk};
 ghost use Rattle.dns_engine.specs.Versions.{IsFirst, AreNext};
-ghost use Rattle.dnsd_setup.specs.Begun.{CanBegin, IsIn, Begins};
+ghost use Rattle.dnsd_setup.specs.Starts.{CanStart, IsIn, StartsWith};
 
 use dns_engine::SharedVersion;
 use std::alloc::{AllocError, Global};
@@ -101,8 +101,8 @@ impl StartedZone {
         texts: T,
         log: &'a L,
     ) -> Result<ServedZone<'a, R, T, L>, AllocError>
-        requires { CanBegin self }
-        ensures begins { IfOk result (λ b. Begins self b.first b.later.items b.store) }
+        requires { CanStart self }
+        ensures begins { IfOk result (λ b. StartsWith self b.first b.later.items b.store) }
         ensures served { IfOk result (λ b. IsFirst b.first.zone b.first × AreNext b.first b.later.items) }
     {
         match self {

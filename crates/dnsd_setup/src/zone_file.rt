@@ -1,6 +1,6 @@
 //! Reading the zone's text.
 ghost use Rattle.std.specs.Prelude.{IfOk};
-ghost use Rattle.dnsd_setup.specs.Begun.{CanBegin};
+ghost use Rattle.dnsd_setup.specs.Starts.{CanStart};
 
 use crate::started_zone::StartedZone;
 use command_line::Serve;
@@ -58,7 +58,7 @@ pub fn read_text_for<R: Env + Eprint + AllocGlobal>(
     serve: &Serve<'_>,
     text: Vec<u8>,
 ) -> io::Result<Result<StartedZone, u8>>
-    ensures { IfOk result (λ r. IfOk r CanBegin) }
+    ensures { IfOk result (λ r. IfOk r CanStart) }
 {
     match read_zone(rt.alloc(), text.as_slice(), &serve.origin) {
         Ok(zone) => Ok(Ok(StartedZone::Zone(zone))),

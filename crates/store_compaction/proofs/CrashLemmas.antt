@@ -19,7 +19,7 @@ use Rattle.store_recovery.specs.Store.{IsStore}
 use Rattle.store_recovery.proofs.StoreLemmas.{synced_taken}
 use Rattle.store_recovery.specs.declared.choices.Choice.{Choice}
 use Rattle.store_recovery.specs.declared.choices.Take.{Take}
-use Rattle.store_recovery.specs.Begun.{IsBegun}
+use Rattle.store_recovery.specs.Created.{IsCreated}
 use Rattle.store_recovery.specs.Behind.{AreBehind}
 use Rattle.store_recovery.specs.Choice.{IsChoice}
 use Rattle.store_recovery.specs.Folder.{Folder, Means, HasPair, with_journal}
@@ -50,7 +50,7 @@ crash_started folder head batches zone updates left octets text start means pair
 -- the text that all began from is the same, and so is the last version
 pub same_choice : (text written : List ℕ) (head next : Head) (batches rest : List (List (List ℕ))) (zone : List Record) (updates : List Update) (k number : ℕ)
     (random : List ℕ) (start later : Recovery) (origin : Name) (given : List ℕ) (taken : Option Take) (choice : Choice)
-    → IsStore text head batches zone updates → k ≤ length updates → IsBegun (replay zone (take k updates)) number random head.origin written next → AreBehind k batches rest
+    → IsStore text head batches zone updates → k ≤ length updates → IsCreated (replay zone (take k updates)) number random head.origin written next → AreBehind k batches rest
     → IsStarted text (journal_of head batches) start → IsStarted written (journal_of next rest) later
     → IsChoice start.head.origin start.newest.last.zone origin given taken choice
     → IsChoice later.head.origin later.newest.last.zone origin given taken choice

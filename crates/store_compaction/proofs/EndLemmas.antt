@@ -23,7 +23,7 @@ use Rattle.store_recovery.specs.Start.{IsStarted}
 use Rattle.store_recovery.specs.Store.{IsStore}
 use Rattle.store_recovery.proofs.ReadLemmas.{read_once, read_long, read_first}
 use Rattle.store_recovery.proofs.StoreLemmas.{store_taken}
-use Rattle.store_recovery.specs.Begun.{IsBegun}
+use Rattle.store_recovery.specs.Created.{IsCreated}
 use Rattle.store_recovery.specs.Behind.{AreBehind}
 use Rattle.store_recovery.proofs.CompactedLemmas.{replay_parts, replay_rest, compacted_store}
 use Rattle.store_compaction.specs.declared.marked.Compaction.{Compaction}
@@ -49,7 +49,7 @@ last_is text head batches zone updates trail k end =
     ∙ (ap (λ (us : List Update). replay (replay zone (take k updates)) us) others ∙ replay_rest zone updates k))
 
 -- a store that begins with a version
-pub begun_end : (text : List ℕ) (head : Head) (number keep : ℕ) (random : List ℕ) (origin : TextSum) (version : Version) → IsBegun version.zone number random origin text head
+pub begun_end : (text : List ℕ) (head : Head) (number keep : ℕ) (random : List ℕ) (origin : TextSum) (version : Version) → IsCreated version.zone number random origin text head
     → IsEndOf text head [] version.zone [] (record { oldest = version; steps = []; keep = keep }) 0
 begun_end text head number keep random origin version begun = record { store = begun.store; within = omega arith; oldest = refl; rest = refl; made = tt }
 
@@ -161,7 +161,7 @@ marked_end compaction text head batches zone updates trail k bodies few end = re
 -- what a compaction leaves is a store
 pub compaction_store : (text written : List ℕ) (head next : Head) (batches : List (List (List ℕ))) (zone : List Record) (updates : List Update) (k number : ℕ)
     (random : List ℕ) (origin : TextSum) (version : Version) (compaction : Compaction)
-    → IsStore text head batches zone updates → version.zone ≡ replay zone (take k updates) → IsBegun version.zone number random origin written next
+    → IsStore text head batches zone updates → version.zone ≡ replay zone (take k updates) → IsCreated version.zone number random origin written next
     → IsMarked k batches compaction
     → (rest : List (List (List ℕ))) × (bodies_of compaction ≡ map batch_of rest) × IsStore written next rest version.zone (drop k updates)
 compaction_store text written head next batches zone updates k number random origin version compaction store same begun marked =

@@ -11,7 +11,7 @@ use Rattle.journal.specs.Frame.{body_limit, Fit}
 use Rattle.journal.specs.declared.log.Log.{Log}
 use Rattle.journal.specs.Log.{Holds, IsStuck}
 use Rattle.store_recovery.specs.Store.{IsStore}
-use Rattle.store_recovery.specs.Begun.{IsBegun}
+use Rattle.store_recovery.specs.Created.{IsCreated}
 use Rattle.store_compaction.specs.declared.marked.Compaction.{Compaction}
 use Rattle.store_compaction.specs.declared.next.NextText.{NextText}
 use Rattle.store_compaction.specs.declared.writer.StoreWriter.{StoreWriter}
@@ -111,7 +111,7 @@ module _ {D F : Type 0} (written synced : D → List ℕ) where
   -- the journal of a text that is written is in place
   pub stands_replaced : (text written_text : List ℕ) (batches : List (List (List ℕ))) (zone : List Record) (updates : List Update) (k : ℕ) (old new : StoreWriter D F) (wanted : Wanted)
       (head : Head) (random : List ℕ) (compaction : Compaction)
-      → Stands written synced text batches zone updates k old (Some wanted) → IsBegun wanted.next.version.zone wanted.next.number random wanted.origin written_text head
+      → Stands written synced text batches zone updates k old (Some wanted) → IsCreated wanted.next.version.zone wanted.next.number random wanted.origin written_text head
       → under_way_of old ≡ Some compaction → number_of compaction ≡ head.number → Holds written synced head (log_of new) (bodies_of compaction)
       → head_of new ≡ head → trail_of new ≡ trail_of old
       → StandsFrom written synced zone updates new None × ((head_of new).origin ≡ (head_of old).origin)

@@ -9,7 +9,7 @@ use Rattle.store_files.specs.declared.file.FileDisk.{FileDisk}
 use Rattle.store_files.specs.File.{written, synced}
 use Rattle.store_files.specs.declared.pair.PairFault.{PairFault}
 use Rattle.store_files.specs.declared.pair.PairFault.TheVariants.{Before, Unknown}
-use Rattle.store_recovery.specs.Begun.{IsBegun}
+use Rattle.store_recovery.specs.Created.{IsCreated}
 use Rattle.store_compaction.specs.declared.marked.Compaction.{Compaction}
 use Rattle.store_compaction.specs.declared.writer.StoreWriter.{StoreWriter}
 use Rattle.store_compaction.specs.Marked.{bodies_of, number_of}
@@ -17,7 +17,7 @@ use Rattle.store_compaction.specs.Writer.{log_of, head_of, under_way_of, IsOver}
 
 -- a head is that of a zone text with which a store of this zone is created
 abbrev pub BeginsText : List Record → ℕ → List ℕ → TextSum → Head → Type 0
-BeginsText zone number random origin head = (text : List ℕ) × IsBegun zone number random origin text head
+BeginsText zone number random origin head = (text : List ℕ) × IsCreated zone number random origin text head
 
 -- a writer continues with the journal of a head, with the batches kept by its compaction, which was under way for the text with the head's number. Or no such compaction is under
 -- way, and the writer is unchanged

@@ -6,7 +6,7 @@ use std::sync::Wait;
 #[derive(Debug, Drop)]
 pub enum CompactionEvent {
     /// The next zone text, with this number, is started.
-    Begun(u64),
+    Started(u64),
     /// The journal of the zone text with this number is now the store's.
     Replaced(u64),
     /// The zone text could not be written. The journal is still used, and another text is started later.

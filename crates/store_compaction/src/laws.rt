@@ -20,7 +20,7 @@ ghost use Rattle.store_recovery.specs.Start.{IsStarted};
 ghost use Rattle.store_recovery.specs.Store.{IsStore};
 ghost use Rattle.store_recovery.specs.declared.choices.Choice.{Choice};
 ghost use Rattle.store_recovery.specs.declared.choices.Take.{Take};
-ghost use Rattle.store_recovery.specs.Begun.{IsBegun};
+ghost use Rattle.store_recovery.specs.Created.{IsCreated};
 ghost use Rattle.store_recovery.specs.Behind.{AreBehind};
 ghost use Rattle.store_recovery.specs.Choice.{IsChoice};
 ghost use Rattle.store_recovery.specs.Folder.{Folder, Means, HasPair, with_journal};
@@ -38,7 +38,7 @@ pub fn trails_end_their_stores()
     ensures follows { (trail : TrailState) (steps : List VersionUpdate) → IsTrail trail → AreMadeBy (last_in trail) (versions_in steps) (updates_of steps)
         → IsTrail (followed trail steps) × (last_in (followed trail steps) ≡ newest_of (last_in trail) (versions_in steps)) }
     ensures begun { (text : List ℕ) (head : Head) (number keep : ℕ) (random : List ℕ) (origin : TextSum) (version : Version)
-        → IsBegun version.zone number random origin text head → IsEndOf text head [] version.zone [] (record { oldest = version; steps = []; keep = keep }) 0 }
+        → IsCreated version.zone number random origin text head → IsEndOf text head [] version.zone [] (record { oldest = version; steps = []; keep = keep }) 0 }
     ensures goes_on { (text : List ℕ) (head : Head) (batches : List (List (List ℕ))) (zone : List Record) (updates : List Update) (trail : TrailState) (k : ℕ) (steps : List VersionUpdate)
         → IsEndOf text head batches zone updates trail k → AreMadeBy (last_in trail) (versions_in steps) (updates_of steps)
         → length (batch_of (updates_of steps)) < body_limit → length batches < 2 ^ 64
@@ -52,7 +52,7 @@ pub fn trails_end_their_stores()
 pub fn compactions_keep_the_versions()
     ensures store { (text written : List ℕ) (head next : Head) (batches : List (List (List ℕ))) (zone : List Record) (updates : List Update) (k number : ℕ)
         (random : List ℕ) (origin : TextSum) (version : Version) (compaction : Compaction)
-        → IsStore text head batches zone updates → version.zone ≡ replay zone (take k updates) → IsBegun version.zone number random origin written next
+        → IsStore text head batches zone updates → version.zone ≡ replay zone (take k updates) → IsCreated version.zone number random origin written next
         → IsMarked k batches compaction
         → (rest : List (List (List ℕ))) × (bodies_of compaction ≡ map batch_of rest) × IsStore written next rest version.zone (drop k updates) }
     ensures started { (text written : List ℕ) (head next : Head) (batches rest : List (List (List ℕ))) (zone : List Record) (updates : List Update) (k : ℕ) (start later : Recovery)
@@ -77,7 +77,7 @@ pub fn starts_have_their_trails()
 pub fn compactions_keep_the_choice()
     ensures { (text written : List ℕ) (head next : Head) (batches rest : List (List (List ℕ))) (zone : List Record) (updates : List Update) (k number : ℕ)
         (random : List ℕ) (start later : Recovery) (origin : Name) (given : List ℕ) (taken : Option Take) (choice : Choice)
-        → IsStore text head batches zone updates → k ≤ length updates → IsBegun (replay zone (take k updates)) number random head.origin written next → AreBehind k batches rest
+        → IsStore text head batches zone updates → k ≤ length updates → IsCreated (replay zone (take k updates)) number random head.origin written next → AreBehind k batches rest
         → IsStarted text (journal_of head batches) start → IsStarted written (journal_of next rest) later
         → IsChoice start.head.origin start.newest.last.zone origin given taken choice
         → IsChoice later.head.origin later.newest.last.zone origin given taken choice }

@@ -3,7 +3,7 @@ ghost use Rattle.std.specs.Prelude.{◌≡◌, ◌<◌, ◌≤◌, ℕ, List, []
 ghost use Rattle.journal.specs.Batch.{batch_of, IsShort};
 ghost use Rattle.journal.specs.Frame.{body_limit};
 ghost use Rattle.journal.specs.Recovered.{updates_in};
-ghost use Rattle.store_recovery.specs.Begun.{IsBegun};
+ghost use Rattle.store_recovery.specs.Created.{IsCreated};
 ghost use Rattle.store_compaction.specs.Marked.{bodies_of, number_of, IsMarked, IsNextJournal};
 
 use crate::body::Body;
@@ -78,7 +78,7 @@ pub fn next_text(
     before: &Head,
     random: [u8; 16],
 ) -> Result<(String, Head), AllocError>
-    ensures { IfOk result (λ r. IsBegun next.now.version.zone next.now.number random before.now.origin (string_bytes r.0) r.1) }
+    ensures { IfOk result (λ r. IsCreated next.now.version.zone next.now.number random before.now.origin (string_bytes r.0) r.1) }
 {
     let zone = next.version.get().zone();
     create_store(alloc, zone, next.number, random, before.origin)

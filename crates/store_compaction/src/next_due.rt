@@ -47,7 +47,7 @@ pub(crate) fn begin_next<W: Wait, T: TextWriter, N: CompactionLog>(
     let number = next.number;
     match texts.write(rt, alloc, next, writer.head(), later) {
         Ok(()) => {
-            events.note(rt, CompactionEvent::Begun(number));
+            events.note(rt, CompactionEvent::Started(number));
             true
         }
         Err(fault) => {

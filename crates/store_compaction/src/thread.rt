@@ -110,7 +110,7 @@ enum Text {
     /// Its thread is not started yet.
     Ordered(TextOrder),
     /// Its thread is started.
-    Begun(Writing),
+    Started(Writing),
 }
 
 /// Writes the zone texts of a directory, each on a thread of its own that is never waited for. A thread whose text is dropped continues by itself until its program ends.
@@ -135,7 +135,7 @@ impl<R: Files<File = File> + RandomSource + Clock + Threads + Drop> Drop for Thr
 
 impl<R: Files<File = File> + RandomSource + Clock + Threads + Drop> ThreadTextWriter<R> {
     ghost use Rattle.std.specs.Prelude.{option_map};
-    ghost use Rattle.store_compaction.specs.declared.thread.Text.TheVariants.{Begun};
+    ghost use Rattle.store_compaction.specs.declared.thread.Text.TheVariants.{Started};
     ghost use Rattle.store_compaction.specs.Threads.{text_of};
 
     /// A writer for a directory. No text is being written.
@@ -158,7 +158,7 @@ impl<R: Files<File = File> + RandomSource + Clock + Threads + Drop> ThreadTextWr
 
     /// Creates the file of a text and starts its thread.
     fn start_thread(&self, order: TextOrder) -> io::Result<Writing>
-        ensures { IfOk result (λ writing. text_of (Begun writing) ≡ wanted_of order.next order.before) }
+        ensures { IfOk result (λ writing. text_of (Started writing) ≡ wanted_of order.next order.before) }
     {
         let TextOrder {
             alloc,
@@ -192,7 +192,7 @@ impl<R: Files<File = File> + RandomSource + Clock + Threads + Drop> ThreadTextWr
             Text::Ordered(order)
         } else {
             self.begun = self.rt.monotonic().ok();
-            Text::Begun(self.start_thread(order)?)
+            Text::Started(self.start_thread(order)?)
         };
         self.text = Some(text);
         Ok(())
@@ -200,7 +200,7 @@ impl<R: Files<File = File> + RandomSource + Clock + Threads + Drop> ThreadTextWr
 
     /// The result of a finished thread. Removes the file of a text that could not be written.
     fn told_by(&self, writing: Writing) -> io::Result<Head>
-        ensures { IfOk result (IsWritten (text_of (Begun writing))) }
+        ensures { IfOk result (IsWritten (text_of (Started writing))) }
     {
         let (alloc, number, before) = (writing.alloc, writing.number, writing.before);
         let reported = writing.handle.join(&self.rt);
@@ -249,11 +249,11 @@ impl<R: Files<File = File> + RandomSource + Clock + Threads + Drop> TextWriter
                     Err(fault) => Some(Err(fault)),
                 }
             }
-            Some(Text::Begun(writing)) => {
+            Some(Text::Started(writing)) => {
                 if writing.over.load(Ordering::SeqCst) {
                     return Some(self.told_by(writing));
                 }
-                self.text = Some(Text::Begun(writing));
+                self.text = Some(Text::Started(writing));
                 None
             }
         }

@@ -17,7 +17,7 @@ use Rattle.journal.specs.declared.heads.Head.{Head}
 use Rattle.journal.specs.declared.heads.TextSum.{TextSum}
 use Rattle.journal.specs.Batch.{IsShort}
 use Rattle.journal.specs.Head.{IsHead, IsText}
-use Rattle.store_recovery.specs.Begun.{IsBegun}
+use Rattle.store_recovery.specs.Created.{IsCreated}
 
 -- what is written of a zone is read as that zone
 written_back : (zone : List Record) (origin : List (List ℕ)) → IsZone zone → zone_of_text origin (zone_text zone) ≡ Ok zone
@@ -31,7 +31,7 @@ written_back zone origin is =
 -- so it begins a store
 pub begun_from : (zone : List Record) (number : ℕ) (random : List ℕ) (origin : TextSum) (text : List ℕ) (head : Head)
     → IsZone zone → text ≡ zone_text zone → IsHead head → head.number ≡ number → head.random ≡ random → head.origin ≡ origin → IsText head.text text → head.serial ≡ zone_serial zone
-    → IsBegun zone number random origin text head
+    → IsCreated zone number random origin text head
 begun_from zone number random origin text head is written is_head numbered salted given same serial = record {
   written = written;
   numbered = numbered;

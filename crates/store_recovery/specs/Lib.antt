@@ -1,5 +1,5 @@
 pub mod Before
-pub mod Begun
+pub mod Created
 pub mod Behind
 pub mod Choice
 pub mod Choosing

@@ -1,6 +1,6 @@
 //! Creating a store from a zone (own).
 ghost use Rattle.std.specs.Prelude.{IfOk, string_bytes};
-ghost use Rattle.store_recovery.specs.Begun.{IsBegun};
+ghost use Rattle.store_recovery.specs.Created.{IsCreated};
 
 use journal::{Head, TextSum};
 use master_file::write_zone;
@@ -16,7 +16,7 @@ pub fn create_store(
     random: [u8; 16],
     origin: TextSum,
 ) -> Result<(String, Head), AllocError>
-    ensures { IfOk result (λ r. IsBegun zone.now number random origin (string_bytes r.0) r.1) }
+    ensures { IfOk result (λ r. IsCreated zone.now number random origin (string_bytes r.0) r.1) }
 {
     // From here on it is known that the records are a zone.
     let _soa = zone.soa();

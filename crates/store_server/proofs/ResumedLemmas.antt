@@ -39,7 +39,7 @@ use Rattle.store_compaction.proofs.RecentLemmas.{versions-append, updates_of-app
 use Rattle.store_compaction.proofs.MadeLemmas.{made_leads, read_behind, made_first}
 use Rattle.store_compaction.proofs.StandsLemmas.{none_some}
 use Rattle.store_server.specs.declared.resume.OpenStore.{OpenStore}
-use Rattle.store_server.specs.Started.{GoesOn, IsBegunStore}
+use Rattle.store_server.specs.Started.{GoesOn, IsCreatedStore}
 use Rattle.store_server.specs.Resumed.{IsGiven, WritesOn}
 use Rattle.store_server.proofs.ChainLemmas.{chain, chain_long, held_chain, Behind, behind, renumbered, made_chain, changes_behind}
 
@@ -62,7 +62,7 @@ pub record Has (store : OpenStore) : Type 0 where
   pub made : AreMadeBy store.first store.later.items (octets_in store)
 
 -- of a store that is begun
-has_begun : (zone : List Record) (number : ℕ) (random given : List ℕ) (store : OpenStore) → IsBegunStore zone number random given store → Has store
+has_begun : (zone : List Record) (number : ℕ) (random given : List ℕ) (store : OpenStore) → IsCreatedStore zone number random given store → Has store
 has_begun zone number random given store begun =
     let none : octets_in store ≡ [] = ap (map (λ update. update.items)) begun.updates in
     record {

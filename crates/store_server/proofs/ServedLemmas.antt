@@ -12,9 +12,9 @@ use Rattle.store_server.specs.declared.refusal.Refusal.{Refusal}
 use Rattle.store_server.specs.declared.refusal.Refusal.TheVariants.{Held, NoJournal, NoText, NoStart, Newer, NotNewer, OtherApex, Text, NoMemory, Device}
 use Rattle.store_server.specs.declared.resume.OpenStore.{OpenStore}
 use Rattle.store_server.specs.declared.start.Served.{Served}
-use Rattle.store_server.specs.declared.start.Served.TheVariants.{Begun, Same, Store, StoreThoughOther, Zone}
+use Rattle.store_server.specs.declared.start.Served.TheVariants.{Created, Same, Store, StoreThoughOther, Zone}
 use Rattle.store_server.specs.declared.start.Started.{Started}
-use Rattle.store_server.specs.Started.{GoesOn, IsBegunStore, IsChosen, IsServedBy, IsServedOf, IsServed, IsKept, IsOwnFault, IsRefused}
+use Rattle.store_server.specs.Started.{GoesOn, IsCreatedStore, IsChosen, IsServedBy, IsServedOf, IsServed, IsKept, IsOwnFault, IsRefused}
 
 -- want of memory and a device's fault refuse a start
 pub own_refused : (given : List ℕ) (origin : Name) (taken : Option Take) (result : Result Started Refusal) → IfErr result IsOwnFault → IfErr result (λ refusal. IsRefused given origin taken refusal)
@@ -56,22 +56,22 @@ module _ (given : List ℕ) (origin : Name) (taken : Option Take) (random text o
   older_served serial is (Err refusal) goes same = tt
 
   -- the text is taken
-  kept_served : (served : Served) (store : OpenStore) (zone : List Record) (number : ℕ) → IsChosen given origin taken text octets (IsZone zone) → IsKept served → IsBegunStore zone number random given store
+  kept_served : (served : Served) (store : OpenStore) (zone : List Record) (number : ℕ) → IsChosen given origin taken text octets (IsZone zone) → IsKept served → IsCreatedStore zone number random given store
       → IsServedOf text octets given origin taken random store served
   kept_served (Zone kept) store zone number is it begun = (zone, is, record { zone = zone; number = number; is_zone = is.chosen.2; begun = begun })
-  kept_served Begun store zone number is it begun = absurd it
+  kept_served Created store zone number is it begun = absurd it
   kept_served Same store zone number is it begun = absurd it
   kept_served Store store zone number is it begun = absurd it
   kept_served (StoreThoughOther serial) store zone number is it begun = absurd it
 
   pub zone_served : (zone : List Record) (is : IsChosen given origin taken text octets (IsZone zone)) (result : Result Started Refusal) → IfOk result (λ s. IsKept s.served)
-      → IfOk result (λ s. (number : ℕ) × IsBegunStore zone number random given s.store) → IfOk result (λ s. IsServedOf text octets given origin taken random s.store s.served)
+      → IfOk result (λ s. (number : ℕ) × IsCreatedStore zone number random given s.store) → IfOk result (λ s. IsServedOf text octets given origin taken random s.store s.served)
   zone_served zone is (Ok started) it begun = kept_served started.served started.store zone begun.0 is it begun.1
   zone_served zone is (Err refusal) it begun = tt
 
   -- so what is served is what is chosen of some store
   served_of : (store : OpenStore) (served : Served) → IsServedOf text octets given origin taken random store served → IsServedBy given origin taken random store served
-  served_of store Begun is = absurd is
+  served_of store Created is = absurd is
   served_of store (Zone kept) is = (text, octets, is.0, is.1, is.2)
   served_of store Same is = (text, octets, is.0, is.1)
   served_of store Store is = (text, octets, is.0, is.1)

@@ -13,12 +13,12 @@ use Rattle.store_compaction.specs.RecentUpdates.{last_in}
 use Rattle.store_compaction.specs.Writer.{trail_of}
 use Rattle.store_compaction.specs.Stands.{Stands}
 use Rattle.store_server.specs.declared.resume.OpenStore.{OpenStore}
-use Rattle.store_server.specs.Started.{GoesOn, IsBegunStore}
+use Rattle.store_server.specs.Started.{GoesOn, IsCreatedStore}
 
 -- a store from a start: one that was reopened, or one that was created with a zone
 abbrev pub IsGiven : OpenStore → Type 0
 IsGiven store = ((text : List ℕ) × (octets : List ℕ) × (start : Recovery) × GoesOn text octets start store)
-    ⊎ ((zone : List Record) × (number : ℕ) × (random : List ℕ) × (given : List ℕ) × IsBegunStore zone number random given store)
+    ⊎ ((zone : List Record) × (number : ℕ) × (random : List ℕ) × (given : List ℕ) × IsCreatedStore zone number random given store)
 
 -- the writer of a store: its state holds, with no next zone file, and its recent updates end at the last of these versions
 pub record WritesOn (first : Version) (later : List Version) (writer : StoreWriter FileDisk IoError) : Type 0 where

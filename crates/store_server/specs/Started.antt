@@ -22,20 +22,20 @@ use Rattle.store_files.specs.declared.open.OpenedFolder.TheVariants.{Empty, Foun
 use Rattle.store_recovery.specs.declared.choices.Take.{Take}
 use Rattle.store_recovery.specs.declared.choices.Choice.{Choice}
 use Rattle.store_recovery.specs.declared.choices.Choice.TheVariants.{Same as IsSame, Store as IsStore, Zone as IsZone, StoreThoughOther as IsOlder, RefuseNewer, RefuseNotNewer, RefuseOtherApex}
-use Rattle.store_recovery.specs.Begun.{IsBegun}
+use Rattle.store_recovery.specs.Created.{IsCreated}
 use Rattle.store_recovery.specs.Choice.{IsChoice}
 use Rattle.store_server.specs.declared.refusal.Refusal.{Refusal}
 use Rattle.store_server.specs.declared.refusal.Refusal.TheVariants.{Held, NoJournal, NoText, NoStart, Newer, NotNewer, OtherApex, Text, NoMemory, Device}
 use Rattle.store_server.specs.declared.resume.OpenStore.{OpenStore}
 use Rattle.store_server.specs.declared.start.Served.{Served}
-use Rattle.store_server.specs.declared.start.Served.TheVariants.{Begun, Same, Store, StoreThoughOther, Zone}
+use Rattle.store_server.specs.declared.start.Served.TheVariants.{Created, Same, Store, StoreThoughOther, Zone}
 use Rattle.store_server.specs.declared.start.Started.{Started}
 
 -- a store created with a zone, whose text was given: a head that says so, and a log on the disk without batches
 pub record IsNewStore {F : Type 0} (zone : List Record) (number : ℕ) (random given : List ℕ) (head : Head) (log : Log FileDisk F) : Type 0 where
   pub text : List ℕ
   pub origin : TextSum
-  pub begun : IsBegun zone number random origin text head
+  pub begun : IsCreated zone number random origin text head
   pub from : IsText origin given
   pub empty : Holds written synced head log []
 
@@ -57,18 +57,18 @@ pub record GoesOn (text octets : List ℕ) (start : Recovery) (store : OpenStore
   pub updates : map (λ update. update.items) store.updates.items ≡ drop (length is.messages - length start.newest.older.items) is.messages
 
 -- a store is created with a zone, whose text was given: only its first version is served
-pub record IsBegunStore (zone : List Record) (number : ℕ) (random given : List ℕ) (store : OpenStore) : Type 0 where
+pub record IsCreatedStore (zone : List Record) (number : ℕ) (random given : List ℕ) (store : OpenStore) : Type 0 where
   pub new : IsNewStore zone number random given store.head store.log
   pub first : store.first ≡ first_version zone
   pub later : store.later.items ≡ []
   pub updates : store.updates.items ≡ []
 
 -- the given zone file is served, with a new store
-pub record IsBegunWith (given : List ℕ) (origin : Name) (random : List ℕ) (store : OpenStore) : Type 0 where
+pub record IsCreatedWith (given : List ℕ) (origin : Name) (random : List ℕ) (store : OpenStore) : Type 0 where
   pub zone : List Record
   pub number : ℕ
   pub is_zone : zone_of_text origin given ≡ Ok zone
-  pub begun : IsBegunStore zone number random given store
+  pub begun : IsCreatedStore zone number random given store
 
 -- a directory's store is chosen, or the zone file in its place, by the zone of the store's last version
 pub record IsChosen (given : List ℕ) (origin : Name) (taken : Option Take) (text octets : List ℕ) (choice : Choice) : Type 0 where
@@ -78,8 +78,8 @@ pub record IsChosen (given : List ℕ) (origin : Name) (taken : Option Take) (te
 
 -- which is served, and the open store
 abbrev pub IsServedBy : List ℕ → Name → Option Take → List ℕ → OpenStore → Served → Type 0
-IsServedBy given origin taken random store Begun = IsBegunWith given origin random store
-IsServedBy given origin taken random store (Zone kept) = (text : List ℕ) × (octets : List ℕ) × (zone : List Record) × IsChosen given origin taken text octets (IsZone zone) × IsBegunWith given origin random store
+IsServedBy given origin taken random store Created = IsCreatedWith given origin random store
+IsServedBy given origin taken random store (Zone kept) = (text : List ℕ) × (octets : List ℕ) × (zone : List Record) × IsChosen given origin taken text octets (IsZone zone) × IsCreatedWith given origin random store
 IsServedBy given origin taken random store Same = (text : List ℕ) × (octets : List ℕ) × (is : IsChosen given origin taken text octets IsSame) × GoesOn text octets is.start store
 IsServedBy given origin taken random store Store = (text : List ℕ) × (octets : List ℕ) × (is : IsChosen given origin taken text octets IsStore) × GoesOn text octets is.start store
 IsServedBy given origin taken random store (StoreThoughOther serial) =
@@ -94,21 +94,21 @@ IsKept (Zone kept) = ⊤
 IsKept _ = ⊥
 
 -- the zone file is served since there was no store
-abbrev pub IsBegunAnew : Served → Type 0
-IsBegunAnew Begun = ⊤
-IsBegunAnew _ = ⊥
+abbrev pub IsCreatedAnew : Served → Type 0
+IsCreatedAnew Created = ⊤
+IsCreatedAnew _ = ⊥
 
 -- which is served of a store that was found, with its zone file and its journal, and the open store: the zone file is never served as if there were no store
 abbrev pub IsServedOf : List ℕ → List ℕ → List ℕ → Name → Option Take → List ℕ → OpenStore → Served → Type 0
-IsServedOf text octets given origin taken random store Begun = ⊥
-IsServedOf text octets given origin taken random store (Zone kept) = (zone : List Record) × IsChosen given origin taken text octets (IsZone zone) × IsBegunWith given origin random store
+IsServedOf text octets given origin taken random store Created = ⊥
+IsServedOf text octets given origin taken random store (Zone kept) = (zone : List Record) × IsChosen given origin taken text octets (IsZone zone) × IsCreatedWith given origin random store
 IsServedOf text octets given origin taken random store Same = (is : IsChosen given origin taken text octets IsSame) × GoesOn text octets is.start store
 IsServedOf text octets given origin taken random store Store = (is : IsChosen given origin taken text octets IsStore) × GoesOn text octets is.start store
 IsServedOf text octets given origin taken random store (StoreThoughOther serial) = (is : IsChosen given origin taken text octets (IsOlder serial)) × GoesOn text octets is.start store
 
 -- what is served is that of the directory: the zone file alone only if there is no store, else the store that was found, or the zone file that was chosen in its place
 abbrev pub IsOfFolder : List ℕ → Name → Option Take → List ℕ → OpenedFolder → Started → Type 0
-IsOfFolder given origin taken random (Empty lock) started = IsBegunAnew started.served
+IsOfFolder given origin taken random (Empty lock) started = IsCreatedAnew started.served
 IsOfFolder given origin taken random (Found lock pair) started = IsServedOf pair.text.items pair.journal.items given origin taken random started.store started.served
 IsOfFolder given origin taken random _ started = ⊥
 

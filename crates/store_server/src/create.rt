@@ -4,7 +4,7 @@ ghost use Rattle.journal.specs.Head.{head_of, salt_of};
 ghost use Rattle.journal.specs.Log.{Holds};
 ghost use Rattle.store_files.specs.File.{written, synced};
 ghost use Rattle.store_recovery.specs.Replay.{first_version};
-ghost use Rattle.store_server.specs.Started.{IsBegunStore, IsOwnFault};
+ghost use Rattle.store_server.specs.Started.{IsCreatedStore, IsOwnFault};
 
 use crate::refusal::Refusal;
 use crate::resume::OpenStore;
@@ -25,7 +25,7 @@ pub(crate) fn create_first<R: Files<File = File>>(
     random: [u8; 16],
     given: &[u8],
 ) -> Result<OpenStore, Refusal>
-    ensures begun { IfOk result (λ store. IsBegunStore zone 0 random given.now store) }
+    ensures begun { IfOk result (λ store. IsCreatedStore zone 0 random given.now store) }
     ensures refused { IfErr result IsOwnFault }
 {
     let (text, head) = create_store(alloc, &zone, FIRST_TEXT, random, TextSum::of(given))?;
@@ -47,7 +47,7 @@ pub(crate) fn create_over<R: Files<File = File>>(
     random: [u8; 16],
     given: &[u8],
 ) -> Result<OpenStore, Refusal>
-    ensures begun { IfOk result (λ store. IsBegunStore zone number random given.now store) }
+    ensures begun { IfOk result (λ store. IsCreatedStore zone number random given.now store) }
     ensures refused { IfErr result IsOwnFault }
 {
     let (text, head) = create_store(alloc, &zone, number, random, TextSum::of(given))?;

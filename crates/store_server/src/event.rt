@@ -49,7 +49,7 @@ fn write_fault<W: fmt::Write>(f: &mut Formatter<W>, fault: &LogFault<io::Error>)
 /// Writes the result of a step of a compaction.
 fn write_compaction<W: fmt::Write>(f: &mut Formatter<W>, event: &CompactionEvent) -> fmt::Result {
     match event {
-        CompactionEvent::Begun(number) => { write!(f, "store: writing zone-{number}") }
+        CompactionEvent::Started(number) => { write!(f, "store: writing zone-{number}") }
         CompactionEvent::Replaced(number) => write!(
             f,
             "store: journal compacted into zone-{number}"

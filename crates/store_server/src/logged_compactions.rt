@@ -30,14 +30,14 @@ fn failure_of(event: &CompactionEvent) -> Option<ErrorKind> {
         | CompactionEvent::NotReplaced(fault)
         | CompactionEvent::Unknown(fault) => Some(fault.kind()),
         CompactionEvent::NotBegun => Some(ErrorKind::OutOfMemory),
-        CompactionEvent::Begun(_) | CompactionEvent::Replaced(_) | CompactionEvent::NotRemoved(_) =>
+        CompactionEvent::Started(_) | CompactionEvent::Replaced(_) | CompactionEvent::NotRemoved(_) =>
             None,
     }
 }
 
 impl<L: StoreLog> CompactionLog for LoggedCompactions<'_, L> {
     fn note<R: Wait>(&mut self, rt: &R, event: CompactionEvent) {
-        if matches!(event, CompactionEvent::Begun(_)) {
+        if matches!(event, CompactionEvent::Started(_)) {
             return;
         }
         let failure = failure_of(&event);

@@ -3,7 +3,7 @@ ghost use Rattle.std.specs.Prelude.{◌≡◌, ◌≢◌, ◌≤◌, ℕ, [], le
 ghost use Rattle.store_files.specs.File.{written};
 ghost use Rattle.store_recovery.specs.Start.{IsStarted};
 ghost use Rattle.store_recovery.specs.Choice.{IsChoice};
-ghost use Rattle.store_server.specs.Started.{AreLastUpdates, GoesOn, IsBegunStore, IsOfFolder, IsOwnFault, IsNoText, IsKept, IsServed, IsServedOf, IsRefused};
+ghost use Rattle.store_server.specs.Started.{AreLastUpdates, GoesOn, IsCreatedStore, IsOfFolder, IsOwnFault, IsNoText, IsKept, IsServed, IsServedOf, IsRefused};
 ghost use Rattle.store_files.specs.Store.{IsAsNoted};
 
 use crate::create::{create_first, create_over};
@@ -35,7 +35,7 @@ pub struct Given<'a> {
 #[derive(Debug, Drop)]
 pub enum Served {
     /// The zone file: the directory had no store.
-    Begun,
+    Created,
     /// The store, which was created from the zone file.
     Same,
     /// The store, as the operator chose.
@@ -98,7 +98,7 @@ fn start_opened<R: Files<File = File> + Alloc + Clone + Drop>(
             Ok(Started {
                 lock,
                 store,
-                served: Served::Begun,
+                served: Served::Created,
                 torn: None,
             })
         }
@@ -211,7 +211,7 @@ fn take_text<R: Files<File = File>>(
     zone: Zone,
 ) -> Result<Started, Refusal>
     ensures served { IfOk result (λ started. IsKept started.served) }
-    ensures begun { IfOk result (λ started. (number : ℕ) × IsBegunStore zone number random given.entry.text.now started.store) }
+    ensures begun { IfOk result (λ started. (number : ℕ) × IsCreatedStore zone number random given.entry.text.now started.store) }
     ensures refused { IfErr result IsOwnFault }
 {
     let next = head.number.saturating_add(1);

@@ -8,7 +8,7 @@ use Rattle.store_recovery.specs.Store.{IsStore}
 
 -- a text is what is written of a zone, and a head names it, with this number, these random octets and the text that the store was first created from; without batches
 -- they are a store of that zone and of no update
-pub record IsBegun (zone : List Record) (number : ℕ) (random : List ℕ) (origin : TextSum) (text : List ℕ) (head : Head) : Type 0 where
+pub record IsCreated (zone : List Record) (number : ℕ) (random : List ℕ) (origin : TextSum) (text : List ℕ) (head : Head) : Type 0 where
   pub written : text ≡ zone_text zone
   pub numbered : head.number ≡ number
   pub salted : head.random ≡ random

@@ -13,9 +13,9 @@ use Rattle.dnsd_setup.specs.declared.started_zone.StartedZone.{StartedZone}
 use Rattle.dnsd_setup.specs.declared.started_zone.StartedZone.TheVariants.{Zone, Store}
 
 -- a zone, or a store that a start has opened or created
-abbrev pub CanBegin : StartedZone → Type 0
-CanBegin (Zone zone) = ⊤
-CanBegin (Store kept) = IsGiven kept.started.store
+abbrev pub CanStart : StartedZone → Type 0
+CanStart (Zone zone) = ⊤
+CanStart (Store kept) = IsGiven kept.started.store
 
 module _ {L : Type 0} where
   -- updates are stored by this writer
@@ -29,6 +29,6 @@ module _ {L : Type 0} where
   KeepsOn first later (Kept kept) = WritesOn first later kept.store.writer
 
   -- what is served: the zone as its first version, with updates stored nowhere; or the store's versions, with updates stored in that store
-  abbrev pub Begins : StartedZone → Version → List Version → ServerStore (CompactedState IoError) L → Type 0
-  Begins (Zone zone) first later store = (first ≡ first_version zone) × (later ≡ []) × (store ≡ Nowhere)
-  Begins (Store kept) first later store = (first ≡ kept.started.store.first) × (later ≡ kept.started.store.later.items) × KeepsOn first later store
+  abbrev pub StartsWith : StartedZone → Version → List Version → ServerStore (CompactedState IoError) L → Type 0
+  StartsWith (Zone zone) first later store = (first ≡ first_version zone) × (later ≡ []) × (store ≡ Nowhere)
+  StartsWith (Store kept) first later store = (first ≡ kept.started.store.first) × (later ≡ kept.started.store.later.items) × KeepsOn first later store
