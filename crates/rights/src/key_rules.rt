@@ -11,7 +11,7 @@ pub struct KeyRules {
     pub rules: Vec<Rule>,
 }
 
-// By hand: a derived drop is proved once more in each crate that lets such a value go.
+// Written out: a derived drop is proved again in each crate that drops such a value.
 impl Drop for KeyRules {
     fn drop(self) {
         let KeyRules { key: _, rules: _ } = self;
@@ -45,7 +45,7 @@ pub fn split_by_key(
     Ok((unsigned, signed))
 }
 
-/// Puts a rule of a key behind the others of that key.
+/// Adds a rule of a key after the others of that key.
 fn put(alloc: Global, signed: &mut Vec<KeyRules>, key: Name, rule: Rule) -> Result<(), AllocError> {
     for own in signed.iter_mut() {
         if own.key == key {

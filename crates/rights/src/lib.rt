@@ -26,7 +26,7 @@ pub use permission::{
     are_permitted, covering, first_outside, has_right, may_transfer, transferring,
 };
 pub use prefix::Prefix;
-pub use report::{Judgement, RequestFault, is_permitted, judge, judge_digits};
+pub use report::{Decision, RequestFault, is_permitted, judge, judge_digits};
 pub use requestor::Requestor;
 pub use rule::{NameScope, Rule, UpdateRight};
 pub use types::TypeWord;
