@@ -1,5 +1,5 @@
 //! The worker that notifies secondaries of each version (RFC 1996, 3).
-ghost use Rattle.std.specs.Prelude.{◌≡◌, ◌≤◌, length, Some, IfOk, IfSome};
+ghost use Rattle.std.specs.Prelude.{◌≡◌, ◌≤◌, length, Some, IfOk};
 ghost use Rattle.requests.specs.Served.{Grows};
 
 use crate::notify_socket::{MAX_SIGNED, MOST_REPLIES, NotifySocket};

@@ -1,8 +1,7 @@
 //! The socket for a secondary that is notified (RFC 1996, 3), by a key or by none (RFC 8945).
 ghost use Rattle.std.specs.Prelude.{◌≡◌, ◌≤◌, ◌<◌, ◌^◌, length, take, option_map, IfSome};
 ghost use Rattle.std.specs.Option.{option_copied};
-ghost use Rattle.tsig.specs.Replies.{reply_start};
-ghost use Rattle.worker_jobs.specs.SignedNotify.{key_at, signed_notify, notify_mac, mac_sent, plain_at, signed_part, counted_part};
+ghost use Rattle.worker_jobs.specs.SignedNotify.{key_at, signed_notify, notify_mac, mac_sent, signed_part, counted_part};
 
 use crate::interrupted::is_interrupted;
 use arrayvec::ArrayVec;
