@@ -1,2 +1,6 @@
+pub mod ConnectionLemmas
 pub mod ErrorLemmas
+pub mod KeyLemmas
+pub mod PlainLemmas
 pub mod ReplyLemmas
+pub mod StreamLemmas

@@ -16,10 +16,11 @@ use Rattle.std.specs.declared.net.socket_addr.SocketAddr.{SocketAddr}
 use Rattle.tsig.specs.Keys.{SharedKey}
 use Rattle.tsig.specs.Verification.{verified, by_place}
 use Rattle.tsig.specs.declared.request_tsig.RequestTsig.{RequestTsig}
+use Rattle.tsig.specs.declared.stamp.Stamp.{Stamp}
 use Rattle.tsig.specs.declared.verifying.Verification.{Verification}
 use Rattle.tsig.specs.declared.verifying.Verification.TheVariants.{Silent}
 use Rattle.signed_replies.specs.Rights.{rules_of}
-use Rattle.signed_replies.specs.Signed.{received, plain_of, reply_limit, IsReplyBy, IsReplyTo, IsSignedReply}
+use Rattle.signed_replies.specs.Signed.{received, plain_of, reply_limit, stamp_at, signed_reply, AreSignedAlone, IsReplyBy, IsReplyTo, IsSignedReply}
 
 not_fewer : (a b : ℕ) → b ≤ a → nat_lt a b ≡ false
 not_fewer a b e = grind (arith, nat_tests)
@@ -75,3 +76,37 @@ pub signed_reply_none : {T : Type 0} (keys : List SharedKey) (rights : List (Lis
     → found ≡ None → IsSignedReply keys rights IsReply AreSigned found now tsig peer before later request []
 signed_reply_none keys rights IsReply AreSigned found now tsig peer before later request is =
     subst (λ f. IsSignedReply keys rights IsReply AreSigned f now tsig peer before later request []) (sym is) refl
+
+-- what is replied without asking a handler is replied by what is known
+pub told_at_once : {T : Type 0} (keys : List SharedKey) (rights : List (List Rule)) (IsReply : Peer → Learned T → Learned T → List ℕ → List (List ℕ) → Type 0)
+    (AreSigned : SharedKey → ℕ → RequestTsig → ℕ → List (List ℕ) → List (List ℕ) → Type 0) (verification said : Verification) (now : ℕ) (peer : Peer) (seen : Learned T) (request : List ℕ) (messages : List (List ℕ))
+    → verification ≡ said → IsReplyBy keys rights IsReply AreSigned said now peer seen seen request messages
+    → (before : Learned T) × Grows before seen × Grows seen before × IsReplyBy keys rights IsReply AreSigned verification now peer before seen request messages
+told_at_once keys rights IsReply AreSigned verification said now peer seen request messages is reply =
+    (seen, grows_itself seen, grows_itself seen, subst (λ v. IsReplyBy keys rights IsReply AreSigned v now peer seen seen request messages) (sym is) reply)
+
+-- and what a handler is asked for
+pub told_then : {T : Type 0} (keys : List SharedKey) (rights : List (List Rule)) (IsReply : Peer → Learned T → Learned T → List ℕ → List (List ℕ) → Type 0)
+    (AreSigned : SharedKey → ℕ → RequestTsig → ℕ → List (List ℕ) → List (List ℕ) → Type 0) (verification said : Verification) (now : ℕ) (peer : Peer) (seen later : Learned T) (request : List ℕ) (messages : List (List ℕ))
+    → verification ≡ said → (before : Learned T) × Grows before seen × Grows later before × IsReplyBy keys rights IsReply AreSigned said now peer before later request messages
+    → (before : Learned T) × Grows before seen × Grows later before × IsReplyBy keys rights IsReply AreSigned verification now peer before later request messages
+told_then keys rights IsReply AreSigned verification said now peer seen later request messages is reply =
+    (reply.0, reply.1, reply.2, subst (λ v. IsReplyBy keys rights IsReply AreSigned v now peer reply.0 later request messages) (sym is) reply.3)
+
+-- the reply to a request without its TSIG, by whoever was asked as the peer that the rules of the key's holder make of its sender, is signed
+pub signed_as : {T : Type 0} (keys : List SharedKey) (rights : List (List Rule)) (IsReply : Peer → Learned T → Learned T → List ℕ → List (List ℕ) → Type 0)
+    (AreSigned : SharedKey → ℕ → RequestTsig → ℕ → List (List ℕ) → List (List ℕ) → Type 0) (found : Option SharedKey) (key : SharedKey) (now : ℕ) (tsig : RequestTsig) (peer : Peer) (before later : Learned T)
+    (request inner : List ℕ) (from : SocketAddr) (own asked : Peer) (plains messages : List (List ℕ)) → found ≡ Some key → inner ≡ plain_of request tsig.start
+    → IsPeer (rules_of rights tsig.key) peer.transport from inner own → asked ≡ own → IsReply asked before later inner plains
+    → AreSigned key now tsig (reply_limit peer.transport inner) plains messages → IsSignedReply keys rights IsReply AreSigned found now tsig peer before later request messages
+signed_as keys rights IsReply AreSigned found key now tsig peer before later request inner from own asked plains messages is plain by same reply are =
+    signed_reply_by keys rights IsReply AreSigned found key now tsig peer before later request from own plains messages is
+    (subst (λ (l : List ℕ). IsPeer (rules_of rights tsig.key) peer.transport from l own) plain by)
+    (subst (λ (l : List ℕ). IsReply own before later l plains) plain (subst (λ (p : Peer). IsReply p before later inner plains) same reply))
+    (subst (λ (l : List ℕ). AreSigned key now tsig (reply_limit peer.transport l) plains messages) plain are)
+
+-- one message is signed alone
+pub one_alone : (key : SharedKey) (now : ℕ) (tsig : RequestTsig) (limit own : ℕ) (stamp : Stamp) (plain sent : List ℕ) → stamp ≡ stamp_at now → own ≡ limit → sent ≡ signed_reply key tsig.mac.items stamp own plain
+    → AreSignedAlone key now tsig limit (plain ∷ []) (sent ∷ [])
+one_alone key now tsig limit own stamp plain sent stamped same is =
+    ap (λ l. l ∷ []) (is ∙ ap (λ (s : Stamp). signed_reply key tsig.mac.items s own plain) stamped ∙ ap (λ n. signed_reply key tsig.mac.items (stamp_at now) n plain) same)

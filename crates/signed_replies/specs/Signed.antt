@@ -65,7 +65,7 @@ stamp_late tsig now = record { time = tsig.time; fudge = tsig.fudge; error = err
 abbrev pub stamp_short : ℕ → Stamp
 stamp_short now = record { time = now; fudge = 300; error = error.BadTrunc }
 
--- a reply that is signed behind the MAC of its request (RFC 8945, 5.3); what has no header is no message, and isn't signed
+-- a reply that is signed after the MAC of its request (RFC 8945, 5.3); what has no header is no message, and isn't signed
 abbrev pub signed_reply : SharedKey → List ℕ → Stamp → ℕ → List ℕ → List ℕ
 signed_reply key mac stamp limit plain = if nat_lt (length plain) 12 then plain else signed_within key mac stamp limit plain
 

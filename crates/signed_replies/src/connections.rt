@@ -39,14 +39,14 @@ use wire_names::{MAX_TARGETS, Message};
 #[derive(Drop)]
 pub struct SignedConnections<'r, 'k, K: KeyRing, M: Messages, A: Handler<M>, C, O> {
     inner: A,
-    ring: RingKeys<'k, K>,
+    ring: &'r RingKeys<'k, K>,
     clock: C,
     log: O,
     peer: Peer,
     from: SocketAddr,
     /// The key of the peer's connection.
     asker: usize,
-    room: &'r mut PlainRoom,
+    room: PlainRoom,
     times: PendingTimes,
     messages: PhantomData<M>,
 }
@@ -61,6 +61,21 @@ fn mac_of(verified: &Verification<'_>) -> ArrayVec<u8, MAX_MAC> {
         let _ = mac.try_extend_from_slice(&tsig.mac);
     }
     mac
+}
+
+/// Keeps when the request with this MAC was verified, from this address on the connection under a key, where its reply is made later. Else it forgets the request of that connection.
+fn keep_time<M: Messages>(
+    times: &mut PendingTimes,
+    made: &Reply<M>,
+    key: usize,
+    from: SocketAddr,
+    mac: ArrayVec<u8, MAX_MAC>,
+    time: u64,
+) {
+    match made {
+        Reply::Later => times.put(key, from, mac, time),
+        _ => times.remove(key),
+    }
 }
 
 /// Has a handler answer a request of a peer, which sends from an address, on the connection under a key.
@@ -157,10 +172,10 @@ impl<
     pub fn new(
         alloc: Global,
         inner: A,
-        ring: RingKeys<'k, K>,
+        ring: &'r RingKeys<'k, K>,
         clock: C,
         log: O,
-        room: &'r mut PlainRoom,
+        room: PlainRoom,
         peer: Peer,
         from: SocketAddr,
     ) -> SignedConnections<'r, 'k, K, M, A, C, O>
@@ -344,10 +359,7 @@ impl<
     {
         let mac = mac_of(&verified);
         let made = self.reply_by(rt, now, verified, request, out)?;
-        match made {
-            Reply::Later => self.times.put(self.asker, self.from, mac, now),
-            _ => self.times.remove(self.asker),
-        }
+        keep_time(&mut self.times, &made, self.asker, self.from, mac, now);
         Ok(made)
     }
 

@@ -36,12 +36,12 @@ const MAX_SHORT: usize = 512;
 #[derive(Drop)]
 pub struct SignedDatagrams<'r, 'k, K: KeyRing, A: SignsLater, C, O> {
     inner: A,
-    ring: RingKeys<'k, K>,
+    ring: &'r RingKeys<'k, K>,
     clock: C,
     log: O,
     peer: Peer,
     from: SocketAddr,
-    room: &'r mut PlainRoom,
+    room: PlainRoom,
 }
 
 impl<'r, 'k, K: KeyRing, A: SignsLater + Drop, C: UnixClock, O: TsigLog + Drop> SignedDatagrams<
@@ -55,10 +55,10 @@ impl<'r, 'k, K: KeyRing, A: SignsLater + Drop, C: UnixClock, O: TsigLog + Drop> 
     /// Such a handler before another one, which logs refused requests, with room for requests without their TSIG. Its first peer is this one, which sends from this address.
     pub fn new(
         inner: A,
-        ring: RingKeys<'k, K>,
+        ring: &'r RingKeys<'k, K>,
         clock: C,
         log: O,
-        room: &'r mut PlainRoom,
+        room: PlainRoom,
         peer: Peer,
         from: SocketAddr,
     ) -> SignedDatagrams<'r, 'k, K, A, C, O>

@@ -1,6 +1,6 @@
 //! Replies to signed requests (RFC 8945, 5).
 //!
-//! A [`SignedDatagrams`] or [`SignedConnections`] stands in front of a handler that knows nothing of TSIG. It verifies each request. One without a TSIG gets that handler's reply as it is; of one that is
+//! A [`SignedDatagrams`] or [`SignedConnections`] gets each request before a handler that knows nothing of TSIG, and verifies it. One without a TSIG gets that handler's reply as it is; of one that is
 //! signed the handler gets the message without its TSIG, by a peer with the rights of the key's holder, and its reply is signed. Any other gets the error of RFC 8945, 5.2, and the
 //! handler doesn't see it.
 #![tactic(auto)]

@@ -1,7 +1,7 @@
 //! Replies of several messages that are signed (RFC 8945, 5.3.1).
 ghost use Rattle.std.specs.Prelude.{◌≡◌, ◌≤◌, false, None, Some, length, take, option_map};
 ghost use Rattle.dns_message.specs.Message.{message_limit};
-ghost use Rattle.signed_replies.specs.Stream.{has_room, sent_as, sent_by, signer_behind, signed_stream, stream_by};
+ghost use Rattle.signed_replies.specs.Stream.{has_room, sent_as, sent_by, signer_after, signed_stream, stream_by};
 
 use arrayvec::ArrayVec;
 use dns_message::{HEADER, MAX_LIMIT};
@@ -16,7 +16,7 @@ pub const STREAM_FUDGE: u16 = 14_400;
 /// Where a header counts the records of the additional section (RFC 1035, 4.1.1).
 const ARCOUNT: usize = 10;
 
-/// Signs messages one after another. Contracts see the key, what the next TSIG says, the MAC in front of it, and whether a message was signed.
+/// Signs messages one after another. Contracts see the key, what the next TSIG says, the MAC before it, and whether a message was signed.
 #[derive(Drop)]
 pub(crate) struct Signer<'k> {
     key: &'k Key,
@@ -51,7 +51,7 @@ impl<'k> Signer<'k> {
         requires within { len ≤ message_limit }
         requires room { message_limit ≤ length out.old }
         ensures sent { take result out.new ≡ sent_as self.old (take len out.old) }
-        ensures signer { self.new ≡ signer_behind self.old (take len out.old) }
+        ensures signer { self.new ≡ signer_after self.old (take len out.old) }
         ensures bound { result ≤ message_limit }
     {
         if !has_room(&out[..len]) {
@@ -108,7 +108,7 @@ fn sign_next(signer: &mut Option<Signer<'_>>, out: &mut [u8], len: usize) -> usi
     requires within { len ≤ message_limit }
     requires room { message_limit ≤ length out.old }
     ensures sent { take result out.new ≡ sent_by signer.old (take len out.old) }
-    ensures signer { signer.new ≡ option_map (λ s. signer_behind s (take len out.old)) signer.old }
+    ensures signer { signer.new ≡ option_map (λ s. signer_after s (take len out.old)) signer.old }
     ensures bound { result ≤ message_limit }
 {
     match signer {

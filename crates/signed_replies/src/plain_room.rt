@@ -1,6 +1,9 @@
 //! Room for a request without its TSIG, or a reply that is signed.
 ghost use Rattle.std.specs.Prelude.{◌≡◌, ◌≤◌, ◌∷◌, [], length, slice_get, IfSome};
 ghost use Rattle.dns_message.specs.Message.{message_limit};
+ghost use Rattle.dns_message.specs.Request.{IsWant};
+ghost use Rattle.dns_message.specs.declared.query.Head.{Head as HeadOf};
+ghost use Rattle.dns_message.specs.declared.query.Parsed.TheVariants.{NoMemory as no_memory};
 ghost use Rattle.signed_replies.specs.Signed.{plain_of, signed_queued};
 
 use crate::signing::sign_queued;
@@ -56,7 +59,8 @@ impl PlainRoom {
     pub(crate) fn plain(&mut self, request: &[u8], start: usize) -> &[u8]
         requires header { HEADER ≤ length request.now }
         requires short { length request.now ≤ message_limit }
-        ensures { result.now ≡ plain_of request.now start }
+        ensures plain { result.now ≡ plain_of request.now start }
+        ensures wants { (head : HeadOf) → IsWant request.now (no_memory head) → IsWant result.now (no_memory head) }
     {
         let id = u16::from_be_bytes([request[0], request[1]]);
         let len = write_without_tsig(request, start, id, &mut self.octets);
