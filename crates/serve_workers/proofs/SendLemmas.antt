@@ -48,7 +48,7 @@ udp_send a = search (allowed_send, crossing.crosses, sendable) depth 60 fits 200
 job_send : (a : NamedLft) (C : RattleType) → IsSync C → IsSend (job.the_field a C).row
 job_send a C ticks =
     enum_send (enum.shape (job.the_type a C))
-    ((search (allowed_send, crossing.crosses, sendable) depth 60 fits 20000, tt), ((tcp_send a transfer.the_row C _ transfer_send ticks, tt), ((signed_send a _ C (udp_send a) ticks, tt), ((signed_send a _ C (tcp_row_send a _ C _ (signed_messages_send a transfer.the_row _ transfer_send) ticks) ticks, tt), ((telling_send a C ticks, tt), tt)))))
+    ((search (allowed_send, crossing.crosses, sendable) depth 60 fits 20000, tt), ((tcp_send a transfer.the_row C _ transfer_send ticks, tt), ((signed_send a _ C (udp_send a) ticks, tt), ((signed_send a _ C (tcp_row_send a _ C _ (signed_messages_send a transfer.the_row transfer_send) ticks) ticks, tt), ((telling_send a C ticks, tt), tt)))))
 
 pub thread_send : (a b : NamedLft) (T N L C : RattleType) (g : Ghosts T.Denot) (n : naming.Ghosts N.Denot) (s : server_names.Ghosts N.Denot) → IsSync L → IsSync C → IsSend (thread.the_row a b T N L C n g s)
 thread_send a b T N L C g n s hears ticks =

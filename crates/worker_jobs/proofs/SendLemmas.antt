@@ -82,8 +82,8 @@ pub keys_sync : IsSync shared_keys.the_row
 keys_sync = search (key_sync, crossing.crosses, sendable) depth 60 fits 20000
 
 -- the signed messages of a reply may be sent to a thread where its messages may
-pub signed_messages_send : (a : NamedLft) (M : RattleType) (m : messages.Ghosts M.Denot) → IsSend M → IsSend (signed_messages.the_row a M m)
-signed_messages_send a M m makes = search (key_sync, array_vec.the_send, option.the_field_send, option.the_send, crossing.crosses, sendable) depth 60 fits 20000
+pub signed_messages_send : (a : NamedLft) (M : RattleType) → IsSend M → IsSend (signed_messages.the_row a M)
+signed_messages_send a M makes = search (key_sync, array_vec.the_send, option.the_field_send, option.the_send, crossing.crosses, sendable) depth 60 fits 20000
 
 told_send : IsSend (told.the_field).row
 told_send = search (array_vec.the_send, option.the_field_send, option.the_send, crossing.crosses, sendable) depth 60 fits 20000
