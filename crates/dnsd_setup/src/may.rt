@@ -10,10 +10,10 @@ use std::io;
 pub fn run_may<R: Print + Eprint + AllocGlobal>(rt: &R, trial: &Trial<'_>) -> io::Result<u8> {
     let rules = trial.rules.as_slice();
     match judge_digits(rt.alloc(), rules, trial.who, trial.request) {
-        Ok(judgement) => {
-            let text = judgement.text.as_str();
+        Ok(decision) => {
+            let text = decision.text.as_str();
             print!(rt; "{text}")?;
-            Ok(if judgement.permitted { DONE } else { REFUSED })
+            Ok(if decision.permitted { DONE } else { REFUSED })
         }
         Err(fault) => tell_request(rt, fault, rules),
     }

@@ -1,4 +1,4 @@
--- Datagrams that are answered one behind the other.
+-- Datagrams that are answered one after another.
 use Rattle.std.proofs.Common.{◌≡◌, refl, ℕ, ◌+◌, ◌<◌, List, [], ◌∷◌, ◌++◌, length, Option, None, Some, IfSome, inl, inr, sym, ap, ◌∙◌, subst, append_assoc, append-nil, length-append, arith}
 use Rattle.rights.specs.declared.rule.Rule.{Rule}
 use Rattle.std.specs.declared.net.socket_addr.SocketAddr.{SocketAddr}

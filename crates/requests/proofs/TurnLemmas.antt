@@ -1,4 +1,4 @@
--- Turns one behind the other.
+-- Turns one after another.
 use Rattle.std.proofs.Common.{◌≡◌, refl, ℕ, List, [], ◌∷◌, ◌++◌, Option, None, Some, IfSome, sym, ap, ◌∙◌, append_assoc, append-nil}
 use Rattle.dns_message.specs.Frame.{frame_of}
 use Rattle.requests.specs.Octets.{frames_of}

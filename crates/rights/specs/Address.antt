@@ -32,11 +32,11 @@ abbrev pub has_prefix : Option Prefix → ℕ → Bool
 has_prefix None address = true
 has_prefix (Some prefix) address = has_address prefix address
 
--- whether a number of 128 bits has bits set behind the first, so many of them
+-- whether a number of 128 bits has bits set after the first, so many of them
 abbrev pub has_rest : ℕ → ℕ → Bool
 has_rest length bits = not (bits % 2 ^ (128 - length) == 0)
 
--- how many bits of 128 stand in front of those of an address
+-- how many bits of 128 come before those of an address
 abbrev pub bits_in_front : IpAddr → ℕ
 bits_in_front (V4 ip) = 96
 bits_in_front (V6 ip) = 0

@@ -1,2 +1,3 @@
 pub mod Address
+pub mod Keys
 pub mod Rights

@@ -20,15 +20,15 @@ pub(crate) fn number_of(address: IpAddr) -> u128
 }
 
 /// Whether a prefix has an address, as numbers of 128 bits: an IPv4 address only if it is a prefix of IPv4 addresses.
-pub(crate) fn has_address(prefix: Prefix, address: u128) -> bool
-    ensures { result ≡ has_address prefix address }
+pub(crate) fn has_address(prefix: &Prefix, address: u128) -> bool
+    ensures { result ≡ has_address prefix.now address }
 {
     shares_front(prefix.length, prefix.bits, address) && (prefix.length >= 96 || !is_ipv4(address))
 }
 
 /// Whether a prefix, if there is one, has an address.
-pub(crate) fn has_prefix(prefix: Option<Prefix>, address: u128) -> bool
-    ensures { result ≡ has_prefix prefix address }
+pub(crate) fn has_prefix(prefix: &Option<Prefix>, address: u128) -> bool
+    ensures { result ≡ has_prefix prefix.now address }
 {
     match prefix {
         None => true,
@@ -55,7 +55,7 @@ fn shares_front(length: u8, a: u128, b: u128) -> bool
     a >> rest == b >> rest
 }
 
-/// Whether a number of 128 bits has bits set behind the first, so many of them.
+/// Whether a number of 128 bits has bits set after the first, so many of them.
 fn has_rest(length: u8, bits: u128) -> bool
     requires { length ≤ 128 }
     ensures { result ≡ has_rest length bits }
@@ -66,7 +66,7 @@ fn has_rest(length: u8, bits: u128) -> bool
     bits % (1 << (128 - length)) != 0
 }
 
-/// The prefix that a word is: an address, or one, a slash and a number of bits, with no bit set behind them.
+/// The prefix that a word is: an address, or one, a slash and a number of bits, with no bit set after them.
 pub fn parse_prefix(word: &str) -> Result<Prefix, RuleFault<'_>>
     ensures { IfOk result (λ prefix. has_rest prefix.length prefix.bits ≡ false) }
 {
@@ -88,7 +88,7 @@ pub fn parse_prefix(word: &str) -> Result<Prefix, RuleFault<'_>>
     prefix_of(word, address, length)
 }
 
-/// How many bits of 128 stand in front of those of an address.
+/// How many bits of 128 come before those of an address.
 fn bits_in_front(address: IpAddr) -> u8
     ensures front { result ≡ bits_in_front address }
     ensures few { result ≤ 96 }
@@ -107,7 +107,7 @@ fn length_of(digits: &str) -> Option<u8> {
     digits.parse::<u8>().ok()
 }
 
-/// The prefix of the addresses that begin as one does, in so many bits. `Rest` where bits are set behind them.
+/// The prefix of the addresses that begin as one does, in so many bits. `Rest` where bits are set after them.
 fn prefix_of(word: &str, address: IpAddr, length: u8) -> Result<Prefix, RuleFault<'_>>
     requires { length ≤ 128 - bits_in_front address }
     ensures bits { IfOk result (λ prefix. prefix.bits ≡ number_of address) }

@@ -15,7 +15,7 @@ pub enum RuleFault<'a> {
     Address(&'a str),
     /// The number of bits of the prefix is none that its addresses have.
     Length(&'a str),
-    /// The prefix has bits set behind its number of bits.
+    /// The prefix has bits set after its number of bits.
     Rest(&'a str),
     /// A comma, or the text, ends before a right.
     NoRight,
@@ -23,7 +23,7 @@ pub enum RuleFault<'a> {
     Right(&'a str),
     /// The right is given twice.
     Twice(&'a str),
-    /// The word stands behind a right, where nothing may follow.
+    /// The word follows a right, after which nothing may stand.
     Surplus(&'a str),
     /// The word must have a name after it.
     NoName(&'a str),

@@ -23,10 +23,10 @@ pub use fault::RuleFault;
 pub use key_rules::{KeyRules, split_by_key};
 pub use parse::parse_rule;
 pub use permission::{
-    are_permitted, covering, first_outside, has_right, may_transfer, transferring,
+    are_permitted, covering, first_outside, first_uncovered, has_right, may_transfer, transferring,
 };
 pub use prefix::Prefix;
-pub use report::{Judgement, RequestFault, is_permitted, judge, judge_digits};
+pub use report::{Decision, RequestFault, is_permitted, judge, judge_digits};
 pub use requestor::Requestor;
 pub use rule::{NameScope, Rule, UpdateRight};
 pub use types::TypeWord;

@@ -27,7 +27,7 @@ const TCP: &str = "tcp";
 const KEY: &str = "key";
 
 /// The rule that a text is: `WHO: RIGHTS`. WHO is an address or a prefix, `key NAME`, or `key NAME` and one of these, and ends at the first colon that a blank follows. RIGHTS are `transfer` and
-/// `update`, with a comma between both. Behind `update` may stand `exact NAME` or `at-or-below NAME`, then types, and then `tcp`. Names without a
+/// `update`, with a comma between both. After `update` may stand `exact NAME` or `at-or-below NAME`, then types, and then `tcp`. Names without a
 /// final dot are below the root.
 pub fn parse_rule<'a>(alloc: Global, text: &'a str) -> Result<Rule, RuleFault<'a>> {
     let Some((who, rights)) = text.split_once(": ") else {
@@ -111,7 +111,7 @@ fn update_right<'a>(alloc: Global, words: &[&'a str]) -> Result<UpdateRight, Rul
     })
 }
 
-/// The names of a right to update, and the words behind them.
+/// The names of a right to update, and the words after them.
 fn scope_of<'w, 'a>(words: &'w [&'a str]) -> Result<(NameScope, &'w [&'a str]), RuleFault<'a>> {
     let Some((first, rest)) = words.split_first() else {
         return Ok((NameScope::Every, words));
@@ -129,7 +129,7 @@ fn scope_of<'w, 'a>(words: &'w [&'a str]) -> Result<(NameScope, &'w [&'a str]), 
     }
 }
 
-/// The types of a right to update, and whether `tcp` stands behind them.
+/// The types of a right to update, and whether `tcp` stands after them.
 fn types_of<'a>(alloc: Global, words: &[&'a str]) -> Result<(Vec<RType>, bool), RuleFault<'a>> {
     let mut types = Vec::new(alloc);
     for (at, word) in words.iter().enumerate() {

@@ -14,17 +14,17 @@ use dns_rdata::{RType, RawRecord};
 use std::alloc::{AllocError, Global};
 
 /// What a request gets by rules.
-pub struct Judgement {
+pub struct Decision {
     /// Whether it is permitted.
     pub permitted: bool,
     /// A line that says so, and then a line for each record of an update, with the rule that covers it.
     pub text: String,
 }
 
-// By hand: a derived drop is proved once more in each crate that lets such a value go.
-impl Drop for Judgement {
+// Written out: a derived drop is proved again in each crate that drops such a value.
+impl Drop for Decision {
     fn drop(self) {
-        let Judgement {
+        let Decision {
             permitted: _,
             text: _,
         } = self;
@@ -59,7 +59,7 @@ pub fn judge_digits(
     rules: &[Rule],
     who: Requestor,
     digits: &str,
-) -> Result<Judgement, RequestFault> {
+) -> Result<Decision, RequestFault> {
     let Ok(octets) = hex::decode(alloc, digits) else {
         return Err(RequestFault::NotHex);
     };
@@ -70,7 +70,7 @@ pub fn judge_digits(
         }
     }
     match judge(alloc, rules, who, &request)? {
-        Some(judgement) => Ok(judgement),
+        Some(decision) => Ok(decision),
         None => Err(RequestFault::NotRequest),
     }
 }
@@ -82,8 +82,8 @@ pub fn judge(
     rules: &[Rule],
     who: Requestor,
     request: &Parsed,
-) -> Result<Option<Judgement>, AllocError>
-    ensures { IfOk result (λ found. option_map (λ judgement. judgement.permitted) found ≡ judged rules.now who request.now) }
+) -> Result<Option<Decision>, AllocError>
+    ensures { IfOk result (λ found. option_map (λ decision. decision.permitted) found ≡ judged rules.now who request.now) }
 {
     match request {
         Parsed::Update(update) => Ok(Some(judge_update(alloc, rules, who, update)?)),
@@ -109,8 +109,8 @@ fn judge_update(
     rules: &[Rule],
     who: Requestor,
     update: &Update,
-) -> Result<Judgement, AllocError>
-    ensures { IfOk result (λ judgement. judgement.permitted ≡ is_permitted rules.now who update.now) }
+) -> Result<Decision, AllocError>
+    ensures { IfOk result (λ decision. decision.permitted ≡ is_permitted rules.now who update.now) }
 {
     let permitted = is_permitted(rules, who, update);
     let mut text = String::new(alloc);
@@ -124,7 +124,7 @@ fn judge_update(
             rule_at(rules, place),
         )?;
     }
-    Ok(Judgement { permitted, text })
+    Ok(Decision { permitted, text })
 }
 
 /// What a query gets, and by which rule one for a transfer.
@@ -133,13 +133,13 @@ fn judge_query(
     rules: &[Rule],
     who: Requestor,
     query: &Query,
-) -> Result<Judgement, AllocError>
-    ensures { IfOk result (λ judgement. judgement.permitted ≡ (if is_transfer query.now then transfer_permitted rules.now who else true)) }
+) -> Result<Decision, AllocError>
+    ensures { IfOk result (λ decision. decision.permitted ≡ (if is_transfer query.now then transfer_permitted rules.now who else true)) }
 {
     let mut text = String::new(alloc);
     if !is_transfer(query) {
         put_head(&mut text, true)?;
-        return Ok(Judgement {
+        return Ok(Decision {
             permitted: true,
             text,
         });
@@ -154,7 +154,7 @@ fn judge_query(
         question.rtype,
         rule_at(rules, place),
     )?;
-    Ok(Judgement { permitted, text })
+    Ok(Decision { permitted, text })
 }
 
 /// Whether a query asks for a transfer (RFC 5936, 2.1; RFC 1995, 3).

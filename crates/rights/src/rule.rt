@@ -13,7 +13,7 @@ pub enum NameScope {
     AtOrBelow(Name),
 }
 
-// By hand: a derived drop is proved once more in each crate that lets such a value go.
+// Written out: a derived drop is proved again in each crate that drops such a value.
 impl Drop for NameScope {
     fn drop(self) {
         match self {
@@ -34,7 +34,7 @@ pub struct UpdateRight {
     pub needs_tcp: bool,
 }
 
-// By hand: a derived drop is proved once more in each crate that lets such a value go.
+// Written out: a derived drop is proved again in each crate that drops such a value.
 impl Drop for UpdateRight {
     fn drop(self) {
         let UpdateRight {
@@ -57,7 +57,7 @@ pub struct Rule {
     pub update: Option<UpdateRight>,
 }
 
-// By hand: a derived drop is proved once more in each crate that lets such a value go.
+// Written out: a derived drop is proved again in each crate that drops such a value.
 impl Drop for Rule {
     fn drop(self) {
         let Rule {

@@ -27,7 +27,7 @@ const TYPES: &[(&str, u16)] = &[
 /// The types that only a request has, by their words.
 const META: &[(&str, u16)] = &[("IXFR", 251), ("AXFR", 252), ("ANY", 255)];
 
-/// The type that a word names, in any case: by its own word, or by `TYPE` and its number without zeros in front (RFC 3597, 5). None of a
+/// The type that a word names, in any case: by its own word, or by `TYPE` and its number without leading zeros (RFC 3597, 5). None of a
 /// metatype.
 pub(crate) fn type_named(word: &str) -> Option<RType> {
     for (own, number) in TYPES {

@@ -1,4 +1,4 @@
--- One datagram behind the other.
+-- One datagram after another.
 use Rattle.std.proofs.Common.{◌≡◌, refl, arith}
 use Rattle.requests.specs.declared.udp.DatagramsEnd.TheVariants.{Device, Spent}
 use Rattle.requests.proofs.ExchangeLemmas.{known_first, known_more, known_ends, known_done, turn_made, turn_spent, turn_fails}
