@@ -122,10 +122,10 @@ if kind == "clock":
 wire = message.to_wire()
 time.time = real
 if kind == "short":
-    # the MAC's size is behind the algorithm's name, the time and the fudge; the MAC is cut to its half
-    at = wire.index(b"\x0bhmac-sha256\0") + 13
-    rdlength = at - 2
-    wire = (wire[:rdlength] + struct.pack("!H", struct.unpack("!H", wire[rdlength:at])[0] - 16) + wire[at:at + 8]
+    # before the algorithm's name stands the data's length; after it the time, the fudge, and the MAC's size; the MAC is cut to its half
+    name = wire.index(b"\x0bhmac-sha256\0")
+    at = name + 13
+    wire = (wire[:name - 2] + struct.pack("!H", struct.unpack("!H", wire[name - 2:name])[0] - 16) + wire[name:at + 8]
             + struct.pack("!H", 16) + wire[at + 10:at + 26] + wire[at + 42:])
 if over == "udp":
     s = socket.socket(socket.AF_INET, socket.SOCK_DGRAM)
@@ -158,8 +158,7 @@ refusals() {
         check "$over, another secret" "NOTAUTH BADSIG unsigned" "$(refusal "$port" $over secret)"
         check "$over, ten minutes ago" "NOTAUTH BADTIME signed" "$(refusal "$port" $over clock)"
         check "$over, half a MAC" "NOTAUTH BADTRUNC signed" "$(refusal "$port" $over short)"
-        # BIND tells a MAC of half the size FORMERR
-        for kind in key secret clock; do
+        for kind in key secret clock short; do
             check "$over, $kind, as BIND" "$(refusal $((port + 4)) $over $kind)" "$(refusal "$port" $over $kind)"
         done
     done

@@ -185,23 +185,26 @@ def main():
         server = serve(folder)
         client = socket.socket(socket.AF_INET, socket.SOCK_DGRAM)
         client.connect(("127.0.0.1", given.port))
-        client.settimeout(0.5)
+        client.settimeout(10)
         signed, at, first = [], 0, None
         try:
             for turn in range(0, given.requests, 64):
                 now = int(time.time())
                 if now - at > 60:
                     signed, at = requests_at(now), now
+                # IDs of its own, so that no reply to an earlier turn is taken for one of this
+                start = turn * 2 % 65536
                 sent = {}
-                for place in range(64):
+                for place in range(start, start + 64):
                     octets = mutated(chance, chance.choice(signed), signed)
                     octets = struct.pack("!H", place) + octets[2:]
                     sent[place] = octets
                     client.send(octets)
                 # a plain query ends the turn
-                client.send(struct.pack("!HHHHHH", 64, 0, 1, 0, 0, 0) + ZONE + struct.pack("!HH", 6, 1))
+                end = start + 64
+                client.send(struct.pack("!HHHHHH", end, 0, 1, 0, 0, 0) + ZONE + struct.pack("!HH", 6, 1))
                 replies = {}
-                while 64 not in replies:
+                while end not in replies:
                     try:
                         reply = client.recv(65535)
                     except socket.timeout:

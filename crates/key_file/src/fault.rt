@@ -26,11 +26,11 @@ pub enum KeyFault {
     /// A `key` statement must have `algorithm` and `secret`, each once.
     Clauses,
     /// The algorithm is hmac-md5 or hmac-sha1.
-    Weak,
+    WeakAlgorithm,
     /// The algorithm is another that isn't known.
-    Algorithm,
+    UnknownAlgorithm,
     /// The key's name isn't one.
-    Name,
+    BadName,
     /// The key's name has more than 128 octets.
     LongName,
     /// The secret isn't base64 (RFC 4648, 4).
@@ -68,11 +68,12 @@ fn words_of(fault: KeyFault) -> &'static str {
         KeyFault::Word => "a word is missing",
         KeyFault::Mark(_) => "a mark is missing",
         KeyFault::Clauses => "a key has algorithm and secret, each once",
-        KeyFault::Weak => {
+        KeyFault::WeakAlgorithm => {
             "hmac-md5 and hmac-sha1 are too weak; use hmac-sha256, hmac-sha384 or hmac-sha512"
         }
-        KeyFault::Algorithm => "the algorithm is not hmac-sha256, hmac-sha384 or hmac-sha512",
-        KeyFault::Name => "the key's name is not a domain name",
+        KeyFault::UnknownAlgorithm =>
+            "the algorithm is not hmac-sha256, hmac-sha384 or hmac-sha512",
+        KeyFault::BadName => "the key's name is not a domain name",
         KeyFault::LongName => "the key's name is longer than 128 octets",
         KeyFault::Base64 => "the secret is not base64",
         KeyFault::Size => "the secret has no octet, or more than 1024",

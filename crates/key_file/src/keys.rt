@@ -1,4 +1,8 @@
 //! The keys of a key file.
+ghost use Rattle.std.specs.Prelude.{◌≡◌, ◌≤◌, ◌⊎◌, length, IfOk, IfErr, OnOk};
+ghost use Rattle.dns_name.specs.Name.{wire_of, fold_name};
+ghost use Rattle.key_file.specs.Keys.{AreKeys, IsKeyOf, algorithm_named, is_weak, is_word, key_name, secret_in, without_dot};
+
 use crate::fault::{KeyFault, KeyFileFault};
 use crate::statements::{KeyText, Statements};
 use crate::tokens::tokens_of;
@@ -25,7 +29,9 @@ pub struct KeyFile {
 
 /// The keys of a key file's text: `key NAME { algorithm ALGORITHM; secret SECRET; };`, in either order, and `ALGORITHM:NAME:SECRET`, with blanks and comments as
 /// in BIND's files. Names and secrets may be quoted. An error is the first statement that is refused, or lack of memory.
-pub fn parse_keys(alloc: Global, text: &[u8]) -> Result<KeyFile, KeyFileFault> {
+pub fn parse_keys(alloc: Global, text: &[u8]) -> Result<KeyFile, KeyFileFault>
+    ensures { IfOk result (λ file. AreKeys file.keys) }
+{
     let tokens = tokens_of(alloc, text)?;
     let mut statements = Statements::new(tokens.as_slice());
     let mut file = KeyFile {
@@ -37,88 +43,119 @@ pub fn parse_keys(alloc: Global, text: &[u8]) -> Result<KeyFile, KeyFileFault> {
         let Some(key) = statements.next_key()? else {
             break;
         };
-        file.add(alloc, &key)?;
+        if let Err(fault) = file.add(alloc, &key) {
+            return Err(KeyFileFault {
+                line: key.line,
+                fault,
+            });
+        }
     }
     Ok(file)
 }
 
 impl KeyFile {
     /// Adds the key of a statement.
-    fn add(&mut self, alloc: Global, text: &KeyText<'_>) -> Result<(), KeyFileFault> {
-        let line = text.line;
-        let fail = |fault: KeyFault| Err(KeyFileFault { line, fault });
-        let name = match name_of(text.name) {
-            Ok(name) => name,
-            Err(fault) => return fail(fault),
-        };
-        let algorithm = match algorithm_of(text.algorithm) {
-            Ok(algorithm) => algorithm,
-            Err(fault) => return fail(fault),
-        };
-        let secret = match secret_of(alloc, text.secret) {
-            Ok(secret) => secret,
-            Err(fault) => return fail(fault),
-        };
+    #[tactic(auto, using(crate::proofs::KeyLemmas::with_key))]
+    fn add(&mut self, alloc: Global, text: &KeyText<'_>) -> Result<(), KeyFault>
+        requires { AreKeys self.old.keys }
+        ensures keys { AreKeys self.new.keys }
+        ensures key { OnOk result (IsKeyOf text.now.name.now text.now.algorithm.now text.now.secret.now self.old.keys self.new.keys) }
+    {
+        let name = name_of(text.name)?;
+        let algorithm = algorithm_of(text.algorithm)?;
+        let secret = secret_of(alloc, text.secret)?;
         if self.keys.index_named(&name).is_some() {
-            return fail(KeyFault::Twice);
+            return Err(KeyFault::Twice);
         }
         if self.keys.len() >= MAX_KEYS {
-            return fail(KeyFault::TooMany);
+            return Err(KeyFault::TooMany);
         }
         if secret.len() < LONG_ENOUGH && self.short.push(name.copy()).is_err() {
-            return fail(KeyFault::NoMemory);
+            return Err(KeyFault::NoMemory);
         }
-        match self.keys.push(Key::new(name, algorithm, secret.as_slice())) {
+        match self.keys.push(Key::new(name, algorithm, &secret)) {
             Ok(()) => Ok(()),
-            Err(_) => fail(KeyFault::NoMemory),
+            Err(_) => Err(KeyFault::NoMemory),
         }
     }
 }
 
 /// The key's name that a word is, in lower case. A word without a final dot is below the root.
-fn name_of(word: &[u8]) -> Result<Name, KeyFault> {
+#[tactic(auto, using(crate::proofs::KeyLemmas::fold_name-fold_name))]
+fn name_of(word: &[u8]) -> Result<Name, KeyFault>
+    ensures name { result ≡ key_name word.now }
+    ensures short { IfOk result (λ name. length (wire_of name) ≤ 128) }
+    ensures folded { IfOk result (λ name. fold_name name ≡ name) }
+{
     let Ok(name) = Name::from_text(word, &Name::root()) else {
-        return Err(KeyFault::Name);
+        return Err(KeyFault::BadName);
     };
+    let name = name.fold();
     if name.wire().len() > MAX_KEY_NAME {
         return Err(KeyFault::LongName);
     }
-    Ok(name.fold())
+    Ok(name)
+}
+
+/// A word without the dot at its end, where it has one.
+fn without_dot(word: &[u8]) -> &[u8]
+    ensures { result.now ≡ without_dot word.now }
+{
+    match word.strip_suffix(b".") {
+        Some(front) => front,
+        None => word,
+    }
+}
+
+/// Whether a text is this word, in any case.
+fn is_word(text: &[u8], word: &[u8]) -> bool
+    ensures { result ≡ is_word text.now word.now }
+{
+    text.eq_ignore_ascii_case(word)
+}
+
+/// Whether a word names an algorithm that RFC 8945, 6 advises against, in any case.
+fn is_weak(word: &[u8]) -> bool
+    ensures { result ≡ is_weak word.now }
+{
+    is_word(word, b"hmac-md5.sig-alg.reg.int")
+        || is_word(word, b"hmac-md5")
+        || is_word(word, b"hmac-sha1")
 }
 
 /// The algorithm that a word names, in any case, with or without a final dot (RFC 8945, 6).
-fn algorithm_of(word: &[u8]) -> Result<Algorithm, KeyFault> {
-    let word = match word.split_last() {
-        Some((b'.', front)) => front,
-        _ => word,
-    };
-    for (name, algorithm) in ALGORITHMS {
-        if word.eq_ignore_ascii_case(name) {
-            return Ok(*algorithm);
-        }
+fn algorithm_of(word: &[u8]) -> Result<Algorithm, KeyFault>
+    ensures { result ≡ algorithm_named (without_dot word.now) }
+{
+    let word = without_dot(word);
+    if is_word(word, b"hmac-sha256") {
+        return Ok(Algorithm::Sha256);
     }
-    if WEAK.iter().any(|name| word.eq_ignore_ascii_case(name)) {
-        return Err(KeyFault::Weak);
+    if is_word(word, b"hmac-sha384") {
+        return Ok(Algorithm::Sha384);
     }
-    Err(KeyFault::Algorithm)
+    if is_word(word, b"hmac-sha512") {
+        return Ok(Algorithm::Sha512);
+    }
+    if is_weak(word) {
+        return Err(KeyFault::WeakAlgorithm);
+    }
+    Err(KeyFault::UnknownAlgorithm)
 }
 
-/// The algorithms, by their names (RFC 8945, 6).
-const ALGORITHMS: &[(&[u8], Algorithm)] = &[
-    (b"hmac-sha256", Algorithm::Sha256),
-    (b"hmac-sha384", Algorithm::Sha384),
-    (b"hmac-sha512", Algorithm::Sha512),
-];
-
-/// The algorithms that are too weak, by their names (RFC 8945, 6).
-const WEAK: &[&[u8]] = &[b"hmac-md5.sig-alg.reg.int", b"hmac-md5", b"hmac-sha1"];
-
 /// The secret that a word is (RFC 4648, 4).
-fn secret_of(alloc: Global, word: &[u8]) -> Result<Vec<u8>, KeyFault> {
+fn secret_of(alloc: Global, word: &[u8]) -> Result<Vec<u8>, KeyFault>
+    ensures ok { IfOk result (λ secret. secret_in word.now ≡ Ok secret.items) }
+    ensures err { IfErr result (λ fault. (fault ≡ KeyFault.NoMemory) ⊎ (secret_in word.now ≡ Err fault)) }
+{
     match STANDARD.decode(alloc, word) {
-        Ok(secret) if secret.is_empty() || secret.len() > MAX_SECRET => Err(KeyFault::Size),
-        Ok(secret) => Ok(secret),
+        Ok(secret) => {
+            if secret.is_empty() || secret.len() > MAX_SECRET {
+                return Err(KeyFault::Size);
+            }
+            Ok(secret)
+        }
         Err(base64::DecodeAllocError::OutOfMemory) => Err(KeyFault::NoMemory),
-        Err(_) => Err(KeyFault::Base64),
+        Err(base64::DecodeAllocError::DecodeError(_)) => Err(KeyFault::Base64),
     }
 }

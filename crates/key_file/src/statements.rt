@@ -1,4 +1,6 @@
 //! The statements of a key file.
+ghost use Rattle.std.specs.Prelude.{◌≡◌, ◌∷◌, ◌++◌, IfOk, IfErr, IfSome};
+
 use crate::fault::{KeyFault, KeyFileFault};
 use crate::tokens::{Token, TokenKind};
 
@@ -93,7 +95,8 @@ impl<'t, 'a> Statements<'t, 'a> {
 
     /// The next word or mark.
     fn next_token(&mut self) -> Option<Token<'a>> {
-        let (first, rest) = self.tokens.split_first()?;
+        let tokens = self.tokens;
+        let (first, rest) = tokens.split_first()?;
         self.line = first.line;
         self.tokens = rest;
         Some(*first)
@@ -123,7 +126,8 @@ impl<'t, 'a> Statements<'t, 'a> {
 
     /// Takes a `;` that is next.
     fn skip_end(&mut self) {
-        if let Some((first, rest)) = self.tokens.split_first() {
+        let tokens = self.tokens;
+        if let Some((first, rest)) = tokens.split_first() {
             if first.kind == TokenKind::Mark(b';') {
                 self.tokens = rest;
             }
@@ -140,18 +144,20 @@ impl<'t, 'a> Statements<'t, 'a> {
 }
 
 /// The key of a word `ALGORITHM:NAME:SECRET`.
-fn key_in_line(line: usize, word: &[u8]) -> Result<KeyText<'_>, KeyFileFault> {
+fn key_in_line(line: usize, word: &[u8]) -> Result<KeyText<'_>, KeyFileFault>
+    ensures line { IfOk result (λ key. key.line ≡ line) }
+    ensures parts { IfOk result (λ key. word.now ≡ key.algorithm.now ++ 58 ∷ (key.name.now ++ 58 ∷ key.secret.now)) }
+    ensures err { IfErr result (λ fault. fault ≡ record { line = line; fault = KeyFault.Statement }) }
+{
+    let fault = KeyFileFault {
+        line,
+        fault: KeyFault::Statement,
+    };
     let Some((algorithm, rest)) = split_at_colon(word) else {
-        return Err(KeyFileFault {
-            line,
-            fault: KeyFault::Statement,
-        });
+        return Err(fault);
     };
     let Some((name, secret)) = split_at_colon(rest) else {
-        return Err(KeyFileFault {
-            line,
-            fault: KeyFault::Statement,
-        });
+        return Err(fault);
     };
     Ok(KeyText {
         line,
@@ -162,7 +168,10 @@ fn key_in_line(line: usize, word: &[u8]) -> Result<KeyText<'_>, KeyFileFault> {
 }
 
 /// The octets before and after the first colon; None where there is none.
-fn split_at_colon(word: &[u8]) -> Option<(&[u8], &[u8])> {
+fn split_at_colon(word: &[u8]) -> Option<(&[u8], &[u8])>
+    ensures { IfSome result (λ parts. word.now ≡ parts.0.now ++ 58 ∷ parts.1.now) }
+{
     let at = word.iter().position(|octet| *octet == b':')?;
-    Some((word.get(..at)?, word.get(at.saturating_add(1)..)?))
+    let (front, rest) = word.split_at(at);
+    Some((front, rest.get(1..)?))
 }

@@ -31,8 +31,8 @@ enum State {
     Quoted(usize),
     /// A comment up to the line's end.
     LineComment,
-    /// A comment that began at a position, up to `*/`.
-    BlockComment(usize),
+    /// A comment up to `*/` that began at a position, and the line of that.
+    BlockComment(usize, usize),
 }
 
 /// A text that is taken apart.
@@ -83,7 +83,7 @@ impl<'a> Lexer<'a> {
                     self.state = State::Blank;
                 }
             }
-            State::BlockComment(start) => {
+            State::BlockComment(start, _) => {
                 if octet == b'/' && at.saturating_sub(start) >= 3 && self.is_after(at, b'*') {
                     self.state = State::Blank;
                 }
@@ -100,7 +100,7 @@ impl<'a> Lexer<'a> {
         let next = self.text.get(at.saturating_add(1)).copied();
         self.state = match (octet, next) {
             (b'#', _) | (b'/', Some(b'/')) => State::LineComment,
-            (b'/', Some(b'*')) => State::BlockComment(at),
+            (b'/', Some(b'*')) => State::BlockComment(at, self.line),
             (b'"', _) => State::Quoted(at.saturating_add(1)),
             (b'{' | b'}' | b';', _) => {
                 self.put(TokenKind::Mark(octet))?;
@@ -136,8 +136,17 @@ impl<'a> Lexer<'a> {
     fn finish(self) -> Result<Vec<Token<'a>>, KeyFileFault> {
         let mut lexer = self;
         match lexer.state {
-            State::Word(start) => lexer.put_word(start, lexer.text.len())?,
-            State::Quoted(_) | State::BlockComment(_) => return Err(lexer.fault(KeyFault::Open)),
+            State::Word(start) => {
+                let end = lexer.text.len();
+                lexer.put_word(start, end)?;
+            }
+            State::Quoted(_) => return Err(lexer.fault(KeyFault::Open)),
+            State::BlockComment(_, line) => {
+                return Err(KeyFileFault {
+                    line,
+                    fault: KeyFault::Open,
+                });
+            }
             State::Blank | State::LineComment => {}
         }
         Ok(lexer.tokens)

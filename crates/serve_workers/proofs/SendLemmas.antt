@@ -11,25 +11,44 @@ use Rattle.snapshot_cell.proofs.SendLemmas as cell
 use Rattle.snapshot_cell.specs.declared.named.Naming as naming
 use Rattle.dns_engine.specs.declared.versions.FirstZone.{Ghosts}
 use Rattle.zone_server.specs.declared.right.ServerName as server_names
-use Rattle.update_batches.specs.contracts.queued_update.QueuedUpdate as waiting
-use Rattle.zone_server.proofs.ServerSendLemmas.{server_sync}
+use Rattle.zone_server.proofs.ServerSendLemmas.{server_sync, queued_send}
 use Rattle.update_batches.proofs.queue.Queue.TheSendSync as queue
 use Rattle.serve_workers.specs.contracts.server_thread.ServerThread as thread
 use Rattle.serve_workers.specs.contracts.threads.SocketJob as job
 use Rattle.serve_workers.specs.contracts.updates.Updates as updates
-use Rattle.zone_replies.proofs.SendLemmas.{allowed_send}
-use Rattle.worker_jobs.proofs.SendLemmas.{woken_sync, tcp_send, telling_send}
-
-queued_send : IsSend waiting.the_row
-queued_send = search (crossing.crosses, sendable) depth 60 fits 20000
+use Rattle.signed_replies.specs.contracts.key_ring.KeyRights as rights
+use Rattle.zone_replies.proofs.SendLemmas.{allowed_send, rule_sync}
+use Rattle.zone_replies.specs.contracts.transfer.Transfer as transfer
+use Rattle.worker_jobs.proofs.SendLemmas.{woken_sync, transfer_send, tcp_send, tcp_row_send, telling_send, keys_sync, signed_messages_send}
+use Rattle.worker_jobs.specs.contracts.datagrams_job.DatagramsJob as datagrams
+use Rattle.worker_jobs.specs.contracts.worker_socket.WorkerSocket as socket
+use Rattle.serve_workers.specs.contracts.signed_jobs.SharedKeys as shared_keys
+use Rattle.serve_workers.specs.contracts.signed_jobs.SignedJob as signed
 
 updates_sync : IsSync updates.the_row
 updates_sync =
     recorded_sync (updates.the_field).row _ _ (updates.the_type).to_one
     (struct_sync (shape (updates.the_type)) (search (queue.the_field_sync, queue.the_sync, queued_send, crossing.crosses, sendable) depth 60 fits 20000, (search (crossing.crosses, sendable) depth 60 fits 20000, (search (woken_sync, crossing.crosses, sendable) depth 60 fits 20000, tt))))
 
+-- what the holders of keys may do is shared by threads, and so are the keys
+rights_sync : (a : NamedLft) → IsSync (rights.the_field a).row
+rights_sync a = search (rule_sync, crossing.crosses, sendable) depth 60 fits 20000
+
+shared_keys_send : (a : NamedLft) → IsSend (shared_keys.the_field a).row
+shared_keys_send a = search (keys_sync, rights_sync, crossing.crosses, sendable) depth 60 fits 20000
+
+-- a job whose requests may be signed may be sent where the job may
+signed_send : (a : NamedLft) (J C : RattleType) → IsSend J → IsSync C → IsSend (signed.the_field a J C).row
+signed_send a J C sends ticks =
+    struct_send (shape (signed.the_type a J C)) (sends, (shared_keys_send a, (search (crossing.crosses, sendable) depth 60 fits 20000, tt)))
+
+udp_send : (a : NamedLft) → IsSend (datagrams.the_row a (socket.the_row a))
+udp_send a = search (allowed_send, crossing.crosses, sendable) depth 60 fits 20000
+
 job_send : (a : NamedLft) (C : RattleType) → IsSync C → IsSend (job.the_field a C).row
-job_send a C ticks = enum_send (enum.shape (job.the_type a C)) ((search (allowed_send, crossing.crosses, sendable) depth 60 fits 20000, tt), ((tcp_send a C ticks, tt), ((telling_send a C ticks, tt), tt)))
+job_send a C ticks =
+    enum_send (enum.shape (job.the_type a C))
+    ((search (allowed_send, crossing.crosses, sendable) depth 60 fits 20000, tt), ((tcp_send a transfer.the_row C _ transfer_send ticks, tt), ((signed_send a _ C (udp_send a) ticks, tt), ((signed_send a _ C (tcp_row_send a _ C _ (signed_messages_send a transfer.the_row _ transfer_send) ticks) ticks, tt), ((telling_send a C ticks, tt), tt)))))
 
 pub thread_send : (a b : NamedLft) (T N L C : RattleType) (g : Ghosts T.Denot) (n : naming.Ghosts N.Denot) (s : server_names.Ghosts N.Denot) → IsSync L → IsSync C → IsSend (thread.the_row a b T N L C n g s)
 thread_send a b T N L C g n s hears ticks =

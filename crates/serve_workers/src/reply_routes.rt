@@ -91,13 +91,14 @@ impl<C: Clock> ReplySender for ReplyRoutes<'_, C> {
         let Some(Path::Socket(socket)) = self.paths.get(worker) else {
             return;
         };
-        let octets = match (tsig, &mut self.signer) {
-            (Some(tsig), Some(signer)) => signer.sign(tsig, octets),
-            (Some(_), None) => None,
-            (None, _) => Some(octets),
-        };
-        if let Some(octets) = octets {
+        let Some(tsig) = tsig else {
             let _ = is_sent(socket, octets, to);
+            return;
+        };
+        if let Some(signer) = &mut self.signer {
+            if let Some(signed) = signer.sign(tsig, octets) {
+                let _ = is_sent(socket, signed, to);
+            }
         }
     }
 }

@@ -1,8 +1,7 @@
 //! Jobs whose requests may be signed (RFC 8945).
-ghost use Rattle.std.specs.Prelude.{◌≡◌, IfOk};
+ghost use Rattle.std.specs.Prelude.{◌≡◌};
 
-use signed_replies::{KeyRights, PlainRoom};
-use std::alloc::{AllocError, Global};
+use signed_replies::KeyRights;
 use tsig::Keys;
 
 /// The keys that a server shares with clients, and what the holder of each may do, in the order of the keys.
@@ -14,31 +13,20 @@ pub struct SharedKeys<'a> {
     pub rights: &'a [KeyRights<'a>],
 }
 
-/// A job whose requests may be signed, with the keys and the clock by which they are verified, and room for one without its TSIG.
+/// A job whose requests may be signed, with the keys and the clock by which they are verified.
 #[derive(Drop)]
 pub struct SignedJob<'a, J, C> {
     /// The job.
     pub job: J,
     pub(crate) keys: SharedKeys<'a>,
     pub(crate) clock: &'a C,
-    pub(crate) room: PlainRoom,
 }
 
 impl<'a, J: Drop, C> SignedJob<'a, J, C> {
-    /// A job with these keys. An error where an allocation fails.
-    pub(crate) fn new(
-        alloc: Global,
-        job: J,
-        keys: SharedKeys<'a>,
-        clock: &'a C,
-    ) -> Result<SignedJob<'a, J, C>, AllocError>
-        ensures { IfOk result (λ made. made.job ≡ job) }
+    /// A job with these keys and this clock.
+    pub(crate) fn new(job: J, keys: SharedKeys<'a>, clock: &'a C) -> SignedJob<'a, J, C>
+        ensures { result.job ≡ job }
     {
-        Ok(SignedJob {
-            job,
-            keys,
-            clock,
-            room: PlainRoom::new(alloc)?,
-        })
+        SignedJob { job, keys, clock }
     }
 }

@@ -62,10 +62,7 @@ impl Sockets {
                 let job = DatagramsJob::new(worker, socket, allowed, stop, scratch);
                 match plan.keys {
                     None => Ok(SocketJob::Datagrams(job)),
-                    Some(keys) => match SignedJob::new(alloc, job, keys, rt) {
-                        Ok(job) => Ok(SocketJob::SignedDatagrams(job)),
-                        Err(fault) => Err(io::Error::from(fault)),
-                    },
+                    Some(keys) => Ok(SocketJob::SignedDatagrams(SignedJob::new(job, keys, rt))),
                 }
             }
             Sockets::Connections(listeners) => match plan.keys {
@@ -106,13 +103,9 @@ fn signed_tcp_job<'a, R: Clock + Net + Wait>(
     ensures kind { IfOk result (λ job. takes_datagrams job ≡ false) }
     ensures rights { IfOk result (λ job. HasRights plan.entry.connections.allowed.rules.now job) }
 {
-    let job = match tcp_job(rt, alloc, worker, listeners, plan, stop, wakes, scratch) {
-        Ok(job) => job,
-        Err(fault) => return Err(fault),
-    };
-    match SignedJob::new(alloc, job, keys, rt) {
-        Ok(job) => Ok(SocketJob::SignedConnections(job)),
-        Err(fault) => Err(io::Error::from(fault)),
+    match tcp_job(rt, alloc, worker, listeners, plan, stop, wakes, scratch) {
+        Ok(job) => Ok(SocketJob::SignedConnections(SignedJob::new(job, keys, rt))),
+        Err(fault) => Err(fault),
     }
 }
 

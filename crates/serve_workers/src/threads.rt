@@ -8,7 +8,7 @@ use crate::updates::Updates;
 use dns_engine::{FirstZone, VersionReader};
 use serve_core::{Peer, Transport};
 use signed_replies::{
-    KeyRing, RingKeys, SignedConnections, SignedDatagrams, SignedMessages, SystemClock,
+    KeyRing, PlainRoom, RingKeys, SignedConnections, SignedDatagrams, SignedMessages, SystemClock,
 };
 use sockets::{TcpPeer, TcpPlace, Watch};
 use std::alloc::Global;
@@ -114,27 +114,24 @@ fn serve_signed_datagrams<
     ensures seen { BeginsWith result.0.seen reader.seen }
     ensures end { signed.new.job.end ≡ Some result.1 }
 {
+    let Ok(room) = PlainRoom::new(alloc) else {
+        signed.job.give_up(JobEnd::NoMemory);
+        return (reader, JobEnd::NoMemory);
+    };
     let peer = Peer::over(Transport::Udp, false);
     let handler = DatagramHandler::new(alloc, server, reader, log, peer, nobody());
     let handler = handler.with_sender(sender);
-    let SignedJob {
-        job,
-        keys,
-        clock,
-        room,
-    } = signed;
-    let ring: RingKeys<'_, K> = RingKeys::new(alloc, keys.keys, keys.rights);
-    let clock = SystemClock::new(*clock);
+    let ring: RingKeys<'g, K> = RingKeys::new(alloc, signed.keys.keys, signed.keys.rights);
     let mut handler = SignedDatagrams::new(
         handler,
-        ring,
-        clock,
+        &ring,
+        SystemClock::new(signed.clock),
         TsigLines::new(log),
         room,
         peer,
         nobody(),
     );
-    let end = job.serve(rt, &mut handler);
+    let end = signed.job.serve(rt, &mut handler);
     (handler.into_inner().into_reader(), end)
 }
 
@@ -163,28 +160,25 @@ fn serve_signed_connections<
     ensures seen { BeginsWith result.0.seen reader.seen }
     ensures end { signed.new.job.end ≡ Some result.1 }
 {
+    let Ok(room) = PlainRoom::new(alloc) else {
+        signed.job.give_up(JobEnd::NoMemory);
+        return (reader, JobEnd::NoMemory);
+    };
     let peer = Peer::over(Transport::Udp, false);
     let handler = ConnectionHandler::new(alloc, server, reader, log, peer, nobody());
     let handler = handler.with_sender(sender);
-    let SignedJob {
-        job,
-        keys,
-        clock,
-        room,
-    } = signed;
-    let ring: RingKeys<'g, K> = RingKeys::new(alloc, keys.keys, keys.rights);
-    let clock = SystemClock::new(*clock);
+    let ring: RingKeys<'g, K> = RingKeys::new(alloc, signed.keys.keys, signed.keys.rights);
     let mut handler = SignedConnections::new(
         alloc,
         handler,
-        ring,
-        clock,
+        &ring,
+        SystemClock::new(signed.clock),
         TsigLines::new(log),
         room,
         peer,
         nobody(),
     );
-    let end = job.serve(rt, &mut handler, log);
+    let end = signed.job.serve(rt, &mut handler, log);
     (handler.into_inner().into_reader(), end)
 }
 

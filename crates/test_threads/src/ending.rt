@@ -154,6 +154,7 @@ pub(crate) fn served<R: Net + Threads + Wait + Clock + Sync>(
             },
             allowed: Allowed::new(alloc, &rules),
         },
+        keys: None,
     };
     let zone = zone(alloc)?;
     let version = Version::first(zone);

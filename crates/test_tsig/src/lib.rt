@@ -1,9 +1,11 @@
-//! Tests of `hmac`, `tsig` and `signed_replies`: the MACs of RFC 4231, and signed messages that other programs made: what each is taken as, what it is without its TSIG, and how its reply is
-//! signed.
+//! Tests of `hmac`, `tsig`, `signed_replies` and `key_file`: the MACs of RFC 4231; signed messages that other programs made: what each is taken as, what it is without its TSIG, and
+//! how its reply is signed; and key files.
 #![tactic(auto)]
 
 #[cfg(test)]
 mod answered;
+#[cfg(test)]
+mod key_files;
 #[cfg(test)]
 mod macs;
 #[cfg(test)]

@@ -94,18 +94,25 @@ fn has_mac(alloc: Global, message: &str, mac: &[u8]) -> Result<bool, Fail> {
     Ok(message.get(..end).is_some_and(|front| front.ends_with(mac)))
 }
 
+/// Requests, their replies without a TSIG, and as other programs signed them.
+const REPLIES: [(&str, &str, &str); 2] = [
+    (QUERY, ANSWER_BARE, ANSWER),
+    (UPDATE, UPDATED_BARE, UPDATED),
+];
+
+/// Whether the reply to a request has the MAC that another program gave it.
+fn is_signed(alloc: Global, request: &str, plain: &str, want: &str) -> Result<bool, Fail> {
+    let stamp = stamp(1_700_000_001, TsigError::NoError);
+    match signed(alloc, request, 1_700_000_001, plain, &stamp)? {
+        Some((_, mac)) => has_mac(alloc, want, &mac),
+        None => Ok(false),
+    }
+}
+
 /// Whether the replies to a query and to an update have the MACs that other programs gave them.
 fn are_signed(alloc: Global) -> Result<bool, Fail> {
-    let stamp = stamp(1_700_000_001, TsigError::NoError);
-    let replies = [
-        (QUERY, ANSWER_BARE, ANSWER),
-        (UPDATE, UPDATED_BARE, UPDATED),
-    ];
-    for (request, plain, want) in replies {
-        let Some((_, mac)) = signed(alloc, request, 1_700_000_001, plain, &stamp)? else {
-            return Ok(false);
-        };
-        if !has_mac(alloc, want, &mac)? {
+    for (request, plain, want) in &REPLIES {
+        if !is_signed(alloc, request, plain, want)? {
             return Ok(false);
         }
     }
@@ -118,7 +125,7 @@ fn macs_of_replies(rt: HostRuntime) -> Result<(), Fail> {
     Ok(())
 }
 
-/// The MAC of a later message, by the one before; None where it isn't signed.
+/// Signs a later message, by the MAC of the one before, in whose place its own comes. Whether it is signed.
 fn later(alloc: Global, mac: &mut Mac, time: u64, plain: &str) -> Result<bool, Fail> {
     let keys = keys(alloc)?;
     let Some(key) = keys.get(1) else {
@@ -128,6 +135,12 @@ fn later(alloc: Global, mac: &mut Mac, time: u64, plain: &str) -> Result<bool, F
     let stamp = stamp(time, TsigError::NoError);
     Ok(sign_more(key, mac, &stamp, &mut out, len).is_some())
 }
+
+/// The times of later messages of a transfer, the messages without a TSIG, and as another program signed them.
+const LATER: [(u64, &str, &str); 2] = [
+    (1_700_000_002, SECOND_BARE, SECOND),
+    (1_700_000_003, THIRD_BARE, THIRD),
+];
 
 /// Whether the messages of a transfer have the MACs that another program gave them: the first over the request's MAC and all variables, each later one over the MAC before and the
 /// times (RFC 8945, 5.3.1).
@@ -139,12 +152,8 @@ fn is_transfer_signed(alloc: Global) -> Result<bool, Fail> {
     if !has_mac(alloc, FIRST, &mac)? {
         return Ok(false);
     }
-    let others = [
-        (1_700_000_002, SECOND_BARE, SECOND),
-        (1_700_000_003, THIRD_BARE, THIRD),
-    ];
-    for (time, plain, want) in others {
-        if !later(alloc, &mut mac, time, plain)? || !has_mac(alloc, want, &mac)? {
+    for (time, plain, want) in &LATER {
+        if !later(alloc, &mut mac, *time, plain)? || !has_mac(alloc, want, &mac)? {
             return Ok(false);
         }
     }

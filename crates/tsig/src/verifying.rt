@@ -68,7 +68,13 @@ pub fn is_unsigned(octets: &Message<'_>) -> bool
     ensures { OnTrue result ((keys : List SharedKey) (now : ℕ) → verified keys now octets.now ≡ says_unsigned) }
 {
     let msg = octets.octets();
-    msg.len() >= HEADER && msg[2] < QR && is_bare(octets)
+    if msg.len() < HEADER || msg[2] >= QR {
+        return false;
+    }
+    if !is_bare(octets) {
+        return false;
+    }
+    true
 }
 
 /// Whether a request has no TSIG by where one would stand.

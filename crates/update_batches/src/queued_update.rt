@@ -23,7 +23,7 @@ pub enum ReplyTo {
         worker: usize,
         /// The address it came from.
         to: SocketAddr,
-        /// Its TSIG, behind whose MAC the reply is signed (RFC 8945, 5.3). None if it is not signed.
+        /// Its TSIG, whose MAC is digested with the reply (RFC 8945, 5.3). None if it is not signed.
         tsig: Option<RequestTsig>,
     },
 }

@@ -14,19 +14,23 @@ use Rattle.snapshot_cell.specs.declared.named.Naming as naming
 use Rattle.dns_engine.proofs.SendLemmas as engine
 use Rattle.dns_engine.specs.declared.versions.FirstZone.{Ghosts}
 use Rattle.dns_message.specs.contracts.query.Query as query
+use Rattle.signed_replies.specs.contracts.messages.SignedMessages as signed_messages
 use Rattle.sockets.specs.contracts.peer.TcpPeer as peer
 use Rattle.sockets.specs.contracts.place.TcpPlace as place
 use Rattle.sockets.specs.contracts.watch.Watch as watch
 use Rattle.wire_names.specs.contracts.write.NameWriter as names
 use Rattle.tcp_connections.specs.declared.handler.Messages as messages
+use Rattle.tsig.specs.contracts.key.Key as key
+use Rattle.tsig.specs.contracts.keys.Keys as shared_keys
 use Rattle.zone_server.specs.declared.right.ServerName as server_names
-use Rattle.zone_server.proofs.ServerSendLemmas.{server_sync, sender_send}
+use Rattle.zone_server.proofs.ServerSendLemmas.{server_sync, sender_send, tsig_send}
 use Rattle.zone_server.specs.contracts.datagram_handler.DatagramHandler as asked
 use Rattle.zone_replies.proofs.SendLemmas.{allowed_send}
 use Rattle.zone_replies.specs.contracts.transfer.Transfer as transfer
 use Rattle.worker_jobs.specs.contracts.connections_job.ConnectionsJob as connections
 use Rattle.worker_jobs.specs.contracts.waking_poll.WakingPoll as waking
 use Rattle.worker_jobs.specs.contracts.notify_job.NotifyJob as telling
+use Rattle.worker_jobs.specs.contracts.notify_socket.NotifySocket as told
 use Rattle.worker_jobs.specs.contracts.wake_list.State as state
 use Rattle.worker_jobs.specs.contracts.wake_list.WakeList as keys
 use Rattle.worker_jobs.specs.contracts.workers.Worker as worker
@@ -66,13 +70,31 @@ connections_send a S P L M C m peers polls places makes ticks =
 pub tcp_send : (a : NamedLft) (M C : RattleType) (m : messages.Ghosts M.Denot) → IsSend M → IsSync C → IsSend (connections.the_field a peer.the_row (watch.the_row a C) place.the_row M C m).row
 tcp_send a M C m makes ticks = connections_send a peer.the_row (watch.the_row a C) place.the_row M C m peer_send (watch_send a C ticks) place_send makes ticks
 
+-- the same as an argument of another type
+pub tcp_row_send : (a : NamedLft) (M C : RattleType) (m : messages.Ghosts M.Denot) → IsSend M → IsSync C → IsSend (connections.the_row a peer.the_row (watch.the_row a C) place.the_row M C m)
+tcp_row_send a M C m makes ticks =
+    recorded_send (connections.the_field a peer.the_row (watch.the_row a C) place.the_row M C m).row _ _ (connections.the_type a peer.the_row (watch.the_row a C) place.the_row M C m).to_one (tcp_send a M C m makes ticks)
+
+pub key_sync : IsSync key.the_row
+key_sync = search (array_vec.the_sync, crossing.crosses, sendable) depth 60 fits 20000
+
+pub keys_sync : IsSync shared_keys.the_row
+keys_sync = search (key_sync, crossing.crosses, sendable) depth 60 fits 20000
+
+-- the signed messages of a reply may be sent to a thread where its messages may
+pub signed_messages_send : (a : NamedLft) (M : RattleType) (m : messages.Ghosts M.Denot) → IsSend M → IsSend (signed_messages.the_row a M m)
+signed_messages_send a M m makes = search (key_sync, array_vec.the_send, option.the_field_send, option.the_send, crossing.crosses, sendable) depth 60 fits 20000
+
+told_send : IsSend (told.the_field).row
+told_send = search (array_vec.the_send, option.the_field_send, option.the_send, crossing.crosses, sendable) depth 60 fits 20000
+
 pub telling_send : (a : NamedLft) (C : RattleType) → IsSync C → IsSend (telling.the_field a C).row
-telling_send a C ticks = search (global.the_field_send, crossing.crosses, sendable) depth 60 fits 20000
+telling_send a C ticks = search (told_send, keys_sync, option.the_field_send, option.the_send, global.the_field_send, crossing.crosses, sendable) depth 60 fits 20000
 
 pub datagram_handler_send : (a b : NamedLft) (T N L : RattleType) (g : Ghosts T.Denot) (n : naming.Ghosts N.Denot) (s : server_names.Ghosts N.Denot) → IsSync L → IsSend (asked.the_field a b T N L n g s).row
 datagram_handler_send a b T N L g n s hears =
     struct_send (shape (asked.the_type a b T N L n g s))
-    (shr_send _ _ _ (server_sync b T N g n s), (search (cell.crosses, crossing.crosses, sendable) depth 60 fits 20000, (search (crossing.crosses, sendable) depth 60 fits 20000, (search (global.the_field_send, sendable) depth 60 fits 20000, (search (crossing.crosses, sendable) depth 60 fits 20000, (search (crossing.crosses, sendable) depth 60 fits 20000, (search (query_send, sendable) depth 60 fits 20000, (search (names_send, sendable) depth 60 fits 20000, (search (allowed_send, option.the_field_send, option.the_send, crossing.crosses, sendable) depth 60 fits 20000, (search (sender_send, option.the_field_send, option.the_send, crossing.crosses, sendable) depth 60 fits 20000, tt))))))))))
+    (shr_send _ _ _ (server_sync b T N g n s), (search (cell.crosses, crossing.crosses, sendable) depth 60 fits 20000, (search (crossing.crosses, sendable) depth 60 fits 20000, (search (global.the_field_send, sendable) depth 60 fits 20000, (search (crossing.crosses, sendable) depth 60 fits 20000, (search (crossing.crosses, sendable) depth 60 fits 20000, (search (query_send, sendable) depth 60 fits 20000, (search (names_send, sendable) depth 60 fits 20000, (search (allowed_send, option.the_field_send, option.the_send, crossing.crosses, sendable) depth 60 fits 20000, (search (sender_send, option.the_field_send, option.the_send, crossing.crosses, sendable) depth 60 fits 20000, (search (tsig_send, option.the_field_send, option.the_send, crossing.crosses, sendable) depth 60 fits 20000, tt)))))))))))
 
 pub worker_send : (a b : NamedLft) (T N J L : RattleType) (g : Ghosts T.Denot) (n : naming.Ghosts N.Denot) (s : server_names.Ghosts N.Denot) → IsSend J → IsSync L → IsSend (worker.the_row a b T N J L n g s)
 worker_send a b T N J L g n s sends hears =

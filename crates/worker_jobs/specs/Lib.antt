@@ -1,4 +1,5 @@
 pub mod GivenBack
 pub mod Ended
 pub mod Lost
+pub mod SignedNotify
 pub mod WokenKeys

@@ -177,6 +177,14 @@ impl<
         self.end
     }
 
+    /// Ends the job before it serves.
+    pub fn give_up(&mut self, end: JobEnd)
+        ensures end { self.new.end ≡ Some end }
+        ensures number { self.new.number ≡ self.old.number }
+    {
+        self.end = Some(end);
+    }
+
     /// Counts the connections that have ended in the work limit, each once.
     fn count(&mut self, tally: Tally)
         ensures number { self.new.number ≡ self.old.number }

@@ -81,6 +81,14 @@ impl<'a, D: Datagrams> DatagramsJob<'a, D> {
         self.end
     }
 
+    /// Ends the job before it serves.
+    pub fn give_up(&mut self, end: JobEnd)
+        ensures end { self.new.end ≡ Some end }
+        ensures number { self.new.number ≡ self.old.number }
+    {
+        self.end = Some(end);
+    }
+
     /// Answers datagrams as they come, until none can be received any more or no version can be loaded, and gives how that ended. Each peer may
     /// update and transfer by its own address (RFC 1035, 4.2.1).
     pub fn serve<R: Wait, A: Handler>(&mut self, rt: &R, handler: &mut A) -> JobEnd

@@ -11,6 +11,7 @@ mod datagrams_job;
 mod held_replies;
 mod interrupted;
 mod notify_job;
+mod notify_socket;
 mod progress;
 mod scratch;
 mod serve_fault;
@@ -23,7 +24,8 @@ mod workers;
 
 pub use connections_job::ConnectionsJob;
 pub use datagrams_job::DatagramsJob;
-pub use notify_job::{NotifyJob, NotifySocket, Secondaries};
+pub use notify_job::{NotifyJob, Secondaries};
+pub use notify_socket::NotifySocket;
 pub use progress::{Shutdown, StopFlag, WorkLimit};
 pub use scratch::Scratch;
 pub use serve_fault::ServeFault;

@@ -1,24 +1,20 @@
 //! The worker that notifies secondaries of each version (RFC 1996, 3).
-ghost use Rattle.std.specs.Prelude.{◌≡◌, ◌≤◌, length, Some, IfOk, IfSome};
+ghost use Rattle.std.specs.Prelude.{◌≡◌, ◌≤◌, length, Some, IfOk};
 ghost use Rattle.requests.specs.Served.{Grows};
 
-use crate::interrupted::is_interrupted;
+use crate::notify_socket::{MAX_SIGNED, MOST_REPLIES, NotifySocket};
 use crate::progress::Shutdown;
-use arrayvec::ArrayVec;
-use dns_message::HEADER;
 use dns_name::Name;
-use hmac::MAX_MAC;
 use notify::{Due, Heard, MAX_NOTIFY, Notifier};
 use rand_chacha::ChaCha20Rng;
 use rand_core::{Rng, SeedableRng};
 use signed_replies::{SystemClock, UnixClock};
 use std::alloc::{AllocError, Global};
-use std::net::{SocketAddr, UdpSocket};
+use std::net::SocketAddr;
 use std::sync::Wait;
+use std::thread;
 use std::time::{Clock, Duration};
-use std::{io, thread};
-use tsig::{FUDGE, Key, Keys, Stamp, TsigError, sign, verify_reply, write_without_tsig};
-use wire_names::Message;
+use tsig::Keys;
 use zone_server::{Event, JobEnd, NextTurn, Notifying, ServiceLog};
 
 /// The longest wait before the worker checks for a newer version, in milliseconds, since no thread notifies it of one (own).
@@ -27,130 +23,8 @@ const LONGEST_LOOK: u64 = 100;
 /// The most turns that it takes before it waits. No more are due at one time (own).
 const MOST_TURNS: usize = 256;
 
-/// The most datagrams that it takes from a secondary's socket before it continues (own).
-const MOST_REPLIES: usize = 16;
-
 /// The number of 16-bit IDs (RFC 1035, 4.1.1).
 const IDS: u32 = 65_536;
-
-/// The most octets of a NOTIFY that is signed, and of a reply to one that is taken (own).
-const MAX_SIGNED: usize = 1024;
-
-/// The socket for a secondary, which receives datagrams only from its address.
-pub struct NotifySocket {
-    address: SocketAddr,
-    socket: UdpSocket,
-    /// Which of the server's keys its NOTIFYs are signed by. None if they aren't signed.
-    key: Option<u16>,
-    /// The MAC of the NOTIFY that was sent last.
-    mac: ArrayVec<u8, MAX_MAC>,
-}
-
-impl Drop for NotifySocket {
-    fn drop(self) {
-        let NotifySocket {
-            address: _,
-            socket: _,
-            key: _,
-            mac: _,
-        } = self;
-    }
-}
-
-impl NotifySocket {
-    /// A socket that sends to a secondary at this address, receives only its replies, and doesn't block. NOTIFYs are signed by this one of the server's keys, if there is one.
-    pub fn new(
-        socket: UdpSocket,
-        address: SocketAddr,
-        key: Option<u16>,
-    ) -> io::Result<NotifySocket> {
-        socket.connect(address)?;
-        socket.set_nonblocking(true)?;
-        Ok(NotifySocket {
-            address,
-            socket,
-            key,
-            mac: ArrayVec::new(),
-        })
-    }
-
-    /// Sends a NOTIFY, signed at a time by the secondary's key, if it has one: the reply must be signed behind its MAC (RFC 8945, 5.3). One that can't be sent, or signed, is lost, like
-    /// one lost in transit (RFC 1996, 3.6).
-    fn send(&mut self, keys: Option<&Keys>, now: u64, octets: &[u8]) {
-        let Some(index) = self.key else {
-            let _ = self.socket.send(octets);
-            return;
-        };
-        let Some(key) = key_at(keys, index) else {
-            return;
-        };
-        let mut out = [0u8; MAX_SIGNED];
-        let len = octets.len();
-        if len < HEADER || len > MAX_NOTIFY {
-            return;
-        }
-        out[..len].copy_from_slice(octets);
-        let stamp = Stamp {
-            time: now,
-            fudge: FUDGE,
-            error: TsigError::NoError,
-        };
-        let mut mac = ArrayVec::new();
-        let len = sign(key, &mut mac, &stamp, MAX_SIGNED, &mut out, len);
-        self.mac = mac;
-        let _ = self.socket.send(&out[..len]);
-    }
-
-    /// What counts of a reply that has come at a time: all of it where NOTIFYs aren't signed, else what it is without its TSIG, written to the front of `out`. None where it isn't signed
-    /// behind the MAC of the NOTIFY that was sent last (RFC 8945, 5.4).
-    fn plain<'o>(
-        &self,
-        keys: Option<&Keys>,
-        now: u64,
-        octets: &'o [u8],
-        out: &'o mut [u8; MAX_SIGNED],
-    ) -> Option<&'o [u8]> {
-        let Some(index) = self.key else {
-            return Some(octets);
-        };
-        let key = key_at(keys, index)?;
-        let start = verify_reply(key, &self.mac, now, &Message::new(octets))?;
-        if octets.len() < HEADER || octets.len() > MAX_SIGNED {
-            return None;
-        }
-        let id = u16::from_be_bytes([octets[0], octets[1]]);
-        let len = write_without_tsig(octets, start, id, out);
-        Some(&out[..len])
-    }
-
-    /// The secondary's address.
-    pub fn address(&self) -> SocketAddr {
-        self.address
-    }
-
-    /// Receives the next datagram that has come, as far as it fits into a buffer, and gives how many octets it has there. None where none has
-    /// come. A report that a NOTIFY was refused (ICMP) is skipped (RFC 1996, 3.6; own).
-    fn receive(&self, buf: &mut [u8]) -> Option<usize>
-        ensures { IfSome result (λ len. len ≤ length buf.new) }
-    {
-        for _ in 0..MOST_REPLIES {
-            match self.socket.recv(buf) {
-                Ok(len) => return Some(len),
-                Err(fault) => {
-                    if !is_interrupted(&fault) && fault.kind() != io::ErrorKind::ConnectionRefused {
-                        return None;
-                    }
-                }
-            }
-        }
-        None
-    }
-}
-
-/// The key at an index of a server's keys; None where there is none.
-fn key_at(keys: Option<&Keys>, index: u16) -> Option<&Key> {
-    keys?.get(index)
-}
 
 /// The secondaries of a zone, and what is needed to notify them.
 pub struct Secondaries {
@@ -288,14 +162,11 @@ impl<'a, C: Clock> NotifyJob<'a, C> {
 
     /// Sends a NOTIFY to a secondary.
     fn send(&mut self, to: SocketAddr, octets: &[u8])
+        requires { length octets.now ≤ MAX_NOTIFY }
         ensures { self.new.number ≡ self.old.number }
     {
         let now = SystemClock::new(self.clock).now();
-        for socket in self.sockets.iter_mut() {
-            if socket.address == to {
-                socket.send(self.keys, now, octets);
-            }
-        }
+        send_to(self.sockets.as_mut_slice(), self.keys, now, to, octets);
     }
 
     /// Sends what is due, takes the replies that have come, and then waits until something may be due. Gives an end where no version can be loaded,
@@ -352,6 +223,23 @@ impl<'a, C: Clock> NotifyJob<'a, C> {
     }
 }
 
+/// Sends a NOTIFY to the secondary at an address, at a time, by the server's keys.
+fn send_to(
+    sockets: &mut [NotifySocket],
+    keys: Option<&Keys>,
+    now: u64,
+    to: SocketAddr,
+    octets: &[u8],
+)
+    requires { length octets.now ≤ MAX_NOTIFY }
+{
+    for socket in sockets.iter_mut() {
+        if socket.address() == to {
+            socket.send(keys, now, octets);
+        }
+    }
+}
+
 /// Takes the replies that have come at a time from the secondaries of the zone at an apex, by the server's keys.
 fn take_replies<R: Wait, L: ServiceLog>(
     rt: &R,
@@ -383,11 +271,11 @@ fn take_from<R: Wait, L: ServiceLog>(
         let Some(len) = socket.receive(&mut octets) else {
             return;
         };
-        let secondary = socket.address;
-        let Some(plain) = socket.plain(keys, now, &octets[..len], &mut out) else {
+        let secondary = socket.address();
+        let Some(len) = socket.plain(keys, now, &octets[..len], &mut out) else {
             continue;
         };
-        if notifier.receive(apex, secondary, plain) == Some(Heard::Again) {
+        if notifier.receive(apex, secondary, &out[..len]) == Some(Heard::Again) {
             log.tell(rt, Event::Again { secondary });
         }
     }

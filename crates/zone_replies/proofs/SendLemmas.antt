@@ -28,8 +28,8 @@ scope_sync = search (array_vec.the_sync, crossing.crosses, sendable) depth 60 fi
 right_sync : IsSync (update_right.the_field).row
 right_sync = search (scope_sync, crossing.crosses, sendable) depth 60 fits 20000
 
-rule_sync : IsSync (rule.the_field).row
-rule_sync = search (right_sync, option.the_field_sync, crossing.crosses, sendable) depth 60 fits 20000
+pub rule_sync : IsSync (rule.the_field).row
+rule_sync = search (right_sync, array_vec.the_sync, option.the_field_sync, option.the_sync, crossing.crosses, sendable) depth 60 fits 20000
 
 pub allowed_send : (a : NamedLft) → IsSend (allowed.the_field a).row
 allowed_send a = search (rule_sync, global.the_field_send, crossing.crosses, sendable) depth 60 fits 20000

@@ -5,6 +5,7 @@ use denote.Param.Send.{IsSend, IsSync, recorded_send, shr_send, struct_send, sen
 use denote.Struct.Declared.{shape}
 use Rattle.arrayvec.proofs.array_vec.ArrayVec.TheSendSync as array_vec
 use Rattle.std.proofs.Crossing as crossing
+use Rattle.std.proofs.option.Option.TheSendSync as option
 use Rattle.std.proofs.sync.ledger.Share.TheSendSync as share
 use Rattle.dns_engine.proofs.SendLemmas as engine
 use Rattle.snapshot_cell.proofs.SendLemmas as cell
@@ -12,7 +13,7 @@ use Rattle.snapshot_cell.specs.declared.named.Naming as naming
 use Rattle.dns_engine.specs.declared.versions.FirstZone.{Ghosts}
 use Rattle.wire_names.specs.contracts.write.NameWriter as names
 use Rattle.zone_server.specs.declared.right.ServerName as server_names
-use Rattle.zone_server.proofs.ServerSendLemmas.{server_sync}
+use Rattle.zone_server.proofs.ServerSendLemmas.{server_sync, tsig_send}
 use Rattle.zone_server.specs.contracts.right.PublishRight as right
 use Rattle.zone_server.specs.contracts.server_publisher.ServerPublisher as publisher
 use Rattle.zone_server.specs.contracts.server_publisher.ServerPublisher.TheInside as inside
@@ -28,10 +29,10 @@ right_send : (N : RattleType) (n : naming.Ghosts N.Denot) (s : server_names.Ghos
 right_send N n s = search (share.the_send, crossing.crosses, sendable) depth 60 fits 20000
 
 result_send : IsSend result.the_row
-result_send = search (raw_send, array_vec.the_send, crossing.crosses, sendable) depth 60 fits 20000
+result_send = search (raw_send, tsig_send, array_vec.the_send, option.the_field_send, option.the_send, crossing.crosses, sendable) depth 60 fits 20000
 
 outgoing_send : IsSend outgoing.the_row
-outgoing_send = search (raw_send, array_vec.the_send, crossing.crosses, sendable) depth 60 fits 20000
+outgoing_send = search (raw_send, tsig_send, array_vec.the_send, option.the_field_send, option.the_send, crossing.crosses, sendable) depth 60 fits 20000
 
 module _ (a b : NamedLft) (T N L P : RattleType) (g : Ghosts T.Denot) (n : naming.Ghosts N.Denot) (s : server_names.Ghosts N.Denot) (r : replying.Ghosts P.Denot) where
   inside_send : IsSync L → IsSend P → IsSend (inside.the_row a b T N L P n g s r)

@@ -3,7 +3,9 @@ use denote.RattleType.{RattleType}
 use denote.Ref.{NamedLft}
 use denote.Param.Send.{IsSend, IsSync, recorded_sync, struct_sync, sendable}
 use denote.Struct.Declared.{shape}
+use Rattle.arrayvec.proofs.array_vec.ArrayVec.TheSendSync as array_vec
 use Rattle.std.proofs.Crossing as crossing
+use Rattle.std.proofs.option.Option.TheSendSync as option
 use Rattle.std.proofs.sync.Mutex.TheSendSync as mutex
 use Rattle.snapshot_cell.proofs.SendLemmas as cell
 use Rattle.snapshot_cell.specs.declared.named.Naming as naming
@@ -11,6 +13,7 @@ use Rattle.dns_engine.proofs.SendLemmas as engine
 use Rattle.zone_server.proofs.StateSendLemmas as state
 use Rattle.zone_server.specs.declared.right.ServerName as names
 use Rattle.dns_engine.specs.declared.versions.FirstZone.{Ghosts}
+use Rattle.tsig.specs.contracts.request_tsig.RequestTsig as tsig
 use Rattle.update_batches.proofs.queue.Queue.TheSendSync as queue
 use Rattle.zone_server.specs.contracts.submit.UpdateSender as sender
 use Rattle.update_batches.specs.contracts.queued_update.QueuedUpdate as waiting
@@ -22,8 +25,11 @@ server_sync a T N g n s =
     (struct_sync (shape (server.the_type a T N n g s))
     (search (engine.shared_send, engine.shared_sync, cell.crosses, crossing.crosses, sendable) depth 60 fits 20000, (mutex.the_sync _ (state.state_send a T g N n s), tt)))
 
-queued_send : IsSend waiting.the_row
-queued_send = search (crossing.crosses, sendable) depth 60 fits 20000
+pub tsig_send : IsSend (tsig.the_field).row
+tsig_send = search (array_vec.the_send, crossing.crosses, sendable) depth 60 fits 20000
+
+pub queued_send : IsSend waiting.the_row
+queued_send = search (tsig_send, array_vec.the_send, option.the_field_send, option.the_send, crossing.crosses, sendable) depth 60 fits 20000
 
 pub sender_send : (a : NamedLft) → IsSend (sender.the_row a)
 sender_send a = search (queue.the_sync, queued_send, crossing.crosses, sendable) depth 60 fits 20000

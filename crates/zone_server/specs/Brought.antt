@@ -28,7 +28,7 @@ use Rattle.update_batches.specs.declared.queued_update.ReplyTo.TheVariants.{Conn
 abbrev pub brought_after : {T : Type 0} → Option (List T) → List T → Option (List T)
 brought_after old more = option_map (λ before. before ++ more) old
 
--- a worker was given the key of a connection, or a datagram was sent from a worker's socket, to be signed behind the MAC of a request's TSIG if there is one
+-- a worker was given the key of a connection, or a datagram was sent from a worker's socket, to be signed as the reply to a request with this TSIG, if it was signed
 pub data Brought : Type 0 where
   key_to : (worker key : ℕ) → Brought
   sent_by : (worker : ℕ) (to : SocketAddr) (tsig : Option RequestTsig) (octets : List ℕ) → Brought

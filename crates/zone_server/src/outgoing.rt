@@ -22,7 +22,7 @@ pub enum Outgoing {
         worker: usize,
         /// Its destination.
         to: SocketAddr,
-        /// The update's TSIG, behind whose MAC it is signed. None if the update was not signed.
+        /// The update's TSIG, whose MAC is digested with the reply. None if the update was not signed.
         tsig: Option<RequestTsig>,
         /// The result.
         done: UpdateResult,

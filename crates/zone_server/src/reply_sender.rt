@@ -16,7 +16,7 @@ pub trait ReplySender {
     fn tell<R: Wait>(&mut self, rt: &R, worker: usize, key: usize, reported: AtTicket)
         ensures { brought self.new ≡ brought_after (brought self.old) (key_to worker key ∷ []) };
 
-    /// Sends a datagram from a worker's socket, signed behind the MAC of this TSIG if there is one. A datagram that cannot be sent is lost.
+    /// Sends a datagram from a worker's socket, signed as the reply to a request with this TSIG, if there is one. A datagram that cannot be sent is lost.
     fn send(&mut self, worker: usize, to: SocketAddr, tsig: Option<RequestTsig>, octets: &[u8])
         ensures { brought self.new ≡ brought_after (brought self.old) (sent_by worker to tsig octets.now ∷ []) };
 }
