@@ -15,7 +15,7 @@ use crate::store_options::{
 use clap::ArgMatches;
 use commands::Source;
 use dns_name::Name;
-use rights::{KeyRules, Rule};
+use rights::Rule;
 use std::alloc::{AllocError, Global};
 use std::net::SocketAddr;
 use tcp_connections::Limits;

@@ -1,7 +1,7 @@
 -- Rules by the keys that they name (RFC 8945, 4.2).
 use Rattle.std.specs.Prelude.{Bool, true, false, List, [], ◌∷◌, Option, Some, None, if◌then◌else◌}
 use Rattle.dns_name.specs.Name.{Name, is_same}
-use Rattle.rights.specs.declared.key_rules.KeyRules.{KeyRules}
+use Rattle.command_line.specs.declared.key_rules.KeyRules.{KeyRules}
 use Rattle.rights.specs.declared.rule.Rule.{Rule}
 
 -- whether there is no key

@@ -1,9 +1,9 @@
 //! Rules by the keys that they name.
 ghost use Rattle.std.specs.Prelude.{◌≡◌, ◌++◌, [], ◌∷◌, filter, position, if◌then◌else◌, IfOk, OnOk};
 ghost use Rattle.dns_name.specs.Name.{Name as NameOf, is_same};
-ghost use Rattle.rights.specs.Keys.{is_unsigned, names_key, rules_by};
+ghost use Rattle.command_line.specs.Keys.{is_unsigned, names_key, rules_by};
 
-use crate::rule::Rule;
+use rights::Rule;
 use dns_name::Name;
 use std::alloc::{AllocError, Global};
 

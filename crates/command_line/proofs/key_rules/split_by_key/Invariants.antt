@@ -2,8 +2,8 @@
 use Rattle.std.proofs.Common.{◌≡◌, ◌++◌, filter}
 use Rattle.std.specs.Vec.Iter.{into_iter_items}
 use Rattle.dns_name.specs.Name.{Name}
-use Rattle.rights.specs.Keys.{is_unsigned, names_key, rules_by}
-use Rattle.rights.proofs.key_rules.split_by_key.Given as goal
+use Rattle.command_line.specs.Keys.{is_unsigned, names_key, rules_by}
+use Rattle.command_line.proofs.key_rules.split_by_key.Given as goal
 
 abbrev pub invariant-loop-rule : goal.invariant-loop-rule
 invariant-loop-rule l = record {

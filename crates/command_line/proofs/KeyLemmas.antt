@@ -8,8 +8,8 @@ use Rattle.std.proofs.lemmas.List.{append-nil}
 use Rattle.std.proofs.lemmas.List.Sums.{fails_before_first}
 use Rattle.dns_name.specs.Name.{Name, fold_name, is_same}
 use Rattle.dns_name.specs.Order.{is_same_Decides}
-use Rattle.rights.specs.Keys.{rules_by}
-use Rattle.rights.specs.declared.key_rules.KeyRules.{KeyRules}
+use Rattle.command_line.specs.Keys.{rules_by}
+use Rattle.command_line.specs.declared.key_rules.KeyRules.{KeyRules}
 use Rattle.rights.specs.declared.rule.Rule.{Rule}
 
 -- a name is the same as either of two that are the same, or as none of them
