@@ -3,8 +3,8 @@ ghost use Rattle.std.specs.Prelude.{◌≡◌, ◌++◌, [], ◌∷◌, filter, 
 ghost use Rattle.dns_name.specs.Name.{Name as NameOf, is_same};
 ghost use Rattle.command_line.specs.Keys.{is_unsigned, names_key, rules_by};
 
-use rights::Rule;
 use dns_name::Name;
+use rights::Rule;
 use std::alloc::{AllocError, Global};
 
 /// The rules that name a key.

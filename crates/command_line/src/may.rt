@@ -13,9 +13,7 @@ use crate::key_rules::{KeyRules, split_by_key};
 use clap::ArgMatches;
 use clap::parser::ValueSource;
 use dns_name::Name;
-use rights::{
-    NameScope, Prefix, Requestor, Rule, UpdateRight, parse_prefix, parse_rule,
-};
+use rights::{NameScope, Prefix, Requestor, Rule, UpdateRight, parse_prefix, parse_rule};
 use std::alloc::{AllocError, Global};
 use std::net::IpAddr;
 

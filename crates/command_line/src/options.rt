@@ -6,6 +6,7 @@ ghost use Rattle.transfer_core.specs.declared.kept.TheConstants.{KEPT};
 
 use crate::command::{KEEP, MAX_KEEP, ORIGIN, number_for};
 use crate::fault::CommandFault;
+use crate::key_rules::KeyRules;
 use crate::may::served_rules;
 use crate::secondaries::{Secondary, secondaries_of};
 use crate::store_options::{
