@@ -10,6 +10,7 @@
 
 mod command;
 mod fault;
+mod key_rules;
 mod may;
 mod options;
 mod program;
@@ -20,6 +21,7 @@ mod stored_zone;
 
 pub use command::{Change, Stored, Task, parse_words};
 pub use fault::{BAD_COMMAND, CommandFault, tell_fault};
+pub use key_rules::KeyRules;
 pub use may::Trial;
 pub use options::{MAX_THREADS, Serve};
 pub use secondaries::{Secondary, is_routed, source_of};

@@ -9,13 +9,11 @@ ghost use Rattle.rights.specs.declared.requestor.Requestor.{Requestor as Asker};
 
 use crate::command::{ADDRESS, REQUEST, TCP};
 use crate::fault::CommandFault;
+use crate::key_rules::{KeyRules, split_by_key};
 use clap::ArgMatches;
 use clap::parser::ValueSource;
 use dns_name::Name;
-use rights::{
-    KeyRules, NameScope, Prefix, Requestor, Rule, UpdateRight, parse_prefix, parse_rule,
-    split_by_key,
-};
+use rights::{NameScope, Prefix, Requestor, Rule, UpdateRight, parse_prefix, parse_rule};
 use std::alloc::{AllocError, Global};
 use std::net::IpAddr;
 

@@ -6,6 +6,7 @@ ghost use Rattle.transfer_core.specs.declared.kept.TheConstants.{KEPT};
 
 use crate::command::{KEEP, MAX_KEEP, ORIGIN, number_for};
 use crate::fault::CommandFault;
+use crate::key_rules::KeyRules;
 use crate::may::served_rules;
 use crate::secondaries::{Secondary, secondaries_of};
 use crate::store_options::{
@@ -15,7 +16,7 @@ use crate::store_options::{
 use clap::ArgMatches;
 use commands::Source;
 use dns_name::Name;
-use rights::{KeyRules, Rule};
+use rights::Rule;
 use std::alloc::{AllocError, Global};
 use std::net::SocketAddr;
 use tcp_connections::Limits;

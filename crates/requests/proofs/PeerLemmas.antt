@@ -21,7 +21,7 @@ pub is_peer_at : (rules : List Rule) (from : SocketAddr) (request : List ℕ) �
 is_peer_at rules from request = record { over = refl; update = refl; transfer = refl }
 
 -- who asks from an address over a transport, by its number and whether that is TCP
-requestor_as : (who : Requestor) (transport : Transport) (from : SocketAddr) (ip : IpAddr) → ip ≡ socket_ip from → who.bits ≡ number_of ip → who.is_tcp ≡ is_stream transport → who ≡ requestor_at transport from
+pub requestor_as : (who : Requestor) (transport : Transport) (from : SocketAddr) (ip : IpAddr) → ip ≡ socket_ip from → who.bits ≡ number_of ip → who.is_tcp ≡ is_stream transport → who ≡ requestor_at transport from
 requestor_as who transport from ip here bits tcp = λ i. let own : Requestor = record { bits = (bits ∙ ap number_of here) i; is_tcp = tcp i } in own
 
 -- the peer by what it may

@@ -1,5 +1,5 @@
 -- Which requests update, and which peers may transfer (RFC 2136, 3.3; RFC 5936, 5).
-use Rattle.std.specs.Prelude.{◌≡◌, ℕ, Bool, ◌&&◌, List}
+use Rattle.std.specs.Prelude.{◌≡◌, ℕ, Bool, ◌&&◌, List, Option, None, option_map, if◌then◌else◌}
 use Rattle.std.specs.List.{list_any}
 use Rattle.std.specs.Net.Socket.{socket_ip}
 use Rattle.std.specs.declared.net.socket_addr.SocketAddr.{SocketAddr}
@@ -7,13 +7,15 @@ use Rattle.dns_message.specs.declared.query.Parsed.{Parsed}
 use Rattle.dns_message.specs.declared.query.Parsed.TheVariants.{Silent, Fault, BadOpt, Query, Update, NoMemory}
 use Rattle.dns_message.specs.Request.{is_update, reads}
 use Rattle.rights.specs.Address.{number_of}
-use Rattle.rights.specs.Rights.{lets_update, is_permitted, may_transfer}
+use Rattle.dns_rdata.specs.Raw.{RawRecord}
+use Rattle.rights.specs.Rights.{lets_update, is_permitted, may_transfer, first_uncovered}
 use Rattle.rights.specs.declared.requestor.Requestor.{Requestor}
 use Rattle.rights.specs.declared.rule.Rule.{Rule}
 use Rattle.serve_core.specs.Transport.{is_stream}
 use Rattle.serve_core.specs.declared.peer.Peer.{Peer}
 use Rattle.serve_core.specs.declared.transport.Transport.{Transport}
 use Rattle.requests.specs.Served.{Learned}
+use Rattle.requests.specs.declared.uncovered.Uncovered.{Uncovered}
 
 -- who asks from an address, whatever its port, over a transport
 abbrev pub requestor_at : Transport → SocketAddr → Requestor
@@ -27,6 +29,19 @@ permits rules who (BadOpt head question code dnssec_ok) = list_any (lets_update 
 permits rules who (Query query) = list_any (lets_update who) rules
 permits rules who (Update update) = is_permitted rules who update
 permits rules who (NoMemory head) = list_any (lets_update who) rules
+
+-- the first record of an update that no rule covers, where one gives who asks a right to update; none of what is no update
+abbrev pub uncovered_record : List Rule → Requestor → Parsed → Option RawRecord
+uncovered_record rules who Silent = None
+uncovered_record rules who (Fault head code) = None
+uncovered_record rules who (BadOpt head question code dnssec_ok) = None
+uncovered_record rules who (Query query) = None
+uncovered_record rules who (Update update) = if list_any (lets_update who) rules then first_uncovered rules who update.zone.name update.updates else None
+uncovered_record rules who (NoMemory head) = None
+
+-- its owner and its type
+abbrev pub uncovered : List Rule → Requestor → Parsed → Option Uncovered
+uncovered rules who reported = option_map (λ r. record { owner = r.owner; rtype = r.rtype }) (uncovered_record rules who reported)
 
 -- the peer that sends a request from an address and a port, over a transport: it may update exactly if the request asks for an update, by its
 -- header, and rules permit that, and it may transfer exactly if one gives it that right

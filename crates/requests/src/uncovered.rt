@@ -1,9 +1,15 @@
 //! Which record of an update no rule covers.
+ghost use Rattle.std.specs.Prelude.{◌≡◌};
+ghost use Rattle.std.specs.Option.{option_copied};
+ghost use Rattle.dns_message.specs.Request.{Tells};
+ghost use Rattle.dns_message.specs.declared.query.Parsed.{Parsed as ParsedRequest};
+ghost use Rattle.requests.specs.Allowed.{requestor_at, uncovered, uncovered_record};
+
 use crate::allowed::Allowed;
 use dns_message::{Parsed, parse};
 use dns_name::Name;
-use dns_rdata::RType;
-use rights::{Requestor, covering, has_right};
+use dns_rdata::{RType, RawRecord};
+use rights::{Requestor, Rule, first_uncovered, has_right};
 use serve_core::Transport;
 use std::net::SocketAddr;
 
@@ -24,23 +30,44 @@ impl Allowed<'_> {
         from: SocketAddr,
         transport: Transport,
         request: &[u8],
-    ) -> Option<Uncovered> {
-        let Parsed::Update(update) = parse(self.alloc, request) else {
-            return None;
-        };
+    ) -> Option<Uncovered>
+        ensures { (reported : ParsedRequest) × Tells request.now reported × (result ≡ uncovered self.entry.rules.now (requestor_at transport from) reported) }
+    {
         let who = Requestor::new(from.ip(), transport.is_stream());
-        let (rules, apex) = (self.rules, &update.zone.name);
-        if !has_right(rules, who) {
-            return None;
-        }
-        for record in update.updates.as_slice() {
-            if covering(rules, who, apex, record).is_none() {
-                return Some(Uncovered {
-                    owner: record.owner.copy(),
-                    rtype: record.rtype,
-                });
-            }
-        }
-        None
+        let parsed = parse(self.alloc, request);
+        uncovered_in(self.rules, who, &parsed)
     }
+}
+
+/// The owner and the type of the first record of an update that no rule covers, as [`uncovered_record`] finds it.
+fn uncovered_in(rules: &[Rule], who: Requestor, parsed: &Parsed) -> Option<Uncovered>
+    ensures { result ≡ uncovered rules.now who parsed.now }
+{
+    match uncovered_record(rules, who, parsed) {
+        None => None,
+        Some(found) => Some(uncovered_of(found)),
+    }
+}
+
+/// The owner and the type of a record.
+fn uncovered_of(found: &RawRecord) -> Uncovered
+    ensures { result ≡ record { owner = found.now.owner; rtype = found.now.rtype } }
+{
+    Uncovered {
+        owner: found.owner.copy(),
+        rtype: found.rtype,
+    }
+}
+
+/// The first record of an update that no rule covers; None if no rule gives who asks a right to update, or of what is no update.
+fn uncovered_record<'u>(rules: &[Rule], who: Requestor, parsed: &'u Parsed) -> Option<&'u RawRecord>
+    ensures { option_copied result ≡ uncovered_record rules.now who parsed.now }
+{
+    let Parsed::Update(update) = parsed else {
+        return None;
+    };
+    if !has_right(rules, who) {
+        return None;
+    }
+    first_uncovered(rules, who, &update.zone.name, update.updates.as_slice())
 }

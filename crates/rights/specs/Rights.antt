@@ -1,5 +1,5 @@
 -- Who may update a zone, and what of it, and who may transfer it (RFC 2136, 3.3; RFC 5936, 5).
-use Rattle.std.specs.Prelude.{Bool, true, false, ◌&&◌, ◌||◌, ◌==◌, not, List, [], ◌∷◌, Option, Some, None, if◌then◌else◌}
+use Rattle.std.specs.Prelude.{Bool, true, false, find, ◌&&◌, ◌||◌, ◌==◌, not, List, [], ◌∷◌, Option, Some, None, if◌then◌else◌}
 use Rattle.std.specs.List.{list_any, list_all}
 use Rattle.dns_name.specs.Name.{Name, is_same, is_under}
 use Rattle.dns_rdata.specs.Numbers.{type_NS, type_SOA, type_ANY, type_AXFR, type_IXFR}
@@ -64,6 +64,10 @@ covers who apex r rule = lets_update who rule && is_right_to rule.update apex r
 -- records may be updated where a rule gives who asks a right to update, and each of them is covered by a rule
 abbrev pub are_permitted : List Rule → Requestor → Name → List RawRecord → Bool
 are_permitted rules who apex records = list_any (lets_update who) rules && list_all (λ r. list_any (covers who apex r) rules) records
+
+-- the first record that no rule covers
+abbrev pub first_uncovered : List Rule → Requestor → Name → List RawRecord → Option RawRecord
+first_uncovered rules who apex records = find (λ r. not (list_any (covers who apex r) rules)) records
 
 -- whether a rule gives who asks the right to transfer the zone
 abbrev pub lets_transfer : Requestor → Rule → Bool

@@ -20,15 +20,15 @@ pub(crate) fn number_of(address: IpAddr) -> u128
 }
 
 /// Whether a prefix has an address, as numbers of 128 bits: an IPv4 address only if it is a prefix of IPv4 addresses.
-pub(crate) fn has_address(prefix: Prefix, address: u128) -> bool
-    ensures { result ≡ has_address prefix address }
+pub(crate) fn has_address(prefix: &Prefix, address: u128) -> bool
+    ensures { result ≡ has_address prefix.now address }
 {
     shares_front(prefix.length, prefix.bits, address) && (prefix.length >= 96 || !is_ipv4(address))
 }
 
 /// Whether a prefix, if there is one, has an address.
-pub(crate) fn has_prefix(prefix: Option<Prefix>, address: u128) -> bool
-    ensures { result ≡ has_prefix prefix address }
+pub(crate) fn has_prefix(prefix: &Option<Prefix>, address: u128) -> bool
+    ensures { result ≡ has_prefix prefix.now address }
 {
     match prefix {
         None => true,

@@ -8,7 +8,6 @@
 
 mod address;
 mod fault;
-mod key_rules;
 mod parse;
 mod permission;
 mod prefix;
@@ -20,10 +19,9 @@ mod types;
 
 pub use address::parse_prefix;
 pub use fault::RuleFault;
-pub use key_rules::{KeyRules, split_by_key};
 pub use parse::parse_rule;
 pub use permission::{
-    are_permitted, covering, first_outside, has_right, may_transfer, transferring,
+    are_permitted, covering, first_outside, first_uncovered, has_right, may_transfer, transferring,
 };
 pub use prefix::Prefix;
 pub use report::{Decision, RequestFault, is_permitted, judge, judge_digits};

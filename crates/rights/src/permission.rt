@@ -1,7 +1,8 @@
 //! Whether a request is permitted.
 ghost use Rattle.std.specs.Prelude.{◌≡◌, ◌==◌, not, position};
+ghost use Rattle.std.specs.Option.{option_copied};
 ghost use Rattle.std.specs.List.{list_any, list_all};
-ghost use Rattle.rights.specs.Rights.{holds_at, takes_every_type, holds_of, is_held, is_right_to, lets_update, covers, are_permitted, lets_transfer, may_transfer, is_within};
+ghost use Rattle.rights.specs.Rights.{holds_at, takes_every_type, holds_of, is_held, is_right_to, lets_update, covers, are_permitted, lets_transfer, may_transfer, is_within, first_uncovered};
 
 use crate::address::has_prefix;
 use crate::requestor::Requestor;
@@ -25,6 +26,20 @@ pub fn covering(rules: &[Rule], who: Requestor, apex: &Name, record: &RawRecord)
     rules
         .iter()
         .position(|rule| covers(rule, who, apex, record))
+}
+
+/// The first record of an update section that no rule covers; None where each is covered.
+pub fn first_uncovered<'r>(
+    rules: &[Rule],
+    who: Requestor,
+    apex: &Name,
+    records: &'r [RawRecord],
+) -> Option<&'r RawRecord>
+    ensures { option_copied result ≡ first_uncovered rules.now who apex.now records.now }
+{
+    records
+        .iter()
+        .find(|record| !is_covered(rules, who, apex, record))
 }
 
 /// Whether the zone may be transferred: a rule gives who asks that right (RFC 5936, 5).
@@ -95,14 +110,14 @@ fn covers(rule: &Rule, who: Requestor, apex: &Name, record: &RawRecord) -> bool
 fn lets_update(rule: &Rule, who: Requestor) -> bool
     ensures { result ≡ lets_update who rule.now }
 {
-    has_prefix(rule.prefix, who.bits) && is_held(&rule.update, who)
+    has_prefix(&rule.prefix, who.bits) && is_held(&rule.update, who)
 }
 
 /// Whether a rule gives who asks the right to transfer the zone.
 fn lets_transfer(rule: &Rule, who: Requestor) -> bool
     ensures { result ≡ lets_transfer who rule.now }
 {
-    rule.transfer && has_prefix(rule.prefix, who.bits)
+    rule.transfer && has_prefix(&rule.prefix, who.bits)
 }
 
 /// Whether a right to update, where there is one, holds over the transport of who asks.
