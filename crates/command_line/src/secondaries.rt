@@ -27,7 +27,7 @@ pub struct Secondary {
     pub key: Option<Name>,
 }
 
-// By hand: a derived drop is proved once more in each crate that lets such a value go.
+// Written out: a derived drop is proved again in each crate that drops such a value.
 impl Drop for Secondary {
     fn drop(self) {
         let Secondary {

@@ -7,6 +7,7 @@
 //! sockets, by the workers of `serve_workers`, with what `dnsd_setup` reads, locks and binds.
 #![tactic(auto)]
 
+pub mod key_rights;
 pub mod secondaries;
 pub mod serve;
 pub mod thread_specs;

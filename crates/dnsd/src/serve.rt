@@ -3,11 +3,11 @@ ghost use Rattle.std.specs.Prelude.{◌≤◌, vec_len};
 ghost use Rattle.transfer_core.specs.declared.kept.TheConstants.{KEPT};
 ghost use Rattle.dnsd_setup.specs.Starts.{CanStart};
 
+use crate::key_rights::{rights_for, shared_keys};
 use crate::secondaries::{SecondarySockets, secondaries_for};
 use crate::thread_specs::{thread_specs_for, work_limits_of};
 use command_line::{BAD_COMMAND, MAX_THREADS, Serve, StorePlan, is_routed};
 use commands::{DONE, FAILED};
-use dns_name::Name;
 use dnsd_setup::{
     BoundSockets, Entries, Listening, Log, LogLine, ServedZone, StartedZone, WorkerSockets,
     ZoneStore, bind_sockets, descriptors, keys_for, read_text_for, start_entries, start_store_for,
@@ -16,13 +16,12 @@ use dnsd_setup::{
 use key_file::KeyFile;
 use notify::large_in;
 use requests::Allowed;
-use rights::{KeyRules, Rule};
+use rights::Rule;
 use serve_workers::{
-    ConnectionPlan, Most, Plan, ServeFault, SharedKeys, Shutdown, ThreadSpec, UpdateConfig,
-    WorkLimit, serve_zone,
+    ConnectionPlan, Most, Plan, ServeFault, Shutdown, ThreadSpec, UpdateConfig, WorkLimit,
+    serve_zone,
 };
-use signed_replies::KeyRights;
-use std::alloc::{AllocError, Global};
+use std::alloc::Global;
 use std::fs::{File, Files};
 use std::marker::Brand;
 use std::net::{Net, SocketAddr, TcpListener, TcpStream};
@@ -33,7 +32,7 @@ use std::thread::Threads;
 use std::time::Clock;
 use std::{io, mem};
 use store_compaction::{TextWriter, ThreadTextWriter};
-use tsig::{Keys, MAX_KEYS};
+use tsig::Keys;
 use zone_tree::ZoneRead;
 
 /// The maximum number of updates that may wait for the update thread, whatever their size (own).
@@ -398,7 +397,7 @@ fn serve_with_specs<
     let Ok(dir) = format!(in alloc; "{dir}") else {
         return Err(ServeFault::NoMemory);
     };
-    let Ok(rights) = rights_of(alloc, keys, serve.key_rules.as_slice()) else {
+    let Ok(rights) = rights_for(alloc, keys, serve.key_rules.as_slice()) else {
         return Err(ServeFault::NoMemory);
     };
     let shutdown = Shutdown::new(specs.len());
@@ -418,48 +417,6 @@ fn serve_with_specs<
         octets: serve.update_queue,
     };
     serve_with_store(rt, alloc, most, begun, texts, specs, plan, log)
-}
-
-/// What the holders of keys may do, in the order of the keys.
-fn rights_of<'a>(
-    alloc: Global,
-    keys: Option<&KeyFile>,
-    key_rules: &'a [KeyRules],
-) -> Result<Vec<KeyRights<'a>>, AllocError> {
-    let mut rights = Vec::new(alloc);
-    let Some(file) = keys else {
-        return Ok(rights);
-    };
-    for index in 0..MAX_KEYS {
-        let Some(key) = file.keys.get(index as u16) else {
-            break;
-        };
-        let rules = rules_of(key_rules, key.name());
-        rights.push(KeyRights { rules })?;
-    }
-    Ok(rights)
-}
-
-/// The rules that name the key of this name.
-fn rules_of<'a>(key_rules: &'a [KeyRules], name: &Name) -> &'a [Rule] {
-    for own in key_rules {
-        if own.key == *name {
-            return own.rules.as_slice();
-        }
-    }
-    &[]
-}
-
-/// The keys of a file with these rights, if there is one.
-fn shared_keys<'a>(
-    keys: Option<&'a KeyFile>,
-    rights: &'a [KeyRights<'a>],
-) -> Option<SharedKeys<'a>> {
-    let file = keys?;
-    Some(SharedKeys {
-        keys: &file.keys,
-        rights,
-    })
 }
 
 /// Serves a zone with one thread for each of these specs. At most `most` updates wait, and the store's zone texts are written by `texts`.

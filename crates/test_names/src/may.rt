@@ -322,7 +322,7 @@ const TEXTS: [(&str, &str); 24] = [
 ];
 
 /// What a text is read as.
-fn told(alloc: Global, text: &str) -> Result<String, AllocError> {
+fn report_of(alloc: Global, text: &str) -> Result<String, AllocError> {
     match rule(alloc, text) {
         Ok(rule) => format!(in alloc; "{rule}"),
         Err(fault) => format!(in alloc; "{fault}"),
@@ -337,8 +337,8 @@ fn is_same(a: &str, b: &str) -> bool {
 /// The first text that is read as something else.
 fn first_misread(alloc: Global) -> Result<Option<&'static str>, AllocError> {
     for (text, right) in &TEXTS {
-        let got = match told(alloc, *text) {
-            Err(_) => told(alloc, *text)?,
+        let got = match report_of(alloc, *text) {
+            Err(_) => report_of(alloc, *text)?,
             Ok(got) => got,
         };
         if !is_same(got.as_str(), right) {
