@@ -3,6 +3,7 @@ use Rattle.std.specs.Prelude.{◌≡◌, ℕ, Bool, ◌&&◌, List, Option, None
 use Rattle.std.specs.List.{list_any}
 use Rattle.std.specs.Net.Socket.{socket_ip}
 use Rattle.std.specs.declared.net.socket_addr.SocketAddr.{SocketAddr}
+use Rattle.dns_name.specs.Name.{Name}
 use Rattle.dns_message.specs.declared.query.Parsed.{Parsed}
 use Rattle.dns_message.specs.declared.query.Parsed.TheVariants.{Silent, Fault, BadOpt, Query, Update, NoMemory}
 use Rattle.dns_message.specs.Request.{is_update, reads}
@@ -40,8 +41,12 @@ uncovered_record rules who (Update update) = if list_any (lets_update who) rules
 uncovered_record rules who (NoMemory head) = None
 
 -- its owner and its type
-abbrev pub uncovered : List Rule → Requestor → Parsed → Option Uncovered
-uncovered rules who reported = option_map (λ r. record { owner = r.owner; rtype = r.rtype }) (uncovered_record rules who reported)
+abbrev pub uncovered : List Rule → Requestor → Parsed → Option (Name × ℕ)
+uncovered rules who reported = option_map (λ r. (r.owner, r.rtype)) (uncovered_record rules who reported)
+
+-- the owner and the type that are reported
+abbrev pub owner_and_type : Uncovered → Name × ℕ
+owner_and_type found = (found.owner, found.rtype.0)
 
 -- the peer that sends a request from an address and a port, over a transport: it may update exactly if the request asks for an update, by its
 -- header, and rules permit that, and it may transfer exactly if one gives it that right

@@ -1,9 +1,9 @@
 //! Which record of an update no rule covers.
-ghost use Rattle.std.specs.Prelude.{◌≡◌};
+ghost use Rattle.std.specs.Prelude.{◌≡◌, option_map};
 ghost use Rattle.std.specs.Option.{option_copied};
 ghost use Rattle.dns_message.specs.Request.{Tells};
 ghost use Rattle.dns_message.specs.declared.query.Parsed.{Parsed as ParsedRequest};
-ghost use Rattle.requests.specs.Allowed.{requestor_at, uncovered, uncovered_record};
+ghost use Rattle.requests.specs.Allowed.{owner_and_type, requestor_at, uncovered, uncovered_record};
 
 use crate::allowed::Allowed;
 use dns_message::{Parsed, parse};
@@ -31,7 +31,7 @@ impl Allowed<'_> {
         transport: Transport,
         request: &[u8],
     ) -> Option<Uncovered>
-        ensures { (reported : ParsedRequest) × Tells request.now reported × (result ≡ uncovered self.entry.rules.now (requestor_at transport from) reported) }
+        ensures { (reported : ParsedRequest) × Tells request.now reported × (option_map owner_and_type result ≡ uncovered self.entry.rules.now (requestor_at transport from) reported) }
     {
         let who = Requestor::new(from.ip(), transport.is_stream());
         let parsed = parse(self.alloc, request);
@@ -41,7 +41,7 @@ impl Allowed<'_> {
 
 /// The owner and the type of the first record of an update that no rule covers, as [`uncovered_record`] finds it.
 fn uncovered_in(rules: &[Rule], who: Requestor, parsed: &Parsed) -> Option<Uncovered>
-    ensures { result ≡ uncovered rules.now who parsed.now }
+    ensures { option_map owner_and_type result ≡ uncovered rules.now who parsed.now }
 {
     match uncovered_record(rules, who, parsed) {
         None => None,
@@ -51,7 +51,7 @@ fn uncovered_in(rules: &[Rule], who: Requestor, parsed: &Parsed) -> Option<Uncov
 
 /// The owner and the type of a record.
 fn uncovered_of(found: &RawRecord) -> Uncovered
-    ensures { result ≡ record { owner = found.now.owner; rtype = found.now.rtype } }
+    ensures { owner_and_type result ≡ (found.now.owner, found.now.rtype) }
 {
     Uncovered {
         owner: found.owner.copy(),

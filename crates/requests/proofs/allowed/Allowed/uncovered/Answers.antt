@@ -3,7 +3,7 @@ use Rattle.std.proofs.Common.{◌≡◌, ap, ◌∙◌}
 use Rattle.rights.specs.declared.requestor.Requestor.{Requestor}
 use Rattle.requests.specs.Allowed.{requestor_at, uncovered}
 use Rattle.requests.proofs.PeerLemmas.{requestor_as}
-use Rattle.requests.proofs.uncovered.Allowed.uncovered.Goals as goal
+use Rattle.requests.proofs.allowed.Allowed.uncovered.Goals as goal
 
 pub returns : goal.returns
 returns c =
