@@ -35,8 +35,8 @@ pub fn split_by_key(
     alloc: Global,
     rules: Vec<Rule>,
 ) -> Result<(Vec<Rule>, Vec<KeyRules>), AllocError>
-    ensures unsigned { IfOk result (λ parts. parts.0.items ≡ filter is_unsigned rules.entry.items) }
-    ensures signed { IfOk result (λ parts. (key : NameOf) → rules_by key parts.1.items ≡ filter (names_key key) rules.entry.items) }
+    ensures unsigned { IfOk result (λ parts. parts.0.items ≡ filter is_unsigned rules.items) }
+    ensures signed { IfOk result (λ parts. (key : NameOf) → rules_by key parts.1.items ≡ filter (names_key key) rules.items) }
 {
     let mut unsigned = Vec::new(alloc);
     let mut signed = Vec::new(alloc);
@@ -68,7 +68,7 @@ fn place_of(signed: &[KeyRules], key: &Name) -> Option<usize>
 
 /// Adds a rule of a key after the others of that key.
 fn put(alloc: Global, signed: &mut Vec<KeyRules>, key: Name, rule: Rule) -> Result<(), AllocError>
-    ensures { OnOk result ((own : NameOf) → rules_by own signed.new.items ≡ rules_by own signed.old.items ++ (if is_same key.entry own then rule.entry ∷ [] else [])) }
+    ensures { OnOk result ((own : NameOf) → rules_by own signed.new.items ≡ rules_by own signed.old.items ++ (if is_same key own then rule ∷ [] else [])) }
 {
     match place_of(signed.as_slice(), &key) {
         Some(place) => signed[place].rules.push(rule)?,
