@@ -1,6 +1,6 @@
 -- A request that was judged by a key of the server names that one.
 use Rattle.std.proofs.Common.{◌≡◌, ℕ, ◌≤◌, Bool, true, false, not, List, length, Option, Some, None, option_map, option_and_then, if◌then◌else◌, slice_get, unwrap_or, refl, sym, ap, subst}
-use Rattle.std.specs.Prelude.{Unit, nat_lt}
+use Rattle.std.specs.Prelude.{nat_lt}
 use Rattle.dns_message.specs.Message.{message_limit}
 use Rattle.dns_message.specs.Reads.{is_reply}
 use Rattle.dns_message.specs.Tsig.{place_in}

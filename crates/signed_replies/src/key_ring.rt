@@ -48,7 +48,7 @@ pub struct RingKeys<'k, K: KeyRing> {
 }
 
 impl<'k, K: KeyRing> Model for RingKeys<'k, K> {
-    ghost use Rattle.std.specs.Prelude.{◌≡◌, map, Unit, tt};
+    ghost use Rattle.std.specs.Prelude.{◌≡◌, map};
 
     ghost Value = { Unit {0} };
 

@@ -19,7 +19,7 @@ pub struct PlainRoom {
 }
 
 impl Model for PlainRoom {
-    ghost use Rattle.std.specs.Prelude.{◌≤◌, Unit, tt, length};
+    ghost use Rattle.std.specs.Prelude.{◌≤◌, length};
 
     ghost Value = { Unit {0} };
 

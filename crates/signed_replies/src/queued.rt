@@ -29,8 +29,7 @@ impl<'k, C: UnixClock> QueuedSigner<'k, C> {
 
     /// The reply of these octets to a request with this TSIG, signed with the clock's time; None where they are more than a message has, or the key isn't one of the server's.
     pub fn sign(&mut self, tsig: RequestTsig, octets: &[u8]) -> Option<&[u8]>
-        ensures same { self.new.keys.now ≡ self.old.keys.now }
-        ensures signed { IfSome result (λ signed. (now : ℕ) × (signed_queued (slice_get self.old.keys.now tsig.key) tsig now octets.now ≡ signed.now ∷ [])) }
+        ensures { IfSome result (λ signed. (now : ℕ) × (signed_queued (slice_get self.old.keys.now tsig.key) tsig now octets.now ≡ signed.now ∷ [])) }
     {
         let now = self.clock.now();
         self.room.signed(self.keys, tsig, now, octets)

@@ -98,7 +98,7 @@ pub(crate) fn write_signed(
 ) -> Option<usize>
     requires header { HEADER ≤ length request.now }
     requires room { message_limit ≤ length out.old }
-    ensures octets { messages_in result out.new ≡ signed_error transport (option_copied key) tsig stamp.now request.now }
+    ensures octets { messages_in result out.new ≡ signed_error transport (option_copied key.entry) tsig stamp.now request.now }
     ensures bound { IfSome result (λ n. n ≤ message_limit) }
 {
     let key = key?;
