@@ -26,6 +26,7 @@ PUBLIC = {
     "dns_engine::Engine::update": "public call: judges an update and publishes what it makes",
     "dns_message::put_frame": "public call: the frame of a message over TCP",
     "dns_name::Name::labels": "public call: the labels of a name",
+    "hmac::Key::mac_of": "public call: the MAC of a text (RFC 2104)",
     "lookup_core::answer": "public call: what a zone answers",
     "lookup_core::answer_from": "public call: the same, of a name that is sought",
     "lookup_core::place": "public call: where a name lies in a zone",
