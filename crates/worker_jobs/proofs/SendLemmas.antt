@@ -19,7 +19,10 @@ use Rattle.sockets.specs.contracts.peer.TcpPeer as peer
 use Rattle.sockets.specs.contracts.place.TcpPlace as place
 use Rattle.sockets.specs.contracts.watch.Watch as watch
 use Rattle.wire_names.specs.contracts.write.NameWriter as names
+use Rattle.tcp_connections.specs.contracts.connection.Connection as connection
+use Rattle.tcp_connections.specs.contracts.machine.ConnectionState as state_of
 use Rattle.tcp_connections.specs.declared.handler.Messages as messages
+use Rattle.tcp_loop.specs.contracts.worker.EventLoop as event_loop
 use Rattle.tsig.specs.contracts.key.Key as key
 use Rattle.tsig.specs.contracts.keys.Keys as shared_keys
 use Rattle.zone_server.specs.declared.right.ServerName as server_names
@@ -62,10 +65,19 @@ woken_sync = recorded_sync (keys.the_field).row _ _ (keys.the_type).to_one (stru
 waking_send : (a : NamedLft) (P : RattleType) → IsSend P → IsSend (waking.the_field a P).row
 waking_send a P polls = search (woken_sync, option.the_field_send, option.the_send, crossing.crosses, sendable) depth 60 fits 20000
 
+state_send : (M : RattleType) (m : messages.Ghosts M.Denot) → IsSend M → IsSend (state_of.the_row M m)
+state_send M m makes = search (option.the_field_send, global.the_field_send, crossing.crosses, sendable) depth 60 fits 20000
+
+connection_send : (S M : RattleType) (m : messages.Ghosts M.Denot) → IsSend S → IsSend M → IsSend (connection.the_row S M m)
+connection_send S M m peers makes = search (state_send, crossing.crosses, sendable) depth 60 fits 20000
+
+loop_send : (S M : RattleType) (m : messages.Ghosts M.Denot) → IsSend S → IsSend M → IsSend (event_loop.the_field S M m).row
+loop_send S M m peers makes = search (connection_send, global.the_field_send, crossing.crosses, sendable) depth 60 fits 20000
+
 connections_send : (a : NamedLft) (S P L M C : RattleType) (m : messages.Ghosts M.Denot) → IsSend S → IsSend P → IsSend L → IsSend M → IsSync C → IsSend (connections.the_field a S P L M C m).row
 connections_send a S P L M C m peers polls places makes ticks =
     struct_send (shape (connections.the_type a S P L M C m))
-    (search (crossing.crosses, sendable) depth 60 fits 20000, (waking_send a P polls, (search (crossing.crosses, sendable) depth 60 fits 20000, (search (makes, global.the_field_send, crossing.crosses, sendable) depth 60 fits 20000, (search (allowed_send, crossing.crosses, sendable) depth 60 fits 20000, (search (crossing.crosses, sendable) depth 60 fits 20000, (search (crossing.crosses, sendable) depth 60 fits 20000, (search (crossing.crosses, sendable) depth 60 fits 20000, (search (crossing.crosses, sendable) depth 60 fits 20000, (search (crossing.crosses, sendable) depth 60 fits 20000, (search (crossing.crosses, sendable) depth 60 fits 20000, (search (crossing.crosses, sendable) depth 60 fits 20000, tt))))))))))))
+    (search (crossing.crosses, sendable) depth 60 fits 20000, (waking_send a P polls, (search (crossing.crosses, sendable) depth 60 fits 20000, (loop_send S M m peers makes, (search (allowed_send, crossing.crosses, sendable) depth 60 fits 20000, (search (crossing.crosses, sendable) depth 60 fits 20000, (search (crossing.crosses, sendable) depth 60 fits 20000, (search (crossing.crosses, sendable) depth 60 fits 20000, (search (crossing.crosses, sendable) depth 60 fits 20000, (search (crossing.crosses, sendable) depth 60 fits 20000, (search (crossing.crosses, sendable) depth 60 fits 20000, (search (crossing.crosses, sendable) depth 60 fits 20000, tt))))))))))))
 
 pub tcp_send : (a : NamedLft) (M C : RattleType) (m : messages.Ghosts M.Denot) → IsSend M → IsSync C → IsSend (connections.the_field a peer.the_row (watch.the_row a C) place.the_row M C m).row
 tcp_send a M C m makes ticks = connections_send a peer.the_row (watch.the_row a C) place.the_row M C m peer_send (watch_send a C ticks) place_send makes ticks

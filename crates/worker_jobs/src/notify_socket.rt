@@ -67,7 +67,7 @@ impl NotifySocket {
     pub(crate) fn send(&mut self, keys: Option<&Keys>, now: u64, octets: &[u8])
         requires { length octets.now ≤ MAX_NOTIFY }
         ensures key { self.new.key ≡ self.old.key }
-        ensures mac { self.new.mac.items ≡ mac_sent (option_copied keys) self.old.key self.old.mac.items now octets.now }
+        ensures mac { self.new.mac.items ≡ mac_sent (option_copied keys.entry) self.old.key self.old.mac.items now octets.now }
     {
         let Some(index) = self.key else {
             let _ = self.socket.send(octets);
@@ -95,7 +95,7 @@ impl NotifySocket {
         out: &mut [u8],
     ) -> Option<usize>
         requires { length reply.now ≤ length out.old }
-        ensures counted { option_map (λ len. take len out.new) result ≡ counted_part (option_copied keys) self.now.key self.now.mac.items now reply.now }
+        ensures counted { option_map (λ len. take len out.new) result ≡ counted_part (option_copied keys.entry) self.now.key self.now.mac.items now reply.now }
         ensures bound { IfSome result (λ len. len ≤ length out.new) }
     {
         let Some(index) = self.key else {
@@ -127,7 +127,7 @@ impl NotifySocket {
 
 /// The key at an index of a server's keys; None where there is none, or there are no keys.
 fn key_at(keys: Option<&Keys>, index: u16) -> Option<&Key>
-    ensures { option_copied result ≡ key_at (option_copied keys) index }
+    ensures { option_copied result ≡ key_at (option_copied keys.entry) index }
 {
     match keys {
         None => None,
