@@ -1,5 +1,5 @@
 -- What a request gets, by what it is by its TSIG.
-use Rattle.std.proofs.Common.{◌≡◌, ℕ, ◌<◌, ◌≤◌, Bool, true, false, List, [], ◌∷◌, length, Option, None, Some, Result, IfOk, refl, sym, ap, subst, ◌∙◌, arith, if◌then◌else◌}
+use Rattle.std.proofs.Common.{◌≡◌, ℕ, ◌<◌, ◌≤◌, Bool, true, false, List, [], ◌∷◌, length, Option, None, Some, Result, IfOk, slice_get, refl, sym, ap, subst, ◌∙◌, arith, if◌then◌else◌}
 use Rattle.std.specs.Prelude.{nat_lt}
 use Rattle.std.proofs.lemmas.Bool.Decides.{nat_tests}
 use Rattle.std.proofs.lemmas.Result.{IfOk-weaker}
@@ -8,19 +8,21 @@ use Rattle.dns_message.specs.Reads.{is_reply}
 use Rattle.dns_message.specs.Tsig.{place_in}
 use Rattle.requests.proofs.TurnLemmas.{grows_itself}
 use Rattle.requests.specs.Allowed.{IsPeer}
+use Rattle.requests.specs.Datagrams.{by_datagram}
 use Rattle.requests.specs.Octets.{messages_in}
 use Rattle.requests.specs.Served.{Learned, Grows}
 use Rattle.rights.specs.declared.rule.Rule.{Rule}
 use Rattle.serve_core.specs.declared.peer.Peer.{Peer}
+use Rattle.serve_core.specs.declared.transport.Transport.{Transport}
 use Rattle.std.specs.declared.net.socket_addr.SocketAddr.{SocketAddr}
 use Rattle.tsig.specs.Keys.{SharedKey}
 use Rattle.tsig.specs.Verification.{verified, by_place}
 use Rattle.tsig.specs.declared.request_tsig.RequestTsig.{RequestTsig}
 use Rattle.tsig.specs.declared.stamp.Stamp.{Stamp}
 use Rattle.tsig.specs.declared.verifying.Verification.{Verification}
-use Rattle.tsig.specs.declared.verifying.Verification.TheVariants.{Silent}
+use Rattle.tsig.specs.declared.verifying.Verification.TheVariants.{Unsigned, Silent}
 use Rattle.signed_replies.specs.Rights.{rules_of}
-use Rattle.signed_replies.specs.Signed.{received, plain_of, reply_limit, stamp_at, signed_reply, AreSignedAlone, IsReplyBy, IsReplyTo, IsSignedReply}
+use Rattle.signed_replies.specs.Signed.{received, plain_of, reply_limit, stamp_at, signed_reply, signed_error, AreSignedAlone, IsReplyBy, IsReplyTo, IsSignedReply}
 
 not_fewer : (a b : ℕ) → b ≤ a → nat_lt a b ≡ false
 not_fewer a b e = grind (arith, nat_tests)
@@ -30,12 +32,13 @@ fewer a b e = grind (arith, nat_tests)
 
 -- octets that a message may have are what their TSIG says
 pub received_is : (keys : List SharedKey) (now : ℕ) (request : List ℕ) → length request ≤ message_limit → received keys now request ≡ verified keys now request
-received_is keys now request short = ap (λ b. if b then Silent else verified keys now request) (not_fewer message_limit (length request) short)
+received_is keys now request short = ap (λ b. if b then Unsigned else verified keys now request) (not_fewer message_limit (length request) short)
 
--- and more octets are nothing that is answered, as are fewer than a header has
-pub too_many : (keys : List SharedKey) (now : ℕ) (request : List ℕ) → message_limit < length request → received keys now request ≡ Silent
-too_many keys now request long = ap (λ b. if b then Silent else verified keys now request) (fewer message_limit (length request) long)
+-- more octets have no TSIG
+pub too_many : (keys : List SharedKey) (now : ℕ) (request : List ℕ) → message_limit < length request → received keys now request ≡ Unsigned
+too_many keys now request long = ap (λ b. if b then Unsigned else verified keys now request) (fewer message_limit (length request) long)
 
+-- fewer octets than a header has are nothing that is answered
 pub too_few : (keys : List SharedKey) (now : ℕ) (request : List ℕ) → length request < 12 → received keys now request ≡ Silent
 too_few keys now request few =
     received_is keys now request (omega (arith, few))
@@ -59,7 +62,7 @@ reply_to keys rights IsReply AreSigned verification now peer seen later request 
 pub replied_as : {T E : Type 0} (IsReply : Peer → Learned T → Learned T → List ℕ → List (List ℕ) → Type 0) (peer : Peer) (seen mid later : Learned T) (request out : List ℕ) (made : Result (Option ℕ) E) → Grows mid seen
     → Grows later mid → IfOk made (λ len. IsReply peer mid later request (messages_in len out))
     → IfOk made (λ len. (before : Learned T) × Grows before seen × Grows later before × IsReply peer before later request (messages_in len out))
-replied_as IsReply peer seen mid later request out made first then said = IfOk-weaker made _ _ (λ len is. (mid, first, then, is)) said
+replied_as IsReply peer seen mid later request out made first last said = IfOk-weaker made _ _ (λ len is. (mid, first, last, is)) said
 
 -- a reply whose messages are signed by the key that the request names
 pub signed_reply_by : {T : Type 0} (keys : List SharedKey) (rights : List (List Rule)) (IsReply : Peer → Learned T → Learned T → List ℕ → List (List ℕ) → Type 0)
@@ -110,3 +113,27 @@ pub one_alone : (key : SharedKey) (now : ℕ) (tsig : RequestTsig) (limit own : 
     → AreSignedAlone key now tsig limit (plain ∷ []) (sent ∷ [])
 one_alone key now tsig limit own stamp plain sent stamped same is =
     ap (λ l. l ∷ []) (is ∙ ap (λ (s : Stamp). signed_reply key tsig.mac.items s own plain) stamped ∙ ap (λ n. signed_reply key tsig.mac.items (stamp_at now) n plain) same)
+
+-- octets that are read as having no TSIG are received so
+pub unsigned_at : (keys : List SharedKey) (now : ℕ) (request message : List ℕ) → length request ≤ message_limit → message ≡ request → ((all : List SharedKey) (time : ℕ) → verified all time message ≡ Unsigned)
+    → Unsigned ≡ received keys now request
+unsigned_at keys now request message short same is = sym (received_is keys now request short ∙ ap (verified keys now) (sym same) ∙ is keys now)
+
+-- and as they are verified
+pub verified_at : (keys own : List SharedKey) (now : ℕ) (request message : List ℕ) (said : Verification) → length request ≤ message_limit → message ≡ request → own ≡ keys → said ≡ verified own now message → said ≡ received keys now request
+verified_at keys own now request message said short same from is = is ∙ ap (λ (l : List SharedKey). verified l now message) from ∙ ap (verified keys now) same ∙ sym (received_is keys now request short)
+
+-- the reply that tells an error, by the key that was found
+pub error_told : (keys own : List SharedKey) (transport : Transport) (found : Option SharedKey) (tsig : RequestTsig) (stamp want : Stamp) (request : List ℕ) (messages : List (List ℕ)) → messages ≡ signed_error transport found tsig stamp request
+    → found ≡ slice_get own tsig.key → own ≡ keys → stamp ≡ want → messages ≡ signed_error transport (slice_get keys tsig.key) tsig want request
+error_told keys own transport found tsig stamp want request messages is there from stamped =
+    is ∙ ap (λ (o : Option SharedKey). signed_error transport o tsig stamp request) (there ∙ ap (λ (l : List SharedKey). slice_get l tsig.key) from)
+    ∙ ap (λ (s : Stamp). signed_error transport (slice_get keys tsig.key) tsig s request) stamped
+
+-- what is replied without asking a handler, whoever sends the request
+pub told_to_all : {T : Type 0} (keys : List SharedKey) (rights : List (List Rule)) (IsReply : Peer → Learned T → Learned T → List ℕ → List (List ℕ) → Type 0)
+    (AreSigned : SharedKey → ℕ → RequestTsig → ℕ → List (List ℕ) → List (List ℕ) → Type 0) (verification said : Verification) (now : ℕ) (seen later : Learned T) (request : List ℕ) (messages : List (List ℕ))
+    → verification ≡ said → Grows later seen → ((asking : Peer) → IsReplyBy keys rights IsReply AreSigned said now (by_datagram asking) seen later request messages)
+    → (before : Learned T) × Grows before seen × Grows later before × ((asking : Peer) → IsReplyBy keys rights IsReply AreSigned verification now (by_datagram asking) before later request messages)
+told_to_all keys rights IsReply AreSigned verification said now seen later request messages is grows reply =
+    (seen, grows_itself seen, grows, λ asking. subst (λ v. IsReplyBy keys rights IsReply AreSigned v now (by_datagram asking) seen later request messages) (sym is) (reply asking))

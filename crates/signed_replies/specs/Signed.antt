@@ -80,9 +80,9 @@ abbrev pub signed_queued : Option SharedKey → RequestTsig → ℕ → List ℕ
 signed_queued None tsig now plain = []
 signed_queued (Some key) tsig now plain = signed_reply key tsig.mac.items (stamp_at now) (limit_of Udp None) plain ∷ []
 
--- what octets are by their TSIG, at a time; more of them than a message has are nothing that is answered (RFC 1035, 4.2.2)
+-- what octets are by their TSIG, at a time; more of them than a message has are no message, and have none (RFC 1035, 4.2.2)
 abbrev pub received : List SharedKey → ℕ → List ℕ → Verification
-received keys now request = if nat_lt message_limit (length request) then Silent else verified keys now request
+received keys now request = if nat_lt message_limit (length request) then Unsigned else verified keys now request
 
 -- messages that come as datagrams are signed, each for itself, with a time and under a limit (RFC 8945, 5.3)
 abbrev pub AreSignedAlone : SharedKey → ℕ → RequestTsig → ℕ → List (List ℕ) → List (List ℕ) → Type 0

@@ -439,8 +439,13 @@ impl<
         request: &[u8],
         out: &mut [u8],
     ) -> Result<Reply<SignedMessages<'k, M>>, StreamEnd> {
-        if request.len() < HEADER || request.len() > MAX_LIMIT {
+        if request.len() < HEADER {
             return Ok(Reply::Silent);
+        }
+        if request.len() > MAX_LIMIT {
+            let (peer, from, asker) = (self.peer, self.from, self.asker);
+            let made = reply_as(rt, &mut self.inner, peer, from, asker, request, out)?;
+            return Ok(unsigned(made));
         }
         if request.len() > MAX_SHORT {
             return self.reply_long(rt, request, out);

