@@ -3,9 +3,9 @@ ghost use Rattle.std.specs.Prelude.{◌≡◌, map, IfOk};
 ghost use Rattle.command_line.specs.Keys.{rules_by};
 ghost use Rattle.dnsd.specs.KeyRights.{rights_of};
 
+use command_line::KeyRules;
 use dns_name::Name;
 use key_file::KeyFile;
-use command_line::KeyRules;
 use rights::Rule;
 use serve_workers::SharedKeys;
 use signed_replies::KeyRights;

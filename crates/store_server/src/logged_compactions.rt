@@ -30,8 +30,9 @@ fn failure_of(event: &CompactionEvent) -> Option<ErrorKind> {
         | CompactionEvent::NotReplaced(fault)
         | CompactionEvent::Unknown(fault) => Some(fault.kind()),
         CompactionEvent::NotBegun => Some(ErrorKind::OutOfMemory),
-        CompactionEvent::Started(_) | CompactionEvent::Replaced(_) | CompactionEvent::NotRemoved(_) =>
-            None,
+        CompactionEvent::Started(_)
+        | CompactionEvent::Replaced(_)
+        | CompactionEvent::NotRemoved(_) => None,
     }
 }
 
