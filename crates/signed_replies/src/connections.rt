@@ -18,8 +18,8 @@ use crate::key_ring::{KeyRing, RingKeys};
 use crate::messages::{STREAM_FUDGE, SignedMessages, Signer};
 use crate::pending_times::PendingTimes;
 use crate::plain_room::PlainRoom;
+use crate::refusal::tell_fault;
 use crate::signing::{stamp_at, stamp_late, stamp_short, write_signed};
-use crate::tsig_log::{TsigFault, TsigLog, tell_fault};
 use arrayvec::ArrayVec;
 use dns_message::{HEADER, MAX_LIMIT};
 use dns_rdata::Rcode;
@@ -33,6 +33,7 @@ use std::sync::Wait;
 use tcp_connections::{Handler, Messages, Reply};
 use tsig::{Key, RequestTsig, Stamp, TsigError, Verification, is_unsigned, verify};
 use wire_names::{MAX_TARGETS, Message};
+use zone_server::{TsigFault, TsigLog};
 
 /// Verifies the requests of connections by the keys of a server, has another handler answer those that are signed, without their TSIG, and those without a TSIG, and signs the replies
 /// to the first. Contracts see that handler, the peer, and the key of its connection.

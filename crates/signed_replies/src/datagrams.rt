@@ -16,9 +16,8 @@ use crate::errors::{write_error, write_unsigned};
 use crate::key_ring::{KeyRing, RingKeys};
 use crate::limit::reply_limit;
 use crate::plain_room::PlainRoom;
+use crate::refusal::tell_fault;
 use crate::signing::{sign_reply, stamp_at, stamp_late, stamp_short, write_signed};
-use crate::signs_later::SignsLater;
-use crate::tsig_log::{TsigFault, TsigLog, tell_fault};
 use dns_message::{HEADER, Head, MAX_LIMIT};
 use dns_rdata::Rcode;
 use requests::Handler;
@@ -28,6 +27,7 @@ use std::net::SocketAddr;
 use std::sync::Wait;
 use tsig::{RequestTsig, TsigError, Verification, is_unsigned, verify};
 use wire_names::{MAX_TARGETS, Message};
+use zone_server::{SignsLater, TsigFault, TsigLog};
 
 /// The most octets of a request whose pointers are followed anew for each name (own).
 const MAX_SHORT: usize = 512;
@@ -156,15 +156,8 @@ impl<'r, 'k, K: KeyRing, A: SignsLater + Drop, C: UnixClock, O: TsigLog + Drop> 
     {
         match verified {
             Verification::Unsigned => {
-                answer_as(
-                    rt,
-                    &mut self.inner,
-                    self.peer,
-                    self.from,
-                    None,
-                    request,
-                    out,
-                )
+                let (peer, from) = (self.peer, self.from);
+                answer_as(rt, &mut self.inner, peer, from, None, request, out)
             }
             Verification::Silent => Ok(None),
             Verification::Malformed => Ok(Some(write_error(

@@ -15,9 +15,8 @@ mod messages;
 mod pending_times;
 mod plain_room;
 mod queued;
+mod refusal;
 mod signing;
-mod signs_later;
-mod tsig_log;
 
 pub use clock::{SystemClock, UnixClock};
 pub use connections::SignedConnections;
@@ -26,5 +25,3 @@ pub use key_ring::{KeyRights, KeyRing, RingKeys};
 pub use messages::{STREAM_FUDGE, SignedMessages};
 pub use plain_room::PlainRoom;
 pub use queued::QueuedSigner;
-pub use signs_later::SignsLater;
-pub use tsig_log::{TsigFault, TsigLog};

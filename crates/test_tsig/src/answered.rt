@@ -11,10 +11,7 @@ use dns_name::Name;
 use requests::Handler;
 use rights::parse_rule;
 use serve_core::{Peer, Transport};
-use signed_replies::{
-    KeyRights, KeyRing, PlainRoom, RingKeys, SignedDatagrams, SignsLater, TsigFault, TsigLog,
-    UnixClock,
-};
+use signed_replies::{KeyRights, KeyRing, PlainRoom, RingKeys, SignedDatagrams, UnixClock};
 use snapshot_cell::Spent;
 use std::alloc::Global;
 use std::marker::Brand;
@@ -22,6 +19,7 @@ use std::net::{IpAddr, Ipv4Addr, SocketAddr};
 use std::sync::Wait;
 use std::test::Fail;
 use tsig::{Keys, RequestTsig};
+use zone_server::{SignsLater, TsigFault, TsigLog};
 
 /// A clock that stands still.
 #[derive(Drop)]

@@ -27,11 +27,13 @@ mod server;
 mod server_publisher;
 mod server_state;
 mod service_log;
+mod signs_later;
 mod submit;
 mod telling;
 mod transfer;
 mod transfer_start;
 mod tsig_lines;
+mod tsig_log;
 mod update_result;
 
 pub use answer::{Now, UpdateOutcome, answer_now, serve_update};
@@ -48,6 +50,7 @@ pub use server::Server;
 pub use server_publisher::ServerPublisher;
 pub use server_state::{BatchStart, ServerState};
 pub use service_log::{Event, JobEnd, Losses, ServiceLog, Wanted};
+pub use signs_later::SignsLater;
 pub use submit::{
     DatagramSubmitted, Submitted, UpdateSender, submit_datagram, submit_stream, write_done,
 };
@@ -55,5 +58,6 @@ pub use telling::{tell_refused, tell_served, tell_signed, tell_update};
 pub use transfer::write_transfer;
 pub use transfer_start::start_transfer;
 pub use tsig_lines::TsigLines;
+pub use tsig_log::{TsigFault, TsigLog};
 pub use update_batches::{QueuedUpdate, ReplyTo, Serials};
 pub use update_result::{Poll, QueuedResult, UpdateResult};

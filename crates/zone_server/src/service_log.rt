@@ -1,11 +1,11 @@
 //! The log of a running server: a line for each change of the zone, and one for each worker that ends.
+use crate::tsig_log::TsigFault;
 use dns_name::Name;
 use dns_rdata::Rcode;
 use notify::Large;
 use requests::Uncovered;
 use rights::TypeWord;
 use serve_core::Transport;
-use signed_replies::TsigFault;
 use std::fmt::{self, Display, Formatter};
 use std::net::SocketAddr;
 use std::sync::Wait;

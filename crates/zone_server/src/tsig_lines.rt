@@ -1,7 +1,7 @@
 //! The log of signed requests that are refused.
 use crate::service_log::{Event, ServiceLog};
+use crate::tsig_log::{TsigFault, TsigLog};
 use dns_name::Name;
-use signed_replies::{TsigFault, TsigLog};
 use std::net::SocketAddr;
 use std::sync::Wait;
 

@@ -2,7 +2,6 @@
 use dns_name::Name;
 use std::net::SocketAddr;
 use std::sync::Wait;
-use tsig::Key;
 
 /// Why a signed request is refused (RFC 8945, 5.2).
 #[derive(Clone, Copy, Debug, PartialEq, Eq)]
@@ -21,17 +20,4 @@ pub enum TsigFault {
 pub trait TsigLog {
     /// Logs that a request from an address is refused, which names this key.
     fn tell_fault<R: Wait>(&self, rt: &R, from: SocketAddr, key: &Name, fault: TsigFault);
-}
-
-/// Logs that a request from an address is refused, which is signed by a key.
-pub(crate) fn tell_fault<R: Wait, O: TsigLog>(
-    rt: &R,
-    log: &O,
-    from: SocketAddr,
-    key: Option<&Key>,
-    fault: TsigFault,
-) {
-    if let Some(key) = key {
-        log.tell_fault(rt, from, key.name(), fault);
-    }
 }
