@@ -1,10 +1,14 @@
 -- That the keys of a file stay lawful, one by one.
-use Rattle.std.proofs.Common.{◌≡◌, ℕ, zero, suc, ◌≤◌, ◌<◌, ◌+◌, Bool, true, false, ◌||◌, cond, nat_lt, List, [], ◌∷◌, ◌++◌, length, map, All, Option, Some, None, refl, ◌∙◌, arith}
+use Rattle.std.proofs.Common.{◌≡◌, ℕ, ◌≤◌, ◌<◌, Bool, false, List, [], ◌∷◌, ◌++◌, length, map, Option, Some, None, refl, sym, subst, ◌∙◌, arith}
+use Rattle.std.specs.Option.{is_some}
 use Rattle.std.specs.Char.{to_ascii_lowercase}
 use Rattle.std.specs.Cmp.{on_equiv}
-use Rattle.std.specs.List.{list_any, position, position_or_len}
+use Rattle.std.specs.List.{IsDistinct, list_any, position, position_or_len}
+use Rattle.std.proofs.lemmas.Grind.{common_steps}
 use Rattle.std.proofs.lemmas.List.{length_push}
-use Rattle.std.proofs.lemmas.List.Elements.{All-push}
+use Rattle.std.proofs.lemmas.List.Folds.{list_any_none}
+use Rattle.std.proofs.lemmas.List.Sums.{fails_before_first}
+use Rattle.std.proofs.lemmas.List.Elements.{All-nil, All-push}
 use Rattle.std.proofs.lemmas.Map.Keys.{IsDistinct-push}
 use Rattle.std.proofs.lemmas.Str.Ascii.{lowercase-lowercase}
 use Rattle.dns_name.specs.Name.{Name, wire_of, is_same, fold_name}
@@ -20,28 +24,18 @@ fold_label-fold_label (x ∷ label) =
     let rest = fold_label-fold_label label in
     cc
 
-pub fold_name-fold_name : (name : List (List ℕ)) → fold_name (fold_name name) ≡ fold_name name
-fold_name-fold_name [] = refl
-fold_name-fold_name (label ∷ name) =
+pub fold_twice : (name : List (List ℕ)) → fold_name (fold_name name) ≡ fold_name name
+fold_twice [] = refl
+fold_twice (label ∷ name) =
     let first = fold_label-fold_label label in
-    let rest = fold_name-fold_name name in
+    let rest = fold_twice name in
     cc
 
--- a place after the first is none where it was none
-none_before : (is_within : Bool) (at : ℕ) → cond is_within (Some (suc at)) None ≡ None → cond is_within (Some at) None ≡ None
-none_before true at e = cc
-none_before false at e = refl
-
-none_later : {X : Type 0} (p : X → Bool) (xs : List X) (is_first : Bool) → (position p xs ≡ None → list_any p xs ≡ false)
-    → cond (nat_lt (cond is_first zero (suc (position_or_len p xs))) (suc (length xs))) (Some (cond is_first zero (suc (position_or_len p xs)))) None ≡ None
-    → (is_first || list_any p xs) ≡ false
-none_later p xs true later e = cc
-none_later p xs false later e = later (none_before (nat_lt (position_or_len p xs) (length xs)) (position_or_len p xs) e)
-
--- where none passes, there is no first one
-none_passes : {X : Type 0} (p : X → Bool) (xs : List X) → position p xs ≡ None → list_any p xs ≡ false
-none_passes p [] e = refl
-none_passes p (x ∷ xs) e = none_later p xs (p x) (none_passes p xs) e
+-- where no place is the first none passes
+none_passes : (p : SharedKey → Bool) (keys : List SharedKey) → position p keys ≡ None → list_any p keys ≡ false
+none_passes p keys e =
+    let all : length keys ≤ position_or_len p keys = grind (arith, common_steps) in
+    list_any_none p keys (λ k d lt. fails_before_first p keys k d (omega arith))
 
 -- a key's name is another's where the other's is its
 from_others : (key : SharedKey) (keys : List SharedKey) → list_any (have_one_name key) keys ≡ list_any (λ other. is_same other.name key.name) keys
@@ -58,7 +52,24 @@ with_key keys key are room short folded none =
     let len = length_push keys key in
     record {
       few = omega arith;
-      short = All-push _ keys key are.short short;
-      folded = All-push _ keys key are.folded folded;
-      distinct = IsDistinct-push (on_equiv (λ (k : SharedKey). k.name) is_same_equiv) keys key are.distinct (from_others key keys ∙ none_passes _ keys none);
+      short = All-push (λ (k : SharedKey). length (wire_of k.name) ≤ 128) keys key are.short short;
+      folded = All-push (λ (k : SharedKey). fold_name k.name ≡ k.name) keys key are.folded folded;
+      distinct = IsDistinct-push (on_equiv (λ (k : SharedKey). k.name) is_same_equiv) keys key are.distinct (from_others key keys ∙ none_passes (λ (other : SharedKey). is_same other.name key.name) keys none);
     }
+
+is_none : (index : Option ℕ) → is_some index ≡ false → index ≡ None
+is_none None e = refl
+is_none (Some index) e = cc
+
+-- the same of a list to which it is added
+pub added : (before after : List SharedKey) (key : SharedKey) (name : Name) → AreKeys before → length before < 256 → length (wire_of name) ≤ 128 → fold_name name ≡ name → is_some (index_named name before) ≡ false → key.name ≡ name
+    → after ≡ before ++ key ∷ [] → AreKeys after
+added before after key name are room short folded none own is =
+    subst AreKeys (sym is) (
+    with_key before key are room (subst (λ (n : Name). length (wire_of n) ≤ 128) (sym own) short) (subst (λ (n : Name). fold_name n ≡ n) (sym own) folded)
+    (subst (λ (n : Name). index_named n before ≡ None) (sym own) (is_none (index_named name before) none)))
+
+-- a file without a key
+pub no_keys : AreKeys []
+unfolding IsDistinct
+no_keys = record { few = omega arith; short = All-nil (λ (k : SharedKey). length (wire_of k.name) ≤ 128); folded = All-nil (λ (k : SharedKey). fold_name k.name ≡ k.name); distinct = tt }

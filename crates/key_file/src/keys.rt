@@ -1,5 +1,5 @@
 //! The keys of a key file.
-ghost use Rattle.std.specs.Prelude.{◌≡◌, ◌≤◌, ◌⊎◌, length, IfOk, IfErr, OnOk};
+ghost use Rattle.std.specs.Prelude.{◌≡◌, ◌<◌, ◌≤◌, ◌⊎◌, [], ◌∷◌, ◌++◌, length, IfOk, IfErr, OnOk};
 ghost use Rattle.dns_name.specs.Name.{wire_of, fold_name};
 ghost use Rattle.key_file.specs.Keys.{AreKeys, IsKeyOf, algorithm_named, is_weak, is_word, key_name, secret_in, without_dot};
 
@@ -55,7 +55,7 @@ pub fn parse_keys(alloc: Global, text: &[u8]) -> Result<KeyFile, KeyFileFault>
 
 impl KeyFile {
     /// Adds the key of a statement.
-    #[tactic(auto, using(crate::proofs::KeyLemmas::with_key))]
+    #[tactic(auto, using(crate::proofs::KeyLemmas::added))]
     fn add(&mut self, alloc: Global, text: &KeyText<'_>) -> Result<(), KeyFault>
         requires { AreKeys self.old.keys }
         ensures keys { AreKeys self.new.keys }
@@ -70,9 +70,7 @@ impl KeyFile {
         if self.keys.len() >= MAX_KEYS {
             return Err(KeyFault::TooMany);
         }
-        if secret.len() < LONG_ENOUGH && self.short.push(name.copy()).is_err() {
-            return Err(KeyFault::NoMemory);
-        }
+        note_short(&mut self.short, &name, &secret)?;
         match self.keys.push(Key::new(name, algorithm, &secret)) {
             Ok(()) => Ok(()),
             Err(_) => Err(KeyFault::NoMemory),
@@ -80,8 +78,20 @@ impl KeyFile {
     }
 }
 
+/// Notes the name of a key whose secret is short.
+fn note_short(short: &mut Vec<Name>, name: &Name, secret: &[u8]) -> Result<(), KeyFault>
+    ensures long { LONG_ENOUGH ≤ length secret.now → short.new.items ≡ short.old.items }
+    ensures short { OnOk result (length secret.now < LONG_ENOUGH → short.new.items ≡ short.old.items ++ name.now ∷ []) }
+    ensures err { IfErr result (λ fault. fault ≡ KeyFault.NoMemory) }
+{
+    if secret.len() < LONG_ENOUGH && short.push(name.copy()).is_err() {
+        return Err(KeyFault::NoMemory);
+    }
+    Ok(())
+}
+
 /// The key's name that a word is, in lower case. A word without a final dot is below the root.
-#[tactic(auto, using(crate::proofs::KeyLemmas::fold_name-fold_name))]
+#[tactic(auto, using(crate::proofs::KeyLemmas::fold_twice))]
 fn name_of(word: &[u8]) -> Result<Name, KeyFault>
     ensures name { result ≡ key_name word.now }
     ensures short { IfOk result (λ name. length (wire_of name) ≤ 128) }

@@ -26,17 +26,22 @@ enum Clause<'a> {
     Secret(&'a [u8]),
 }
 
-/// The words and marks that are left of a file.
+/// The words and marks of a file, of which some are taken.
 #[derive(Drop)]
 pub(crate) struct Statements<'t, 'a> {
     tokens: &'t [Token<'a>],
+    next: usize,
     line: usize,
 }
 
 impl<'t, 'a> Statements<'t, 'a> {
     /// The statements of these words and marks.
     pub fn new(tokens: &'t [Token<'a>]) -> Statements<'t, 'a> {
-        Statements { tokens, line: 1 }
+        Statements {
+            tokens,
+            next: 0,
+            line: 1,
+        }
     }
 
     /// The key of the next statement; None where none is left.
@@ -95,11 +100,10 @@ impl<'t, 'a> Statements<'t, 'a> {
 
     /// The next word or mark.
     fn next_token(&mut self) -> Option<Token<'a>> {
-        let tokens = self.tokens;
-        let (first, rest) = tokens.split_first()?;
-        self.line = first.line;
-        self.tokens = rest;
-        Some(*first)
+        let token = *self.tokens.get(self.next)?;
+        self.line = token.line;
+        self.next = self.next.saturating_add(1);
+        Some(token)
     }
 
     /// The word that has to be next.
@@ -126,10 +130,9 @@ impl<'t, 'a> Statements<'t, 'a> {
 
     /// Takes a `;` that is next.
     fn skip_end(&mut self) {
-        let tokens = self.tokens;
-        if let Some((first, rest)) = tokens.split_first() {
-            if first.kind == TokenKind::Mark(b';') {
-                self.tokens = rest;
+        if let Some(token) = self.tokens.get(self.next) {
+            if token.kind == TokenKind::Mark(b';') {
+                self.next = self.next.saturating_add(1);
             }
         }
     }

@@ -3,7 +3,7 @@ use crate::fault::{KeyFault, KeyFileFault};
 use std::alloc::Global;
 
 /// A word or a mark, with the line where it ends.
-#[derive(Clone, Copy, Debug, PartialEq, Eq)]
+#[derive(Clone, Copy, PartialEq, Eq)]
 pub(crate) struct Token<'a> {
     /// The line, from 1.
     pub line: usize,
@@ -12,7 +12,7 @@ pub(crate) struct Token<'a> {
 }
 
 /// A word, or a mark.
-#[derive(Clone, Copy, Debug, PartialEq, Eq)]
+#[derive(Clone, Copy, PartialEq, Eq)]
 pub(crate) enum TokenKind<'a> {
     /// A word, without its quotes.
     Word(&'a [u8]),
@@ -21,7 +21,7 @@ pub(crate) enum TokenKind<'a> {
 }
 
 /// What the octets before a position leave open.
-#[derive(Clone, Copy, Debug, PartialEq, Eq)]
+#[derive(Clone, Copy, PartialEq, Eq)]
 enum State {
     /// Nothing.
     Blank,
