@@ -1,6 +1,5 @@
 pub mod ConnectionLemmas
 pub mod ErrorLemmas
-pub mod KeyLemmas
 pub mod PlainLemmas
 pub mod ReplyLemmas
 pub mod StreamLemmas

@@ -59,7 +59,7 @@ impl PlainRoom {
         requires header { HEADER ≤ length request.now }
         requires short { length request.now ≤ message_limit }
         ensures plain { result.now ≡ plain_of request.now start }
-        ensures wants { (head : HeadOf) → IsWant request.now (no_memory head) → IsWant result.now (no_memory head) }
+        ensures wants { (head : HeadOf) → IsWant request.now (no_memory head) → IsWant (plain_of request.now start) (no_memory head) }
     {
         let len = write_plain(request, start, &mut self.octets);
         &self.octets[..len]
@@ -98,7 +98,7 @@ fn write_plain(request: &[u8], start: usize, out: &mut [u8]) -> usize
     requires room { length request.now ≤ length out.old }
     ensures plain { take result out.new ≡ plain_of request.now start }
     ensures within { result ≤ length request.now }
-    ensures wants { (head : HeadOf) → IsWant request.now (no_memory head) → IsWant (take result out.new) (no_memory head) }
+    ensures wants { (head : HeadOf) → IsWant request.now (no_memory head) → IsWant (plain_of request.now start) (no_memory head) }
 {
     let id = id_of(request);
     write_without_tsig(request, start, id, out)

@@ -12,8 +12,7 @@ pub returns-in_default-clause-reply : goal.returns-in_default-clause-reply
 returns-in_default-clause-reply g c = λ made.
     let peer = c.args.self.now.peer in
     let seen = g.A.Handler.seen c.args.self.now.inner c.args.self.now.asker in
-    let none = ap (λ l. slice_get l c.args.tsig.key) (sym c.keys.ensures) ∙ sym c.get.ensures ∙ ap option_copied c.in_default.is in
-    (
+    let none = ap (λ l. slice_get l c.args.tsig.key) (sym c.keys.ensures) ∙ sym c.get.ensures ∙ ap option_copied c.in_default.is in (
       seen,
       grows_itself seen,
       grows_itself seen,
@@ -28,11 +27,10 @@ returns-clause-reply g c = λ made.
     let there = ap (λ l. slice_get l c.args.tsig.key) (sym c.keys.ensures) ∙ sym c.get.ensures ∙ ap option_copied c.in-Some.is in
     let reply = c.in_ok-made.ensures.reply (λ is. made (c.signed.ensures.later.1 is)) in
     let plains = messages_of g.M.Messages.left c.in_ok-made.made c.reply_as.new.out in
-    let messages = messages_of (λ s. stream_by s.signer (g.M.Messages.left s.inner)) c.signed.result c.signed.new.out in
-    (
+    let messages = messages_of (λ s. stream_by s.signer (g.M.Messages.left s.inner)) c.signed.result c.signed.new.out in (
       reply.0,
       reply.1,
       reply.2,
       signed_as g.K.KeyRing.keys g.K.KeyRing.rights g.A.Handler.is_reply AreSignedInOrder (slice_get g.K.KeyRing.keys c.args.tsig.key) c.in-Some.key.now c.args.now c.args.tsig peer reply.0 later c.args.request.now
-      c.plain-plain.result.now c.args.self.now.from own own plains messages there c.plain-plain.ensures.plain c.in-Ok.ensures refl reply.3 (c.signed.ensures.messages (reply_limit peer.transport c.plain-plain.result.now)),
+          c.plain-plain.result.now c.args.self.now.from own own plains messages there c.plain-plain.ensures.plain c.in-Ok.ensures refl reply.3 (c.signed.ensures.messages (reply_limit peer.transport c.plain-plain.result.now)),
     )

@@ -16,8 +16,7 @@ pub returns-in_default-clause-reply : goal.returns-in_default-clause-reply
 returns-in_default-clause-reply g c =
     let peer = by_datagram c.args.self.now.peer in
     let seen = g.A.Handler.seen c.args.self.now.inner in
-    let none = ap (λ l. slice_get l c.args.tsig.key) (sym c.keys.ensures) ∙ sym c.get.ensures ∙ ap option_copied c.in_default.is in
-    (
+    let none = ap (λ l. slice_get l c.args.tsig.key) (sym c.keys.ensures) ∙ sym c.get.ensures ∙ ap option_copied c.in_default.is in (
       seen,
       grows_itself seen,
       grows_itself seen,
@@ -34,14 +33,13 @@ returns-in-Err-clause-reply g c =
     let later = g.A.Handler.seen c.answer_unread-len.new.self in
     let there = ap (λ l. slice_get l c.args.tsig.key) (sym c.keys.ensures) ∙ sym c.get.ensures ∙ ap option_copied c.in-Some.is in
     let bare = take c.answer_unread-len.result c.answer_unread-len.new.out in
-    let sent = take c.sign_reply.result c.sign_reply.new.out in
-    (
+    let sent = take c.sign_reply.result c.sign_reply.new.out in (
       seen,
       grows_itself seen,
       c.answer_unread-len.ensures.grows,
       signed_as g.K.KeyRing.keys g.K.KeyRing.rights g.A.Handler.is_reply AreSignedAlone (slice_get g.K.KeyRing.keys c.args.tsig.key) c.in-Some.key.now c.args.now c.args.tsig peer seen later c.args.request.now plain
-      c.args.self.now.from own own (bare ∷ []) (sent ∷ []) there c.plain-plain.ensures.plain (is_peer_at rules c.args.self.now.from plain) refl (c.answer_unread-len.ensures.reply own)
-      (one_alone c.in-Some.key.now c.args.now c.args.tsig (reply_limit Udp plain) c.reply_limit-limit.result c.stamp_at.result bare sent c.stamp_at.ensures c.reply_limit-limit.ensures.limit c.sign_reply.ensures.octets),
+          c.args.self.now.from own own (bare ∷ []) (sent ∷ []) there c.plain-plain.ensures.plain (is_peer_at rules c.args.self.now.from plain) refl (c.answer_unread-len.ensures.reply own)
+          (one_alone c.in-Some.key.now c.args.now c.args.tsig (reply_limit Udp plain) c.reply_limit-limit.result c.stamp_at.result bare sent c.stamp_at.ensures c.reply_limit-limit.ensures.limit c.sign_reply.ensures.octets),
     )
 
 pub returns-in_default-2-clause-reply : goal.returns-in_default-2-clause-reply
@@ -52,13 +50,12 @@ returns-in_default-2-clause-reply g c =
     let later = g.A.Handler.seen c.answer_as.new.inner in
     let there = ap (λ l. slice_get l c.args.tsig.key) (sym c.keys.ensures) ∙ sym c.get.ensures ∙ ap option_copied c.in-Some.is in
     let made = c.in_ok-len.ensures.reply in
-    let none = subst (λ o. g.A.Handler.is_reply (by_datagram own) made.0 later plain (messages_in o c.answer_as.new.out)) c.in_default-2.is made.3 in
-    (
+    let none = subst (λ o. g.A.Handler.is_reply (by_datagram own) made.0 later plain (messages_in o c.answer_as.new.out)) c.in_default-2.is made.3 in (
       made.0,
       made.1,
       made.2,
       signed_as g.K.KeyRing.keys g.K.KeyRing.rights g.A.Handler.is_reply AreSignedAlone (slice_get g.K.KeyRing.keys c.args.tsig.key) c.in-Some.key.now c.args.now c.args.tsig peer made.0 later c.args.request.now plain
-      c.args.self.now.from own (by_datagram own) [] [] there c.plain-plain.ensures.plain c.in-Ok.ensures (datagram_same own c.in-Ok.ensures.over) none refl,
+          c.args.self.now.from own (by_datagram own) [] [] there c.plain-plain.ensures.plain c.in-Ok.ensures (datagram_same own c.in-Ok.ensures.over) none refl,
     )
 
 pub returns-clause-reply : goal.returns-clause-reply
@@ -71,12 +68,11 @@ returns-clause-reply g c =
     let made = c.in_ok-len.ensures.reply in
     let bare = take c.in-Some-2.len c.answer_as.new.out in
     let sent = take c.sign_reply-2.result c.sign_reply-2.new.out in
-    let reply = subst (λ o. g.A.Handler.is_reply (by_datagram own) made.0 later plain (messages_in o c.answer_as.new.out)) c.in-Some-2.is made.3 in
-    (
+    let reply = subst (λ o. g.A.Handler.is_reply (by_datagram own) made.0 later plain (messages_in o c.answer_as.new.out)) c.in-Some-2.is made.3 in (
       made.0,
       made.1,
       made.2,
       signed_as g.K.KeyRing.keys g.K.KeyRing.rights g.A.Handler.is_reply AreSignedAlone (slice_get g.K.KeyRing.keys c.args.tsig.key) c.in-Some.key.now c.args.now c.args.tsig peer made.0 later c.args.request.now plain
-      c.args.self.now.from own (by_datagram own) (bare ∷ []) (sent ∷ []) there c.plain-plain.ensures.plain c.in-Ok.ensures (datagram_same own c.in-Ok.ensures.over) reply
-      (one_alone c.in-Some.key.now c.args.now c.args.tsig (reply_limit Udp plain) c.reply_limit-limit.result c.stamp_at-2.result bare sent c.stamp_at-2.ensures c.reply_limit-limit.ensures.limit c.sign_reply-2.ensures.octets),
+          c.args.self.now.from own (by_datagram own) (bare ∷ []) (sent ∷ []) there c.plain-plain.ensures.plain c.in-Ok.ensures (datagram_same own c.in-Ok.ensures.over) reply
+          (one_alone c.in-Some.key.now c.args.now c.args.tsig (reply_limit Udp plain) c.reply_limit-limit.result c.stamp_at-2.result bare sent c.stamp_at-2.ensures c.reply_limit-limit.ensures.limit c.sign_reply-2.ensures.octets),
     )

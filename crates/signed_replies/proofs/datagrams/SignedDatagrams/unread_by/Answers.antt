@@ -1,6 +1,8 @@
 -- An update that there is no memory to read is answered by what it is by its TSIG, whoever sends it.
-use Rattle.std.proofs.Common.{sym, refl, ap, ◌∙◌, [], ◌∷◌, take, slice_get}
+use Rattle.std.proofs.Common.{sym, refl, ap, subst, ◌∙◌, ℕ, List, [], ◌∷◌, take, slice_get}
 use Rattle.std.specs.Option.{option_copied}
+use Rattle.dns_message.specs.Request.{IsWant}
+use Rattle.dns_message.specs.declared.query.Parsed.TheVariants.{NoMemory}
 use Rattle.requests.specs.Datagrams.{by_datagram}
 use Rattle.requests.specs.Octets.{messages_in}
 use Rattle.requests.proofs.PeerLemmas.{peer_at, is_peer_at}
@@ -13,7 +15,7 @@ use Rattle.signed_replies.proofs.ReplyLemmas.{told_to_all, error_told, signed_as
 use Rattle.signed_replies.proofs.datagrams.SignedDatagrams.unread_by.Goals as goal
 
 pub answer_unread-len-requires-clause-wanted : goal.answer_unread-len-requires-clause-wanted
-answer_unread-len-requires-clause-wanted g c = c.plain-plain.ensures.wants c.args.head c.requires.wanted
+answer_unread-len-requires-clause-wanted g c = subst (λ (l : List ℕ). IsWant l (NoMemory c.args.head)) (sym c.plain-plain.ensures.plain) (c.plain-plain.ensures.wants c.args.head c.requires.wanted)
 
 pub returns-in-Malformed-clause-reply : goal.returns-in-Malformed-clause-reply
 returns-in-Malformed-clause-reply g c =
