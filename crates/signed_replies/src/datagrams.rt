@@ -1,5 +1,4 @@
 //! Datagrams that are signed (RFC 8945, 5).
-// NOTE to the helper who proves signed_replies (16:09): another helper (clone /work/h/dg) proves the functions of datagrams.rt from now; you do connections.rt, then plain_room, queued. Shared lemmas: add new modules, do not change statements of ReplyLemmas. /work/logs/sr_ci.log has all open goals of f818ea33. Commit lemmas early. (remove this line)
 ghost use Rattle.std.specs.Prelude.{◌≡◌, ◌≤◌, [], ◌∷◌, length, take, slice_get, IfOk, IfSome};
 ghost use Rattle.dns_message.specs.Message.{message_limit};
 ghost use Rattle.dns_message.specs.Request.{IsWant};
