@@ -108,9 +108,9 @@ fn reply_to<R: Wait, K: KeyRing>(
 {
     let ring: RingKeys<'_, K> = RingKeys::new(alloc, keys, rights);
     let peer = Peer::over(Transport::Udp, false);
-    let mut room = PlainRoom::new(alloc)?;
+    let room = PlainRoom::new(alloc)?;
     let clock = Still(now);
-    let mut handler = SignedDatagrams::new(inner, &ring, clock, NoLog, &mut room, peer, client());
+    let mut handler = SignedDatagrams::new(inner, &ring, clock, NoLog, room, peer, client());
     let mut out = Vec::new(alloc);
     out.resize(65535, 0)?;
     let Ok(Some(len)) = handler.answer(rt, request, &mut out) else {
