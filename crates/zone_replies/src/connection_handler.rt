@@ -434,8 +434,10 @@ impl<'a, 's, Z: FirstZone, N: ServerName, L: ServiceLog> Handler<Transfer>
         ensures later { IfOk result (λ reply. reply ≡ ReplyOf.Later → IsLater self.old.peer request.now) }
         // Without a queue for updates each request gets its reply now.
         ensures submitted { IfOk result (λ reply. reply ≡ ReplyOf.Later → self.old.submits ≡ true) }
-        ensures end { IfErr result (λ end. end ≡ EndOf.Spent) }
-        ensures spent { OnErr result (self.new.reader.left ≡ 0) }
+        ensures end { IfErr result (λ end. (end ≡ EndOf.Spent) ⊎ (end ≡ EndOf.NoMemory)) }
+        ensures spent { IfErr result (λ end. end ≡ EndOf.Spent → self.new.reader.left ≡ 0) }
+        // It never ends for want of memory.
+        ensures ended { IfErr result (λ end. end ≡ EndOf.Spent) }
         // A request that can't be read as a query gets its reply, whether a version can be loaded or not.
         ensures unanswered { OnErr result (HasNoAnswer Z.zone self.old.peer request.now self.old.reader self.new.reader) }
     {

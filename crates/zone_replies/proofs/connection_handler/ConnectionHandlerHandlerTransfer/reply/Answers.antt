@@ -1,6 +1,7 @@
 -- What the reader has seen grows, and a reply by what it saw meanwhile is one by what it had seen.
 use Rattle.std.proofs.Common.{◌≡◌, [], ◌∷◌, None, take, inl, inr, sym, ap, ◌∙◌, subst, rules}
 use Rattle.std.specs.Prelude.{is_some}
+use Rattle.std.proofs.lemmas.Result.{IfErr-weaker}
 use Rattle.zone_tree.specs.Version.{Version}
 use Rattle.snapshot_cell.specs.Tokens.{ReaderState}
 use Rattle.serve_core.specs.declared.peer.Peer.{Peer}
@@ -52,7 +53,7 @@ returns-in-Bytes-clause-reply g c = λ _.
     (subst (λ (s : HandlerState). EachGrows {T = Version} (known_at s.taken s.reader) (known_at c.args.self.now.taken c.args.self.now.reader)) (sym c.self.view_is) c.settle.ensures.grows) c.in-Bytes.ensures.answer.1
 
 pub returns-in-Spent-clause-spent : goal.returns-in-Spent-clause-spent
-returns-in-Spent-clause-spent g c = ap (λ (r : ReaderState Version). r.left) c.in-Spent.ensures.answer.1.1 ∙ c.in-Spent.ensures.answer.1.0
+returns-in-Spent-clause-spent g c = λ _. ap (λ (r : ReaderState Version). r.left) c.in-Spent.ensures.answer.1.1 ∙ c.in-Spent.ensures.answer.1.0
 
 pub returns-in-Spent-clause-unanswered : goal.returns-in-Spent-clause-unanswered
 returns-in-Spent-clause-unanswered g c =
@@ -117,7 +118,9 @@ pub returns-in-Transfer-clause-submitted : goal.returns-in-Transfer-clause-submi
 returns-in-Transfer-clause-submitted g c = transfer_unlater _ c.begin_transfer.result c.begin_transfer.ensures.made
 
 pub returns-in-Transfer-clause-spent : goal.returns-in-Transfer-clause-spent
-returns-in-Transfer-clause-spent g c = spent_left g.Z.FirstZone.zone c.self.inside.peer c.args.request.now c.begin_transfer.new.reader c.begin_transfer.result (transfer_spent g.Z.FirstZone.zone c.self.inside.peer c.args.request.now c.self.inside.reader c.answer_request.new.reader c.begin_transfer.new.reader c.replace-query.result c.in-Transfer.strong (permits_moved g.Z.FirstZone.zone c.self.inside.peer c.args.request.now c.self.inside.reader c.answer_request.new.reader c.in-Transfer.strong c.answer_request.new.query c.replace-query.result c.replace-query.ensures.value c.in-Transfer.ensures.answer) c.begin_transfer.result c.begin_transfer.ensures.spent)
+returns-in-Transfer-clause-spent g c =
+    IfErr-weaker c.begin_transfer.result (λ end. c.begin_transfer.new.reader.left ≡ 0) _ (λ end left _. left)
+    (spent_left g.Z.FirstZone.zone c.self.inside.peer c.args.request.now c.begin_transfer.new.reader c.begin_transfer.result (transfer_spent g.Z.FirstZone.zone c.self.inside.peer c.args.request.now c.self.inside.reader c.answer_request.new.reader c.begin_transfer.new.reader c.replace-query.result c.in-Transfer.strong (permits_moved g.Z.FirstZone.zone c.self.inside.peer c.args.request.now c.self.inside.reader c.answer_request.new.reader c.in-Transfer.strong c.answer_request.new.query c.replace-query.result c.replace-query.ensures.value c.in-Transfer.ensures.answer) c.begin_transfer.result c.begin_transfer.ensures.spent))
 
 pub returns-in-Transfer-clause-unanswered : goal.returns-in-Transfer-clause-unanswered
 returns-in-Transfer-clause-unanswered g c =
