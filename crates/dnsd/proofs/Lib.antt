@@ -1,1 +1,1 @@
-mod RightsLemmas
+pub mod RightsLemmas

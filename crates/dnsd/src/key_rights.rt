@@ -1,5 +1,7 @@
 //! What the holders of keys may do (RFC 8945).
-ghost use Rattle.std.specs.Prelude.{◌≡◌, map, IfOk};
+ghost use Rattle.std.specs.Prelude.{◌≡◌, find, map, IfOk};
+ghost use Rattle.std.specs.Option.{option_copied};
+ghost use Rattle.dns_name.specs.Name.{is_same};
 ghost use Rattle.command_line.specs.Keys.{rules_by};
 ghost use Rattle.dnsd.specs.KeyRights.{rights_of};
 
@@ -47,10 +49,17 @@ fn rights_of<'a>(
 fn rules_of<'a>(key_rules: &'a [KeyRules], name: &Name) -> &'a [Rule]
     ensures { result.now ≡ rules_by name.now key_rules.now }
 {
-    match key_rules.iter().find(|own| own.key == *name) {
+    match first_of(key_rules, name) {
         Some(own) => own.rules.as_slice(),
         None => &[],
     }
+}
+
+/// The first rules by keys whose key is this one.
+fn first_of<'a>(key_rules: &'a [KeyRules], name: &Name) -> Option<&'a KeyRules>
+    ensures { option_copied result ≡ find (λ own. is_same own.key name.now) key_rules.now }
+{
+    key_rules.iter().find(|own| own.key == *name)
 }
 
 /// The keys of a file with these rights, if there is one.
