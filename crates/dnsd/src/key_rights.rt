@@ -1,5 +1,5 @@
 //! What the holders of keys may do (RFC 8945).
-ghost use Rattle.std.specs.Prelude.{◌≡◌, find, map, IfOk};
+ghost use Rattle.std.specs.Prelude.{◌≡◌, find, map, IfOk, IfSome};
 ghost use Rattle.std.specs.Option.{option_copied};
 ghost use Rattle.dns_name.specs.Name.{is_same};
 ghost use Rattle.command_line.specs.Keys.{rules_by};
@@ -19,7 +19,9 @@ pub fn rights_for<'a>(
     alloc: Global,
     keys: Option<&KeyFile>,
     key_rules: &'a [KeyRules],
-) -> Result<Vec<KeyRights<'a>>, AllocError> {
+) -> Result<Vec<KeyRights<'a>>, AllocError>
+    ensures { IfOk result (λ rights. IfSome (option_copied keys.entry) (λ file. map (λ own. own.rules.now) rights.items ≡ rights_of key_rules.now file.keys)) }
+{
     match keys {
         None => Ok(Vec::new(alloc)),
         Some(file) => rights_of(alloc, &file.keys, key_rules),
