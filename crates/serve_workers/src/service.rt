@@ -399,6 +399,8 @@ fn serve_with_judge<
 /// Serves the versions of a server's cell, by jobs with readers, and does the main task at the same time. The jobs submit their updates to `updates`. The readers come back in
 /// `readers`. Fails with `NotStarted` where not all threads could be started, and else with the fault of the first job that failed.
 fn serve_on_threads<
+    'g,
+    's,
     R: Threads + Wait + Clock + Sync,
     Z: FirstZone + Send + Sync,
     N: ServerName + Send + Sync,
@@ -407,13 +409,13 @@ fn serve_on_threads<
 >(
     rt: &R,
     alloc: Global,
-    server: &Server<'_, Z, N>,
-    shutdown: &Shutdown,
-    updates: &Updates,
+    server: &'g Server<'s, Z, N>,
+    shutdown: &'g Shutdown,
+    updates: &'g Updates,
     main_task: M,
     readers: &mut Vec<VersionReader<N>>,
-    jobs: Vec<SocketJob<'_, R>>,
-    log: &L,
+    jobs: Vec<SocketJob<'g, R>>,
+    log: &'g L,
 ) -> (Result<(), ServeFault>, M)
     requires count { vec_len readers.old ≡ vec_len jobs }
     requires room { vec_len readers.old < vec_capacity readers.old }
@@ -426,6 +428,20 @@ fn serve_on_threads<
     let (started, threads, main_task) = run_threads(
         rt, alloc, server, shutdown, updates, main_task, readers, jobs, threads, log,
     );
+    (end_threads(started, threads, readers), main_task)
+}
+
+/// The fault of the first job that failed, of threads that were all started; else `NotStarted`. The readers come back in `readers`, which is empty and has room for them.
+fn end_threads<Z: FirstZone, N: ServerName, L: ServiceLog, C: Clock>(
+    started: bool,
+    threads: Vec<ServerThread<'_, '_, Z, N, L, C>>,
+    readers: &mut Vec<VersionReader<N>>,
+) -> Result<(), ServeFault>
+    requires room { vec_len threads ≤ vec_capacity readers.old }
+    requires empty { readers.old.items ≡ [] }
+    ensures count { vec_len readers.new ≡ vec_len threads.entry }
+    ensures capacity { vec_capacity readers.new ≡ vec_capacity readers.old }
+{
     let fault = if started {
         fault_in(&threads)
     } else {
@@ -433,8 +449,8 @@ fn serve_on_threads<
     };
     put_readers(threads, readers);
     match fault {
-        Some(fault) => (Err(fault), main_task),
-        None => (Ok(()), main_task),
+        Some(fault) => Err(fault),
+        None => Ok(()),
     }
 }
 
