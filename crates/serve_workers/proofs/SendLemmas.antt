@@ -20,16 +20,9 @@ use Rattle.signed_replies.specs.contracts.key_ring.KeyRights as rights
 use Rattle.signed_replies.specs.contracts.messages.SignedMessages as signed_messages
 use Rattle.signed_replies.specs.contracts.messages.SignedMessagesMessages.TheImpl as signed_sending
 use Rattle.zone_replies.proofs.SendLemmas.{allowed_send, rule_sync}
-use Rattle.signed_replies.specs.contracts.messages.SignedMessages as messages
-use Rattle.signed_replies.specs.contracts.messages.SignedMessagesMessages.TheImpl as signed_impl
-use Rattle.sockets.specs.contracts.peer.TcpPeer as peer
-use Rattle.sockets.specs.contracts.place.TcpPlace as place
-use Rattle.sockets.specs.contracts.watch.Watch as watch
 use Rattle.zone_replies.specs.contracts.transfer.Transfer as transfer
-use Rattle.zone_replies.specs.contracts.transfer.TransferMessages.TheImpl as transfer_impl
 use Rattle.zone_replies.specs.contracts.transfer.TransferMessages.TheImpl as sending
 use Rattle.worker_jobs.proofs.SendLemmas.{woken_sync, transfer_send, tcp_send, tcp_row_send, telling_send, keys_sync, signed_messages_send}
-use Rattle.worker_jobs.specs.contracts.connections_job.ConnectionsJob as connections
 use Rattle.worker_jobs.specs.contracts.datagrams_job.DatagramsJob as datagrams
 use Rattle.worker_jobs.specs.contracts.worker_socket.WorkerSocket as socket
 use Rattle.serve_workers.specs.contracts.signed_jobs.SharedKeys as shared_keys
@@ -52,24 +45,13 @@ signed_send : (a : NamedLft) (J C : RattleType) → IsSend J → IsSync C → Is
 signed_send a J C sends ticks =
     struct_send (shape (signed.the_type a J C)) (sends, (shared_keys_send a, (search (crossing.crosses, sendable) depth 60 fits 20000, tt)))
 
--- a job on datagrams, and one on connections whose replies may be signed, as arguments of other types
-abbrev udp_job : NamedLft → RattleType
-udp_job a = datagrams.the_row a (socket.the_row a)
-
-abbrev tcp_job : NamedLft → RattleType → RattleType
-tcp_job a C = connections.the_row a peer.the_row (watch.the_row a C) place.the_row (messages.the_row a transfer.the_row) C (signed_impl.ghosts transfer.the_row transfer_impl.ghosts signed_impl.no_dict signed_impl.no_dict)
-
-udp_send : (a : NamedLft) → IsSend (udp_job a)
+udp_send : (a : NamedLft) → IsSend (datagrams.the_row a (socket.the_row a))
 udp_send a = search (allowed_send, crossing.crosses, sendable) depth 60 fits 20000
-
-signed_tcp_send : (a : NamedLft) (C : RattleType) → IsSync C → IsSend (tcp_job a C)
-signed_tcp_send a C ticks =
-    tcp_row_send a (messages.the_row a transfer.the_row) C (signed_impl.ghosts transfer.the_row transfer_impl.ghosts signed_impl.no_dict signed_impl.no_dict) (signed_messages_send a transfer.the_row transfer_send) ticks
 
 job_send : (a : NamedLft) (C : RattleType) → IsSync C → IsSend (job.the_field a C).row
 job_send a C ticks =
     enum_send (enum.shape (job.the_type a C))
-    ((search (allowed_send, crossing.crosses, sendable) depth 60 fits 20000, tt), ((tcp_send a transfer.the_row C transfer_impl.ghosts transfer_send ticks, tt), ((signed_send a (udp_job a) C (udp_send a) ticks, tt), ((signed_send a (tcp_job a C) C (signed_tcp_send a C ticks) ticks, tt), ((telling_send a C ticks, tt), tt)))))
+    ((search (allowed_send, crossing.crosses, sendable) depth 60 fits 20000, tt), ((tcp_send a transfer.the_row C _ transfer_send ticks, tt), ((signed_send a _ C (udp_send a) ticks, tt), ((signed_send a _ C (tcp_row_send a (signed_messages.the_row a transfer.the_row) C (signed_sending.ghosts transfer.the_row sending.ghosts signed_sending.no_dict signed_sending.no_dict) (signed_messages_send a transfer.the_row transfer_send) ticks) ticks, tt), ((telling_send a C ticks, tt), tt)))))
 
 pub thread_send : (a b : NamedLft) (T N L C : RattleType) (g : Ghosts T.Denot) (n : naming.Ghosts N.Denot) (s : server_names.Ghosts N.Denot) → IsSync L → IsSync C → IsSend (thread.the_row a b T N L C n g s)
 thread_send a b T N L C g n s hears ticks =
