@@ -1,5 +1,5 @@
 //! Requests that other programs signed, answered by a handler that knows nothing of TSIG behind one that does.
-ghost use Rattle.std.specs.Prelude.{◌≡◌, [], Unit, map};
+ghost use Rattle.std.specs.Prelude.{◌≡◌, [], map};
 
 use crate::made::keys;
 use crate::messages::{

@@ -1,9 +1,10 @@
 //! Key files: what they are read as, and why they are refused.
 use crate::messages::{AXFR, QUERY};
+use dns_name::Name;
 use key_file::{KeyFault, KeyFile, KeyFileFault, parse_keys};
 use std::alloc::{AllocError, Global};
 use std::test::Fail;
-use tsig::{Verification, verify};
+use tsig::{MAX_KEYS, Verification, verify};
 use wire_names::Message;
 
 /// Texts, and the names of the keys that each has, with a mark after those whose secret is short; or the line and why it is refused. Secrets by RFC 4648, 10 and by hand.
@@ -135,20 +136,31 @@ fn parsed(alloc: Global, text: &str) -> Result<KeyFile, KeyFileFault> {
     }
 }
 
+/// Whether a key's name is among those whose secret is short.
+fn is_short(file: &KeyFile, key: &Name) -> bool {
+    file.short.iter().any(|name| name == key)
+}
+
+/// Adds the name of the key at an index of a file, with a mark if its secret is short.
+fn add_name(names: &mut String, file: &KeyFile, index: u16) -> Result<(), AllocError> {
+    let Some(key) = file.keys.get(index) else {
+        return Ok(());
+    };
+    if index > 0 {
+        names.push_str(" ")?;
+    }
+    names.push_str(key.name().to_text().as_str())?;
+    if is_short(file, key.name()) {
+        names.push_str(" (short)")?;
+    }
+    Ok(())
+}
+
 /// The names of a file's keys, with a mark after those whose secret is short.
 fn names_of(alloc: Global, file: &KeyFile) -> Result<String, AllocError> {
     let mut names = String::new(alloc);
-    for i in 0..file.keys.len() {
-        let Some(key) = file.keys.get(i as u16) else {
-            break;
-        };
-        if i > 0 {
-            names.push_str(" ")?;
-        }
-        names.push_str(key.name().to_text().as_str())?;
-        if file.short.iter().any(|name| name == key.name()) {
-            names.push_str(" (short)")?;
-        }
+    for index in 0..MAX_KEYS {
+        add_name(&mut names, file, index as u16)?;
     }
     Ok(names)
 }

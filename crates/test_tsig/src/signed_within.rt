@@ -104,7 +104,7 @@ const REPLIES: [(&str, &str, &str); 2] = [
 fn is_signed(alloc: Global, request: &str, plain: &str, want: &str) -> Result<bool, Fail> {
     let stamp = stamp(1_700_000_001, TsigError::NoError);
     match signed(alloc, request, 1_700_000_001, plain, &stamp)? {
-        Some((_, mac)) => has_mac(alloc, want, &mac),
+        Some((_out, mac)) => has_mac(alloc, want, &mac),
         None => Ok(false),
     }
 }
@@ -146,7 +146,7 @@ const LATER: [(u64, &str, &str); 2] = [
 /// times (RFC 8945, 5.3.1).
 fn is_transfer_signed(alloc: Global) -> Result<bool, Fail> {
     let first = stamp(1_700_000_001, TsigError::NoError);
-    let Some((_, mut mac)) = signed(alloc, AXFR, 1_700_000_001, FIRST_BARE, &first)? else {
+    let Some((_out, mut mac)) = signed(alloc, AXFR, 1_700_000_001, FIRST_BARE, &first)? else {
         return Ok(false);
     };
     if !has_mac(alloc, FIRST, &mac)? {
