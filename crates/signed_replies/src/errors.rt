@@ -51,7 +51,7 @@ pub(crate) fn write_error(
     )
 }
 
-/// Writes the reply that tells an error of a request's TSIG, unsigned, to the front of `out`, and gives how many octets it has (RFC 8945, 5.3.2).
+/// Writes the reply that reports an error of a request's TSIG, unsigned, to the front of `out`, and gives how many octets it has (RFC 8945, 5.3.2).
 pub(crate) fn write_unsigned(
     request: &[u8],
     tsig: &Tsig<'_>,

@@ -16,7 +16,7 @@ struct PendingTime {
 }
 
 /// When requests were verified whose replies are made later, at most one of each connection, by the connection's key. Such a request is answered again with the same octets, and isn't
-/// judged by a later time then: an update that has been applied would else be told BADTIME.
+/// judged by a later time then: an update that has been applied would else get BADTIME.
 #[derive(Drop)]
 pub(crate) struct PendingTimes {
     times: Vec<Option<PendingTime>>,

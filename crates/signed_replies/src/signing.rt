@@ -22,7 +22,7 @@ pub(crate) fn stamp_at(time: u64) -> Stamp
     }
 }
 
-/// What the TSIG says that tells of a time outside the fudge (RFC 8945, 5.2.3).
+/// What the TSIG has that reports a time outside the fudge (RFC 8945, 5.2.3).
 pub(crate) fn stamp_late(tsig: &RequestTsig, now: u64) -> Stamp
     ensures { result ≡ stamp_late tsig.now now }
 {
@@ -33,7 +33,7 @@ pub(crate) fn stamp_late(tsig: &RequestTsig, now: u64) -> Stamp
     }
 }
 
-/// What the TSIG says that tells of a MAC that is cut short (RFC 8945, 5.2.4).
+/// What the TSIG has that reports a MAC that is cut short (RFC 8945, 5.2.4).
 pub(crate) fn stamp_short(now: u64) -> Stamp
     ensures { result ≡ stamp_short now }
 {
@@ -86,7 +86,7 @@ pub(crate) fn sign_queued(
     Some(sign_reply(key, tsig, &stamp_at(now), limit, out, len))
 }
 
-/// Writes the reply that tells an error of a request's TSIG, signed, to the front of `out`, and gives how many octets it has; None where there is no key (RFC 8945, 5.2.3 and 5.2.4).
+/// Writes the reply that reports an error of a request's TSIG, signed, to the front of `out`, and gives how many octets it has; None where there is no key (RFC 8945, 5.2.3 and 5.2.4).
 #[tactic(auto, using(crate::proofs::ErrorLemmas::room_most))]
 pub(crate) fn write_signed(
     request: &[u8],

@@ -1,4 +1,4 @@
-//! Requests that other programs signed, answered by a handler that knows nothing of TSIG behind one that does.
+//! Requests that other programs signed, answered by a handler that knows nothing of TSIG, after one that does.
 ghost use Rattle.std.specs.Prelude.{◌≡◌, [], map};
 
 use crate::made::keys;
@@ -120,7 +120,7 @@ fn reply_to<R: Wait, K: KeyRing>(
     Ok(Some(out))
 }
 
-/// A request, a time, the request as the handler behind is to get it, its reply, and what is to be sent.
+/// A request, a time, the request as the handler after it is to get it, its reply, and what is to be sent.
 struct Exchange(&'static str, u64, &'static str, &'static str, &'static str);
 
 /// The worked messages of other programs.

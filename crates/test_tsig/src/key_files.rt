@@ -131,8 +131,8 @@ const TEXTS: [(&str, &str); 33] = [
 /// What a text is read as, read once more where memory was refused.
 fn parsed(alloc: Global, text: &str) -> Result<KeyFile, KeyFileFault> {
     match parse_keys(alloc, text.as_bytes()) {
-        Err(told) if told.fault == KeyFault::NoMemory => parse_keys(alloc, text.as_bytes()),
-        told => told,
+        Err(failed) if failed.fault == KeyFault::NoMemory => parse_keys(alloc, text.as_bytes()),
+        parsed => parsed,
     }
 }
 
@@ -165,27 +165,27 @@ fn names_of(alloc: Global, file: &KeyFile) -> Result<String, AllocError> {
     Ok(names)
 }
 
-/// What is told of a text.
-fn told(alloc: Global, text: &str) -> Result<String, AllocError> {
+/// What parsing a text gives, as a text.
+fn outcome(alloc: Global, text: &str) -> Result<String, AllocError> {
     match parsed(alloc, text) {
         Ok(file) => names_of(alloc, &file),
         Err(fault) => format!(in alloc; "{fault}"),
     }
 }
 
-/// Whether this is told of a text.
-fn is_told(alloc: Global, text: &str, right: &str) -> Result<bool, AllocError> {
-    let got = match told(alloc, text) {
-        Err(_) => told(alloc, text)?,
+/// Whether parsing a text gives this.
+fn has_outcome(alloc: Global, text: &str, right: &str) -> Result<bool, AllocError> {
+    let got = match outcome(alloc, text) {
+        Err(_) => outcome(alloc, text)?,
         Ok(got) => got,
     };
     Ok(got.as_str() == right)
 }
 
-/// The first text of which something else is told.
+/// The first text of which parsing gives something else.
 fn first_misread(alloc: Global) -> Result<Option<&'static str>, AllocError> {
     for (text, right) in &TEXTS {
-        if !is_told(alloc, text, right)? {
+        if !has_outcome(alloc, text, right)? {
             return Ok(Some(*text));
         }
     }

@@ -1,6 +1,6 @@
 //! Signed messages that other programs made, by dnspython and from the text of RFC 8945.
 
-/// A query with an OPT, its TSIG behind that.
+/// A query with an OPT, its TSIG after that.
 pub(crate) const QUERY: &str = "\
     11110000000100000000000203777777076578616d706c650474657374000001000100002904d0000000000000036b6579c0\
     1000fa00ff00000000003d0b686d61632d7368613235360000006553f100012c0020db20d3b933f7356d3501b49d71832742\

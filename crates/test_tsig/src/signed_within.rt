@@ -1,4 +1,4 @@
-//! How replies to signed requests are signed, and how requests that aren't taken are told.
+//! How replies to signed requests are signed, and how requests that aren't taken are answered.
 use crate::made::{keys, number_at};
 use crate::messages::{
     ANSWER, ANSWER_BARE, AXFR, FIRST, FIRST_BARE, OLD, OLD_TOLD, QUERY, SECOND, SECOND_BARE, SHORT,
@@ -54,7 +54,7 @@ fn stamp(time: u64, error: TsigError) -> Stamp {
     }
 }
 
-/// The octets of a message with room behind them, and how many they are.
+/// The octets of a message with room after them, and how many they are.
 fn with_room(alloc: Global, plain: &str) -> Result<(Vec<u8>, usize), Fail> {
     let mut out = hex::decode(alloc, plain)?;
     let len = out.len();
@@ -180,7 +180,7 @@ fn is_told(
     Ok(made.is_some_and(|(out, _)| out.as_slice() == want.as_slice()))
 }
 
-/// Whether BADTIME and BADTRUNC are told as another program tells them: the first has the request's time, and the server's as Other Data (RFC 8945, 5.2.3), and the second is signed in
+/// Whether BADTIME and BADTRUNC are reported as another program reports them: the first has the request's time, and the server's as Other Data (RFC 8945, 5.2.3), and the second is signed in
 /// full (RFC 8945, 5.2.4).
 fn are_told_signed(alloc: Global) -> Result<bool, Fail> {
     let late = stamp(1_700_000_000, TsigError::BadTime(1_700_001_000));
@@ -218,7 +218,7 @@ fn reply_that_is_cut(rt: HostRuntime) -> Result<(), Fail> {
     Ok(())
 }
 
-/// Tells an error, unsigned, in the first octets, where there is a header and room.
+/// Writes an error, unsigned, in the first octets, where there is a header and room.
 fn add_error_in(verified: &Verification<'_>, out: &mut [u8], len: usize) -> Option<usize> {
     if len < HEADER
         || len > 512
@@ -248,7 +248,7 @@ fn is_error(alloc: Global, request: &str, plain: &str, want: &str) -> Result<boo
     Ok(out.as_slice() == want.as_slice())
 }
 
-/// Whether BADKEY and BADSIG are told as another program tells them (RFC 8945, 5.2.1, 5.2.2 and 5.3.2).
+/// Whether BADKEY and BADSIG are reported as another program reports them (RFC 8945, 5.2.1, 5.2.2 and 5.3.2).
 fn are_told_unsigned(alloc: Global) -> Result<bool, Fail> {
     let (unknown, wrong) = ("4444a8090000000000000000", "5555a8090000000000000000");
     Ok(
