@@ -3,7 +3,7 @@ ghost use Rattle.std.specs.Prelude.{◌≡◌, ◌≤◌, IsNone, IfOk};
 ghost use Rattle.std.specs.Result.{IsOkAnd};
 
 use crate::fault::CommandFault;
-use crate::may::{MAY, Trial, trial_of};
+use crate::may::{KEY, MAY, Trial, trial_of};
 use crate::options::{Serve, serve_of};
 use crate::program::program;
 use crate::stored_zone::Part;
@@ -13,6 +13,7 @@ use dns_name::Name;
 use serve_core::Transport;
 use std::alloc::{AllocError, Global};
 use std::convert::AsStr;
+use std::net::SocketAddr;
 
 /// The task that a command line requests.
 pub enum Task<'a> {
@@ -33,6 +34,8 @@ pub enum Task<'a> {
     Journal(&'a str),
     /// Prints what changes from one zone to another.
     Change(Change<'a>),
+    /// Brings the zone that a server serves to another one.
+    Deploy(Deploy<'a>),
     /// Prints what a request gets by rules.
     May(Trial<'a>),
 }
@@ -49,6 +52,7 @@ impl<'a> Drop for Task<'a> {
             Task::Stored(_) => {}
             Task::Journal(_) => {}
             Task::Change(_) => {}
+            Task::Deploy(_) => {}
             Task::May(_) => {}
         }
     }
@@ -73,6 +77,32 @@ impl<'a> Drop for Change<'a> {
             next: _,
             origin: _,
             is_hex: _,
+        } = self;
+    }
+}
+
+/// A zone to which the zone that a server serves is to be brought.
+pub struct Deploy<'a> {
+    /// The server's address and port.
+    pub server: SocketAddr,
+    /// Where the zone's text comes from.
+    pub zone: Source<'a>,
+    /// The origin at the start of the text.
+    pub origin: Name,
+    /// The file whose first key signs what is sent. None where it isn't signed.
+    pub key: Option<&'a str>,
+    /// Whether what would change is printed, and no update is sent.
+    pub is_dry: bool,
+}
+
+impl<'a> Drop for Deploy<'a> {
+    fn drop(self) {
+        let Deploy {
+            server: _,
+            zone: _,
+            origin: _,
+            key: _,
+            is_dry: _,
         } = self;
     }
 }
@@ -121,6 +151,9 @@ fn task_of<'a>(
         return Ok(Task::Change(change_of(found, origin)));
     }
     let zone = text_source(found.get_str(ZONE));
+    if name == "deploy" {
+        return Ok(Task::Deploy(deploy_of(found, zone, origin)?));
+    }
     if name == "serve" {
         return Ok(Task::Serve(serve_of(alloc, found, zone, origin)?));
     }
@@ -147,6 +180,25 @@ fn change_of<'a>(found: &ArgMatches<'a>, origin: Name) -> Change<'a> {
         origin,
         is_hex: found.get_flag(HEX),
     }
+}
+
+/// The zone to which the zone that a server serves is to be brought.
+fn deploy_of<'a>(
+    found: &ArgMatches<'a>,
+    zone: Source<'a>,
+    origin: Name,
+) -> Result<Deploy<'a>, CommandFault<'a>> {
+    let word = found.get_str(SERVER).unwrap_or("");
+    let Ok(server) = word.parse::<SocketAddr>() else {
+        return Err(CommandFault::Server(word));
+    };
+    Ok(Deploy {
+        server,
+        zone,
+        origin,
+        key: found.get_str(KEY),
+        is_dry: found.get_flag(DRY_RUN),
+    })
 }
 
 /// The store whose zone is to be printed.
@@ -218,6 +270,12 @@ pub const WARN: &str = "warn";
 
 /// The option for the update's message.
 pub const HEX: &str = "hex";
+
+/// The argument for the address and port of a running server.
+pub const SERVER: &str = "server";
+
+/// The option for printing what an update would change.
+pub const DRY_RUN: &str = "dry-run";
 
 /// The option for replies as over TCP, and for a request over TCP.
 pub const TCP: &str = "tcp";

@@ -60,6 +60,8 @@ pub enum CommandFault<'a> {
     Rule(&'a str, RuleFault<'a>),
     /// The word is not an address.
     Address(&'a str),
+    /// The word is not an address and port of a server.
+    Server(&'a str),
 }
 
 impl<'a> Drop for CommandFault<'a> {
@@ -90,6 +92,7 @@ impl<'a> Drop for CommandFault<'a> {
             CommandFault::NoStore(_) => {}
             CommandFault::Rule(_, _) => {}
             CommandFault::Address(_) => {}
+            CommandFault::Server(_) => {}
         }
     }
 }
@@ -179,6 +182,11 @@ pub fn tell_fault<R: Print + Eprint>(rt: &R, fault: &CommandFault<'_>) -> io::Re
         }
         CommandFault::Address(word) => {
             eprintln!(rt; "error: '{word}' is not an address, such as 192.0.2.7 or 2001:db8::7")?;
+        }
+        CommandFault::Server(word) => {
+            eprintln!(rt;
+                "error: '{word}' is not an address and port, such as 192.0.2.1:53 or [2001:db8::1]:53"
+            )?;
         }
     }
     Ok(BAD_COMMAND)

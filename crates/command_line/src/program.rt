@@ -1,6 +1,7 @@
 //! The program's commands, and the arguments of each.
 use crate::command::{
-    ADDRESS, BEFORE_FAULT, DIR, HEX, KEEP, NEW, OLD, ORIGIN, REQUEST, TCP, WARN, WINDOW, ZONE,
+    ADDRESS, BEFORE_FAULT, DIR, DRY_RUN, HEX, KEEP, NEW, OLD, ORIGIN, REQUEST, SERVER, TCP, WARN,
+    WINDOW, ZONE,
 };
 use crate::may::{ALLOW, KEY, MAY};
 use crate::options::{CONNECTIONS, COUNT, IDLE, KEYS, LISTEN, MESSAGE, REPLY, WORKERS};
@@ -110,6 +111,12 @@ const COMMANDS: &[CommandRow] = &[
         words: CHANGE_WORDS,
     },
     CommandRow {
+        name: "deploy",
+        about: "brings the zone that a server serves to ZONE, by one update",
+        example: "Example, from a working copy to a server that takes updates signed by a key:\n  dnsd deploy --key /etc/dnsd/deploy.key 192.0.2.1:53 example.test.zone",
+        words: DEPLOY_WORDS,
+    },
+    CommandRow {
         name: "zone",
         about: "prints the zone of a store as a server would load it, one record per line",
         example: "Example, a backup of a store's zone while it is served:\n  dnsd zone /var/lib/dnsd > saved && mv saved backup.zone",
@@ -191,6 +198,27 @@ const CHANGE_WORDS: &[WordRow] = &[
         form: Form::Word("NEW"),
         help: "text of the new zone, the same",
     },
+];
+
+/// The arguments of `deploy`.
+const DEPLOY_WORDS: &[WordRow] = &[
+    ORIGIN_ROW,
+    WordRow {
+        name: KEY,
+        form: Form::Value("FILE"),
+        help: "file of keys, such as serve reads with --keys; its first key signs what is sent, and must sign the replies (default: nothing is signed)",
+    },
+    WordRow {
+        name: DRY_RUN,
+        form: Form::Flag,
+        help: "print what would change, one record per line, and send no update",
+    },
+    WordRow {
+        name: SERVER,
+        form: Form::Word("ADDR:PORT"),
+        help: "address and port of the server, which must permit transfers and updates, over TCP",
+    },
+    ZONE_ROW,
 ];
 
 /// The arguments of `zone`.

@@ -41,6 +41,25 @@ pub fn keys_for<R: Files + Env + Eprint + AllocGlobal>(
             Some(own) => Ok(Err(tell_no_key(rt, &own.key)?)),
         };
     };
+    let file = match key_file_at(rt, path)? {
+        Ok(file) => file,
+        Err(status) => return Ok(Err(status)),
+    };
+    for own in serve.key_rules.iter() {
+        if file.keys.index_named(&own.key).is_none() {
+            return Ok(Err(tell_no_key(rt, &own.key)?));
+        }
+    }
+    warn_of_short(rt, path, &file)?;
+    Ok(Ok(Some(file)))
+}
+
+/// The keys of a file. The program's status if it cannot be read, if its group or others have a right to it, or if it is refused; standard error then has the reason, with no word of the
+/// file.
+pub(crate) fn key_file_at<R: Files + Env + Eprint + AllocGlobal>(
+    rt: &R,
+    path: &str,
+) -> io::Result<Result<KeyFile, u8>> {
     let mark = Level::Error.mark_for(rt);
     let text = match read_secret(rt, rt.alloc(), path) {
         Ok(text) => text,
@@ -56,15 +75,7 @@ pub fn keys_for<R: Files + Env + Eprint + AllocGlobal>(
         }
     };
     match parse_keys(rt.alloc(), text.as_slice()) {
-        Ok(file) => {
-            for own in serve.key_rules.iter() {
-                if file.keys.index_named(&own.key).is_none() {
-                    return Ok(Err(tell_no_key(rt, &own.key)?));
-                }
-            }
-            warn_of_short(rt, path, &file)?;
-            Ok(Ok(Some(file)))
-        }
+        Ok(file) => Ok(Ok(file)),
         Err(fault) => {
             eprintln!(rt; "{mark}error: the key file '{path}' is refused: {fault}")?;
             Ok(Err(FAILED))
@@ -93,7 +104,7 @@ fn tell_no_key<R: Env + Eprint + AllocGlobal>(rt: &R, name: &Name) -> io::Result
 }
 
 /// Warns of each key whose secret is short.
-fn warn_of_short<R: Env + Eprint + AllocGlobal>(
+pub(crate) fn warn_of_short<R: Env + Eprint + AllocGlobal>(
     rt: &R,
     path: &str,
     file: &KeyFile,

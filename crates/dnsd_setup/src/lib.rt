@@ -1,5 +1,6 @@
 //! What `dnsd` does without serving: it runs commands over a zone's text, prints the zone of a store, what its updates changed, what changes
-//! from one zone to another and what a request gets by rules, and reads, locks and binds what a server serves with.
+//! from one zone to another and what a request gets by rules, brings the zone that a server serves to another one, and reads, locks and binds what a
+//! server serves with.
 //!
 //! The log of a running server is here too: its lines and their levels, and the thread that writes them to standard error and notifies a service
 //! manager.
@@ -7,6 +8,7 @@
 
 mod bound;
 mod change;
+mod deploy;
 pub mod descriptors;
 mod kept;
 mod keys;
@@ -23,6 +25,7 @@ mod zone_file;
 
 pub use bound::{BoundSockets, WorkerSockets, bind_sockets};
 pub use change::run_change;
+pub use deploy::run_deploy;
 pub use kept::start_store_for;
 pub use keys::keys_for;
 pub use lines::{LogLine, ROOT_APEX};

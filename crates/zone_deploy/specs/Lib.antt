@@ -1,0 +1,4 @@
+pub mod Exchanges
+pub mod Replies
+pub mod Signatures
+pub mod Summary
