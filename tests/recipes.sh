@@ -36,12 +36,13 @@ recipe_of() {
         'serial=$(dig '*) echo restores ;;
         'dig '*' @192.0.2.1 example.com. axfr > theirs') echo brings_in ;;
         "--may '"*) echo permits ;;
+        'dnsd check --warn example.test.zone '*) echo deploys ;;
     esac
 }
 
 # Writes a block as $work/block, with what stands here in place of what it names.
 ours() {
-    sed "s|@127.0.0.1 -p 5353|@127.0.0.1 -p $port|; s|@192.0.2.7|@127.0.0.1 -p $secondary|; s|@192.0.2.1|@127.0.0.1 -p $other|
+    sed "s|@127.0.0.1 -p 5353|@127.0.0.1 -p $port|; s|@192.0.2.7|@127.0.0.1 -p $secondary|; s|@192.0.2.1|@127.0.0.1 -p $other|; s|192.0.2.1:53|127.0.0.1:$port|
         s|/etc/dnsd|$work/zones|g; s|/var/lib/dnsd|$work/store|g; s|contrib/convert|$PWD/contrib/convert|" "$1" >"$work/block"
 }
 
@@ -145,6 +146,17 @@ permits() {
     check "$recipe: a transfer by none" $'REFUSED\nexample.test. AXFR: no rule' "$("$program" may "${rules[@]}" 192.0.2.1 $transfer || true)"
 }
 
+# A zone file is deployed: a server whose key the block signs by has serial 1, and the file in the room serial 2 and another address.
+deploys() {
+    (umask 077 && echo 'hmac-sha256:deploy.key:AAECAwQFBgcICQoLDA0ODxAREhMUFRYXGBkaGxwdHh8=' >"$room/deploy.key")
+    "$program" check zones/example.test.zone | sed 's/ 1 7200 / 2 7200 /; s/192\.0\.2\.10$/192.0.2.11/' >"$room/example.test.zone"
+    serve zones/example.test.zone --allow '' --keys "$room/deploy.key" --may 'key deploy.key: transfer, update'
+    runs "$1"
+    check "$recipe: its last line" 'example.test.: serial 1 to 2, 1 records deleted, 1 added' "$(tail -1 "$work/said")"
+    check "$recipe: the server's serial then" 2 "$(serial "$port")"
+    unserve
+}
+
 awk -v folder="$work/blocks" '/^```/ { inside = !inside; number += inside; next } inside { print > sprintf("%s/%03d", folder, number) }' docs/OPERATING.md
 seen=
 for block in "$work"/blocks/*; do
@@ -153,7 +165,7 @@ for block in "$work"/blocks/*; do
     [ -z "$recipe" ] || "$recipe" "$block"
     seen="$seen $recipe"
 done
-for recipe in saves_by_transfer saves_a_store restores brings_in permits; do
+for recipe in saves_by_transfer saves_a_store restores brings_in permits deploys; do
     check "$recipe: a block is of it" yes "$([[ " $seen " != *" $recipe "* ]] || echo yes)"
 done
 echo "$passed checks passed, $failed failed"

@@ -160,3 +160,19 @@ row 3 "the store 'no/such/store' can't be read or written" serve --listen 127.0.
 row 3 "the zone's file 'no/such/zone' can't be read" serve --listen 127.0.0.1:0 no/such/zone
 input=$'x 300 SOA ns admin 1 7200 900 1209600 300\n'
 row 1 'line 0: ' check -
+
+# deploy: its two words, an address with a port, and what it says before a server is reached
+row 2 ADDR:PORT deploy
+row 2 ZONE deploy 127.0.0.1:1
+says 2 "error: 'localhost:53' is not an address and port, such as 192.0.2.1:53 or [2001:db8::1]:53" deploy localhost:53 "$zone"
+row 2 "'127.0.0.1' is not an address and port" deploy 127.0.0.1 "$zone"
+row 2 "'[::1]:65536' is not an address and port" deploy '[::1]:65536' "$zone"
+row 2 "--origin: 'a..b' is not a name: " deploy --origin a..b 127.0.0.1:1 "$zone"
+row 2 "'--hex'" deploy --hex 127.0.0.1:1 "$zone"
+row 2 FILE deploy 127.0.0.1:1 "$zone" --key
+for word in --key --dry-run --origin ADDR:PORT ZONE; do row 0 "$word" deploy --help; done
+row 0 'brings the zone that a server serves to ZONE, by one update' --help
+row 3 "the zone's file '/none/zone' can't be read" deploy 127.0.0.1:1 /none/zone
+row 3 "the key file '/none/key' can't be read" deploy --key /none/key 127.0.0.1:1 "$zone"
+input=$'@ 300 SOA ns admin 1 7200 900 1209600 300\n'
+row 1 "M11 Apex" deploy --dry-run 127.0.0.1:1 -
