@@ -64,7 +64,7 @@ def write(path, text, mode=0o644):
 
 def deploy(port, *words):
     """The status of a deployment, what it printed, and what it wrote on standard error, where the server's port is left out."""
-    done = subprocess.run([program, "deploy", *words[:-1], f"127.0.0.1:{port}", words[-1]], capture_output=True, text=True, timeout=120)
+    done = subprocess.run([program, "deploy", *words[:-1], f"127.0.0.1:{port}", words[-1]], capture_output=True, text=True, timeout=900)
     return done.returncode, done.stdout, done.stderr.replace(f"127.0.0.1:{port}", "SERVER")
 
 

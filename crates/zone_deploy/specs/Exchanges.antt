@@ -68,4 +68,3 @@ pub record IsAnswered (key : Option SharedKey) (update : List ℕ) (written_befo
   pub code_is : code_of update reply ≡ Some code
   pub last : Chain
   pub signed : AreSigned key (first_chain key now update) (reply ∷ []) last
-  pub closed : last.unsigned ≡ 0

@@ -34,7 +34,8 @@ pub(crate) fn read_message<R: Read>(alloc: Global, reader: &mut R) -> Result<Vec
     let mut len = [0u8; 2];
     reader.read_exact(&mut len)?;
     let mut message = Vec::new(alloc);
-    message.resize(usize::from(u16::from_be_bytes(len)), 0)?;
+    let size = u16::from_be_bytes([len[0], len[1]]);
+    message.resize(usize::from(size), 0)?;
     reader.read_exact(&mut message)?;
     Ok(message)
 }

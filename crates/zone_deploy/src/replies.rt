@@ -1,7 +1,7 @@
 //! Which messages reply to a request (RFC 1035, 4.1.1).
-ghost use Rattle.std.specs.Prelude.{◌≡◌, ◌≤◌, ◌+◌, length};
+ghost use Rattle.std.specs.Prelude.{◌≡◌, ◌≤◌, ◌+◌, length, IfSome};
 ghost use Rattle.dns_message.specs.Message.{number_at};
-ghost use Rattle.zone_deploy.specs.Replies.{opcode_of, code_of};
+ghost use Rattle.zone_deploy.specs.Replies.{opcode_of, is_reply_to, code_of};
 
 use dns_message::{HEADER, QR};
 
@@ -14,15 +14,28 @@ const CODES: u8 = 16;
 /// The number of the RCODE of a reply to a request, which has its ID and its OPCODE; None of other octets.
 pub(crate) fn code_of(request: &[u8], message: &[u8]) -> Option<u8>
     requires { HEADER ≤ length request.now }
-    ensures { result ≡ code_of request.now message.now }
+    ensures code { result ≡ code_of request.now message.now }
+    ensures header { IfSome result (λ _. HEADER ≤ length message.now) }
 {
-    if message.len() < HEADER || message[2] < QR {
+    if message.len() < HEADER {
         return None;
     }
-    if number_at(message, 0) != number_at(request, 0) || opcode_of(message) != opcode_of(request) {
-        return None;
+    if is_reply_to(request, message) {
+        Some(message[3] % CODES)
+    } else {
+        None
     }
-    Some(message[3] % CODES)
+}
+
+/// Whether a header is that of a reply to a request: QR is 1, and it has the request's ID and OPCODE.
+fn is_reply_to(request: &[u8], message: &[u8]) -> bool
+    requires request { HEADER ≤ length request.now }
+    requires header { HEADER ≤ length message.now }
+    ensures { result ≡ is_reply_to request.now message.now }
+{
+    message[2] >= QR
+        && number_at(message, 0) == number_at(request, 0)
+        && opcode_of(message) == opcode_of(request)
 }
 
 /// The number of 16 bits at a position (RFC 1035, 2.3.2).

@@ -2,10 +2,10 @@
 ghost use Rattle.std.specs.Prelude.{◌≡◌, if◌then◌else◌};
 ghost use Rattle.dns_rdata.specs.SerialOrder.{serial_less, serial_next};
 ghost use Rattle.zone_tree.specs.Version.{zone_serial};
-ghost use Rattle.zone_deploy.specs.Summary.{deleted_by, added_by, serial_after};
+ghost use Rattle.zone_deploy.specs.Summary.{is_deletion, is_addition, deleted_by, added_by, serial_after};
 
 use dns_message::Update;
-use dns_rdata::{Class, RType, Serial};
+use dns_rdata::{Class, RType, RawRecord, Serial};
 use zone_tree::{Zone, ZoneRead};
 
 /// What an update that takes a zone to another changes, in numbers.
@@ -36,12 +36,23 @@ pub fn summary_of(served: &Zone, next: &Zone, update: &Update) -> ChangeSummary
         from: served.serial(),
         to: serial_after(served.serial(), next.serial()),
         given: next.serial(),
-        deleted: raws.iter().filter(|raw| raw.class == Class::NONE).count(),
-        added: raws
-            .iter()
-            .filter(|raw| raw.class != Class::NONE && raw.rtype != RType::SOA)
-            .count(),
+        deleted: raws.iter().filter(|raw| is_deletion(raw)).count(),
+        added: raws.iter().filter(|raw| is_addition(raw)).count(),
     }
+}
+
+/// Whether a record of an update section deletes one of a zone (RFC 2136, 2.5.4).
+fn is_deletion(raw: &RawRecord) -> bool
+    ensures { result ≡ is_deletion raw.now }
+{
+    raw.class == Class::NONE
+}
+
+/// Whether it adds one that isn't an SOA (RFC 2136, 2.5.1).
+fn is_addition(raw: &RawRecord) -> bool
+    ensures { result ≡ is_addition raw.now }
+{
+    raw.class != Class::NONE && raw.rtype != RType::SOA
 }
 
 /// The serial of the zone that a change leads to: the other zone's where it is greater, and else the one after that of the zone before (RFC 1982, 3).

@@ -35,8 +35,5 @@ pub fn send_update<C: Clock, R: Read, W: Write>(
         return Err(DeployFault::NoReply(Request::Update));
     };
     chain.check(alloc, key, Request::Update, seconds_of(clock), &reply)?;
-    if !chain.is_closed() {
-        return Err(DeployFault::NotSigned(Request::Update));
-    }
     Ok(code)
 }
