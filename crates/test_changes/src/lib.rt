@@ -5,6 +5,8 @@
 #[cfg(test)]
 mod cuts;
 #[cfg(test)]
+mod deployed;
+#[cfg(test)]
 mod ends;
 #[cfg(test)]
 mod frames;
