@@ -33,9 +33,17 @@ pub(crate) fn read_message<R: Read>(alloc: Global, reader: &mut R) -> Result<Vec
 {
     let mut len = [0u8; 2];
     reader.read_exact(&mut len)?;
-    let mut message = Vec::new(alloc);
     let size = u16::from_be_bytes([len[0], len[1]]);
-    message.resize(usize::from(size), 0)?;
-    reader.read_exact(&mut message)?;
-    Ok(message)
+    read_octets(alloc, reader, usize::from(size))
+}
+
+/// Reads so many octets.
+fn read_octets<R: Read>(alloc: Global, reader: &mut R, size: usize) -> Result<Vec<u8>, DeployFault>
+    ensures read { IfOk result (λ octets. Consumes (R.remaining reader.old) (R.remaining reader.new) octets.items) }
+    ensures size { IfOk result (λ octets. length octets.items ≡ size) }
+{
+    let mut octets = Vec::new(alloc);
+    octets.resize(size, 0)?;
+    reader.read_exact(&mut octets)?;
+    Ok(octets)
 }

@@ -36,6 +36,9 @@ const ARCOUNT: usize = 10;
 /// The octets of a TSIG's fields beside its MAC, where it has no Other Data (RFC 8945, 4.2).
 const FIXED: usize = 16;
 
+/// The most octets of these fields and a MAC.
+const MAX_FIELDS: usize = 80;
+
 /// How far the signatures of a request's replies were checked.
 #[derive(Drop)]
 pub(crate) struct Chain {
@@ -139,15 +142,13 @@ fn signed(
     let mut octets = with_room(alloc, request)?;
     let mut mac = ArrayVec::new();
     let stamp = stamp_of(now, FUDGE);
-    let limit = octets.len();
-    let len = sign(key, &mut mac, &stamp, limit, &mut octets, request.len());
+    let len = sign_whole(key, &mut mac, &stamp, &mut octets, request.len());
     octets.truncate(len);
     Ok((octets, Chain::new(alloc, mac)))
 }
 
 /// Octets, and room behind them for a TSIG: 512 octets at least.
 fn with_room(alloc: Global, octets: &[u8]) -> Result<Vec<u8>, AllocError>
-    requires { length octets.now < 2 ^ 60 }
     ensures front { IfOk result (λ own. take (length octets.now) own.items ≡ octets.now) }
     ensures size { IfOk result (λ own. length own.items ≡ max (length octets.now + MAX_TSIG) LEAST) }
 {
@@ -261,7 +262,7 @@ impl Chain {
         let Some(mac) = self.mac_behind(alloc, key, reply, start, &end)? else {
             return Ok(false);
         };
-        if !is_same(end.mac, &mac) || !is_timely(now, &end) {
+        if !is_same(end.mac, &mac) || !is_timely(now, &end) || !ends_so(reply, &end) {
             return Ok(false);
         }
         self.mac = mac;
@@ -331,9 +332,31 @@ fn make_first_mac(
     ensures { OnOk result (mac.new.items ≡ mac_over key.now mac.old.items text.now (stamped stamp.now text.now [])) }
 {
     let mut octets = with_room(alloc, text)?;
-    let limit = octets.len();
-    sign(key, mac, stamp, limit, &mut octets, text.len());
+    sign_whole(key, mac, stamp, &mut octets, text.len());
     Ok(())
+}
+
+/// Signs the message in the first octets of a buffer that has room for its TSIG, so that it isn't cut, and gives how many octets it has then. `prior` is the MAC before,
+/// and becomes the message's own.
+fn sign_whole(
+    key: &Key,
+    prior: &mut ArrayVec<u8, MAX_MAC>,
+    stamp: &Stamp,
+    out: &mut [u8],
+    len: usize,
+) -> usize
+    requires header { HEADER ≤ len }
+    requires room { len + MAX_TSIG ≤ length out.old }
+    requires least { LEAST ≤ length out.old }
+    requires counted { number_at out.old 10 < 2 ^ 16 - 1 }
+    ensures octets { take result out.new ≡ signed key.now prior.old.items stamp.now (take len out.old) }
+    ensures mac { prior.new.items ≡ mac_over key.now prior.old.items (take len out.old) (stamped stamp.now (take len out.old) []) }
+    ensures within { result ≤ length out.new }
+{
+    // That the key's name has at most 128 octets is known of it from here on.
+    let _name = key.name();
+    let limit = out.len();
+    sign(key, prior, stamp, limit, out, len)
 }
 
 /// Makes of the MAC of a reply that of the next one with a TSIG.
@@ -367,7 +390,7 @@ fn place_of(message: &[u8]) -> Option<Place>
 /// What the TSIG at the end of a message says, whose MAC has so many octets; None where it has another number, or reports an error.
 fn signed_end(message: &[u8], size: usize) -> Option<SignedEnd<'_>>
     requires { size ≤ MAX_MAC }
-    ensures { IfSome result (λ end. (front : List ℕ) × (message.now ≡ front ++ written end)) }
+    ensures { IfSome result (λ end. length end.mac ≡ size) }
 {
     if message.len() < FIXED + size {
         return None;
@@ -386,6 +409,45 @@ fn signed_end(message: &[u8], size: usize) -> Option<SignedEnd<'_>>
         mac: &end[10..10 + size],
         original: number_at(last, 0),
     })
+}
+
+/// Whether a message ends with the fields of such a TSIG (RFC 8945, 4.2).
+fn ends_so(message: &[u8], end: &SignedEnd<'_>) -> bool
+    requires { length end.now.mac ≤ MAX_MAC }
+    ensures { OnTrue result ((front : List ℕ) × (message.now ≡ front ++ written end.now)) }
+{
+    let own = fields_of(end);
+    if message.len() < own.len() {
+        return false;
+    }
+    let (_, last) = message.split_at(message.len() - own.len());
+    last == own.as_slice()
+}
+
+/// The fields of such a TSIG (RFC 8945, 4.2).
+fn fields_of(end: &SignedEnd<'_>) -> ArrayVec<u8, MAX_FIELDS>
+    requires { length end.now.mac ≤ MAX_MAC }
+    ensures { result.items ≡ written end.now }
+{
+    let high = (end.time / 4_294_967_296 % 65_536) as u16;
+    let low = (end.time % 4_294_967_296) as u32;
+    let mut own = ArrayVec::new();
+    put(&mut own, &high.to_be_bytes());
+    put(&mut own, &low.to_be_bytes());
+    put(&mut own, &end.fudge.to_be_bytes());
+    put(&mut own, &(end.mac.len() as u16).to_be_bytes());
+    put(&mut own, end.mac);
+    put(&mut own, &end.original.to_be_bytes());
+    put(&mut own, &[0, 0, 0, 0]);
+    own
+}
+
+/// Puts octets at the end of fields.
+fn put(own: &mut ArrayVec<u8, MAX_FIELDS>, octets: &[u8])
+    requires { length own.old.items + length octets.now ≤ MAX_FIELDS }
+    ensures { own.new.items ≡ own.old.items ++ octets.now }
+{
+    let _ = own.try_extend_from_slice(octets);
 }
 
 /// The time that octets begin with, of 48 bits (RFC 8945, 4.2).
