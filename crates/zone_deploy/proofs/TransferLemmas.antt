@@ -34,8 +34,8 @@ signed-more key chain (n ∷ messages) m between last signed next = (signed.0, s
 
 -- a transfer isn't over with a message, and goes on with the next one
 over-more : (begun : Bool) (m : List ℕ) (rest : List (List ℕ)) → ends_with begun (records_of_message m) ≡ false → is_over begun (m ∷ rest) ≡ is_over (begun || has_records (records_of_message m)) rest
-over-more begun m [] no = no
-over-more begun m (n ∷ rest) no = ap (λ b. not b && is_over (begun || has_records (records_of_message m)) (n ∷ rest)) no
+over-more begun m [] goes_on = goes_on
+over-more begun m (n ∷ rest) goes_on = ap (λ b. not b && is_over (begun || has_records (records_of_message m)) (n ∷ rest)) goes_on
 
 -- what was read of a transfer, of which more is to come
 pub record IsUnderWay (key : Option SharedKey) (query : List ℕ) (before : Option (List ℕ)) (first : Chain) (after : Option (List ℕ)) (chain : Chain) (begun : Bool) (messages : List (List ℕ)) : Type 0 where
@@ -61,19 +61,19 @@ module _ (key : Option SharedKey) (query : List ℕ) (before : Option (List ℕ)
 
     -- one message more was read
     pub under_way-more : ends_with begun (records_of_message m) ≡ false → IsUnderWay key query before first after next (begun || has_records (records_of_message m)) (messages ++ m ∷ [])
-    under_way-more no = record {
+    under_way-more goes_on = record {
       read = more-read;
       replies = more-replies;
       signed = more-signed;
-      over = λ rest. ap (is_over false) (append_assoc messages (m ∷ []) rest) ∙ way.over (m ∷ rest) ∙ over-more begun m rest no;
+      over = λ rest. ap (is_over false) (append_assoc messages (m ∷ []) rest) ∙ way.over (m ∷ rest) ∙ over-more begun m rest goes_on;
     }
 
     -- with the message a transfer is over
     pub under_way-last : ends_with begun (records_of_message m) ≡ true → (now : ℕ) → first ≡ first_chain key now query → next.unsigned ≡ 0 → IsTransfer key now query before after (messages ++ m ∷ [])
-    under_way-last yes now is closed = record {
+    under_way-last ends now is closed = record {
       read = more-read;
       replies = more-replies;
-      over = way.over (m ∷ []) ∙ yes;
+      over = way.over (m ∷ []) ∙ ends;
       last = next;
       signed = subst (λ c. AreSigned key c (messages ++ m ∷ []) next) is more-signed;
       closed = closed;

@@ -18,11 +18,14 @@ use Rattle.zone_deploy.specs.Signatures.{Chain, sent_octets, first_chain, AreSig
 abbrev pub transfer_query : Name → List ℕ
 transfer_query apex = 0 ∷ 0 ∷ 0 ∷ 0 ∷ 0 ∷ 1 ∷ 0 ∷ 0 ∷ 0 ∷ 0 ∷ 0 ∷ 0 ∷ [] ++ (wire_of apex ++ 0 ∷ 252 ∷ 0 ∷ 1 ∷ [])
 
+-- whether there is a record, and it is an SOA
+abbrev pub is_soa_in : Option RawRecord → Bool
+is_soa_in None = false
+is_soa_in (Some r) = r.rtype == type_SOA
+
 -- whether the last of some records is an SOA
 abbrev pub is_soa_last : List RawRecord → Bool
-is_soa_last [] = false
-is_soa_last (r ∷ []) = r.rtype == type_SOA
-is_soa_last (r ∷ s ∷ records) = is_soa_last (s ∷ records)
+is_soa_last records = is_soa_in (slice_get records (length records - 1))
 
 -- whether a transfer is over with these records, by whether others came before them: the last one is an SOA, and not the transfer's first record
 -- (RFC 5936, 2.2)

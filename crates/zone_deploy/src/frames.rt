@@ -34,7 +34,8 @@ pub(crate) fn read_message<R: Read>(alloc: Global, reader: &mut R) -> Result<Vec
     let mut len = [0u8; 2];
     reader.read_exact(&mut len)?;
     let size = u16::from_be_bytes([len[0], len[1]]);
-    read_octets(alloc, reader, usize::from(size))
+    let message = read_octets(alloc, reader, usize::from(size))?;
+    Ok(message)
 }
 
 /// Reads so many octets.
