@@ -79,7 +79,8 @@ fn read_transfer<C: Clock, R: Read>(
         let is_last = note_part(alloc, &message, &mut has_begun)?;
         put_part(&mut messages, message)?;
         if is_last {
-            return closed(messages, chain);
+            let whole = closed(messages, chain)?;
+            return Ok(whole);
         }
     }
     Err(DeployFault::Transfer(TransferFault::Broken))
