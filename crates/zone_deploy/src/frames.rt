@@ -1,5 +1,6 @@
 //! Messages over a stream, each after its length (RFC 1035, 4.2.2).
 ghost use Rattle.std.specs.Prelude.{◌≡◌, ◌≤◌, length, IfOk, OnOk};
+ghost use Rattle.std.specs.Int.{to_be_bytes, w16};
 ghost use Rattle.std.specs.Io.KnownBytes.{Appends, Consumes};
 ghost use Rattle.dns_message.specs.Frame.{frame_of};
 ghost use Rattle.dns_message.specs.Message.{message_limit};
@@ -33,9 +34,16 @@ pub(crate) fn read_message<R: Read>(alloc: Global, reader: &mut R) -> Result<Vec
 {
     let mut len = [0u8; 2];
     reader.read_exact(&mut len)?;
-    let size = u16::from_be_bytes([len[0], len[1]]);
+    let size = number_of(len);
     let message = read_octets(alloc, reader, usize::from(size))?;
     Ok(message)
+}
+
+/// The number of two octets, the high one first (RFC 1035, 2.3.2).
+fn number_of(octets: [u8; 2]) -> u16
+    ensures { to_be_bytes w16 result ≡ octets }
+{
+    u16::from_be_bytes(octets)
 }
 
 /// Reads so many octets.

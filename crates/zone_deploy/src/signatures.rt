@@ -288,8 +288,7 @@ impl Chain {
         if text.len() < HEADER || number_at(&text, ARCOUNT) == u16::MAX {
             return Ok(None);
         }
-        let mut mac = ArrayVec::new();
-        let _ = mac.try_extend_from_slice(&self.mac);
+        let mut mac = copy_of(&self.mac);
         let stamp = stamp_of(end.time, end.fudge);
         if self.is_first {
             make_first_mac(alloc, key, &mut mac, &stamp, &text)?;
@@ -317,6 +316,15 @@ impl Chain {
         text.extend_from_slice(&plain)?;
         Ok(text)
     }
+}
+
+/// The same MAC.
+fn copy_of(mac: &ArrayVec<u8, MAX_MAC>) -> ArrayVec<u8, MAX_MAC>
+    ensures { result.items ≡ mac.now.items }
+{
+    let mut copy = ArrayVec::new();
+    let _ = copy.try_extend_from_slice(mac);
+    copy
 }
 
 /// Makes of the MAC of a request that of the first reply with a TSIG.

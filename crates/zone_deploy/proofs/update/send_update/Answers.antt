@@ -19,7 +19,7 @@ returns g c = record {
   signed = (
     c.check.new.self,
     subst (λ (o : List ℕ). IsNext (option_copied c.args.key) (first_chain (option_copied c.args.key) c.seconds_of.result c.args.update.now) o c.check.new.self) c.deref-3.ensures.value
-    (subst (λ (first : Chain). IsNext (option_copied c.args.key) first c.deref-3.result.now c.check.new.self) c.in_ok-octets.ensures.chain c.in_ok-check.ensures),
+        (subst (λ (first : Chain). IsNext (option_copied c.args.key) first c.deref-3.result.now c.check.new.self) c.in_ok-octets.ensures.chain c.in_ok-check.ensures),
     refl,
   );
 }
