@@ -78,8 +78,8 @@ const DIR_ROW: WordRow = WordRow {
     help: "directory of the store",
 };
 
-/// The commands, in the order in which help lists them.
-const COMMANDS: &[CommandRow] = &[
+/// The commands over zones' text and to a running server, in the order in which help lists them.
+const ZONE_COMMANDS: &[CommandRow] = &[
     CommandRow {
         name: "answer",
         about: "answers requests in hexadecimal, one per line",
@@ -116,6 +116,10 @@ const COMMANDS: &[CommandRow] = &[
         example: "Example, from a working copy to a server that takes updates signed by a key:\n  dnsd deploy --key /etc/dnsd/deploy.key 192.0.2.1:53 example.test.zone",
         words: DEPLOY_WORDS,
     },
+];
+
+/// The commands over stores, on rules, and the server, which help lists after those.
+const SERVER_COMMANDS: &[CommandRow] = &[
     CommandRow {
         name: "zone",
         about: "prints the zone of a store as a server would load it, one record per line",
@@ -355,14 +359,35 @@ const SERVE_WORDS: &[WordRow] = &[
     },
 ];
 
+/// The rows of the first commands.
+fn zone_commands() -> &'static [CommandRow] {
+    ZONE_COMMANDS
+}
+
+/// The rows of the commands after those.
+fn server_commands() -> &'static [CommandRow] {
+    SERVER_COMMANDS
+}
+
 /// The parser for the program's command line.
 pub fn program<'a>(alloc: Global) -> Result<Parser<'a>, AllocError> {
-    let mut parser = Parser::new(alloc, PROGRAM)
+    let parser = Parser::new(alloc, PROGRAM)
         .version(VERSION)
         .about("an authoritative name server for one zone")
         .subcommand_required(true)
         .arg_required_else_help(true);
-    for row in COMMANDS {
+    let parser = with_commands(alloc, parser, zone_commands())?;
+    with_commands(alloc, parser, server_commands())
+}
+
+/// The parser with the commands of these rows, too.
+fn with_commands<'a>(
+    alloc: Global,
+    parser: Parser<'a>,
+    rows: &[CommandRow],
+) -> Result<Parser<'a>, AllocError> {
+    let mut parser = parser;
+    for row in rows {
         parser = parser.subcommand(command_of(alloc, row)?)?;
     }
     Ok(parser)
