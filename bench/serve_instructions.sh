@@ -19,44 +19,7 @@ while [ $# -gt 0 ]; do
         *) records=$1; shift ;;
     esac
 done
-command -v valgrind >/dev/null || { echo "bench: there is no valgrind" >&2; exit 1; }
-server=
-trap '[ -z "$server" ] || kill "$server" 2>/dev/null || true; rm -rf "$work"' EXIT
-
-# Asks so many queries of the port, each behind the reply to the one before: COUNT
-ask() {
-    python3 - "$port" "$1" "$records" <<'PY'
-import socket, struct, sys
-port, count, records = map(int, sys.argv[1:])
-client = socket.socket(socket.AF_INET, socket.SOCK_DGRAM)
-client.connect(("127.0.0.1", port))
-client.settimeout(30)
-for i in range(count):
-    at = i * 7919 % (records - 12) // 10 * 10
-    label = (b"h%d" % at, b"x%d" % at, b"h%d" % (at + 9))[i % 3]
-    client.send(struct.pack(">6H", i, 0x100, 1, 0, 0, 0) + bytes([len(label)]) + label + b"\7example\4test\0\0\1\0\1")
-    reply = client.recv(2000)
-    if reply[:2] != struct.pack(">H", i) or reply[3] & 15 != (0, 3, 0)[i % 3]:
-        sys.exit("bench: a query is answered wrongly")
-PY
-}
-
-# Sets `counted` to the instructions of a run that answers so many queries, whose parts go to a file: FILE COUNT [OPTION ..]
-count() {
-    local file=$1 n=$2
-    shift 2
-    : >"$work/log"
-    valgrind --tool=callgrind --callgrind-out-file="$work/$file" "$program" serve --listen "127.0.0.1:$port" --workers 1 --count "$n" "$@" "$work/zone" 2>"$work/log" &
-    server=$!
-    until grep -q '^listening on' "$work/log"; do
-        kill -0 "$server" 2>/dev/null || { cat "$work/log" >&2; exit 1; }
-        sleep 0.1
-    done
-    ask "$n"
-    wait "$server"
-    server=
-    counted=$(sed -n 's/.*Collected *: *\([0-9]*\).*/\1/p' "$work/log")
-}
+. bench/counting.sh
 
 zone "$records" >"$work/zone"
 count few 300

@@ -1,7 +1,7 @@
 #!/usr/bin/env bash
 # Runs each block of commands in docs/OPERATING.md, with addresses, ports and paths of its own in place of those there, and tries what it left: a zone
 # saved by a transfer, a store's backup, a backup restored to a new store, which a BIND with a greater serial takes, a zone brought in from another
-# server, and rules for who may update and transfer. A block that it doesn't know is a failure, and so is a recipe that no block is of. It prints a line a check and a count, and its
+# server, keys, and rules for who may update and transfer. A block that it doesn't know is a failure, and so is a recipe that no block is of. It prints a line a check and a count, and its
 # status is 1 where one failed. It listens on 127.0.0.1 alone, and ends what it starts.
 # Usage: [DNSD=PROGRAM] tests/recipes.sh [--port N]
 #   --port N    dnsd listens on N (by default 17413), a secondary and another server on the two after it
@@ -37,6 +37,7 @@ recipe_of() {
         'dig '*' @192.0.2.1 example.com. axfr > theirs') echo brings_in ;;
         "--may '"*) echo permits ;;
         'dnsd check --warn example.test.zone '*) echo deploys ;;
+        'key "'*) echo keys ;;
     esac
 }
 
@@ -134,11 +135,23 @@ brings_in() {
     stop primary
 }
 
+# A file of keys: a server starts with it, and its reply to a query that is signed by each is verified. It stays for the rules that name them.
+keys() {
+    local key
+    install -m 600 "$1" "$work/keys"
+    serve zones/example.test.zone --keys "$work/keys"
+    for key in $(sed -nE 's/^key "([^"]+)" .*algorithm ([^;]+); secret "([^"]+)".*/\2:\1:\3/p; t; /^hmac-/p' "$1"); do
+        check "$recipe: a query signed by ${key%:*}" 1 "$(dig @127.0.0.1 -p "$port" -y "$key" +short "$d" SOA 2>&1 | awk '/verif|TSIG error/ { print } { print $3 }')"
+    done
+    check "$recipe: a start takes the file" 1 "$(serial "$port")"
+    unserve
+}
+
 # A block of options: a server starts with them, and by them who may transfer the zone is who the page says.
 permits() {
     local rules transfer=123400000001000000000000076578616d706c6504746573740000fc0001
     eval "rules=($(tr '\n' ' ' <"$1"))"
-    serve zones/example.test.zone "${rules[@]}"
+    serve zones/example.test.zone --keys "$work/keys" "${rules[@]}"
     check "$recipe: a start takes the rules, $((${#rules[@]} / 2)) of them" 1 "$(serial "$port")"
     unserve
     check "$recipe: a transfer by the first" $'permitted\nexample.test. AXFR: 10.0.0.0/8: transfer' "$("$program" may "${rules[@]}" 10.1.2.3 $transfer)"
@@ -165,7 +178,7 @@ for block in "$work"/blocks/*; do
     [ -z "$recipe" ] || "$recipe" "$block"
     seen="$seen $recipe"
 done
-for recipe in saves_by_transfer saves_a_store restores brings_in permits deploys; do
+for recipe in saves_by_transfer saves_a_store restores brings_in keys permits deploys; do
     check "$recipe: a block is of it" yes "$([[ " $seen " != *" $recipe "* ]] || echo yes)"
 done
 echo "$passed checks passed, $failed failed"

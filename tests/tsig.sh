@@ -42,6 +42,8 @@ up=hmac-sha256:up.key:$s1
 xfr=hmac-sha512:xfr.key:$s2
 both=hmac-sha384:both.key:$s2
 far=hmac-sha256:far.key:$s1
+up2=hmac-sha512:up2.key:$s2
+xfr2=hmac-sha256:xfr2.key:$s1
 
 # The server's keys, in the forms of BIND and of dig.
 write_keys() {
@@ -54,12 +56,12 @@ write_keys() {
         echo "};"
         echo "/* of dig */"
         echo "hmac-sha384:BOTH.key:$s2"
-        echo "hmac-sha256:far.key:$s1"
+        printf '%s\n' "$far" "$up2" "$xfr2"
     } >"$work/keys"
     chmod 600 "$work/keys"
 }
 rules=(--allow '' --may 'key up.key: update' --may 'key xfr.key: transfer' --may 'key both.key 127.0.0.0/8: update, transfer'
-    --may 'key far.key 192.0.2.0/24: update, transfer')
+    --may 'key far.key 192.0.2.0/24: update, transfer' --may 'key up2.key: update' --may 'key xfr2.key: transfer')
 
 # What dig or kdig prints of a signed question: the status, whether the TSIG was verified, and the error of the reply's TSIG.
 verified() {
@@ -210,7 +212,7 @@ updates() {
         for over in udp tcp; do
             flag=()
             [ $over = udp ] || flag=(-v)
-            for key in "$up" "$both"; do
+            for key in "$up" "$up2" "$both"; do
                 count=$((count + 1))
                 check "$tool $over ${key%:*} $1" NOERROR "$(sent $tool "${flag[@]}" -y "$key" <<<"update add u$count.$d 60 A 192.0.2.$count")"
                 check "$tool $over ${key%:*} $1, then" "192.0.2.$count " "$(held "$port" "u$count.$d")"
@@ -244,15 +246,17 @@ waits() {
     done
 }
 
+# BIND, Knot and NSD, with a key: NAME ALGORITHM SECRET
 start_secondaries() {
+    rm -rf "$work/b" "$work/k" "$work/n"
     mkdir -p "$work/b" "$work/k" "$work/n"
     cat >"$work/b/named.conf" <<end
 options { directory "$work/b"; listen-on port $((port + 1)) { 127.0.0.1; }; listen-on-v6 { none; }; pid-file none; recursion no;
     session-keyfile none; allow-query { any; }; allow-transfer { 127.0.0.1; }; dnssec-validation no; notify no; };
 controls { };
-key "xfr.key" { algorithm hmac-sha512; secret "$s2"; };
-server 127.0.0.1 { keys { xfr.key; }; };
-zone "example.test" { type secondary; file "zone"; primaries port $port { 127.0.0.1 key xfr.key; }; allow-notify { key xfr.key; }; };
+key "$1" { algorithm $2; secret "$3"; };
+server 127.0.0.1 { keys { $1; }; };
+zone "example.test" { type secondary; file "zone"; primaries port $port { 127.0.0.1 key $1; }; allow-notify { key $1; }; };
 end
     named -g -c "$work/b/named.conf" >"$work/b/log" 2>&1 &
     started+=($!)
@@ -265,19 +269,19 @@ server:
 database:
     storage: "$work/k"
 key:
-  - id: xfr.key.
-    algorithm: hmac-sha512
-    secret: "$s2"
+  - id: $1.
+    algorithm: $2
+    secret: "$3"
 remote:
   - id: primary
     address: 127.0.0.1@$port
-    key: xfr.key.
+    key: $1.
 acl:
   - id: readers
     address: 127.0.0.1
     action: transfer
   - id: notes
-    key: xfr.key.
+    key: $1.
     action: notify
 zone:
   - domain: example.test.
@@ -307,39 +311,43 @@ server:
 remote-control:
     control-enable: no
 key:
-    name: xfr.key
-    algorithm: hmac-sha512
-    secret: "$s2"
+    name: $1
+    algorithm: $2
+    secret: "$3"
 zone:
     name: example.test
     zonefile: zone
-    request-xfr: 127.0.0.1@$port xfr.key
-    allow-notify: 127.0.0.1 xfr.key
+    request-xfr: 127.0.0.1@$port $1
+    allow-notify: 127.0.0.1 $1
     provide-xfr: 127.0.0.1 NOKEY
 end
     nsd -d -c "$work/n/nsd.conf" >"$work/n/log" 2>&1 &
     started+=($!)
 }
 
-# Secondaries by their key alone: a transfer in whole, and each change once they are notified.
+# Secondaries by their key alone: a transfer in whole, and each change once they are notified: NAME ALGORITHM SECRET
 follow() {
-    local place names=(BIND Knot NSD) serial
-    start_secondaries
+    local place names=(BIND Knot NSD) serial secondaries=()
+    for place in 1 2 3; do secondaries+=(--notify "127.0.0.1:$((port + place)) key $1"); done
+    serve zones/example.test.zone --keys "$work/keys" "${rules[@]}" "${secondaries[@]}"
+    start_secondaries "$@"
     for place in 1 2 3; do waits $((port + place)) "$(serial_at "$port")"; done
     for place in 1 2 3; do
-        check "${names[place - 1]}, the zone" "$(zone_at "$port" -y "$xfr")" "$(zone_at $((port + place)))"
+        check "${names[place - 1]}, $2, the zone" "$(zone_at "$port" -y "$xfr")" "$(zone_at $((port + place)))"
     done
-    check "an update while they follow" NOERROR "$(sent nsupdate -y "$up" <<<"update add followed.$d 60 A 192.0.2.200")"
+    check "an update while they follow by $2" NOERROR "$(sent nsupdate -y "$up" <<<"update add followed.$d 60 A 192.0.2.200")"
     serial=$(serial_at "$port")
     for place in 1 2 3; do waits $((port + place)) "$serial"; done
     for place in 1 2 3; do
-        check "${names[place - 1]}, after a NOTIFY that is signed" "$(zone_at "$port" -y "$xfr")" "$(zone_at $((port + place)))"
+        check "${names[place - 1]}, $2, after a NOTIFY that is signed" "$(zone_at "$port" -y "$xfr")" "$(zone_at $((port + place)))"
     done
     sleep 3
-    check "the secondaries answer NOTIFY" "" "$(grep 'does not answer NOTIFY' "$work/dnsd.log" || true)"
+    check "the secondaries answer NOTIFY, $2" "" "$(grep 'does not answer NOTIFY' "$work/dnsd.log" || true)"
+    for pid in "${started[@]}"; do kill "$pid" 2>/dev/null || true; done
+    wait
+    started=()
 }
 
-notify=(--notify "127.0.0.1:$((port + 1)) key xfr.key" --notify "127.0.0.1:$((port + 2)) key xfr.key" --notify "127.0.0.1:$((port + 3)) key xfr.key")
 write_keys
 
 # A file that others may read, and one that isn't of keys, are refused, and nothing of a secret is told.
@@ -366,9 +374,8 @@ updates "with a store"
 unserve
 
 if [ $secondaries = yes ]; then
-    serve zones/example.test.zone --keys "$work/keys" "${rules[@]}" "${notify[@]}"
-    follow
-    unserve
+    follow xfr.key hmac-sha512 "$s2"
+    follow xfr2.key hmac-sha256 "$s1"
 fi
 
 echo "$passed checks passed, $failed failed"

@@ -220,12 +220,13 @@ def main():
                             print(f"{'taken' if is_signed else 'not taken'}: {octets.hex()} gets {replies.get(place, b'').hex()}")
                 if turn == 64 * 100:
                     first = memory(server.pid)
-            grown = memory(server.pid) - first if first else 0
+            last = memory(server.pid)
+            grown = last - first if first else 0
             alive = server.poll() is None
         finally:
             server.terminate()
             server.wait()
-    print(f"{given.requests} requests, {right} with a right MAC, {taken} taken, {wrong} wrong, {lost} turns without an end, {grown} octets more memory")
+    print(f"{given.requests} requests, {right} with a right MAC, {taken} taken, {wrong} wrong, {lost} turns without an end, memory {(first or last) >> 10} KiB after 6,400 and {last >> 10} KiB at the end")
     return 1 if wrong or not alive or grown > SLACK else 0
 
 
