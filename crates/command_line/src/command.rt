@@ -9,6 +9,7 @@ use crate::program::program;
 use crate::stored_zone::Part;
 use clap::ArgMatches;
 use commands::{Command, Source};
+use control_socket::ControlCommand;
 use dns_name::Name;
 use serve_core::Transport;
 use std::alloc::{AllocError, Global};
@@ -35,6 +36,8 @@ pub enum Task<'a> {
     Change(Change<'a>),
     /// Prints what a request gets by rules.
     May(Trial<'a>),
+    /// Sends a command to a running server.
+    Control(Control<'a>),
 }
 
 impl<'a> Drop for Task<'a> {
@@ -50,6 +53,7 @@ impl<'a> Drop for Task<'a> {
             Task::Journal(_) => {}
             Task::Change(_) => {}
             Task::May(_) => {}
+            Task::Control(_) => {}
         }
     }
 }
@@ -75,6 +79,15 @@ impl<'a> Drop for Change<'a> {
             is_hex: _,
         } = self;
     }
+}
+
+/// A command for a running server.
+#[derive(Clone, Copy, Debug, PartialEq, Eq)]
+pub struct Control<'a> {
+    /// The path of its socket.
+    pub path: &'a str,
+    /// The command.
+    pub command: ControlCommand,
 }
 
 /// A store whose zone is to be printed.
@@ -106,6 +119,9 @@ fn task_of<'a>(
 ) -> Result<Task<'a>, CommandFault<'a>> {
     if name == "zone" {
         return Ok(Task::Stored(stored_of(found)));
+    }
+    if name == "control" {
+        return Ok(Task::Control(control_of(found)?));
     }
     if name == "journal" {
         return Ok(Task::Journal(dir_of(found)));
@@ -146,6 +162,18 @@ fn change_of<'a>(found: &ArgMatches<'a>, origin: Name) -> Change<'a> {
         next: text_source(found.get_str(NEW)),
         origin,
         is_hex: found.get_flag(HEX),
+    }
+}
+
+/// The command for a running server.
+fn control_of<'a>(found: &ArgMatches<'a>) -> Result<Control<'a>, CommandFault<'a>> {
+    let word = found.get_str(COMMAND_WORD).unwrap_or("");
+    match ControlCommand::of(word.as_bytes()) {
+        Some(command) => Ok(Control {
+            path: found.get_str(PATH).unwrap_or(""),
+            command,
+        }),
+        None => Err(CommandFault::Control(word)),
     }
 }
 
@@ -212,6 +240,12 @@ pub const OLD: &str = "old";
 
 /// The argument for the source of the next zone's text.
 pub const NEW: &str = "new";
+
+/// The argument for the path of a running server's socket.
+pub const PATH: &str = "path";
+
+/// The argument for a command for a running server.
+pub const COMMAND_WORD: &str = "command";
 
 /// The option for warnings of a zone's text.
 pub const WARN: &str = "warn";

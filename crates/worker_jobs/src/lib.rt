@@ -7,6 +7,9 @@
 #![tactic(auto)]
 
 mod connections_job;
+mod control_job;
+mod control_reload;
+mod control_text;
 mod datagrams_job;
 mod held_replies;
 mod interrupted;
@@ -23,6 +26,7 @@ mod worker_socket;
 mod workers;
 
 pub use connections_job::ConnectionsJob;
+pub use control_job::{ControlJob, ControlPlan};
 pub use datagrams_job::DatagramsJob;
 pub use notify_job::{NotifyJob, Secondaries};
 pub use notify_socket::NotifySocket;

@@ -1,4 +1,5 @@
 pub mod Change
 pub mod Apart
 pub mod Message
+pub mod Messages
 pub use Rattle.update_core.specs.Act

@@ -11,10 +11,12 @@ mod change;
 mod fault;
 mod laws;
 mod message;
+mod messages;
 mod update;
 
 pub use change::{ZoneChange, change_between};
 pub use fault::ChangeFault;
 pub use laws::changes_lead_there;
 pub use message::message_of;
+pub use messages::messages_of;
 pub use update::change_to;

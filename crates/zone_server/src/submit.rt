@@ -1,12 +1,12 @@
 //! Submitting updates to the update thread, which judges them and makes them survive a restart (RFC 2136, 3 and 3.5).
-ghost use Rattle.std.specs.Prelude.{◌≡◌, ◌-◌, ◌^◌, ◌≤◌, true, length, take, min, None, IfSome};
+ghost use Rattle.std.specs.Prelude.{◌≡◌, ◌-◌, ◌^◌, ◌≤◌, ℕ, true, [], ◌∷◌, length, take, min, None, IfSome};
 ghost use Rattle.dns_rdata.specs.declared.numbers.Rcode.TheVariants.{ServFail};
 ghost use Rattle.dns_message.specs.Octets.{fit};
 ghost use Rattle.serve_core.specs.Heading.{heading_of_update, coded};
 ghost use Rattle.dns_message.specs.Request.{reads};
 ghost use Rattle.dns_message.specs.declared.query.Parsed.TheVariants.{Update as SaysUpdate};
 ghost use Rattle.serve_core.specs.Transport.{room_of, limit_of};
-ghost use Rattle.zone_server.specs.QueuedUpdate.{memory_of, IsSubmitted, IsDatagramSubmitted};
+ghost use Rattle.zone_server.specs.QueuedUpdate.{memory_of, IsSubmitted, IsDatagramSubmitted, MeetsAt};
 ghost use Rattle.zone_server.specs.Replied.{IsUpdate};
 
 use crate::answer::{UpdateOutcome, read_update};
@@ -60,10 +60,10 @@ pub enum DatagramSubmitted {
 /// An update that was read, with its bytes, of a peer that may update. None if there is no memory for them.
 fn asked_of(alloc: Global, update: Update, request: &[u8]) -> Option<UpdateRequest>
     requires { reads request.now ≡ SaysUpdate update }
-    ensures { IfSome result (λ asked. (asked.update ≡ update) × (asked.octets.items ≡ request.now) × (asked.may ≡ true)) }
+    ensures { IfSome result (λ asked. (asked.update ≡ update) × (asked.messages ≡ request.now ∷ []) × (asked.may ≡ true)) }
 {
     let octets = request.to_vec(alloc).ok()?;
-    UpdateRequest::of(update, octets, true)
+    UpdateRequest::of(alloc, update, octets, true)
 }
 
 /// How many bytes of memory one record of an update is counted for: its size once it is read, with room for an owner of the longest name (own).
@@ -81,7 +81,7 @@ fn memory_of(asked: &UpdateRequest) -> usize
         .saturating_add(update.updates.as_slice().len());
     records
         .saturating_mul(RECORD)
-        .saturating_add(asked.octets().len())
+        .saturating_add(asked.messages().octet_count())
 }
 
 /// Puts an update into the queue: the queue's receipt, or None if it has no room for it or there is no memory.
@@ -171,6 +171,34 @@ pub fn submit_stream<R: Wait, Z: FirstZone, N: ServerName>(
     }
     let (len, outcome) = refuse(&heading, peer, out);
     Submitted::Replied(len, outcome)
+}
+
+/// Submits an update that the server makes itself, and gives the ticket at which its result will be. None if there is no memory for that, or the queue has no room. It is counted
+/// as of no octets, since there is one at a time, and it may be larger than all that peers may have in the queue (own).
+pub(crate) fn submit_own<R: Wait, Z: FirstZone, N: ServerName>(
+    rt: &R,
+    server: &Server<'_, Z, N>,
+    reader: &mut VersionReader<N>,
+    sender: UpdateSender<'_>,
+    request: UpdateRequest,
+) -> Option<usize>
+    requires may { request.may ≡ true }
+    ensures met { (number : ℕ) × MeetsAt Z.zone reader.old reader.new number }
+{
+    let (_, opened) = server.open(rt, reader);
+    let opened = opened?;
+    let reply_to = ReplyTo::Connection {
+        worker: sender.worker,
+        key: 0,
+        ticket: opened.number(),
+    };
+    match sender.queue.put(rt, QueuedUpdate { request, reply_to }, 0) {
+        Ok(put) => Some(opened.waits(&put)),
+        Err(_back) => {
+            server.close(rt, opened);
+            None
+        }
+    }
 }
 
 /// Submits an update of a peer that may update, which came by datagram, with this TSIG if it was signed. It is answered at once in the same cases as by [`submit_stream`].
