@@ -42,6 +42,3 @@ timeout -s KILL 3 "$program" serve --listen 127.0.0.1:0 --workers 1 --control "$
 says 3 "error: no server answers on '$socket': Connection refused (os error 111)" control "$socket" status
 tries serve --listen 127.0.0.1:0 --workers 1 --count 0 --control "$socket" "$zone"
 [[ $got == 0 && ! -e $socket ]] || differs "status 0, and no socket" serve --control "$socket"
-
-# a zone is deployed to an address and port
-row 2 "ADDR:PORT: 'here' is not an address and port" deploy here "$zone"

@@ -149,7 +149,7 @@ fn tell_refusal<R: Env + AllocGlobal + Eprint>(
         Refusal::Newer { has, given } => {
             let (has, given) = (has.0, given.0);
             eprintln!(rt;
-                "{mark}error: the zone's text is another one than the store '{dir}' was created from, and has the serial {given}, greater than the store's {has}: --take store serves the store, --take zone changes it to the text"
+                "{mark}error: the zone's text is another one than the store '{dir}' was begun from, and has the serial {given}, greater than the store's {has}: --take store serves the store, --take zone changes it to the text"
             )
         }
         Refusal::NoChange(fault) => eprintln!(rt;

@@ -47,7 +47,7 @@ counted_leads octets size after first rest small spelt short e =
 pub none_in_two : (octets first rest : List ℕ) → length octets < 2 → octets ≡ counted first ++ rest → ⊥
 none_in_two octets first rest few e = omega (arith, ap length e, length-append (counted first) rest, counted_long first)
 
-none_is_short : length ([] : List ℕ) < 2 ^ 16
+none_is_short : length {A = ℕ} [] < 2 ^ 16
 none_is_short = omega arith
 
 -- a message has octets

@@ -1,5 +1,5 @@
 -- What a start takes, a body at a time, and the whole.
-use Rattle.std.proofs.Common.{◌≡◌, ℕ, ◌+◌, ◌-◌, ◌<◌, ◌≤◌, Bool, List, [], ◌∷◌, ◌++◌, length, take, get_or, map, if◌then◌else◌, refl, sym, ap, ◌∙◌, subst, append-nil, length-append, arith, Bor, Vec}
+use Rattle.std.proofs.Common.{◌≡◌, ℕ, ◌+◌, ◌-◌, ◌<◌, ◌≤◌, Bool, List, [], ◌∷◌, ◌++◌, length, take, get_or, map, if◌then◌else◌, refl, sym, ap, ◌∙◌, subst, append-nil, length-append, arith, Bor, Vec, Global}
 use Rattle.std.specs.Prelude.{All, Option, Some, None, MatchOption}
 use Rattle.std.proofs.lemmas.Option.{slice_get-get_or}
 use Rattle.std.proofs.lemmas.List.{take_more, take_all, map_push, map-append, length-map, get_or-map}
@@ -125,13 +125,13 @@ lent_long : (bodies : List (Bor (List ℕ))) → length (now_of bodies) ≡ leng
 lent_long bodies = length-map bodies (λ (b : Bor (List ℕ)). b.now)
 
 -- the same of requests, each of lent messages
-abbrev pub messages_now : Vec (Bor (List ℕ)) → Messages
+abbrev pub messages_now : Vec (Bor (List ℕ)) Global → Messages
 messages_now request = map (λ (m : Bor (List ℕ)). m.now) request.items
 
-abbrev pub requests_now : List (Vec (Bor (List ℕ))) → List Messages
+abbrev pub requests_now : List (Vec (Bor (List ℕ)) Global) → List Messages
 requests_now requests = map messages_now requests
 
-pub one_batch_more : (bodies : List (Bor (List ℕ))) (number : ℕ) (d : Bor (List ℕ)) (updates all batch : List (Vec (Bor (List ℕ))))
+pub one_batch_more : (bodies : List (Bor (List ℕ))) (number : ℕ) (d : Bor (List ℕ)) (updates all batch : List (Vec (Bor (List ℕ)) Global))
     → TakenSoFar (now_of bodies) number (requests_now updates) → number < length bodies → IsBatch (get_or bodies number d).now (requests_now batch) → all ≡ updates ++ batch
     → TakenSoFar (now_of bodies) (number + 1) (requests_now all)
 one_batch_more bodies number d updates all batch so_far within is_batch is_all =

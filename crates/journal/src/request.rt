@@ -38,6 +38,18 @@ fn is_short(octets: &[u8]) -> bool
     !octets.is_empty() && octets.len() <= MOST
 }
 
+/// Whether each of these octets can stand in a batch as a message.
+fn are_short(messages: &[Vec<u8>]) -> bool
+    ensures { IsTrue result ↔ All IsShort (map (λ message. message.items) messages.now) }
+{
+    for message in messages {
+        if !is_short(message) {
+            return false;
+        }
+    }
+    true
+}
+
 impl RequestMessages {
     /// A request of one message; None where that has no octets, or more than 65,535.
     pub fn one(alloc: Global, octets: Vec<u8>) -> Option<RequestMessages>
@@ -58,7 +70,7 @@ impl RequestMessages {
             (λ request. request ≡ map (λ message. message.items) messages.items) }
     {
         let mut more = messages;
-        if more.is_empty() || !more.iter().all(|message| is_short(message)) {
+        if more.is_empty() || !are_short(&more) {
             return None;
         }
         let first = more.remove(0);

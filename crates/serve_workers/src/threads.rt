@@ -286,6 +286,7 @@ impl<'g, C: Clock> SocketJob<'g, C> {
             SocketJob::Connections(_) => updates.leave(rt),
             SocketJob::SignedDatagrams(_) => updates.leave(rt),
             SocketJob::SignedConnections(_) => updates.leave(rt),
+            SocketJob::Control(_) => updates.leave(rt),
             SocketJob::Secondaries(_) => {}
         }
     }

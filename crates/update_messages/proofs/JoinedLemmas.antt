@@ -1,5 +1,7 @@
 -- How a request's messages are read as an update.
-use Rattle.std.proofs.Common.{◌≡◌, ℕ, List, [], ◌∷◌, ◌++◌, Some, refl, sym, ap, ◌∙◌, append-nil}
+use Rattle.std.proofs.Common.{◌≡◌, ℕ, ◌<◌, ◌+◌, List, [], ◌∷◌, ◌++◌, Some, length, take, map, flat_map, get_or, refl, sym, ap, ◌∙◌, subst, append-nil, append_assoc, arith}
+use Rattle.std.proofs.lemmas.List.Concat.{flat_map-append}
+use Rattle.dns_rdata.specs.Raw.{RawRecord}
 use Rattle.dns_message.specs.Request.{reads}
 use Rattle.dns_message.specs.declared.query.Parsed.TheVariants.{Update as Asks}
 use Rattle.dns_message.specs.declared.update.Update.{Update}
@@ -44,3 +46,37 @@ read_alone message update is = read_part is.parts is.are_parts is.is
     read_part [] are e = absurd are
     read_part (part ∷ []) are e = are.0 ∙ ap Asks (some_one part update (sym (alone part) ∙ e))
     read_part (part ∷ (other ∷ parts)) are e = absurd are.1
+
+parts_push : (messages : Messages) (parts : List Update) (message : List ℕ) (part : Update) → AreParts messages parts → reads message ≡ Asks part
+    → AreParts (messages ++ message ∷ []) (parts ++ part ∷ [])
+parts_push [] [] message part are e = (e, tt)
+parts_push [] (other ∷ parts) message part are e = absurd are
+parts_push (first ∷ messages) [] message part are e = absurd are
+parts_push (first ∷ messages) (other ∷ parts) message part are e = (are.0, parts_push messages parts message part are.1 e)
+
+-- messages are read as parts so far, with the records of a first part and of these
+pub record PartsSoFar (messages : Messages) (first records : List RawRecord) : Type 0 where
+  pub parts : List Update
+  pub are_parts : AreParts messages parts
+  pub spelt : records ≡ first ++ flat_map (λ part. part.updates) parts
+
+pub no_parts_yet : (first : List RawRecord) → PartsSoFar [] first first
+no_parts_yet first = record { parts = []; are_parts = tt; spelt = sym (append-nil first) }
+
+pub one_more_part : (messages all : Messages) (first records more : List RawRecord) (message : List ℕ) (part : Update)
+    → PartsSoFar messages first records → reads message ≡ Asks part → all ≡ messages ++ message ∷ [] → more ≡ records ++ part.updates → PartsSoFar all first more
+one_more_part messages all first records more message part so_far e is_all is_more = record {
+  parts = so_far.parts ++ part ∷ [];
+  are_parts = subst (λ (ms : Messages). AreParts ms (so_far.parts ++ part ∷ [])) (sym is_all) (parts_push messages so_far.parts message part so_far.are_parts e);
+  spelt = is_more ∙ (ap (λ (o : List RawRecord). o ++ part.updates) so_far.spelt
+      ∙ (append_assoc first (flat_map (λ p. p.updates) so_far.parts) part.updates
+      ∙ ap (λ (o : List RawRecord). first ++ o) (sym (flat_map-append (λ (p : Update). p.updates) so_far.parts (part ∷ [])
+      ∙ ap (λ (o : List RawRecord). flat_map (λ p. p.updates) so_far.parts ++ o) (append-nil part.updates)))));
+}
+
+-- messages that are parts are each read as an update
+pub part_at : (messages : Messages) (parts : List Update) (k : ℕ) → AreParts messages parts → k < length messages → (update : Update) × (reads (get_or messages k []) ≡ Asks update)
+part_at [] parts k are within = absurd (omega (arith, within))
+part_at (message ∷ messages) [] k are within = absurd are
+part_at (message ∷ messages) (part ∷ parts) 0 are within = (part, are.0)
+part_at (message ∷ messages) (part ∷ parts) (suc k) are within = part_at messages parts k are.1 (omega (arith, within))

@@ -127,16 +127,14 @@ fn fitting(zone: &Name, room: usize, records: &[RawRecord]) -> usize
     ensures most { (result ≡ length records.now) ⊎ (room < octets_in zone.now (take (result + 1) records.now)) }
 {
     let mut left = room;
-    let mut count = 0usize;
-    for raw in records {
+    for (count, raw) in records.iter().enumerate() {
         let len = record_len(zone, raw);
         if len > left {
-            break;
+            return count;
         }
         left -= len;
-        count += 1;
     }
-    count
+    records.len()
 }
 
 /// How many octets a record has in a message, at most 2^64 - 1.
