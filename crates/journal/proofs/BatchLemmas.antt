@@ -47,7 +47,7 @@ counted_leads octets size after first rest small spelt short e =
 pub none_in_two : (octets first rest : List ℕ) → length octets < 2 → octets ≡ counted first ++ rest → ⊥
 none_in_two octets first rest few e = omega (arith, ap length e, length-append (counted first) rest, counted_long first)
 
-none_is_short : length {A = ℕ} [] < 2 ^ 16
+pub none_is_short : length {A = ℕ} [] < 2 ^ 16
 none_is_short = omega arith
 
 -- a message has octets
@@ -78,7 +78,7 @@ joined_parts : (message more rest : List ℕ) → (counted [] ++ (counted messag
 joined_parts message more rest =
     append_assoc (counted []) (counted message ++ more) rest ∙ ap (λ (o : List ℕ). counted [] ++ o) (append_assoc (counted message) more rest)
 
-cons_same : {X : Type 0} (x y : X) (xs ys : List X) → x ≡ y → xs ≡ ys → x ∷ xs ≡ y ∷ ys
+pub cons_same : {X : Type 0} (x y : X) (xs ys : List X) → x ≡ y → xs ≡ ys → x ∷ xs ≡ y ∷ ys
 cons_same x y xs ys p q = cc
 
 -- further messages are read in one way
@@ -268,3 +268,19 @@ pub no_first : (octets : List ℕ) → ((message rest : List ℕ) → IsShort me
 no_first octets none [] left is no_more e = omega (arith, is.some)
 no_first octets none (other ∷ others) left is no_more e =
     none other (more_octets others ++ left) (All-head IsShort other others is.short) (e ∙ append_assoc (counted other) (more_octets others) left)
+
+-- octets that begin with others that are some begin with no joint
+pub no_joint_first : (octets first left : List ℕ) → 0 < length first → length first < 2 ^ 16 → octets ≡ counted first ++ left → (rest : List ℕ) → octets ≡ counted [] ++ rest → ⊥
+no_joint_first octets first left some short spelt rest e =
+    let same = one_counted first left [] rest short none_is_short (sym spelt ∙ e) in omega (arith, some, ap length same.0)
+
+-- and those that begin with none begin with no message
+pub no_message_first : (octets first left : List ℕ) → length first ≡ 0 → octets ≡ counted first ++ left
+    → (message rest : List ℕ) → IsShort message → octets ≡ counted message ++ rest → ⊥
+no_message_first octets first left none spelt message rest short e =
+    let same = one_counted first left message rest (omega (arith, none)) short.short (sym spelt ∙ e) in omega (arith, none, short.some, ap length same.0)
+
+-- fewer octets are left after a joint and a message
+pub fewer_left : (rest after message behind : List ℕ) → rest ≡ counted [] ++ after → after ≡ counted message ++ behind → length behind < length rest
+fewer_left rest after message behind joint found =
+    omega (arith, ap length joint, ap length found, length-append (counted []) after, length-append (counted message) behind, counted_long [], counted_long message)

@@ -30,6 +30,7 @@ fn put_more(batch: &mut Vec<u8>, more: &[Vec<u8>]) -> Result<(), AllocError>
 }
 
 /// What stands in a batch of a request. It allocates memory.
+#[tactic(auto, using(crate::proofs::RequestLemmas::request_parts))]
 pub fn write_request(alloc: Global, request: &RequestMessages) -> Result<Vec<u8>, AllocError>
     ensures { IfOk result (λ octets. octets.items ≡ request_octets request.now) }
 {

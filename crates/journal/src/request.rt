@@ -69,10 +69,13 @@ impl RequestMessages {
         ensures { MatchOption result (IsRequest (map (λ message. message.items) messages.items) → ⊥)
             (λ request. request ≡ map (λ message. message.items) messages.items) }
     {
-        let mut more = messages;
-        if more.is_empty() || !are_short(&more) {
+        if messages.is_empty() {
             return None;
         }
+        if !are_short(&messages) {
+            return None;
+        }
+        let mut more = messages;
         let first = more.remove(0);
         Some(RequestMessages { first, more })
     }
