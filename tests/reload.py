@@ -3,8 +3,8 @@
 with one frame of the journal and one NOTIFY, whatever its size; secondaries get it by IXFR. Beside queries, transfers, updates and reloads, each whole transfer is one of
 the zones that were deployed, with the updates that were answered since, and never a part. Killed at random moments of reloads, the store has the zone before or that of
 the file. A second reload meanwhile, a file that is no zone and another apex are refused, and change nothing; the socket is its owner's alone, and a client that says nothing
-stops nothing. Usage: [DNSD=PROGRAM] tests/reload.py [KILLS [RECORDS]], by default 20 kills, and 100,000 records in the one large change, by the program
-crates/dnsd/out/dnsd. It listens on 127.0.0.1 alone. Its status is 1 where something failed."""
+stops nothing. Usage: [DNSD=PROGRAM] tests/reload.py [KILLS [RECORDS [HOSTS]]], by default 20 kills, 100,000 records in the one large change, and 2,000 hosts in the
+zones that are reloaded beside queries, by the program crates/dnsd/out/dnsd; a program compiled with checks is slower, and needs fewer. It listens on 127.0.0.1 alone. Its status is 1 where something failed."""
 import os
 import random
 import signal
@@ -265,9 +265,9 @@ def tries_large(room, records):
     server.stop()
 
 
-def tries_beside(room, seconds):
+def tries_beside(room, seconds, count):
     """Queries, transfers and updates beside reloads: each transfer is a whole zone of one generation."""
-    written(f"{room}/zone", zone_text(1, 0, 2000))
+    written(f"{room}/zone", zone_text(1, 0, count))
     server = Server(room, "--store", f"{room}/store")
     end, taken, parts, codes = time.monotonic() + seconds, [0], [], []
 
@@ -276,7 +276,7 @@ def tries_beside(room, seconds):
             found = transferred(server.port)
             generations, hosts = generation_of(found)
             taken[0] += 1
-            if len(generations) != 1 or hosts != 2000:
+            if len(generations) != 1 or hosts != count:
                 parts.append((generations, hosts))
 
     def updates():
@@ -296,7 +296,7 @@ def tries_beside(room, seconds):
     reloads, faults = 0, []
     while time.monotonic() < end:
         reloads += 1
-        written(f"{room}/zone", zone_text(1000 * reloads, reloads % 256, 2000))
+        written(f"{room}/zone", zone_text(1000 * reloads, reloads % 256, count))
         status, said, errors = server.ask("reload")
         if status:
             faults.append((said, errors))
@@ -308,21 +308,21 @@ def tries_beside(room, seconds):
     server.stop()
 
 
-def tries_kills(room, kills):
+def tries_kills(room, kills, count):
     """Killed at random moments of reloads: the store has the zone before, or that of the file."""
-    written(f"{room}/zone", zone_text(1, 0, 5000))
+    written(f"{room}/zone", zone_text(1, 0, count))
     parts = news = 0
     last = 0
     for turn in range(1, kills + 1):
         server = Server(room, "--store", f"{room}/store", "--take", "store")
-        written(f"{room}/zone", zone_text(10 * turn, turn % 256, 5000))
+        written(f"{room}/zone", zone_text(10 * turn, turn % 256, count))
         reload = subprocess.Popen([program, "control", server.control, "reload"], stdout=subprocess.PIPE, stderr=subprocess.PIPE, text=True)
         time.sleep(random.uniform(0, 0.6))
         server.kill()
         said, _ = reload.communicate()
         zone = zone_of(room)
-        is_old = zone == canonical(zone_text(10 * last or 1, last % 256, 5000), room)
-        is_new = zone == canonical(zone_text(10 * turn, turn % 256, 5000), room)
+        is_old = zone == canonical(zone_text(10 * last or 1, last % 256, count), room)
+        is_new = zone == canonical(zone_text(10 * turn, turn % 256, count), room)
         parts += not (is_old or is_new) or (reload.returncode == 0 and not is_new)
         news += is_new
         last = turn if is_new else last
@@ -332,7 +332,14 @@ def tries_kills(room, kills):
 def main():
     kills = int(sys.argv[1]) if len(sys.argv) > 1 else 20
     records = int(sys.argv[2]) if len(sys.argv) > 2 else 100_000
-    for tries in (tries_commands, lambda room: tries_large(room, records // 2), lambda room: tries_beside(room, 15), lambda room: tries_kills(room, kills)):
+    hosts = int(sys.argv[3]) if len(sys.argv) > 3 else 2_000
+    tried = (
+        tries_commands,
+        lambda room: tries_large(room, records // 2),
+        lambda room: tries_beside(room, 15, hosts),
+        lambda room: tries_kills(room, kills, hosts * 5 // 2),
+    )
+    for tries in tried:
         with tempfile.TemporaryDirectory() as room:
             os.mkdir(f"{room}/store")
             tries(room)

@@ -1,6 +1,6 @@
 -- Messages that are replayed, one after another.
 use Rattle.journal.specs.Batch.{Messages}
-use Rattle.std.proofs.Common.{◌≡◌, ◌≢◌, ℕ, zero, suc, ◌+◌, ◌<◌, ◌≤◌, true, List, [], ◌∷◌, ◌++◌, length, take, get_or, map, Option, None, Some, Result, Ok, Err, unwrap_or, Bor, refl, sym, ap, ◌∙◌, subst, arith, if◌then◌else◌, Vec}
+use Rattle.std.proofs.Common.{◌≡◌, ◌≢◌, ℕ, zero, suc, ◌+◌, ◌<◌, ◌≤◌, true, List, [], ◌∷◌, ◌++◌, length, take, get_or, map, Option, None, Some, Result, Ok, Err, unwrap_or, Bor, refl, sym, ap, ◌∙◌, subst, arith, if◌then◌else◌, Vec, Global}
 use Rattle.std.specs.Prelude.{slice_get, MatchResult}
 use Rattle.std.specs.Option.{option_or, is_some}
 use Rattle.std.proofs.lemmas.Option.{slice_get-get_or}
@@ -74,25 +74,25 @@ more_replayed zone messages message kept next is made older =
 
 -- the same of what is lent
 -- a request of lent messages, and requests
-abbrev pub messages_now : Vec (Bor (List ℕ)) → Messages
+abbrev pub messages_now : Vec (Bor (List ℕ)) Global → Messages
 messages_now request = map (λ (m : Bor (List ℕ)). m.now) request.items
 
-abbrev pub now_of : List (Vec (Bor (List ℕ))) → List Messages
+abbrev pub now_of : List (Vec (Bor (List ℕ)) Global) → List Messages
 now_of lent = map messages_now lent
 
-lent_at : (messages : List (Vec (Bor (List ℕ)))) (place : ℕ) (d : Vec (Bor (List ℕ))) → place < length messages → get_or (now_of messages) place (messages_now d) ≡ (messages_now (get_or messages place d))
+lent_at : (messages : List (Vec (Bor (List ℕ)) Global)) (place : ℕ) (d : Vec (Bor (List ℕ)) Global) → place < length messages → get_or (now_of messages) place (messages_now d) ≡ (messages_now (get_or messages place d))
 lent_at messages place d within = get_or-map messages_now messages place d (messages_now d) within
 
-lent_long : (messages : List (Vec (Bor (List ℕ)))) → length (now_of messages) ≡ length messages
+lent_long : (messages : List (Vec (Bor (List ℕ)) Global)) → length (now_of messages) ≡ length messages
 lent_long messages = length-map messages messages_now
 
 -- the messages up to a place, and the one there
-lent_more : (messages : List (Vec (Bor (List ℕ)))) (place : ℕ) (d : Vec (Bor (List ℕ))) → place < length messages
+lent_more : (messages : List (Vec (Bor (List ℕ)) Global)) (place : ℕ) (d : Vec (Bor (List ℕ)) Global) → place < length messages
     → take (place + 1) (now_of messages) ≡ take place (now_of messages) ++ (messages_now (get_or messages place d)) ∷ []
 lent_more messages place d within =
     take_more (now_of messages) place (messages_now d) (omega (arith, within, lent_long messages)) ∙ ap (λ (m : Messages). take place (now_of messages) ++ m ∷ []) (lent_at messages place d within)
 
-pub one_more_replayed : (zone : List Record) (messages : List (Vec (Bor (List ℕ)))) (place : ℕ) (d : Vec (Bor (List ℕ))) (kept after : RecentVersions) (next : Version)
+pub one_more_replayed : (zone : List Record) (messages : List (Vec (Bor (List ℕ)) Global)) (place : ℕ) (d : Vec (Bor (List ℕ)) Global) (kept after : RecentVersions) (next : Version)
     → IsReplayed zone (take place (now_of messages)) kept → place < length messages → IsMade kept.last (messages_now (get_or messages place d)) next
     → after.last ≡ next → after.older.items ≡ newest KEPT (kept.older.items ++ kept.last ∷ []) → IsReplayed zone (take (place + 1) (now_of messages)) after
 one_more_replayed zone messages place d kept after next is within made last older =
@@ -100,18 +100,18 @@ one_more_replayed zone messages place d kept after next is within made last olde
     (more_replayed zone (take place (now_of messages)) (messages_now (get_or messages place d)) kept after is
     (subst (λ (version : Version). IsMade kept.last (messages_now (get_or messages place d)) version) (sym last) made) older)
 
-pub so_far_number : (zone : List Record) (messages : List (Vec (Bor (List ℕ)))) (place : ℕ) (kept : RecentVersions) → IsReplayed zone (take place (now_of messages)) kept → place ≤ length messages
+pub so_far_number : (zone : List Record) (messages : List (Vec (Bor (List ℕ)) Global)) (place : ℕ) (kept : RecentVersions) → IsReplayed zone (take place (now_of messages)) kept → place ≤ length messages
     → kept.last.number ≡ place
 so_far_number zone messages place kept is within =
     replayed_number zone (take place (now_of messages)) kept is ∙ omega (arith, length-take place (now_of messages), lent_long messages)
 
-pub all_replayed : (zone : List Record) (messages : List (Vec (Bor (List ℕ)))) (place : ℕ) (kept : RecentVersions) → IsReplayed zone (take place (now_of messages)) kept → length messages ≤ place
+pub all_replayed : (zone : List Record) (messages : List (Vec (Bor (List ℕ)) Global)) (place : ℕ) (kept : RecentVersions) → IsReplayed zone (take place (now_of messages)) kept → length messages ≤ place
     → IsReplayed zone (now_of messages) kept
 all_replayed zone messages place kept is end =
     subst (λ (ms : List Messages). IsReplayed zone ms kept) (take_all place (now_of messages) (omega (arith, end, lent_long messages))) is
 
 -- the message at a place isn't taken
-pub not_taken_at : (zone : List Record) (messages : List (Vec (Bor (List ℕ)))) (place : ℕ) (d : Vec (Bor (List ℕ))) (kept : RecentVersions) (fault : UpdateFault)
+pub not_taken_at : (zone : List Record) (messages : List (Vec (Bor (List ℕ)) Global)) (place : ℕ) (d : Vec (Bor (List ℕ)) Global) (kept : RecentVersions) (fault : UpdateFault)
     → IsReplayed zone (take place (now_of messages)) kept → place < length messages → IsUpdateFault kept.last.zone (messages_now (get_or messages place d)) fault
     → IsNotTaken zone (now_of messages) place fault
 not_taken_at zone messages place d kept fault is within why = record {
