@@ -108,6 +108,7 @@ fn part_of(
 }
 
 /// How many octets of records a message has room for beside these prerequisites; None where they are too many.
+#[tactic(auto, using(crate::proofs::MessagesLemmas::part_long))]
 fn room_beside(zone: &ZoneEntry, prerequisites: &[RawRecord]) -> Option<usize>
     ensures { MatchOption result (most_octets < length (part_octets zone.now prerequisites.now []))
         (λ room. length (part_octets zone.now prerequisites.now []) + room ≡ most_octets) }
@@ -138,6 +139,7 @@ fn fitting(zone: &Name, room: usize, records: &[RawRecord]) -> usize
 }
 
 /// How many octets a record has in a message, at most 2^64 - 1.
+#[tactic(auto, using(crate::proofs::MessagesLemmas::record_long))]
 fn record_len(zone: &Name, raw: &RawRecord) -> usize
     ensures { result ≡ min (length (record_octets zone.now raw.now)) (2 ^ 64 - 1) }
 {
