@@ -284,3 +284,7 @@ no_message_first octets first left none spelt message rest short e =
 pub fewer_left : (rest after message behind : List ℕ) → rest ≡ counted [] ++ after → after ≡ counted message ++ behind → length behind < length rest
 fewer_left rest after message behind joint found =
     omega (arith, ap length joint, ap length found, length-append (counted []) after, length-append (counted message) behind, counted_long [], counted_long message)
+
+-- and after a request
+pub batch_fewer : (request : Messages) (rest behind : List ℕ) → IsRequest request × NoJoint behind × (rest ≡ request_octets request ++ behind) → length behind < length rest
+batch_fewer request rest behind found = omega (arith, ap length found.2, length-append (request_octets request) behind, request_long request found.0)
