@@ -1,5 +1,7 @@
 -- How a request's messages are read as an update.
-use Rattle.std.proofs.Common.{◌≡◌, ℕ, ◌<◌, ◌+◌, List, [], ◌∷◌, ◌++◌, Some, length, take, map, flat_map, get_or, refl, sym, ap, ◌∙◌, subst, append-nil, append_assoc, arith}
+use Rattle.std.proofs.Common.{◌≡◌, ℕ, ◌<◌, ◌+◌, List, [], ◌∷◌, ◌++◌, Some, length, take, map, flat_map, get_or, refl, sym, ap, ◌∙◌, subst, append-nil, append_assoc, arith, Bor}
+use Rattle.std.specs.Prelude.{Option, None, MatchOption}
+use Rattle.std.proofs.lemmas.List.{length-map, get_or-map, take_more, take_all, map_push}
 use Rattle.std.proofs.lemmas.List.Concat.{flat_map-append}
 use Rattle.dns_rdata.specs.Raw.{RawRecord}
 use Rattle.dns_message.specs.Request.{reads}
@@ -80,3 +82,31 @@ part_at [] parts k are within = absurd (omega (arith, within))
 part_at (message ∷ messages) [] k are within = absurd are
 part_at (message ∷ messages) (part ∷ parts) 0 are within = (part, are.0)
 part_at (message ∷ messages) (part ∷ parts) (suc k) are within = part_at messages parts k are.1 (omega (arith, within))
+
+-- the same of lent messages
+abbrev pub now_of : List (Bor (List ℕ)) → Messages
+now_of lent = map (λ (b : Bor (List ℕ)). b.now) lent
+
+pub no_parts : (lent : List (Bor (List ℕ))) (k : ℕ) (d : Bor (List ℕ)) → k < length lent → ((update : Update) → reads (get_or lent k d).now ≡ Asks update → ⊥)
+    → (parts : List Update) → AreParts (now_of lent) parts → ⊥
+no_parts lent k d within none parts are =
+    let one = part_at (now_of lent) parts k are (omega (arith, within, length-map lent (λ (b : Bor (List ℕ)). b.now))) in
+    none one.0 (ap reads (sym (get_or-map (λ (b : Bor (List ℕ)). b.now) lent k d [] within)) ∙ one.1)
+
+pub lent_part : (lent : List (Bor (List ℕ))) (k : ℕ) (d : Bor (List ℕ)) (first records more : List RawRecord) (part : Update)
+    → PartsSoFar (now_of (take k lent)) first records → k < length lent → reads (get_or lent k d).now ≡ Asks part → more ≡ records ++ part.updates
+    → PartsSoFar (now_of (take (k + 1) lent)) first more
+lent_part lent k d first records more part so_far within e is_more =
+    one_more_part (now_of (take k lent)) (now_of (take (k + 1) lent)) first records more (get_or lent k d).now part so_far e
+    (ap now_of (take_more lent k d within) ∙ map_push (λ (b : Bor (List ℕ)). b.now) (take k lent) (get_or lent k d)) is_more
+
+pub all_parts : (lent : List (Bor (List ℕ))) (k : ℕ) (first records : List RawRecord) → PartsSoFar (now_of (take k lent)) first records → length lent ≤ k
+    → PartsSoFar (now_of lent) first records
+all_parts lent k first records so_far end = subst (λ (ls : List (Bor (List ℕ))). PartsSoFar (now_of ls) first records) (take_all k lent end) so_far
+
+-- what is said of an option that is something, or nothing
+pub told_some : {X : Type 0} (found : Option X) (x : X) (P : Type 0) (Q : X → Type 0) → found ≡ Some x → MatchOption found P Q → Q x
+told_some found x P Q e reported = subst (λ o. MatchOption o P Q) e reported
+
+pub told_none : {X : Type 0} (found : Option X) (P : Type 0) (Q : X → Type 0) → found ≡ None → MatchOption found P Q → P
+told_none found P Q e reported = subst (λ o. MatchOption o P Q) e reported

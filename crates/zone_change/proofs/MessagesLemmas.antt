@@ -132,5 +132,9 @@ are_messages update room count parts messages is fit most rest some short spelt 
         → (count ≡ length update.updates) ⊎ (room < octets_in update.zone.name (take (count + 1) update.updates)) → parts ≡ []
     one_alone whole (inl all) = no_parts parts some (rest ∙ drop_all count update.updates (omega (arith, all)))
     one_alone whole (inr over) =
-        absurd (omega (arith, part_over update.zone update.prerequisites update.updates room is
-        (omega (arith, over, sum_by-take-le (λ r. length (record_octets update.zone.name r)) update.updates (count + 1))), whole))
+        absurd (omega (
+          arith,
+          part_over update.zone update.prerequisites update.updates room is
+              (omega (arith, over, sum_by-take-le (λ r. length (record_octets update.zone.name r)) update.updates (count + 1))),
+          whole,
+        ))
