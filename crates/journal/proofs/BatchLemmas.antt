@@ -161,8 +161,13 @@ behind_read : (requests others : List Messages) (rest : List ℕ) → All IsRequ
     → batch_of requests ++ rest ≡ batch_of others → (more : List Messages) × All IsRequest more × (rest ≡ batch_of more)
 behind_read [] others rest short small none e = (others, small, e)
 behind_read (request ∷ requests) [] rest short small none e =
-    absurd (omega (arith, ap length e, length-append (request_octets request ++ batch_of requests) rest, length-append (request_octets request) (batch_of requests),
-    request_long request (All-head IsRequest request requests short)))
+    absurd (omega (
+      arith,
+      ap length e,
+      length-append (request_octets request ++ batch_of requests) rest,
+      length-append (request_octets request) (batch_of requests),
+      request_long request (All-head IsRequest request requests short),
+    ))
 behind_read (request ∷ requests) (other ∷ others) rest short small none e =
     let after = later requests (All-tail IsRequest request requests short) none in
     let same = one_request request other (batch_of requests ++ rest) (batch_of others) (All-head IsRequest request requests short) (All-head IsRequest other others small)
@@ -171,12 +176,13 @@ behind_read (request ∷ requests) (other ∷ others) rest short small none e =
   where
     no_cons : (x : Messages) (xs : List Messages) → x ∷ xs ≡ [] → ⊥
     no_cons x xs e = cc
+
     later : (requests : List Messages) → All IsRequest requests → (request ∷ requests ≡ []) ⊎ NoJoint rest → NoJoint (batch_of requests ++ rest) × ((requests ≡ []) ⊎ NoJoint rest)
     later requests are (inl e) = absurd (no_cons request requests e)
     later [] are (inr none) = (none, inl refl)
     later (next ∷ requests) are (inr none) = (
       λ left e. request_no_joint next (batch_of requests ++ rest) (All-head IsRequest next requests are) left
-      (sym (append_assoc (request_octets next) (batch_of requests) rest) ∙ e),
+          (sym (append_assoc (request_octets next) (batch_of requests) rest) ∙ e),
       inr none,
     )
 
