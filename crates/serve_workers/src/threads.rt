@@ -86,7 +86,7 @@ fn serve_connections<'g, 's, R: Wait, Z: FirstZone, N: ServerName, L: ServiceLog
     let handler = handler.with_rules(job.allowed());
     let mut handler = handler.with_sender(sender);
     let end = job.serve(rt, &mut handler, log);
-    (handler.into_reader(), end)
+    (handler.into_reader(rt), end)
 }
 
 /// Does a job on a UDP socket whose requests may be signed, as [`serve_datagrams`] does.

@@ -141,7 +141,7 @@ fn by_places<R: Wait, Z: FirstZone, N: ServerName>(
         &mut room,
         &mut out,
     );
-    readers.push(replies.into_reader()).ok()?;
+    readers.push(replies.into_reader(rt)).ok()?;
     Some(stream)
 }
 

@@ -108,7 +108,7 @@ fn is_submitted<R: Wait, Z: FirstZone, N: ServerName>(
         worker: 1,
     });
     let is_submitted = is_submitted_once(rt, alloc, &queue, &mut replies);
-    readers.push(replies.into_reader()).ok()?;
+    readers.push(replies.into_reader(rt)).ok()?;
     is_submitted
 }
 

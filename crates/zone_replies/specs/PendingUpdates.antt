@@ -1,6 +1,7 @@
 -- Updates submitted on connections, which are still pending (RFC 2136, 3; own).
 use Rattle.std.specs.Prelude.{◌≡◌, ◌⊎◌, ◌<◌, ◌≤◌, ◌+◌, ℕ, true, List, length, Option, None, Some}
 use Rattle.std.specs.List.{All, slice_get}
+use Rattle.std.specs.Prelude.{slice_set}
 use Rattle.dns_message.specs.Request.{is_update}
 use Rattle.dns_rdata.specs.Record.{Record}
 use Rattle.dns_rdata.specs.declared.numbers.Rcode.TheVariants.{ServFail}
@@ -12,6 +13,8 @@ use Rattle.serve_core.specs.declared.peer.Peer.{Peer}
 use Rattle.serve_core.specs.Heading.{heading_of_update, coded}
 use Rattle.serve_core.specs.Transport.{limit_of}
 use Rattle.zone_server.specs.declared.update_result.UpdateResult.{UpdateResult}
+use Rattle.zone_server.specs.declared.update_result.Poll.{Poll}
+use Rattle.zone_server.specs.declared.update_result.Poll.TheVariants.{Unknown, Pending, Ready}
 use Rattle.zone_server.specs.declared.answer.UpdateOutcome.{UpdateOutcome}
 use Rattle.zone_server.specs.Known.{learned_by}
 use Rattle.zone_replies.specs.State.{PendingState}
@@ -31,10 +34,25 @@ known_at taken reader key = known_of (slice_get taken key) reader
 abbrev pub place_of : Option (Option PendingState) → Option Place
 place_of None = None
 place_of (Some None) = None
-place_of (Some (Some taken)) = Some (record { from = taken.from; ticket = taken.ticket; number = taken.number })
+place_of (Some (Some taken)) = Some (record { from = taken.from; number = taken.number })
 
 abbrev pub place_in : List (Option PendingState) → ℕ → Option Place
 place_in taken key = place_of (slice_get taken key)
+
+-- the pending update of an entry, if it has one
+abbrev pub entry_of : Option (Option PendingState) → Option PendingState
+entry_of None = None
+entry_of (Some entry) = entry
+
+-- the one under a key
+abbrev pub entry_in : List (Option PendingState) → ℕ → Option PendingState
+entry_in taken key = entry_of (slice_get taken key)
+
+-- the pending updates after the result of the one under a key was fetched: it stays while that isn't there yet
+abbrev pub left_after : Poll → List (Option PendingState) → ℕ → List (Option PendingState)
+left_after Pending taken key = taken
+left_after Unknown taken key = slice_set taken key None
+left_after (Ready done) taken key = slice_set taken key None
 
 -- an update is pending: the reader has forgotten nothing that was known when it was submitted, and what was known to be published then
 -- isn't newer than the version of its number

@@ -5,11 +5,10 @@ use Rattle.zone_tree.specs.Version.{Version}
 use Rattle.snapshot_cell.specs.Tokens.{ReaderState}
 use Rattle.serve_core.specs.declared.peer.Peer.{Peer}
 
--- a pending update: the address of its peer, the ticket for its result, the number of the last version that was published when it was submitted, and
--- what the reader knew before
+-- a pending update: the address of its peer, the number of the last version that was published when it was submitted, and what the reader knew
+-- before
 pub record PendingState : Type 0 where
   pub from : SocketAddr
-  pub ticket : ℕ
   pub number : ℕ
   pub known : ReaderState Version
 

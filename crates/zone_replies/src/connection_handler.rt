@@ -38,8 +38,7 @@ use zone_server::{
 };
 
 /// Answers the peers of connections from a server, with a worker's reader, and logs updates. Contracts see which versions the reader has seen
-/// published.
-#[derive(Drop)]
+/// published. It can't be dropped, since updates may be pending: it ends by [`ConnectionHandler::into_reader`].
 pub struct ConnectionHandler<'a, 's, Z: FirstZone, N: ServerName, L> {
     server: &'a Server<'s, Z, N>,
     reader: VersionReader<N>,
@@ -176,11 +175,26 @@ impl<'a, 's, Z: FirstZone, N: ServerName, L: ServiceLog> ConnectionHandler<'a, '
         handler
     }
 
-    /// Gives back its reader.
-    pub fn into_reader(self) -> VersionReader<N>
+    /// Gives back its reader. The results of updates that are still pending are dropped when they come.
+    pub fn into_reader<R: Wait>(self, rt: &R) -> VersionReader<N>
         ensures { result ≡ self.entry.reader }
     {
-        self.reader
+        let ConnectionHandler {
+            server,
+            reader,
+            log: _,
+            alloc: _,
+            peer: _,
+            from: _,
+            asker: _,
+            query: _,
+            names: _,
+            allowed: _,
+            sender: _,
+            taken,
+        } = self;
+        taken.leave_all(rt, server);
+        reader
     }
 
     /// The sender for a request: some exactly where the handler submits updates and the request is an update of a peer that may update.
@@ -213,8 +227,7 @@ impl<'a, 's, Z: FirstZone, N: ServerName, L: ServiceLog> ConnectionHandler<'a, '
         if has_sender && place.from == self.from {
             return;
         }
-        self.server.leave(rt, place.ticket);
-        self.taken.remove(self.asker);
+        self.taken.leave(rt, self.server, self.asker);
     }
 
     /// Writes the reply to a pending update at the front of `out`, with the code of [`outcome_at`], and logs it. Gives its length in octets.
@@ -317,18 +330,19 @@ impl<'a, 's, Z: FirstZone, N: ServerName, L: ServiceLog> ConnectionHandler<'a, '
         let Some(place) = self.taken.at(self.asker) else {
             return None;
         };
-        let (_, fetched) = self.server.fetch(rt, &mut self.reader, place.ticket);
-        if let Poll::Pending = fetched {
-            return Some(Reply::Later);
+        match self
+            .taken
+            .fetch(rt, self.server, &mut self.reader, self.asker)
+        {
+            Poll::Unknown => None,
+            Poll::Pending => Some(Reply::Later),
+            Poll::Ready(done) => {
+                if done.asked.may() && done.asked.octets() == request {
+                    return Some(Reply::One(self.reply_done(rt, place, done, out)));
+                }
+                None
+            }
         }
-        self.taken.remove(self.asker);
-        let Poll::Ready(done) = fetched else {
-            return None;
-        };
-        if done.asked.may() && done.asked.octets() == request {
-            return Some(Reply::One(self.reply_done(rt, place, done, out)));
-        }
-        None
     }
 
     /// Writes the reply of the engine to an update at the front of `out`, and logs it. Gives its length in octets.

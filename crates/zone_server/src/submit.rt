@@ -10,6 +10,7 @@ ghost use Rattle.zone_server.specs.QueuedUpdate.{memory_of, IsSubmitted, IsDatag
 ghost use Rattle.zone_server.specs.Replied.{IsUpdate};
 
 use crate::answer::{UpdateOutcome, read_update};
+use crate::open_ticket::WaitingTicket;
 use crate::right::ServerName;
 use crate::server::Server;
 use dns_engine::{FirstZone, VersionReader};
@@ -33,14 +34,13 @@ pub struct UpdateSender<'a> {
 }
 
 /// The result of submitting an update of a connection.
-#[derive(Drop)]
 pub enum Submitted {
     /// It has a reply at once, of so many bytes and with this outcome.
     Replied(usize, UpdateOutcome),
     /// It waits in the queue, and its result will be at this ticket. This is the number of the version published last.
     Waits {
         /// The ticket.
-        ticket: usize,
+        ticket: WaitingTicket,
         /// The number.
         number: u64,
         /// The queue's receipt.

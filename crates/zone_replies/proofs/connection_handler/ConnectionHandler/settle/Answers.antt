@@ -12,5 +12,5 @@ use Rattle.zone_replies.proofs.connection_handler.ConnectionHandler.settle.Goals
 pub returns-clause-grows : goal.returns-clause-grows
 returns-clause-grows g c =
     let reader = c.self.inside.reader in
-    subst (λ (s : HandlerState). EachGrows {T = Version} (known_at c.remove.new.self reader) (known_at s.taken s.reader)) c.self.view_is
-    (gone_grows c.self.inside.taken reader reader c.self.inside.asker (grows_itself (learned_by reader)) c.remove.new.self c.remove.ensures c.self.invariant)
+    subst (λ (s : HandlerState). EachGrows {T = Version} (known_at c.leave.new.self reader) (known_at s.taken s.reader)) c.self.view_is
+    (gone_grows c.self.inside.taken reader reader c.self.inside.asker (grows_itself (learned_by reader)) c.leave.new.self c.leave.ensures c.self.invariant)

@@ -18,7 +18,7 @@ pub invariant_of-self-in-Waits : goal.invariant_of-self-in-Waits
 invariant_of-self-in-Waits g c =
     let room = c.make_room.ensures.none in
     let first = g.Z.FirstZone.zone in
-    let one : PendingState = record { from = c.self.inside.from; ticket = c.in-Waits.ticket; number = c.in-Waits.number; known = c.of-known.result.value } in
+    let one : PendingState = record { from = c.self.inside.from; number = c.in-Waits.number; known = c.of-known.result.value } in
     begun_all c.self.inside.taken c.self.inside.reader c.submit_stream.new.reader c.self.inside.asker (meets_grows first c.self.inside.reader c.submit_stream.new.reader c.in-Waits.number c.in-Waits.ensures) c.make_room.new.self c.put.new.self room.0 one room.1 c.put.ensures
     (meets_taken first c.self.inside.reader c.submit_stream.new.reader c.in-Waits.number one c.in-Waits.ensures c.of-known.ensures refl) c.self.invariant
 
@@ -40,7 +40,7 @@ returns-in-Waits-clause-grows g c =
     let room = c.make_room.ensures.none in
     let first = g.Z.FirstZone.zone in
     let none : place_in c.self.inside.taken c.self.inside.asker ≡ None = subst (λ (s : HandlerState). place_in s.taken s.asker ≡ None) (sym c.self.view_is) c.requires.none in
-    let one : PendingState = record { from = c.self.inside.from; ticket = c.in-Waits.ticket; number = c.in-Waits.number; known = c.of-known.result.value } in
+    let one : PendingState = record { from = c.self.inside.from; number = c.in-Waits.number; known = c.of-known.result.value } in
     subst (λ (s : HandlerState). EachGrows {T = Version} (known_at c.put.new.self c.submit_stream.new.reader) (known_at s.taken s.reader)) c.self.view_is
     (begun_grows c.self.inside.taken c.self.inside.reader c.submit_stream.new.reader c.self.inside.asker (meets_grows first c.self.inside.reader c.submit_stream.new.reader c.in-Waits.number c.in-Waits.ensures) c.make_room.new.self c.put.new.self room.0 one room.1 c.put.ensures
     c.of-known.ensures none)
