@@ -179,7 +179,7 @@ fn serve_signed_connections<
         nobody(),
     );
     let end = signed.job.serve(rt, &mut handler, log);
-    (handler.into_inner().into_reader(), end)
+    (handler.into_inner().into_reader(rt), end)
 }
 
 /// Does a job that notifies secondaries, with a handler that loads versions for it by a reader. Gives the reader back, and how the job ended.

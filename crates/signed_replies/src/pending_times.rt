@@ -7,58 +7,98 @@ use std::net::SocketAddr;
 /// A request whose reply is made later.
 #[derive(Drop)]
 struct PendingTime {
-    /// The address of its connection's peer.
-    from: SocketAddr,
     /// The MAC of its TSIG.
     mac: ArrayVec<u8, MAX_MAC>,
     /// When it was verified, in seconds since 1970.
     time: u64,
 }
 
-/// When requests were verified whose replies are made later, at most one of each connection, by the connection's key. Such a request is answered again with the same octets, and isn't
+/// The requests of a connection whose replies are made later.
+#[derive(Drop)]
+struct ConnectionTimes {
+    /// The address of its peer.
+    from: SocketAddr,
+    /// The requests, in the order in which they were verified first.
+    requests: Vec<PendingTime>,
+}
+
+impl ConnectionTimes {
+    /// Where the request with this MAC is; None where there is none.
+    fn position(&self, mac: &[u8]) -> Option<usize> {
+        self.requests
+            .as_slice()
+            .iter()
+            .position(|request| request.mac.as_slice() == mac)
+    }
+}
+
+/// When requests were verified whose replies are made later, by the key of their connection. Such a request is answered again with the same octets, and isn't
 /// judged by a later time then: an update that has been applied would else get BADTIME.
 #[derive(Drop)]
 pub(crate) struct PendingTimes {
-    times: Vec<Option<PendingTime>>,
+    alloc: Global,
+    connections: Vec<Option<ConnectionTimes>>,
 }
 
 impl PendingTimes {
     /// No request's.
     pub fn new(alloc: Global) -> PendingTimes {
         PendingTimes {
-            times: Vec::new(alloc),
+            alloc,
+            connections: Vec::new(alloc),
         }
     }
 
     /// When the request with this MAC was verified, from this address on the connection under a key; None where that one has no such request.
     pub fn at(&self, key: usize, from: SocketAddr, mac: &[u8]) -> Option<u64> {
-        match self.times.get(key)? {
-            Some(pending) if pending.from == from && pending.mac.as_slice() == mac => {
-                Some(pending.time)
+        match self.connections.get(key)? {
+            Some(times) if times.from == from => {
+                let at = times.position(mac)?;
+                Some(times.requests.get(at)?.time)
             }
             _ => None,
         }
     }
 
-    /// Keeps when the request with this MAC was verified. Where memory is refused, nothing is kept, and that request is judged by a later time.
+    /// The requests of the connection under a key, whose peer sends from an address: those of another one that had the key are forgotten. None where memory is refused.
+    fn of(&mut self, key: usize, from: SocketAddr) -> Option<&mut ConnectionTimes> {
+        let count = key.checked_add(1)?;
+        for _entry in self.connections.len()..count {
+            self.connections.push(None).ok()?;
+        }
+        let entry = self.connections.get_mut(key)?;
+        let is_own = match entry {
+            Some(times) => times.from == from,
+            None => false,
+        };
+        if !is_own {
+            *entry = Some(ConnectionTimes {
+                from,
+                requests: Vec::new(self.alloc),
+            });
+        }
+        entry.as_mut()
+    }
+
+    /// Keeps when the request with this MAC was verified, unless that is kept. Where memory is refused, nothing is kept, and that request is judged by a later time.
     pub fn put(&mut self, key: usize, from: SocketAddr, mac: ArrayVec<u8, MAX_MAC>, time: u64) {
-        let Some(count) = key.checked_add(1) else {
+        let Some(times) = self.of(key, from) else {
             return;
         };
-        for _entry in self.times.len()..count {
-            let Ok(()) = self.times.push(None) else {
-                return;
-            };
-        }
-        if let Some(entry) = self.times.get_mut(key) {
-            *entry = Some(PendingTime { from, mac, time });
+        if times.position(&mac).is_none() {
+            let _ = times.requests.push(PendingTime { mac, time });
         }
     }
 
-    /// Forgets the request of the connection under a key.
-    pub fn remove(&mut self, key: usize) {
-        if let Some(entry) = self.times.get_mut(key) {
-            *entry = None;
+    /// Forgets the request with this MAC of the connection under a key.
+    pub fn remove(&mut self, key: usize, mac: &[u8]) {
+        let Some(Some(times)) = self.connections.get_mut(key) else {
+            return;
+        };
+        if let Some(at) = times.position(mac)
+            && at < times.requests.len()
+        {
+            times.requests.remove(at);
         }
     }
 }

@@ -7,5 +7,7 @@ pub mod Kept
 pub mod Links
 pub mod Places
 pub mod Rate
-pub mod Survey
+pub mod Served
 pub mod StreamOctets
+pub mod Survey
+pub mod Turns

@@ -6,7 +6,7 @@ ghost use Rattle.serve_core.specs.Heading.{heading_of_update, coded};
 ghost use Rattle.dns_message.specs.Request.{reads};
 ghost use Rattle.dns_message.specs.declared.query.Parsed.TheVariants.{Update as SaysUpdate};
 ghost use Rattle.serve_core.specs.Transport.{room_of, limit_of};
-ghost use Rattle.zone_server.specs.QueuedUpdate.{memory_of, IsSubmitted, IsDatagramSubmitted};
+ghost use Rattle.zone_server.specs.QueuedUpdate.{memory_of, HasReply, IsSubmitted, IsDatagramSubmitted};
 ghost use Rattle.zone_server.specs.Replied.{IsUpdate};
 
 use crate::answer::{UpdateOutcome, read_update};
@@ -134,7 +134,8 @@ pub fn submit_stream<R: Wait, Z: FirstZone, N: ServerName>(
     requires update { IsUpdate request.now }
     requires may { peer.may_update ≡ true }
     requires room { room_of peer.transport ≤ length out.old }
-    ensures { IsSubmitted Z.zone peer request.now reader.old reader.new out.new result }
+    ensures submitted { IsSubmitted Z.zone peer request.now reader.old reader.new out.new result }
+    ensures unsent { sender.entry ≡ None → HasReply result }
 {
     let update = match read_update(alloc, request) {
         Ok(update) => update,
