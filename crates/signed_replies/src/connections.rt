@@ -217,6 +217,7 @@ impl<
     }
 
     /// Answers a request that the holder of a key signed, and signs the reply.
+    #[tactic(auto, using(tcp_connections::proofs::AskedLemmas::each_itself))]
     fn reply_signed<R: Wait>(
         &mut self,
         rt: &R,
@@ -251,6 +252,7 @@ impl<
     }
 
     /// Answers a request by what it is by its TSIG (RFC 8945, 5.2).
+    #[tactic(auto, using(tcp_connections::proofs::AskedLemmas::each_itself))]
     fn reply_by<R: Wait>(
         &mut self,
         rt: &R,
@@ -440,6 +442,7 @@ impl<'r, 'k, K: KeyRing, M: Messages, A: Handler<M>, C: UnixClock, O: TsigLog + 
         self.peer = other;
     }
 
+    #[tactic(auto, using(tcp_connections::proofs::AskedLemmas::each_itself))]
     fn reply<R: Wait>(
         &mut self,
         rt: &R,
@@ -460,6 +463,7 @@ impl<'r, 'k, K: KeyRing, M: Messages, A: Handler<M>, C: UnixClock, O: TsigLog + 
         self.reply_message(rt, &Message::new(request), request, out)
     }
 
+    #[tactic(auto, using(tcp_connections::proofs::AskedLemmas::each_itself))]
     fn prepare<R: Wait>(&mut self, rt: &R, between: usize, request: &[u8], out: &mut [u8]) -> bool {
         if request.len() < HEADER || request.len() > MAX_LIMIT {
             return false;

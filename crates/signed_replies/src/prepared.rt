@@ -45,6 +45,7 @@ impl<
     O: TsigLog + Drop,
 > SignedConnections<'r, 'k, K, M, A, C, O> {
     /// Takes up a request that the holder of a key signed, as that of the peer that gets its reply, and keeps when it was verified if its reply is made later.
+    #[tactic(auto, using(tcp_connections::proofs::AskedLemmas::each_itself))]
     fn prepare_signed<R: Wait>(
         &mut self,
         rt: &R,
@@ -77,6 +78,7 @@ impl<
     }
 
     /// Takes up a request that was read as a message, where its handler does: one without a TSIG, or without that which the holder of a key signed.
+    #[tactic(auto, using(tcp_connections::proofs::AskedLemmas::each_itself))]
     pub(crate) fn prepare_message<R: Wait>(
         &mut self,
         rt: &R,
