@@ -2,6 +2,7 @@
 use arrayvec::ArrayVec;
 use hmac::MAX_MAC;
 use std::alloc::Global;
+use std::mem;
 use std::net::SocketAddr;
 
 /// A request whose reply is made later.
@@ -29,6 +30,36 @@ impl ConnectionTimes {
             .as_slice()
             .iter()
             .position(|request| request.mac.as_slice() == mac)
+    }
+
+    /// Keeps when the request with this MAC was verified, unless that is kept. Where memory is refused, nothing is kept.
+    fn put(&mut self, mac: ArrayVec<u8, MAX_MAC>, time: u64) {
+        if self.position(&mac).is_none() {
+            let _ = self.requests.push(PendingTime { mac, time });
+        }
+    }
+
+    /// Forgets the request with this MAC.
+    fn remove(&mut self, mac: &[u8]) {
+        let Some(at) = self.position(mac) else {
+            return;
+        };
+        if at < self.requests.len() {
+            let _ = self.requests.remove(at);
+        }
+    }
+}
+
+/// The requests that were kept, if their peer sends from this address; otherwise none.
+fn of_peer(alloc: Global, kept: Option<ConnectionTimes>, from: SocketAddr) -> ConnectionTimes {
+    if let Some(times) = kept {
+        if times.from == from {
+            return times;
+        }
+    }
+    ConnectionTimes {
+        from,
+        requests: Vec::new(alloc),
     }
 }
 
@@ -60,45 +91,36 @@ impl PendingTimes {
         }
     }
 
-    /// The requests of the connection under a key, whose peer sends from an address: those of another one that had the key are forgotten. None where memory is refused.
-    fn of(&mut self, key: usize, from: SocketAddr) -> Option<&mut ConnectionTimes> {
-        let count = key.checked_add(1)?;
-        for _entry in self.connections.len()..count {
-            self.connections.push(None).ok()?;
-        }
-        let entry = self.connections.get_mut(key)?;
-        let is_own = match entry {
-            Some(times) => times.from == from,
-            None => false,
+    /// Makes room for the connection under a key. False where memory is refused.
+    fn make_room(&mut self, key: usize) -> bool {
+        let Some(count) = key.checked_add(1) else {
+            return false;
         };
-        if !is_own {
-            *entry = Some(ConnectionTimes {
-                from,
-                requests: Vec::new(self.alloc),
-            });
+        for _entry in self.connections.len()..count {
+            let Ok(()) = self.connections.push(None) else {
+                return false;
+            };
         }
-        entry.as_mut()
+        true
     }
 
-    /// Keeps when the request with this MAC was verified, unless that is kept. Where memory is refused, nothing is kept, and that request is judged by a later time.
+    /// Keeps when the request with this MAC was verified, from this address on the connection under a key; those of another one that had the key are forgotten. Where memory is refused, nothing is kept, and
+    /// that request is judged by a later time.
     pub fn put(&mut self, key: usize, from: SocketAddr, mac: ArrayVec<u8, MAX_MAC>, time: u64) {
-        let Some(times) = self.of(key, from) else {
+        if !self.make_room(key) {
             return;
-        };
-        if times.position(&mac).is_none() {
-            let _ = times.requests.push(PendingTime { mac, time });
+        }
+        if let Some(entry) = self.connections.get_mut(key) {
+            let mut times = of_peer(self.alloc, mem::replace(entry, None), from);
+            times.put(mac, time);
+            *entry = Some(times);
         }
     }
 
     /// Forgets the request with this MAC of the connection under a key.
     pub fn remove(&mut self, key: usize, mac: &[u8]) {
-        let Some(Some(times)) = self.connections.get_mut(key) else {
-            return;
-        };
-        if let Some(at) = times.position(mac)
-            && at < times.requests.len()
-        {
-            times.requests.remove(at);
+        if let Some(Some(times)) = self.connections.get_mut(key) {
+            times.remove(mac);
         }
     }
 }
