@@ -128,12 +128,14 @@ fn taken_up<R: Wait, K: KeyRing>(
     let room = PlainRoom::new(alloc)?;
     let clock = Still(now);
     let from = client();
-    let mut handler = SignedConnections::new(alloc, inner, &ring, clock, NoLog, room, peer, from);
+    let mut handler: SignedConnections<'_, '_, K, NoMessages, TakesUp, Still, NoLog> =
+        SignedConnections::new(alloc, inner, &ring, clock, NoLog, room, peer, from);
     let mut out = Vec::new(alloc);
     out.resize(65535, 0)?;
     let is_taken = handler.prepare(rt, 3, request, &mut out);
     let inner = handler.into_inner();
-    Ok((inner.taken, is_taken && inner.between == 3))
+    let is_right = is_taken && inner.between == 3;
+    Ok((inner.taken, is_right))
 }
 
 /// Whether a request is taken up as it is to be.
