@@ -2,22 +2,18 @@
 use Rattle.std.proofs.Common.{◌≡◌, ◌<◌, ℕ, Bool, true, false, cond, not, ◌&&◌, ◌||◌, ◌==◌, nat_lt, List, [], ◌∷◌, length, map, drop, take, Option, Some, None, Result, Ok, Err, ok_or, refl, sym, ap, ◌∙◌, lit<, arith}
 use Rattle.std.specs.Char.{is_ascii_digit, to_ascii_lowercase}
 use Rattle.std.specs.List.{list_all}
-use Rattle.std.specs.Option.{is_some}
+use Rattle.std.specs.Option.{is_some, option_or}
 use Rattle.std.proofs.lemmas.Bool.Decides.{nat_tests}
 use Rattle.dns_rdata.specs.declared.numbers.Ttl.{Ttl}
-use Rattle.record_text.specs.Front.{Front, front_from as plain_from, mark_of as plain_mark, type_mark as plain_type_mark}
+use Rattle.record_text.specs.Front.{Front, front_from as plain_from}
 use Rattle.record_text.specs.Mnemonics.{type_of, class_of, type_named, type_numbered, class_named, is_class_number}
 use Rattle.record_text.specs.Number.{are_digits, number_of, is_number}
 use Rattle.record_text.specs.Reading.{on_ok, and_then}
 use Rattle.record_text.specs.declared.cause.Cause.{Cause}
 use Rattle.record_text.specs.declared.cause.Cause.TheVariants.{UnknownType}
-use Rattle.record_text.specs.declared.front.Mark.{Mark as Plain_mark}
-use Rattle.record_text.specs.declared.front.Mark.TheVariants as plain
-use Rattle.wide_text.specs.Forms.{wide_type_named}
-use Rattle.wide_text.specs.Front.{front_from, mark_of, type_mark, wide_type_of}
+use Rattle.wide_text.specs.Forms.{type_in_table}
+use Rattle.wide_text.specs.Front.{front_from, wide_type_of}
 use Rattle.wide_text.specs.Times.{is_time, is_time_text, has_units_after}
-use Rattle.wide_text.specs.declared.front.Mark.{Mark}
-use Rattle.wide_text.specs.declared.front.Mark.TheVariants as mark
 use Rattle.wide_text.proofs.PlainLemmas.{number_is_digits, number_is_time, read_first, read_on}
 use Rattle.zone_lexing.specs.Word.{Written}
 use Rattle.zone_lexing.specs.Word.Written.{Plain, Quoted, Unclosed}
@@ -30,12 +26,6 @@ first_true false b e = cc
 -- and no word of a type or of a class does
 no_letter : (c : ℕ) → is_ascii_digit c ≡ true → (k : ℕ) → 96 < k → (to_ascii_lowercase c == k) ≡ false
 no_letter c e k h = grind (arith, nat_tests)
-
--- a mark of the plain grammar as one of the wide
-abbrev widened : Plain_mark → Mark
-widened (plain.Ttl ttl) = mark.Ttl ttl
-widened plain.Class = mark.Class
-widened (plain.Type rtype) = mark.Type rtype
 
 no_time : (x : Bool) → ((x && false) || (x && false)) ≡ true → false ≡ true
 no_time true e = e
@@ -75,82 +65,93 @@ some_ok None n e = cc
 some_ok (Some m) n e = cc
 
 type_widens : (word : Written) (n : ℕ) → type_of word ≡ Ok n → wide_type_of word ≡ Ok n
-type_widens (Plain text) n e = let named = some_ok (type_named text) n e in rw named refl
+type_widens (Plain text) n e = ap (λ (o : Option ℕ). ok_or (option_or o (type_in_table text)) UnknownType) (some_ok (type_named text) n e)
 type_widens (Quoted text) n e = cc
 type_widens Unclosed n e = cc
 
-type_mark_widens : (word : Written) (m : Plain_mark) → plain_type_mark word ≡ Ok m → type_mark word ≡ Ok (widened m)
-type_mark_widens word m e =
-    let read = read_on (type_of word) (λ (n : ℕ). plain.Type (record { 0 = n })) m e in
-    ap (on_ok (λ (n : ℕ). mark.Type (record { 0 = n }))) (type_widens word read.0 read.1) ∙ ap (λ (x : Plain_mark). Ok (widened x)) read.2
-
--- a class or a type
-abbrev plain_later : Bool → Written → Result Plain_mark Cause
-plain_later classed word = cond classed (plain_type_mark word) (and_then (class_of word) (λ is_class. cond is_class (Ok plain.Class) (plain_type_mark word)))
-
-abbrev later : Bool → Written → Result Mark Cause
-later classed word = cond classed (type_mark word) (and_then (class_of word) (λ is_class. cond is_class (Ok mark.Class) (type_mark word)))
-
-class_by : (word : Written) (m : Plain_mark) (b : Bool) → cond b (Ok plain.Class) (plain_type_mark word) ≡ Ok m → cond b (Ok mark.Class) (type_mark word) ≡ Ok (widened m)
-class_by word m true e = let same : plain.Class ≡ m = cc in ap (λ (x : Plain_mark). Ok (widened x)) same
-class_by word m false e = type_mark_widens word m e
-
-later_widens : (classed : Bool) (word : Written) (m : Plain_mark) → plain_later classed word ≡ Ok m → later classed word ≡ Ok (widened m)
-later_widens true word m e = type_mark_widens word m e
-later_widens false word m e =
-    let read = read_first (class_of word) (λ is_class. cond is_class (Ok plain.Class) (plain_type_mark word)) m e in
-    ap (λ (r : Result Bool Cause). and_then r (λ is_class. cond is_class (Ok mark.Class) (type_mark word))) read.1 ∙ class_by word m read.0 read.2
-
 -- a time is neither
-no_later : (classed : Bool) (c : ℕ) (text : List ℕ) → is_ascii_digit c ≡ true → plain_later classed (Plain (c ∷ text)) ≡ Err UnknownType
-no_later true c text e = rw (no_type c text e) refl
-no_later false c text e = rw (no_class c text e, no_type c text e) refl
+time_is_neither : (word : Written) → is_time word ≡ true → (type_of word ≡ Err UnknownType) × (class_of word ≡ Ok false)
+time_is_neither (Plain []) t = cc
+time_is_neither (Plain (c ∷ text)) t =
+    let digit = time_first c text t in
+    (ap (λ (o : Option ℕ). ok_or o UnknownType) (no_type c text digit), no_class c text digit)
+time_is_neither (Quoted text) t = cc
+time_is_neither Unclosed t = cc
 
-time_later : (classed : Bool) (word : Written) (m : Plain_mark) → is_time word ≡ true → plain_later classed word ≡ Ok m → mark_of false classed word ≡ Ok (widened m)
-time_later classed (Plain []) m t e = cc
-time_later classed (Plain (c ∷ text)) m t e = let none = no_later classed c text (time_first c text t) in cc
-time_later classed (Quoted text) m t e = cc
-time_later classed Unclosed m t e = cc
-
--- a number is a TTL
+-- a number is a time
 digits_time : (word : Written) → is_number word ≡ true → is_time word ≡ true
 digits_time (Plain text) e = rw e refl
 digits_time (Quoted text) e = cc
 digits_time Unclosed e = cc
 
+-- readings in turn
+after_on_ok : {A B C : Type 0} (r : Result A Cause) (f : A → B) (g : B → Result C Cause) → and_then (on_ok f r) g ≡ and_then r (λ x. g (f x))
+after_on_ok (Ok x) f g = refl
+after_on_ok (Err cause) f g = refl
+
+after_twice : {A B C : Type 0} (r : Result A Cause) (f : A → Result B Cause) (g : B → Result C Cause) → and_then (and_then r f) g ≡ and_then r (λ x. and_then (f x) g)
+after_twice (Ok x) f g = refl
+after_twice (Err cause) f g = refl
+
+by_answer : (r : Result Bool Cause) (g : Bool → Result Front Cause) (front : Front) {X : Type 0} → and_then r g ≡ Ok front → (r ≡ Ok true → g true ≡ Ok front → X) → (r ≡ Ok false → g false ≡ Ok front → X) → X
+by_answer (Ok true) g front e in_class in_type = in_class refl e
+by_answer (Ok false) g front e in_class in_type = in_type refl e
+by_answer (Err cause) g front e in_class in_type = cc
+
 abbrev as_ttl : ℕ → Ttl
 as_ttl n = record { 0 = n }
 
-ttl_widens : (classed : Bool) (word : Written) (m : Plain_mark) → is_number word ≡ true → on_ok plain.Ttl (on_ok as_ttl (number_of 2147483647 word)) ≡ Ok m → mark_of false classed word ≡ Ok (widened m)
-ttl_widens classed word m n e =
-    let time = digits_time word n in
-    let outer = read_on (on_ok as_ttl (number_of 2147483647 word)) plain.Ttl m e in
-    let inner = read_on (number_of 2147483647 word) as_ttl outer.0 outer.1 in
-    let seconds = number_is_time 2147483647 word inner.0 inner.1 in
-    rw (time, seconds) (ap (λ (x : Ttl). Ok (mark.Ttl x)) inner.2 ∙ ap (λ (x : Plain_mark). Ok (widened x)) outer.2)
+-- the record's front where its type is read
+abbrev typed : Option Ttl → List Written → Result ℕ Cause → Result Front Cause
+typed ttl words r = and_then r (λ n. Ok (record { ttl = ttl; rtype = n; words = words }))
 
-first_by : (classed : Bool) (word : Written) (m : Plain_mark) (n t : Bool) → is_number word ≡ n → is_time word ≡ t → cond n (on_ok plain.Ttl (on_ok as_ttl (number_of 2147483647 word))) (plain_later classed word) ≡ Ok m → mark_of false classed word ≡ Ok (widened m)
-first_by classed word m true t n time e = ttl_widens classed word m n e
-first_by classed word m false true n time e = time_later classed word m time e
-first_by classed word m false false n time e = rw time (later_widens classed word m e)
+no_both : (a t : Bool) → (t ≡ true → ⊥) → (a && t) ≡ false
+no_both true true h = absurd (h refl)
+no_both true false h = refl
+no_both false t h = refl
 
-mark_widens : (timed classed : Bool) (word : Written) (m : Plain_mark) → plain_mark timed classed word ≡ Ok m → mark_of timed classed word ≡ Ok (widened m)
-mark_widens true classed word m e = later_widens classed word m e
-mark_widens false classed word m e = first_by classed word m (is_number word) (is_time word) refl refl e
+both_true : (a b : Bool) → (a && b) ≡ true → (a ≡ true) × (b ≡ true)
+both_true true b e = (refl, e)
+both_true false b e = cc
 
--- what stands before the data
-front_by : (m : Plain_mark) (ttl : Option Ttl) (classed : Bool) (words : List Written) (front : Front) → ((own : Option Ttl) (c : Bool) → plain_from own c words ≡ Ok front → front_from own c words ≡ Ok front)
-    → elim m as (λ _. Result Front Cause) [ plain.Ttl own ↦ plain_from (Some own) classed words | plain.Class ↦ plain_from ttl true words | plain.Type rtype ↦ Ok (record { ttl = ttl; rtype = rtype.0; words = words }) ] ≡ Ok front
-    → elim (widened m) as (λ _. Result Front Cause) [ mark.Ttl own ↦ front_from (Some own) classed words | mark.Class ↦ front_from ttl true words | mark.Type rtype ↦ Ok (record { ttl = ttl; rtype = rtype.0; words = words }) ] ≡ Ok front
-front_by (plain.Ttl own) ttl classed words front more e = more (Some own) classed e
-front_by plain.Class ttl classed words front more e = more ttl true e
-front_by (plain.Type rtype) ttl classed words front more e = e
+-- a type is read alike, where no time stands
+type_alike : (ttl : Option Ttl) (words : List Written) (word : Written) (front : Front) → typed ttl words (type_of word) ≡ Ok front → (is_time word ≡ true → ⊥) × (typed ttl words (wide_type_of word) ≡ Ok front)
+type_alike ttl words word front e =
+    let read = read_first (type_of word) (λ (n : ℕ). Ok (record { ttl = ttl; rtype = n; words = words })) front e in
+    let is = read.1 in
+    ((λ t. let none = (time_is_neither word t).0 in cc), ap (typed ttl words) (type_widens word read.0 read.1) ∙ read.2)
+
+-- the front, by what the first word is
+abbrev Alike : Option Ttl → Bool → List Written → Front → Type 0
+Alike ttl classed words front = plain_from ttl classed words ≡ Ok front → front_from ttl classed words ≡ Ok front
+
+by_first : (ttl : Option Ttl) (classed : Bool) (word : Written) (words : List Written) (front : Front) (test : Bool) → ((own : Option Ttl) (c : Bool) → Alike own c words front) → (not (is_some ttl) && is_number word) ≡ test → Alike ttl classed (word ∷ words) front
+by_first ttl classed word words front true more t e =
+    let parts = both_true (not (is_some ttl)) (is_number word) t in
+    let timed = rw t at e in
+    let read = read_first (on_ok as_ttl (number_of 2147483647 word)) (λ (own : Ttl). plain_from (Some own) classed words) front (sym (after_on_ok (on_ok as_ttl (number_of 2147483647 word)) _ _) ∙ timed) in
+    let inner = read_on (number_of 2147483647 word) as_ttl read.0 read.1 in
+    let seconds = ap (on_ok as_ttl) (number_is_time 2147483647 word inner.0 inner.1) ∙ ap Ok inner.2 in
+    let time = digits_time word parts.1 in
+    let first = parts.0 in
+    rw (first, time, seconds) (more (Some read.0) classed read.2)
+by_first ttl true word words front false more t e =
+    let rest = rw t at e in
+    let alike = type_alike ttl words word front (sym (after_on_ok (type_of word) _ _) ∙ rest) in
+    let none = no_both (not (is_some ttl)) (is_time word) alike.0 in
+    rw none (after_on_ok (wide_type_of word) _ _ ∙ alike.1)
+by_first ttl false word words front false more t e =
+    let rest = rw t at e in
+    by_answer (class_of word) _ front (sym (after_twice (class_of word) _ _) ∙ rest)
+    (λ c h.
+    let none = no_both (not (is_some ttl)) (is_time word) (λ t. let no = (time_is_neither word t).1 in cc) in
+    rw (none, c) (more ttl true h))
+    (λ c h.
+    let alike = type_alike ttl words word front (sym (after_on_ok (type_of word) _ _) ∙ h) in
+    let none = no_both (not (is_some ttl)) (is_time word) alike.0 in
+    rw (none, c) (after_on_ok (wide_type_of word) _ _ ∙ alike.1))
 
 pub plain_front_is_wide : (ttl : Option Ttl) (classed : Bool) (words : List Written) (front : Front) → plain_from ttl classed words ≡ Ok front → front_from ttl classed words ≡ Ok front
 plain_front_is_wide ttl classed [] front e = cc
 plain_front_is_wide ttl classed (word ∷ words) front e =
-    let read = read_first (plain_mark (is_some ttl) classed word)
-    (λ (m : Plain_mark). elim m as (λ _. Result Front Cause) [ plain.Ttl own ↦ plain_from (Some own) classed words | plain.Class ↦ plain_from ttl true words | plain.Type rtype ↦ Ok (record { ttl = ttl; rtype = rtype.0; words = words }) ]) front e in
-    let wide = mark_widens (is_some ttl) classed word read.0 read.1 in
-    ap (λ (r : Result Mark Cause). and_then r (λ (m : Mark). elim m as (λ _. Result Front Cause) [ mark.Ttl own ↦ front_from (Some own) classed words | mark.Class ↦ front_from ttl true words | mark.Type rtype ↦ Ok (record { ttl = ttl; rtype = rtype.0; words = words }) ])) wide
-    ∙ front_by read.0 ttl classed words front (λ own c h. plain_front_is_wide own c words front h) read.2
+    by_first ttl classed word words front (not (is_some ttl) && is_number word) (λ own c. plain_front_is_wide own c words front) refl e

@@ -3,15 +3,15 @@ use Rattle.std.proofs.Common.{◌≡◌, ℕ, Bool, true, false, cond, ◌&&◌,
 use Rattle.std.specs.Int.{to_be_bytes, w32}
 use Rattle.std.specs.List.{find}
 use Rattle.std.proofs.lemmas.Bool.Decides.{Decides-eqb}
-use Rattle.record_text.specs.Data.{fields_of as plain_fields, field_of as plain_field, octets_of_words, as_data, data_of_words, form_of as plain_form}
+use Rattle.dns_name.specs.Name.{wire_of}
+use Rattle.record_text.specs.Data.{fields_of as plain_fields, field_of as plain_field, octets_of_words, as_data, data_of_words, surplus_of, form_of as plain_form}
 use Rattle.record_text.specs.Generic.{are_generic}
 use Rattle.record_text.specs.NameWord.{name_of}
 use Rattle.record_text.specs.Number.{are_digits, value_of, decimal_of, number_of, is_number}
 use Rattle.record_text.specs.Reading.{on_ok, and_then}
 use Rattle.record_text.specs.declared.cause.Cause.{Cause}
 use Rattle.record_text.specs.declared.cause.Cause.TheVariants.{BadData, Number}
-use Rattle.record_text.specs.declared.data.Field.{Field as Plain_field}
-use Rattle.record_text.specs.declared.data.Field.TheVariants as plain
+use Rattle.record_text.proofs.DataLemmas.{words_fields}
 use Rattle.wide_text.specs.Data.{data_by, wide_data}
 use Rattle.wide_text.specs.Fields.{field_of, fields_of}
 use Rattle.wide_text.specs.Forms.{Form, forms, form_of}
@@ -22,11 +22,11 @@ use Rattle.wide_text.specs.declared.forms.Rest.TheVariants as rest
 use Rattle.zone_lexing.specs.Word.{Written}
 use Rattle.zone_lexing.specs.Word.Written.{Plain, Quoted, Unclosed}
 
-read_first : {A B : Type 0} (r : Result A Cause) (f : A → Result B Cause) (y : B) → and_then r f ≡ Ok y → (x : A) × (r ≡ Ok x) × (f x ≡ Ok y)
+pub read_first : {A B : Type 0} (r : Result A Cause) (f : A → Result B Cause) (y : B) → and_then r f ≡ Ok y → (x : A) × (r ≡ Ok x) × (f x ≡ Ok y)
 read_first (Ok x) f y e = (x, refl, e)
 read_first (Err cause) f y e = cc
 
-read_on : {A B : Type 0} (r : Result A Cause) (f : A → B) (y : B) → on_ok f r ≡ Ok y → (x : A) × (r ≡ Ok x) × (f x ≡ y)
+pub read_on : {A B : Type 0} (r : Result A Cause) (f : A → B) (y : B) → on_ok f r ≡ Ok y → (x : A) × (r ≡ Ok x) × (f x ≡ y)
 read_on (Ok x) f y e = (x, refl, cc)
 read_on (Err cause) f y e = cc
 
@@ -51,36 +51,51 @@ number_is_digits most Unclosed n e = cc
 pub number_is_time : (most : ℕ) (word : Written) (n : ℕ) → number_of most word ≡ Ok n → seconds_of most word ≡ Ok n
 number_is_time most word n e = rw (number_is_digits most word n e) e
 
--- a field of the plain grammar and one of the table that reads what it reads
-abbrev Widens : Plain_field × Field → Type 0
-Widens fields = (origin : List (List ℕ)) (word : Written) (octets : List ℕ) → plain_field origin fields.0 word ≡ Ok octets → field_of origin fields.1 word ≡ Ok octets
+-- words that are read by readings in turn, one a word
+abbrev Reading : Type 0
+Reading = Written → Result (List ℕ) Cause
 
-name_widens : Widens (plain.Name, field.Name)
-name_widens origin word octets e = e
+abbrev in_turn : List Reading → List Written → Result (List ℕ) Cause
+in_turn [] [] = Ok []
+in_turn [] (word ∷ words) = Err (surplus_of word)
+in_turn (reading ∷ readings) [] = Err BadData
+in_turn (reading ∷ readings) (word ∷ words) = and_then (reading word) (λ front. on_ok (λ more. front ++ more) (in_turn readings words))
 
-long_widens : Widens (plain.Long, field.Long)
-long_widens origin word octets e = e
+-- so the plain grammar reads fields
+plain_in_turn : (origin : List (List ℕ)) (fields : _) (words : List Written) → plain_fields origin fields words ≡ in_turn (map (plain_field origin) fields) words
+plain_in_turn origin [] [] = refl
+plain_in_turn origin [] (word ∷ words) = refl
+plain_in_turn origin (f ∷ fields) [] = refl
+plain_in_turn origin (f ∷ fields) (word ∷ words) =
+    ap (λ (r : Result (List ℕ) Cause). and_then (plain_field origin f word) (λ (front : List ℕ). on_ok (λ (more : List ℕ). front ++ more) r)) (plain_in_turn origin fields words)
 
-time_widens : Widens (plain.Long, field.Time)
+by_form : (rtype : ℕ) (origin : List (List ℕ)) (words : List Written) (fields : _) → false ≡ (rtype == 16) → plain_form rtype ≡ Some fields → octets_of_words rtype origin words ≡ in_turn (map (plain_field origin) fields) words
+by_form rtype origin words fields e form = words_fields rtype origin words fields e form ∙ plain_in_turn origin fields words
+
+-- a field of the table reads what a reading reads
+abbrev Widens : List (List ℕ) → Reading × Field → Type 0
+Widens origin pair = (word : Written) (octets : List ℕ) → pair.0 word ≡ Ok octets → field_of origin pair.1 word ≡ Ok octets
+
+time_widens : (origin : List (List ℕ)) → Widens origin ((λ (word : Written). on_ok (to_be_bytes w32) (number_of 4294967295 word)), field.Time)
 time_widens origin word octets e =
     let read = read_on (number_of 4294967295 word) (to_be_bytes w32) octets e in
     ap (on_ok (to_be_bytes w32)) (number_is_time 4294967295 word read.0 read.1) ∙ ap Ok read.2
 
 -- and so for lists of them
-abbrev AllWiden : List (Plain_field × Field) → Type 0
-AllWiden [] = Unit {0}
-AllWiden (fields ∷ more) = Widens fields × AllWiden more
+abbrev AllWiden : List (List ℕ) → List (Reading × Field) → Type 0
+AllWiden origin [] = Unit {0}
+AllWiden origin (pair ∷ more) = Widens origin pair × AllWiden origin more
 
-widened : (pairs : List (Plain_field × Field)) → AllWiden pairs → (origin : List (List ℕ)) (words : List Written) (octets : List ℕ) → plain_fields origin (map (λ (p : Plain_field × Field). p.0) pairs) words ≡ Ok octets
-    → fields_of origin (map (λ (p : Plain_field × Field). p.1) pairs) rest.Nothing words ≡ Ok octets
-widened [] h origin [] octets e = e
-widened [] h origin (word ∷ words) octets e = cc
-widened (p ∷ pairs) h origin [] octets e = cc
-widened (p ∷ pairs) h origin (word ∷ words) octets e =
-    let first = read_first (plain_field origin p.0 word) (λ front. on_ok (λ more. front ++ more) (plain_fields origin (map (λ (q : Plain_field × Field). q.0) pairs) words)) octets e in
-    let more = read_on (plain_fields origin (map (λ (q : Plain_field × Field). q.0) pairs) words) (λ more. first.0 ++ more) octets first.2 in
-    let wide = h.0 origin word first.0 first.1 in
-    let others = widened pairs h.1 origin words more.0 more.1 in
+widened : (origin : List (List ℕ)) (pairs : List (Reading × Field)) → AllWiden origin pairs → (words : List Written) (octets : List ℕ) → in_turn (map (λ (p : Reading × Field). p.0) pairs) words ≡ Ok octets
+    → fields_of origin (map (λ (p : Reading × Field). p.1) pairs) rest.Nothing words ≡ Ok octets
+widened origin [] h [] octets e = e
+widened origin [] h (word ∷ words) octets e = cc
+widened origin (p ∷ pairs) h [] octets e = cc
+widened origin (p ∷ pairs) h (word ∷ words) octets e =
+    let first = read_first (p.0 word) (λ front. on_ok (λ more. front ++ more) (in_turn (map (λ (q : Reading × Field). q.0) pairs) words)) octets e in
+    let more = read_on (in_turn (map (λ (q : Reading × Field). q.0) pairs) words) (λ more. first.0 ++ more) octets first.2 in
+    let wide = h.0 word first.0 first.1 in
+    let others = widened origin pairs h.1 words more.0 more.1 in
     rw (wide, others) (ap Ok more.2)
 
 -- a line of the table reads what the plain grammar reads for its type
@@ -91,13 +106,21 @@ abbrev AllReadPlain : List Form → Type 0
 AllReadPlain [] = Unit {0}
 AllReadPlain (form ∷ more) = ReadsPlain form × AllReadPlain more
 
-soa_pairs : List (Plain_field × Field)
-soa_pairs = (plain.Name, field.Name) ∷ (plain.Name, field.Name) ∷ (plain.Long, field.Long) ∷ (plain.Long, field.Time) ∷ (plain.Long, field.Time) ∷ (plain.Long, field.Time) ∷ (plain.Long, field.Time) ∷ []
+-- the fields of an SOA
+abbrev a_name : List (List ℕ) → Reading
+a_name origin = λ word. on_ok wire_of (name_of origin word)
+
+abbrev a_long : Reading
+a_long = λ word. on_ok (to_be_bytes w32) (number_of 4294967295 word)
+
+abbrev soa_pairs : List (List ℕ) → List (Reading × Field)
+soa_pairs origin = (a_name origin, field.Name) ∷ (a_name origin, field.Name) ∷ (a_long, field.Long) ∷ (a_long, field.Time) ∷ (a_long, field.Time) ∷ (a_long, field.Time) ∷ (a_long, field.Time) ∷ []
 
 soa_reads : (origin : List (List ℕ)) (words : List Written) (octets : List ℕ) → octets_of_words 6 origin words ≡ Ok octets
     → fields_of origin (field.Name ∷ field.Name ∷ field.Long ∷ field.Time ∷ field.Time ∷ field.Time ∷ field.Time ∷ []) rest.Nothing words ≡ Ok octets
-unfolding octets_of_words plain_form soa_pairs
-soa_reads origin words octets e = widened soa_pairs (name_widens, (name_widens, (long_widens, (time_widens, (time_widens, (time_widens, (time_widens, tt))))))) origin words octets e
+unfolding octets_of_words plain_form
+soa_reads origin words octets e =
+    widened origin (soa_pairs origin) ((λ word own k. k), ((λ word own k. k), ((λ word own k. k), (time_widens origin, (time_widens origin, (time_widens origin, (time_widens origin, tt))))))) words octets (sym (by_form 6 origin words _ refl refl) ∙ e)
 
 -- and types of which the plain grammar has no words
 all_read_plain : AllReadPlain forms

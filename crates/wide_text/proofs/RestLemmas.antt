@@ -5,7 +5,7 @@ use Rattle.std.proofs.lemmas.List.{append-nil, take-append-drop, nil_from_length
 use Rattle.std.proofs.lemmas.List.Elements.{All-head, All-tail, All-drop}
 use Rattle.base64.specs.Engines.{standard}
 use Rattle.base64.specs.GeneralPurpose.{encode_of, decode_of as base64_of}
-use Rattle.base64.specs.declared.error.DecodeError.{DecodeError}
+use Rattle.base64.specs.declared.DecodeError.{DecodeError}
 use Rattle.base64.proofs.EngineFacts.{decode_of-encode_of}
 use Rattle.hex.specs.Hex.{decode_of, encode_lower}
 use Rattle.hex.specs.declared.error.FromHexError.{FromHexError}
@@ -126,7 +126,7 @@ step_back : (f : Field) (fields : List Field) (r : Rest) (octets : List ℕ) (wo
     → AreBack (f ∷ fields) r octets (option_map (λ (ws : List Written). word.0 ∷ ws) words)
 step_back f fields r octets word None first more = tt
 step_back f fields r octets word (Some words) first more =
-    λ origin. both (field_of origin f word.0) (fields_of origin fields r words) (take word.1 octets) (drop word.1 octets) (first origin) (more origin) ∙ ap Ok (sym (take-append-drop word.1 octets))
+    λ origin. both (field_of origin f word.0) (fields_of origin fields r words) (take word.1 octets) (drop word.1 octets) (first origin) (more origin) ∙ ap Ok (take-append-drop word.1 octets)
 
 fields_by : (f : Field) (fields : List Field) (r : Rest) (octets : List ℕ) (word : Option (Written × ℕ)) → IsBack f octets word → ((n : ℕ) → AreBack fields r (drop n octets) (words_by fields r (drop n octets)))
     → AreBack (f ∷ fields) r octets (option_and_then (λ (w : Written × ℕ). option_map (λ (ws : List Written). w.0 ∷ ws) (words_by fields r (drop w.1 octets))) word)

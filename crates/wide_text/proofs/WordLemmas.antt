@@ -1,17 +1,10 @@
 -- Words that are written of data are read as the same octets: field by field, and what stands after the fields.
-use Rattle.std.proofs.Common.{◌≡◌, ℕ, zero, suc, ◌+◌, ◌<◌, ◌≤◌, Bool, true, false, cond, ◌&&◌, ◌==◌, nat_le, List, [], ◌∷◌, ◌++◌, map, flat_map, length, drop, take, get_or, slice_index, decimal, All, Option, Some, None, option_map, option_and_then, Result, Ok, Err, ok_or, refl, sym, ap, subst, ◌∙◌, add-one, arith}
+use Rattle.std.proofs.Common.{◌≡◌, ℕ, zero, suc, ◌+◌, ◌^◌, ◌<◌, ◌≤◌, Bool, true, false, cond, ◌&&◌, ◌==◌, nat_le, List, [], ◌∷◌, ◌++◌, map, flat_map, length, drop, take, get_or, slice_index, decimal, All, Option, Some, None, option_map, option_and_then, Result, Ok, Err, ok_or, refl, sym, ap, subst, ◌∙◌, add-one, arith}
 use Rattle.std.specs.Int.{from_be_bytes, to_be_bytes, w16, w32}
 use Rattle.std.proofs.lemmas.Bool.Decides.{nat_tests, Decides-eqb}
 use Rattle.std.proofs.lemmas.List.{append-nil, take-append-drop, length-take-le, take_all, nil_from_length}
 use Rattle.std.proofs.lemmas.List.Elements.{All-nil, All-cons, All-head, All-tail, All-get_or, All-take, All-drop}
 use Rattle.std.proofs.lemmas.Nat.{be_bytes_2, be_bytes_4}
-use Rattle.base64.specs.Engines.{standard}
-use Rattle.base64.specs.GeneralPurpose.{encode_of, decode_of as base64_of}
-use Rattle.base64.specs.declared.error.DecodeError.{DecodeError}
-use Rattle.base64.proofs.EngineFacts.{decode_of-encode_of}
-use Rattle.hex.specs.Hex.{decode_of, encode_lower}
-use Rattle.hex.specs.declared.error.FromHexError.{FromHexError}
-use Rattle.hex.proofs.HexLemmas.{decode_of-encode_lower}
 use Rattle.dns_name.specs.Name.{wire_of, name_in}
 use Rattle.dns_name.specs.Text.{text_of}
 use Rattle.dns_name.proofs.LawLemmas.{name_in-is_present}
@@ -25,7 +18,6 @@ use Rattle.record_text.proofs.BackLemmas.{AreOctets, decimal_read, number_back}
 use Rattle.record_text.proofs.FieldLemmas.{name_read}
 use Rattle.record_text.proofs.NumberLemmas.{by_test}
 use Rattle.record_text.proofs.StringLemmas.{string_some}
-use Rattle.wide_text.specs.Encoded.{hex_in, base64_in}
 use Rattle.wide_text.specs.Fields.{field_of, fields_of, rest_of}
 use Rattle.wide_text.specs.Texts.{is_tag, text_of as text_read}
 use Rattle.wide_text.specs.Words.{octet_at, short_at, long_at, string_at, tag_at, quoted, word_at, rest_words, words_by}

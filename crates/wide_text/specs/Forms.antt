@@ -1,8 +1,8 @@
 -- The types that have words beside those of RFC 1035, RFC 2782 and RFC 3596: their numbers and the fields of their data.
-use Rattle.std.specs.Prelude.{ℕ, List, [], ◌∷◌, ◌==◌, codes, Option, Some, None, option_map}
+use Rattle.std.specs.Prelude.{ℕ, List, [], ◌∷◌, ◌==◌, codes, Option, option_map}
+use Rattle.std.specs.Option.{option_or}
 use Rattle.std.specs.List.{find}
 use Rattle.record_text.specs.Mnemonics.{is_word, type_named}
-use Rattle.record_text.specs.declared.cause.Cause.{Cause}
 use Rattle.wide_text.specs.declared.forms.Field.{Field}
 use Rattle.wide_text.specs.declared.forms.Field.TheVariants as field
 use Rattle.wide_text.specs.declared.forms.Rest.{Rest}
@@ -66,7 +66,10 @@ forms =
 abbrev pub form_of : ℕ → Option Form
 form_of rtype = find (λ form. form.rtype == rtype) forms
 
+-- the type that a text names in the table, in any case
+abbrev pub type_in_table : List ℕ → Option ℕ
+type_in_table text = option_map (λ form. form.rtype) (find (λ form. is_word text form.word) forms)
+
 -- the type that a text names, in any case: one of the plain words, or one of the table
 abbrev pub wide_type_named : List ℕ → Option ℕ
-wide_type_named text =
-    elim (type_named text) [ Some rtype ↦ Some rtype | None ↦ option_map (λ form. form.rtype) (find (λ form. is_word text form.word) forms) ]
+wide_type_named text = option_or (type_named text) (type_in_table text)

@@ -67,24 +67,3 @@ fn read_fields(
     put_fields(alloc, &mut octets, fields, rest, words, origin)?;
     Ok(RData::from_wire(alloc, rtype, &octets)?)
 }
-
-#[cfg(test)]
-mod tests {
-    use super::*;
-    use std::test::Fail;
-
-    #[test]
-    fn reads(rt: HostRuntime) -> Result<(), Fail> {
-        let alloc = rt.alloc();
-        let words = [
-            Word::Plain(b"0"),
-            Word::Plain(b"issue"),
-            Word::Quoted(b"letsencrypt.org"),
-        ];
-        let Ok(data) = read_wide_data(alloc, RType(257), &words, &Name::root()) else {
-            return Ok(());
-        };
-        assert_eq!(rt; data.octets(), b"\x00\x05issueletsencrypt.org".as_slice());
-        Ok(())
-    }
-}

@@ -1,12 +1,11 @@
 //! The table of types: their words, their numbers and the fields of their data.
-ghost use Rattle.std.specs.Prelude.{◌≡◌, ◌==◌, map, Ok, Err, IfOk, IfErr};
+ghost use Rattle.std.specs.Prelude.{◌≡◌, map, Ok, Err, IfOk, IfErr};
 ghost use Rattle.std.specs.Option.{option_map};
-ghost use Rattle.std.specs.List.{find};
-ghost use Rattle.record_text.specs.Mnemonics.{is_word};
-ghost use Rattle.wide_text.specs.Forms.{form_of, form_seen, forms, wide_type_named};
+ghost use Rattle.wide_text.specs.Forms.{form_of, form_seen, forms, type_in_table};
 ghost use Rattle.wide_text.specs.Front.{wide_type_of};
 ghost use Rattle.zone_lexing.specs.Word.{written};
 
+use crate::mnemonics::is_word;
 use dns_rdata::RType;
 use record_text::{Cause, rtype};
 use zone_lexing::Word;
@@ -239,10 +238,10 @@ pub fn wide_type(word: Word<'_>) -> Result<RType, Cause>
 
 /// The type that a text names in the table; None where it names none.
 fn type_in_table(text: &[u8]) -> Option<RType>
-    ensures { option_map (λ rtype. rtype.0) result ≡ option_map (λ form. form.rtype) (find (λ form. is_word text.now form.word) forms) }
+    ensures { option_map (λ rtype. rtype.0) result ≡ type_in_table text.now }
 {
     for form in all_forms() {
-        if text.eq_ignore_ascii_case(form.word.as_bytes()) {
+        if is_word(text, form.word) {
             return Some(RType(form.rtype));
         }
     }

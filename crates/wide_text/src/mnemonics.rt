@@ -178,9 +178,16 @@ fn number_named(text: &[u8], mnemonics: &[Mnemonic]) -> Option<u8>
     ensures { result ≡ number_named (map mnemonic_seen mnemonics.now) text.now }
 {
     for mnemonic in mnemonics {
-        if text.eq_ignore_ascii_case(mnemonic.word.as_bytes()) {
+        if is_word(text, mnemonic.word) {
             return Some(mnemonic.number);
         }
     }
     None
+}
+
+/// Whether a text is this word, in any case.
+pub(crate) fn is_word(text: &[u8], word: &str) -> bool
+    ensures { result ≡ is_word text.now word.now }
+{
+    text.eq_ignore_ascii_case(word.as_bytes())
 }
