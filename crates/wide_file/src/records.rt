@@ -9,9 +9,9 @@ ghost use Rattle.wide_file.specs.WideRecords.{wide_records, judged, IsInForce};
 ghost use Rattle.zone_lexing.specs.Word.{written};
 
 use crate::context::{Context, directive};
-use master_file::{FileFault, RecordEntry};
 use crate::record_entry::read_record;
 use dns_name::Name;
+use master_file::{FileFault, RecordEntry};
 use record_text::Cause;
 use std::alloc::{AllocError, Global};
 use std::marker::Model;

@@ -1,6 +1,6 @@
 -- Octets of fields and of the words after them, put one after the other.
-use Rattle.std.proofs.Common.{◌≡◌, ℕ, ◌+◌, ◌<◌, ◌≤◌, inl, inr, List, [], ◌∷◌, ◌++◌, map, length, drop, get_or, Result, Ok, Err, refl, sym, ap, ◌∙◌, arith}
-use Rattle.std.proofs.lemmas.List.{append_assoc, append-nil, drop_all, length-drop, at_drop_more}
+use Rattle.std.proofs.Common.{◌≡◌, ℕ, ◌+◌, ◌-◌, ◌<◌, ◌≤◌, inl, inr, List, [], ◌∷◌, ◌++◌, map, length, drop, take, get_or, Result, Ok, Err, OnOk, refl, sym, ap, ◌∙◌, arith}
+use Rattle.std.proofs.lemmas.List.{drop_all, length-drop, at_drop_more, take_rest}
 use Rattle.record_text.specs.Data.{IsToldOf}
 use Rattle.record_text.specs.Private.{ReadsBehind}
 use Rattle.record_text.specs.Reading.{on_ok, and_then}
@@ -56,3 +56,17 @@ rest-put old own new left reading e put =
 pub rest-fault : (old own : List ℕ) (left reading : Result (List ℕ) Cause) (cause : Cause) → behind own left ≡ behind old reading → IsToldOf left cause → IsToldOf reading cause
 rest-fault old own left reading cause e (inl none) = inl none
 rest-fault old own left reading cause e (inr fault) = inr (behind_err old reading cause (sym e ∙ ap (behind own) fault))
+
+-- the words after the fields, as the loop leaves them
+pub rest-from : (own old : List ℕ) (origin : List (List ℕ)) (fields : List Field) (rest : Rest) (words : List Word) (i : ℕ) → length fields ≤ i → i ≤ length fields → whole own origin (drop i fields) rest (map written (drop i words)) ≡ whole old origin fields rest (map written words)
+    → behind own (rest_of rest (map written (take (length words - length fields) (drop (length fields) words)))) ≡ behind old (fields_of origin fields rest (map written words))
+rest-from own old origin fields rest words i low high way =
+    let same : length fields ≡ i = omega arith in
+    ap (λ (ws : List Word). behind own (rest_of rest (map written ws))) (take_rest words (length fields))
+    ∙ ap (λ (k : ℕ). behind own (rest_of rest (map written (drop k words)))) same
+    ∙ sym (whole_rest own origin fields rest words i low)
+    ∙ way
+
+pub on_ok_weaker : {A E : Type 0} (r : Result A E) (P Q : Type 0) → (P → Q) → OnOk r P → OnOk r Q
+on_ok_weaker (Ok x) P Q f h = f h
+on_ok_weaker (Err e) P Q f h = h

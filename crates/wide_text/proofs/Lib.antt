@@ -4,3 +4,4 @@ pub mod PlainLemmas
 pub mod QuoteLemmas
 pub mod RestLemmas
 pub mod WordLemmas
+pub mod WriteLemmas
