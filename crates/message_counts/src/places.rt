@@ -1,5 +1,5 @@
 //! What octets say at their places.
-ghost use Rattle.std.specs.Prelude.{◌≡◌, ◌<◌, ◌==◌, ◌^◌, ◌+◌, ◌*◌, length, drop, option_map, slice_index};
+ghost use Rattle.std.specs.Prelude.{◌≡◌, ◌<◌, ◌≤◌, ◌==◌, ◌^◌, ◌+◌, ◌*◌, length, drop, option_map, slice_index};
 ghost use Rattle.message_counts.specs.Places.{octet_at, opcode_of, is_truncated, number_at, after_name, after_first_name, question_type, rcode_of, high_code, opt_code};
 
 /// Where a header counts its questions (RFC 1035, 4.1.1).
@@ -65,7 +65,8 @@ fn after_name(octets: &[u8]) -> Option<&[u8]>
 /// What stands after so many octets; nothing where there are fewer.
 #[tactic(auto, using(crate::proofs::NameLemmas::none_left))]
 fn after_octets(octets: &[u8], count: u8) -> &[u8]
-    ensures { result.now ≡ drop count octets.now }
+    ensures rest { result.now ≡ drop count octets.now }
+    ensures fewer { length result.now ≤ length octets.now }
 {
     let count = usize::from(count);
     if count <= octets.len() {

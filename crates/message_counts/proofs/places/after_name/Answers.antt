@@ -1,4 +1,5 @@
-use Rattle.std.proofs.Common.{◌≢◌, ◌≤◌, arith}
+use Rattle.std.proofs.Common.{◌≢◌, ◌≤◌, sym, ap, ◌∙◌, arith}
+use Rattle.message_counts.specs.Places.{after_name}
 use Rattle.message_counts.proofs.NameLemmas.{after_a_label}
 use Rattle.message_counts.proofs.places.after_name.Goals as goal
 
@@ -7,7 +8,4 @@ loop-len-preserved c =
     let some : c.in-Some.len.now ≢ 0 = omega arith in
     let short : c.in-Some.len.now ≤ 63 = omega arith in
     let passed = after_a_label c.in-Some.len.now c.in-Some.more.now some short in
-    let whole = c.in-Some.ensures.cases in
-    let cut = c.after_octets.ensures in
-    let kept = c.loop-len.invariant in
-    cc
+    ap (after_name 0) c.after_octets.ensures.rest ∙ (sym passed ∙ (ap (after_name 0) (sym c.in-Some.ensures.cases.0) ∙ c.loop-len.invariant))
