@@ -25,10 +25,11 @@ abbrev pub points_text : ℕ → ℕ → List ℕ → List ℕ
 points_text x most [] = []
 points_text x most (rate ∷ rates) = point_text x most rate ++ points_text (min (x + 5) (2 ^ 64 - 1)) most rates
 
--- what stands between a graph's title and its points, and after these
+-- what stands between a graph's title and its points
 unfoldable pub graph_front : List ℕ
 graph_front = codes "</h2>\n<svg viewBox=\"0 0 600 100\"><polyline points=\""
 
+-- what stands after them
 unfoldable pub graph_back : List ℕ
 graph_back = codes "\"/></svg>\n"
 

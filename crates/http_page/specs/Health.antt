@@ -1,5 +1,5 @@
 -- Whether a server is healthy (own).
-use Rattle.std.specs.Prelude.{ℕ, ◌+◌, ◌-◌, Bool, true, false, List, [], ◌∷◌, ◌++◌, codes, decimal, nat_lt, Option, Some, None, if◌then◌else◌}
+use Rattle.std.specs.Prelude.{ℕ, ◌+◌, ◌-◌, Bool, List, [], ◌∷◌, ◌++◌, codes, decimal, nat_lt, Option, Some, None, if◌then◌else◌}
 use Rattle.http_page.specs.declared.health.Health.{Health}
 use Rattle.http_page.specs.declared.health.Health.TheVariants.{Healthy, Ending, StoreFailing, Stuck}
 use Rattle.http_page.specs.declared.reply.Status.{Status}
@@ -14,6 +14,7 @@ abbrev pub first_stuck : ℕ → ℕ → List ℕ → Option ℕ
 first_stuck place now [] = None
 first_stuck place now (since ∷ others) = if is_stuck now since then Some place else first_stuck (place + 1) now others
 
+-- the health of a server whose threads alone matter, by the first that is stuck
 abbrev pub health_of_threads : Option ℕ → Health
 health_of_threads None = Healthy
 health_of_threads (Some place) = Stuck place

@@ -4,17 +4,19 @@ use Rattle.http_page.specs.Html.{escaped}
 use Rattle.http_page.specs.Graph.{graph_text}
 use Rattle.http_page.specs.Overview.{OverviewOf, SecondaryOf}
 
--- what stands before the zone's name: the page loads itself again each five seconds; and after the lines of the log
+-- what stands before the zone's name: the page loads itself again each five seconds
 unfoldable pub page_front : List ℕ
 page_front = codes "<!DOCTYPE html>\n<html lang=\"en\"><head><meta charset=\"utf-8\"><meta http-equiv=\"refresh\" content=\"5\"><title>dnsd</title></head><body>\n<h1>"
 
+-- what stands after the lines of the log
 unfoldable pub page_back : List ℕ
 page_back = codes "</pre>\n</body></html>\n"
 
--- what stands before the first secondary, and between the last one and the lines of the log
+-- what stands before the first secondary
 unfoldable pub table_front : List ℕ
 table_front = codes "<h2>secondaries</h2>\n<table><tr><th>address</th><th>sent</th><th>answered</th><th>given up</th><th>serial</th><th>behind</th></tr>\n"
 
+-- what stands between the last secondary and the lines of the log
 unfoldable pub table_back : List ℕ
 table_back = codes "</table>\n<h2>log</h2>\n<pre>\n"
 

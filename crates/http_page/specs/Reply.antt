@@ -19,11 +19,11 @@ content_type content.Metrics = codes "text/plain; version=0.0.4"
 content_type content.Text = codes "text/plain; charset=utf-8"
 content_type content.Page = codes "text/html; charset=utf-8"
 
--- what stands before the length of a body, and after that: no cache keeps the reply (RFC 9111, 5.2.2.5), and the connection is closed
--- after it (RFC 9112, 9.6)
+-- what stands before the length of a body
 unfoldable pub length_field : List ℕ
 length_field = codes "\r\nContent-Length: "
 
+-- what stands after it: no cache keeps the reply (RFC 9111, 5.2.2.5), and the connection is closed after it (RFC 9112, 9.6)
 unfoldable pub last_fields : List ℕ
 last_fields = codes "\r\nCache-Control: no-store\r\nConnection: close\r\n\r\n"
 
