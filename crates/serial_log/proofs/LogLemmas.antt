@@ -1,0 +1,86 @@
+-- What a log keeps, with an entry more and an entry less.
+use Rattle.std.proofs.Common.{◌≡◌, refl, sym, ap, ◌∙◌, ℕ, ◌+◌, ◌*◌, ◌-◌, ◌<◌, ◌≤◌, ◌^◌, true, List, [], ◌∷◌, ◌++◌, length, Option, Some, None, nat_le, nat_lt, subst, arith}
+use Rattle.std.specs.Prelude.{◌&&◌}
+use Rattle.std.proofs.lemmas.Bool.Decides.{nat_tests}
+use Rattle.std.proofs.lemmas.List.{length_push}
+use Rattle.dns_rdata.specs.SerialOrder.{serial_distance}
+use Rattle.shared_tree.specs.Pairs.{first_pair}
+use Rattle.serial_log.specs.Log.{Logged, rise_of, octets_in, fits, AreLinked}
+use Rattle.serial_log.specs.Places.{Placed, entries_of, ArePlaced, EndAt, IsLog}
+use Rattle.serial_log.specs.declared.limits.Limits.{Limits}
+use Rattle.serial_log.proofs.RunLemmas.{rise_push, octets_push, fits_rest}
+use Rattle.serial_log.proofs.PlaceLemmas.{entries_push, some_way, ends_push, end_rest, linked_last}
+
+module _ {C : Type 0} where
+  placed_push : (end d : ℕ) (e : Logged C) (pairs : Placed C) → ArePlaced end pairs → 0 < end → d ≡ serial_distance e.before e.after → ArePlaced (end + d) (pairs ++ (end, e) ∷ [])
+  placed_push end d e [] placed some is = (some, (omega (arith, is), tt))
+  placed_push end d e (pair ∷ pairs) placed some is =
+      let here = placed.1.0 in
+      let further : rise_of (entries_of ((pair ∷ pairs) ++ (end, e) ∷ [])) ≡ rise_of (entries_of (pair ∷ pairs)) + serial_distance e.before e.after = ap rise_of (entries_push (pair ∷ pairs) end e) ∙ rise_push (entries_of (pair ∷ pairs)) e in
+      let there : pair.0 + rise_of (entries_of ((pair ∷ pairs) ++ (end, e) ∷ [])) ≡ end + d = omega (arith, here, further, is) in (
+        placed.0,
+        (there, placed_push end d e pairs placed.1.1 some is),
+      )
+
+  pub appended : (limits : Limits) (pushed last end octets count d : ℕ) (e : Logged C) (pairs : Placed C) → IsLog limits pushed last end octets count pairs → AreLinked (entries_of pairs ++ e ∷ []) → fits limits (entries_of pairs ++ e ∷ []) ≡ true
+      → d ≡ serial_distance e.before e.after → IsLog limits (pushed + 1) e.after (end + d) (octets + e.octets) (count + 1) (pairs ++ (end, e) ∷ [])
+  appended limits pushed last end octets count d e pairs log linked fit is =
+      let all : entries_of (pairs ++ (end, e) ∷ []) ≡ entries_of pairs ++ e ∷ [] = entries_push pairs end e in
+      let longer = length_push pairs (end, e) in
+      let counted = log.counted in
+      let more : octets_in (entries_of (pairs ++ (end, e) ∷ [])) ≡ octets_in (entries_of pairs) + e.octets = ap octets_in all ∙ octets_push (entries_of pairs) e in
+      let sum = log.sum in
+      let some = log.some in
+      let far = log.far in
+      let way = (some_way e (linked_last (entries_of pairs) e linked)).1 in
+      record {
+        placed = placed_push end d e pairs log.placed log.some is;
+        linked = subst AreLinked (sym all) linked;
+        ends = subst (EndAt e.after) (sym all) (ends_push e (entries_of pairs));
+        fit = ap (fits limits) all ∙ fit;
+        counted = omega (arith, longer, counted);
+        sum = omega (arith, more, sum);
+        some = omega (arith, some);
+        far = omega (arith, far, way, is);
+      }
+
+  pub removed : (limits : Limits) (pushed last end octets count : ℕ) (pair : ℕ × Logged C) (pairs : Placed C) → IsLog limits pushed last end octets count (pair ∷ pairs) → IsLog limits pushed last end (octets - pair.1.octets) (count - 1) pairs
+  removed limits pushed last end octets count pair pairs log =
+      let counted = log.counted in
+      let sum = log.sum in
+      record {
+        placed = log.placed.1.1;
+        linked = log.linked.1.1;
+        ends = end_rest last pair.1 (entries_of pairs) log.ends;
+        fit = fits_rest limits pair.1 (entries_of pairs) log.fit;
+        counted = omega (arith, counted);
+        sum = omega (arith, sum);
+        some = log.some;
+        far = log.far;
+      }
+
+  -- the first of pairs, and how far up the ring all lead
+  pub rise_is : (end : ℕ) (pairs : Placed C) (pair : ℕ × Logged C) → ArePlaced end pairs → Some pair ≡ first_pair pairs → (pair.0 ≤ end) × (end - pair.0 ≡ rise_of (entries_of pairs))
+  rise_is end [] pair placed is = absurd (cc)
+  rise_is end (first ∷ pairs) pair placed is =
+      let here = placed.1.0 in
+      let same : pair.0 ≡ first.0 = ap (λ (o : Option (ℕ × Logged C)). place_in o) is in (
+        omega (arith, here, same),
+        omega (arith, here, same),
+      )
+    where
+      place_in : Option (ℕ × Logged C) → ℕ
+      place_in None = 0
+      place_in (Some p) = p.0
+
+  pub no_rise : (pairs : Placed C) → None ≡ first_pair pairs → pairs ≡ []
+  no_rise [] is = refl
+  no_rise (first ∷ pairs) is = absurd (cc)
+
+  pub first_is : (pairs : Placed C) (pair : ℕ × Logged C) → Some pair ≡ first_pair pairs → (rest : Placed C) × (pairs ≡ pair ∷ rest)
+  first_is [] pair is = absurd (cc)
+  first_is (first ∷ pairs) pair is = (pairs, ap (λ (o : Option (ℕ × Logged C)). pair_or first o ∷ pairs) (sym is))
+    where
+      pair_or : ℕ × Logged C → Option (ℕ × Logged C) → ℕ × Logged C
+      pair_or d None = d
+      pair_or d (Some p) = p
