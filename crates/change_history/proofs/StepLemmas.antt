@@ -28,8 +28,8 @@ steps_told zone [] [] h = refl
 steps_told zone [] (next ∷ zones) h = absurd h
 steps_told zone (step ∷ all) [] h = absurd h
 steps_told zone (step ∷ all) (next ∷ zones) h =
-    ap (λ l. l ++ steps_records all) (step_told zone next step h.0 h.1.0)
-    ∙ ap (λ l. (soa_of zone ++ left_out zone next ++ soa_of next ++ left_out next zone) ++ l) (steps_told next all zones h.1.1)
+    ap (λ l. l ++ steps_records all) (step_told zone next step h.0 h.1)
+    ∙ ap (λ l. (soa_of zone ++ left_out zone next ++ soa_of next ++ left_out next zone) ++ l) (steps_told next all zones h.2)
 
 pub list_told : (zone : List Record) (all : List Step) (zones : List (List Record)) → AreSteps zone all zones → incremental_by (soa_of (newest zone zones)) all ≡ incremental zone zones
 list_told zone all zones h =
@@ -67,13 +67,13 @@ ends_are_versions zone next zones h =
 
 pub one_taken : (zone next : List Record) (step : Step) (zones : List (List Record)) → AreVersions zone (next ∷ zones) → AreChanges step.changes zone (newest next zones) → step.soa ≡ soa_of (newest next zones)
     → take zone (map as_sent (incremental_by (soa_of (newest next zones)) (step ∷ []))) ≡ Ok (newest next zones)
-one_taken zone next step zones k h e = list_taken zone (newest next zones) (step ∷ []) [] (h, (e, tt)) (ends_are_versions zone next zones k)
+one_taken zone next step zones k h e = list_taken zone (newest next zones) (step ∷ []) [] (h, e, tt) (ends_are_versions zone next zones k)
 
 -- versions one after the other are steps
 one_step : (zone : List Record) (v : Version) (vs : List Version) (o : Option Changes) → v.changes ≡ o → MatchOption o ⊥ (λ c. AreChanges c zone v.zone) → AreSteps v.zone (steps_of vs) (zones_of vs)
     → AreSteps zone (elim o [ None ↦ [] | Some c ↦ record { changes = c; soa = soa_of v.zone } ∷ [] ] ++ steps_of vs) (v.zone ∷ zones_of vs)
 one_step zone v vs None is h rest = absurd h
-one_step zone v vs (Some c) is h rest = (h, (refl, rest))
+one_step zone v vs (Some c) is h rest = (h, refl, rest)
 
 pub versions_told : (zone : List Record) (versions : List Version) → AreBehind zone versions → AreSteps zone (steps_of versions) (zones_of versions)
 versions_told zone [] h = tt

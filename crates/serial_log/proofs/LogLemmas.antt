@@ -1,25 +1,25 @@
 -- What a log keeps, with an entry more and an entry less.
-use Rattle.std.proofs.Common.{◌≡◌, refl, sym, ap, ◌∙◌, ℕ, ◌+◌, ◌*◌, ◌-◌, ◌<◌, ◌≤◌, ◌^◌, true, List, [], ◌∷◌, ◌++◌, length, Option, Some, None, nat_le, nat_lt, subst, arith}
-use Rattle.std.specs.Prelude.{◌&&◌}
-use Rattle.std.proofs.lemmas.Bool.Decides.{nat_tests}
+use Rattle.std.proofs.Common.{◌≡◌, refl, sym, ap, ◌∙◌, ℕ, ◌+◌, ◌*◌, ◌-◌, ◌<◌, ◌≤◌, ◌^◌, true, List, [], ◌∷◌, ◌++◌, length, drop, Option, Some, None, subst, arith}
 use Rattle.std.proofs.lemmas.List.{length_push}
 use Rattle.dns_rdata.specs.SerialOrder.{serial_distance}
-use Rattle.shared_tree.specs.Pairs.{first_pair}
+use Rattle.std.specs.Ordering.{nat_cmp}
+use Rattle.shared_tree.specs.Pairs.{first_pair, pairs_without}
 use Rattle.serial_log.specs.Log.{Logged, rise_of, octets_in, fits, AreLinked}
 use Rattle.serial_log.specs.Places.{Placed, entries_of, ArePlaced, EndAt, IsLog}
 use Rattle.serial_log.specs.declared.limits.Limits.{Limits}
 use Rattle.serial_log.proofs.RunLemmas.{rise_push, octets_push, fits_rest}
-use Rattle.serial_log.proofs.PlaceLemmas.{entries_push, some_way, ends_push, end_rest, linked_last}
+use Rattle.serial_log.proofs.PlaceLemmas.{entries_push, some_way, ends_push, end_rest, linked_last, without_first}
 
 module _ {C : Type 0} where
   placed_push : (end d : ℕ) (e : Logged C) (pairs : Placed C) → ArePlaced end pairs → 0 < end → d ≡ serial_distance e.before e.after → ArePlaced (end + d) (pairs ++ (end, e) ∷ [])
-  placed_push end d e [] placed some is = (some, (omega (arith, is), tt))
+  placed_push end d e [] placed some is = (some, omega (arith, is), tt)
   placed_push end d e (pair ∷ pairs) placed some is =
-      let here = placed.1.0 in
+      let here = placed.1 in
       let further : rise_of (entries_of ((pair ∷ pairs) ++ (end, e) ∷ [])) ≡ rise_of (entries_of (pair ∷ pairs)) + serial_distance e.before e.after = ap rise_of (entries_push (pair ∷ pairs) end e) ∙ rise_push (entries_of (pair ∷ pairs)) e in
       let there : pair.0 + rise_of (entries_of ((pair ∷ pairs) ++ (end, e) ∷ [])) ≡ end + d = omega (arith, here, further, is) in (
         placed.0,
-        (there, placed_push end d e pairs placed.1.1 some is),
+        there,
+        placed_push end d e pairs placed.2 some is,
       )
 
   pub appended : (limits : Limits) (pushed last end octets count d : ℕ) (e : Logged C) (pairs : Placed C) → IsLog limits pushed last end octets count pairs → AreLinked (entries_of pairs ++ e ∷ []) → fits limits (entries_of pairs ++ e ∷ []) ≡ true
@@ -49,8 +49,8 @@ module _ {C : Type 0} where
       let counted = log.counted in
       let sum = log.sum in
       record {
-        placed = log.placed.1.1;
-        linked = log.linked.1.1;
+        placed = log.placed.2;
+        linked = log.linked.2;
         ends = end_rest last pair.1 (entries_of pairs) log.ends;
         fit = fits_rest limits pair.1 (entries_of pairs) log.fit;
         counted = omega (arith, counted);
@@ -63,7 +63,7 @@ module _ {C : Type 0} where
   pub rise_is : (end : ℕ) (pairs : Placed C) (pair : ℕ × Logged C) → ArePlaced end pairs → Some pair ≡ first_pair pairs → (pair.0 ≤ end) × (end - pair.0 ≡ rise_of (entries_of pairs))
   rise_is end [] pair placed is = absurd (cc)
   rise_is end (first ∷ pairs) pair placed is =
-      let here = placed.1.0 in
+      let here = placed.1 in
       let same : pair.0 ≡ first.0 = ap (λ (o : Option (ℕ × Logged C)). place_in o) is in (
         omega (arith, here, same),
         omega (arith, here, same),
@@ -77,10 +77,36 @@ module _ {C : Type 0} where
   no_rise [] is = refl
   no_rise (first ∷ pairs) is = absurd (cc)
 
-  pub first_is : (pairs : Placed C) (pair : ℕ × Logged C) → Some pair ≡ first_pair pairs → (rest : Placed C) × (pairs ≡ pair ∷ rest)
-  first_is [] pair is = absurd (cc)
-  first_is (first ∷ pairs) pair is = (pairs, ap (λ (o : Option (ℕ × Logged C)). pair_or first o ∷ pairs) (sym is))
-    where
-      pair_or : ℕ × Logged C → Option (ℕ × Logged C) → ℕ × Logged C
-      pair_or d None = d
-      pair_or d (Some p) = p
+  -- the first of pairs, whatever it is called
+  pair_or : ℕ × Logged C → Option (ℕ × Logged C) → ℕ × Logged C
+  pair_or d None = d
+  pair_or d (Some p) = p
+
+  same_first : (pair first : ℕ × Logged C) → Some pair ≡ Some first → pair ≡ first
+  same_first pair first is = ap (pair_or first) is
+
+  -- the pairs without the first of them
+  pub rest_is : (end : ℕ) (pair first : ℕ × Logged C) (rest now : Placed C) → ArePlaced end (first ∷ rest) → AreLinked (entries_of (first ∷ rest)) → Some pair ≡ Some first → now ≡ pairs_without nat_cmp pair.0 (first ∷ rest) → now ≡ rest
+  rest_is end pair first rest now placed linked is without =
+      without ∙ ap (λ (p : ℕ × Logged C). pairs_without nat_cmp p.0 (first ∷ rest)) (same_first pair first is) ∙ without_first end first rest placed linked
+
+  pub removed_as : (limits : Limits) (pushed last end octets count more : ℕ) (pair : ℕ × Logged C) (pairs now : Placed C) → IsLog limits pushed last end octets count pairs → Some pair ≡ first_pair pairs → more ≡ pair.1.octets
+      → now ≡ pairs_without nat_cmp pair.0 pairs → IsLog limits pushed last end (octets - more) (count - 1) now
+  removed_as limits pushed last end octets count more pair [] now log is more_is without = absurd (cc)
+  removed_as limits pushed last end octets count more pair (first ∷ rest) now log is more_is without =
+      let same : more ≡ first.1.octets = more_is ∙ ap (λ (p : ℕ × Logged C). p.1.octets) (same_first pair first is) in
+      let left : now ≡ rest = rest_is end pair first rest now log.placed log.linked is without in
+      subst (λ (ps : Placed C). IsLog limits pushed last end (octets - more) (count - 1) ps) (sym left)
+      (subst (λ (n : ℕ). IsLog limits pushed last end (octets - n) (count - 1) rest) (sym same) (removed limits pushed last end octets count first rest log))
+
+  pub entries_without : (limits : Limits) (pushed last end octets count : ℕ) (pair : ℕ × Logged C) (pairs now : Placed C) → IsLog limits pushed last end octets count pairs → Some pair ≡ first_pair pairs → now ≡ pairs_without nat_cmp pair.0 pairs
+      → entries_of now ≡ drop 1 (entries_of pairs)
+  entries_without limits pushed last end octets count pair [] now log is without = absurd (cc)
+  entries_without limits pushed last end octets count pair (first ∷ rest) now log is without = ap entries_of (rest_is end pair first rest now log.placed log.linked is without)
+
+  pub appended_as : (limits : Limits) (pushed last end octets count d after more : ℕ) (e : Logged C) (pairs now : Placed C) → IsLog limits pushed last end octets count pairs → AreLinked (entries_of pairs ++ e ∷ [])
+      → fits limits (entries_of pairs ++ e ∷ []) ≡ true → d ≡ serial_distance e.before e.after → after ≡ e.after → more ≡ e.octets → now ≡ pairs ++ (end, e) ∷ [] → IsLog limits (pushed + 1) after (end + d) (octets + more) (count + 1) now
+  appended_as limits pushed last end octets count d after more e pairs now log linked fit is after_is more_is now_is =
+      subst (λ (ps : Placed C). IsLog limits (pushed + 1) after (end + d) (octets + more) (count + 1) ps) (sym now_is)
+      (subst (λ (n : ℕ). IsLog limits (pushed + 1) after (end + d) (octets + n) (count + 1) (pairs ++ (end, e) ∷ [])) (sym more_is)
+      (subst (λ (n : ℕ). IsLog limits (pushed + 1) n (end + d) (octets + e.octets) (count + 1) (pairs ++ (end, e) ∷ [])) (sym after_is) (appended limits pushed last end octets count d e pairs log linked fit is)))

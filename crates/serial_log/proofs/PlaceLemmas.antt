@@ -42,28 +42,28 @@ module _ {C : Type 0} where
   pub behind : (end q : ℕ) (pairs : Placed C) → ArePlaced end pairs → q + rise_of (entries_of pairs) < end → AllByRecursion (λ pair. q < pair.0) pairs
   behind end q [] placed far = tt
   behind end q (pair ∷ pairs) placed far =
-      let here = placed.1.0 in
+      let here = placed.1 in
       let first : q < pair.0 = omega (arith, here, far) in
       let less : q + rise_of (entries_of pairs) < end = omega (arith, far) in (
         first,
-        behind end q pairs placed.1.1 less,
+        behind end q pairs placed.2 less,
       )
 
   pub behind_first : (end : ℕ) (pair : ℕ × Logged C) (pairs : Placed C) → ArePlaced end (pair ∷ pairs) → AreLinked (entries_of (pair ∷ pairs)) → AllByRecursion (λ other. pair.0 < other.0) pairs
   behind_first end pair pairs placed linked =
       let some = (some_way pair.1 linked.0).0 in
-      let here = placed.1.0 in
-      behind end pair.0 pairs placed.1.1 (omega (arith, some, here))
+      let here = placed.1 in
+      behind end pair.0 pairs placed.2 (omega (arith, some, here))
 
   -- each place is before the end
   pub before_end : (end : ℕ) (pairs : Placed C) → ArePlaced end pairs → AreLinked (entries_of pairs) → AllByRecursion (λ pair. pair.0 < end) pairs
   before_end end [] placed linked = tt
   before_end end (pair ∷ pairs) placed linked =
       let some = (some_way pair.1 linked.0).0 in
-      let here = placed.1.0 in
+      let here = placed.1 in
       let first : pair.0 < end = omega (arith, some, here) in (
         first,
-        before_end end pairs placed.1.1 linked.1.1,
+        before_end end pairs placed.2 linked.2,
       )
 
   -- an entry put at the end stands behind all others
@@ -98,13 +98,13 @@ module _ {C : Type 0} where
 
   pub linked_front : (es : List (Logged C)) (e : Logged C) → AreLinked (es ++ e ∷ []) → AreLinked es
   linked_front [] e linked = tt
-  linked_front (f ∷ []) e linked = (linked.0, (tt, tt))
-  linked_front (f ∷ g ∷ es) e linked = (linked.0, (linked.1.0, linked_front (g ∷ es) e linked.1.1))
+  linked_front (f ∷ []) e linked = (linked.0, tt, tt)
+  linked_front (f ∷ g ∷ es) e linked = (linked.0, linked.1, linked_front (g ∷ es) e linked.2)
 
   pub linked_last : (es : List (Logged C)) (e : Logged C) → AreLinked (es ++ e ∷ []) → Rises e
   linked_last [] e linked = linked.0
-  linked_last (f ∷ es) e linked = linked_last es e linked.1.1
+  linked_last (f ∷ es) e linked = linked_last es e linked.2
 
   pub linked_rest : (es : List (Logged C)) (e : Logged C) → 0 < length es → AreLinked (es ++ e ∷ []) → AreLinked (drop 1 es ++ e ∷ [])
   linked_rest [] e some linked = absurd (omega arith)
-  linked_rest (f ∷ es) e some linked = linked.1.1
+  linked_rest (f ∷ es) e some linked = linked.2

@@ -1,6 +1,6 @@
 -- The longest run of the newest entries that is within limits.
-use Rattle.std.proofs.Common.{◌≡◌, refl, sym, ap, ◌∙◌, ℕ, ◌+◌, ◌<◌, ◌≤◌, ◌^◌, Bool, true, false, List, [], ◌∷◌, ◌++◌, length, drop, nat_le, nat_lt, arith}
-use Rattle.std.specs.Prelude.{◌&&◌, ◌⊎◌, inl, inr, if◌then◌else◌}
+use Rattle.std.proofs.Common.{◌≡◌, refl, sym, ap, ◌∙◌, ℕ, ◌+◌, ◌<◌, ◌≤◌, ◌^◌, Bool, true, false, List, [], ◌∷◌, ◌++◌, length, drop, nat_le, nat_lt, ◌⊎◌, inl, inr, arith}
+use Rattle.std.specs.Prelude.{◌&&◌, if◌then◌else◌}
 use Rattle.std.proofs.lemmas.Bool.Decides.{nat_tests}
 use Rattle.std.proofs.lemmas.List.{length_push}
 use Rattle.dns_rdata.specs.SerialOrder.{serial_distance}
@@ -30,7 +30,7 @@ fits_rest limits e es fit = less_fits limits (length es) (length (e ∷ es)) (oc
 
 -- what the limits say of entries that fit
 parts_of : (limits : Limits) (n o r : ℕ) → nat_le n limits.count && (nat_le o limits.octets && nat_lt r 2147483648) ≡ true → (n ≤ limits.count) × (o ≤ limits.octets) × (r < 2147483648)
-parts_of limits n o r fit = (grind (arith, nat_tests), (grind (arith, nat_tests), grind (arith, nat_tests)))
+parts_of limits n o r fit = (grind (arith, nat_tests), grind (arith, nat_tests), grind (arith, nat_tests))
 
 pub fits_parts : {C : Type 0} (limits : Limits) (es : List (Logged C)) → fits limits es ≡ true → (length es ≤ limits.count) × (octets_in es ≤ limits.octets) × (rise_of es < 2147483648)
 fits_parts limits es fit = parts_of limits (length es) (octets_in es) (rise_of es) fit

@@ -9,7 +9,7 @@ use Rattle.std.specs.declared.cmp.Ordering.TheVariants.{Less, Equal, Greater}
 use Rattle.std.proofs.lemmas.Bool.{cases_lt}
 use Rattle.dns_rdata.specs.SerialOrder.{serial_distance}
 use Rattle.shared_tree.specs.Pairs.{pairs_above, pair_at, value_at}
-use Rattle.shared_tree.proofs.PairLemmas.{each_weaker, filter_all, all_above, none_at_below}
+use Rattle.shared_tree.proofs.PairLemmas.{each_weaker, each_passes, filter_all, all_above, none_at_below}
 use Rattle.serial_log.specs.Log.{Logged, rise_of, from_serial, Rises, BeginAt, AreLinked}
 use Rattle.serial_log.specs.Places.{Placed, entries_of, ArePlaced, EndAt, leads_from}
 use Rattle.serial_log.proofs.PlaceLemmas.{less_is, equal_is, greater_is, some_way, behind_first, end_rest}
@@ -32,16 +32,16 @@ added a b c h k l short =
 module _ {C : Type 0} where
   last_fits : (last : ℕ) (e : Logged C) (es : List (Logged C)) → AreLinked (e ∷ es) → EndAt last (e ∷ es) → last < 2 ^ 32
   last_fits last e [] linked ends = let after = linked.0.after in omega (arith, after, ends)
-  last_fits last e (f ∷ es) linked ends = last_fits last f es linked.1.1 ends
+  last_fits last e (f ∷ es) linked ends = last_fits last f es linked.2 ends
 
   -- how far it is from the serial before entries to the last
   pub distance_of : (last : ℕ) (e : Logged C) (es : List (Logged C)) → AreLinked (e ∷ es) → EndAt last (e ∷ es) → rise_of (e ∷ es) < 2 ^ 31 → serial_distance e.before last ≡ rise_of (e ∷ es)
   distance_of last e [] linked ends near = ap (serial_distance e.before) (sym ends) ∙ omega arith
   distance_of last e (f ∷ es) linked ends near =
-      let begins : f.before ≡ e.after = linked.1.0 in
-      let rest : serial_distance f.before last ≡ rise_of (f ∷ es) = distance_of last f es linked.1.1 ends (omega (arith, near)) in
+      let begins : f.before ≡ e.after = linked.1 in
+      let rest : serial_distance f.before last ≡ rise_of (f ∷ es) = distance_of last f es linked.2 ends (omega (arith, near)) in
       let from : serial_distance e.after last ≡ rise_of (f ∷ es) = ap (λ (s : ℕ). serial_distance s last) (sym begins) ∙ rest in
-      let fits = last_fits last f es linked.1.1 ends in
+      let fits = last_fits last f es linked.2 ends in
       let both : serial_distance e.before e.after + serial_distance e.after last < 2 ^ 31 = omega (arith, from, near) in
       added e.before e.after last linked.0.before linked.0.after fits both ∙ ap (λ (n : ℕ). serial_distance e.before e.after + n) from
 
@@ -56,7 +56,7 @@ module _ {C : Type 0} where
   no_further : (serial last : ℕ) (es : List (Logged C)) (found : List (Logged C)) → AreLinked es → EndAt last es → rise_of es < 2 ^ 31 → from_serial serial es ≡ Some found → serial_distance serial last ≤ rise_of es
   no_further serial last [] found linked ends near is = absurd (cc)
   no_further serial last (e ∷ es) found linked ends near is =
-      far_by serial last e es (e.before == serial) found linked ends near refl (no_further serial last es found linked.1.1 (end_rest last e es ends) (omega (arith, near))) is
+      far_by serial last e es (e.before == serial) found linked ends near refl (no_further serial last es found linked.2 (end_rest last e es ends) (omega (arith, near))) is
 
   none_by : (serial last : ℕ) (es : List (Logged C)) (o : Option (List (Logged C))) → from_serial serial es ≡ o → AreLinked es → EndAt last es → rise_of es < 2 ^ 31 → rise_of es < serial_distance serial last → from_serial serial es ≡ None
   none_by serial last es None is linked ends near far = is
@@ -106,7 +106,7 @@ module _ {C : Type 0} where
       → place + serial_distance serial last ≡ end → (pair.1.before == serial) ≡ true → Some (entries_of (pair ∷ pairs)) ≡ by_place serial place (pair ∷ pairs)
   here_by serial place last end pair pairs placed linked ends near is here =
       let far : serial_distance serial last ≡ rise_of (entries_of (pair ∷ pairs)) = ap (λ (s : ℕ). serial_distance s last) (sym (eqb-true pair.1.before serial here)) ∙ distance_of last pair.1 (entries_of pairs) linked ends near in
-      let at = placed.1.0 in
+      let at = placed.1 in
       let same : place ≡ pair.0 = omega (arith, far, at, is) in
       let all = all_from place end pair pairs same placed linked in
       sym
@@ -118,9 +118,9 @@ module _ {C : Type 0} where
   gone_by : (serial place last end : ℕ) (pair : ℕ × Logged C) (pairs : Placed C) → ArePlaced end (pair ∷ pairs) → AreLinked (entries_of (pair ∷ pairs)) → EndAt last (entries_of (pair ∷ pairs)) → rise_of (entries_of (pair ∷ pairs)) < 2 ^ 31
       → place + serial_distance serial last ≡ end → place ≤ pair.0 → from_serial serial (entries_of pairs) ≡ None
   gone_by serial place last end pair pairs placed linked ends near is before =
-      let at = placed.1.0 in
+      let at = placed.1 in
       let some = (some_way pair.1 linked.0).0 in
-      none_from serial last (entries_of pairs) linked.1.1 (end_rest last pair.1 (entries_of pairs) ends) (omega (arith, near)) (omega (arith, at, some, is, before))
+      none_from serial last (entries_of pairs) linked.2 (end_rest last pair.1 (entries_of pairs) ends) (omega (arith, near)) (omega (arith, at, some, is, before))
 
   none_here : (serial place : ℕ) (pair : ℕ × Logged C) (pairs : Placed C) → place ≡ pair.0 → (pair.1.before == serial) ≡ false → None ≡ by_place serial place (pair ∷ pairs)
   none_here serial place pair pairs same other =
@@ -164,7 +164,7 @@ module _ {C : Type 0} where
     pub placed_from : (pairs : Placed C) → ArePlaced end pairs → AreLinked (entries_of pairs) → EndAt last (entries_of pairs) → rise_of (entries_of pairs) < 2 ^ 31 → from_serial serial (entries_of pairs) ≡ by_place serial place pairs
     placed_from [] placed linked ends near = refl
     placed_from (pair ∷ pairs) placed linked ends near =
-        first_by pair pairs (pair.1.before == serial) placed linked ends near refl (placed_from pairs placed.1.1 linked.1.1 (end_rest last pair.1 (entries_of pairs) ends) (omega (arith, near)))
+        first_by pair pairs (pair.1.before == serial) placed linked ends near refl (placed_from pairs placed.2 linked.2 (end_rest last pair.1 (entries_of pairs) ends) (omega (arith, near)))
 
   -- what comes of whether an entry at the place leads from the serial
   pub none_found : (serial place : ℕ) (pairs : Placed C) (o : Option (Logged C)) → value_at nat_cmp place pairs ≡ o → leads_from serial o ≡ false → by_place serial place pairs ≡ None
@@ -180,5 +180,41 @@ module _ {C : Type 0} where
   too_far serial last end [] placed linked ends near far = refl
   too_far serial last end (pair ∷ pairs) placed linked ends near far =
       let some = placed.0 in
-      let at = placed.1.0 in
+      let at = placed.1 in
       none_from serial last (entries_of (pair ∷ pairs)) linked ends near (omega (arith, some, at, far))
+
+  not_below : (p x : ℕ) → x ≤ p → is_lt (nat_cmp p x) ≡ false
+  not_below p x h = ⊎_elim (λ (less : x < p). ap is_lt (greater_is p x less)) (λ (most : p ≤ x). ap is_lt (equal_is p x (omega (arith, most, h)))) (cases_lt x p)
+
+  -- pairs after two places are those after the greater one
+  is_above : (p q x : ℕ) → q ≤ p → is_lt (nat_cmp p x) ≡ true → is_lt (nat_cmp q x) ≡ true
+  is_above p q x h e =
+      ⊎_elim (λ (less : p < x). ap is_lt (less_is q x (omega (arith, less, h)))) (λ (most : x ≤ p). absurd (clash (sym e ∙ not_below p x most))) (cases_lt p x)
+    where
+      clash : true ≡ false → ⊥
+      clash e = cc
+
+  pub above_lower : (p q : ℕ) (pairs : Placed C) → q ≤ p → pairs_above nat_cmp p pairs ≡ pairs_above nat_cmp q (pairs_above nat_cmp p pairs)
+  above_lower p q pairs h =
+      sym
+      (filter_all (λ (pair : ℕ × Logged C). is_lt (nat_cmp q pair.0)) (pairs_above nat_cmp p pairs)
+      (each_weaker _ _ (λ (pair : ℕ × Logged C) e. is_above p q pair.0 h e) (pairs_above nat_cmp p pairs) (each_passes (λ (pair : ℕ × Logged C). is_lt (nat_cmp p pair.0)) pairs)))
+
+  higher_by : (p q : ℕ) (pair : ℕ × Logged C) (pairs : Placed C) (b : Bool) → is_lt (nat_cmp p pair.0) ≡ b → p ≤ q → pairs_above nat_cmp q pairs ≡ pairs_above nat_cmp q (pairs_above nat_cmp p pairs)
+      → pairs_above nat_cmp q (pair ∷ pairs) ≡ pairs_above nat_cmp q (pairs_above nat_cmp p (pair ∷ pairs))
+  higher_by p q pair pairs true e h rest =
+      ap (λ (l : Placed C). cond (is_lt (nat_cmp q pair.0)) (pair ∷ l) l) rest ∙ sym (ap (λ (b : Bool). pairs_above nat_cmp q (cond b (pair ∷ pairs_above nat_cmp p pairs) (pairs_above nat_cmp p pairs))) e)
+  higher_by p q pair pairs false e h rest =
+      let no : is_lt (nat_cmp q pair.0) ≡ false = not_below q pair.0 (not_above p pair.0 q h e) in
+      ap (λ (b : Bool). cond b (pair ∷ pairs_above nat_cmp q pairs) (pairs_above nat_cmp q pairs)) no ∙ rest
+      ∙ sym (ap (λ (b : Bool). pairs_above nat_cmp q (cond b (pair ∷ pairs_above nat_cmp p pairs) (pairs_above nat_cmp p pairs))) e)
+    where
+      clash : true ≡ false → ⊥
+      clash e = cc
+
+      not_above : (p x q : ℕ) → p ≤ q → is_lt (nat_cmp p x) ≡ false → x ≤ q
+      not_above p x q h e = ⊎_elim (λ (less : p < x). absurd (clash (sym (ap is_lt (less_is p x less)) ∙ e))) (λ (most : x ≤ p). omega (arith, most, h)) (cases_lt p x)
+
+  pub above_higher : (p q : ℕ) (pairs : Placed C) → p ≤ q → pairs_above nat_cmp q pairs ≡ pairs_above nat_cmp q (pairs_above nat_cmp p pairs)
+  above_higher p q [] h = refl
+  above_higher p q (pair ∷ pairs) h = higher_by p q pair pairs (is_lt (nat_cmp p pair.0)) refl h (above_higher p q pairs h)

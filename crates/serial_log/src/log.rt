@@ -117,7 +117,7 @@ impl<C: Drop> SerialLog<C> {
         ensures run { OnOk result (newest_run self.old.limits (self.new.entries ++ entry.now ∷ []) ≡ newest_run self.old.limits (self.old.entries ++ entry.now ∷ [])) }
         ensures room { OnOk result ((self.new.entries ≡ []) ⊎ (fits self.old.limits (self.new.entries ++ entry.now ∷ []) ≡ true)) }
     {
-        while self.count > 0 && !self.has_room(entry) {
+        while self.len() > 0 && !self.has_room(entry) {
             self.remove_first(alloc)?;
         }
         Ok(())
@@ -181,7 +181,7 @@ impl<C: Drop> SerialLog<C> {
         let (tree, _made) = self.tree.with(alloc, Place::new(self.end), entry)?;
         self.tree = tree;
         self.count += 1;
-        self.octets += octets;
+        self.octets = sum(self.octets, octets, self.limits.octets);
         self.end += u128::from(rise);
         self.last = last;
         self.pushed += 1;
@@ -214,4 +214,13 @@ fn leads_from<C: Drop>(tree: &Tree<Place, Entry<C>>, place: u128, serial: Serial
         Some(entry) => entry.before() == serial,
         None => false,
     }
+}
+
+/// The octets of a log with so many more, which are within its limit.
+fn sum(octets: u64, more: u64, limit: u64) -> u64
+    requires { octets + more ≤ limit }
+    ensures { result ≡ octets + more }
+{
+    let _bound = limit;
+    octets + more
 }

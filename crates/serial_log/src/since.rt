@@ -49,7 +49,9 @@ impl<C: Drop> Since<C> {
     pub fn walk_after(&self, place: &Place) -> Walk<'_, Place, Entry<C>>
         ensures { result ≡ pairs_above nat_cmp place.now self.now }
     {
-        if *place < self.above {
+        let least = self.above.number();
+        let asked = place.number();
+        if asked < least {
             return self.tree.walk_above(&self.above);
         }
         self.tree.walk_above(place)
