@@ -4,7 +4,7 @@ use Rattle.std.proofs.lemmas.List.{length_push}
 use Rattle.dns_rdata.specs.SerialOrder.{serial_distance}
 use Rattle.std.specs.Ordering.{nat_cmp}
 use Rattle.shared_tree.specs.Pairs.{first_pair, pairs_without}
-use Rattle.serial_log.specs.Log.{Logged, rise_of, octets_in, fits, AreLinked}
+use Rattle.serial_log.specs.Log.{Logged, LogState, rise_of, octets_in, fits, newest_run, AreLinked}
 use Rattle.serial_log.specs.Places.{Placed, entries_of, ArePlaced, EndAt, IsLog}
 use Rattle.serial_log.specs.declared.limits.Limits.{Limits}
 use Rattle.serial_log.proofs.RunLemmas.{rise_push, octets_push, fits_rest}
@@ -83,6 +83,7 @@ module _ {C : Type 0} where
   pair_or d (Some p) = p
 
   same_first : (pair first : ℕ × Logged C) → Some pair ≡ Some first → pair ≡ first
+  unfolding pair_or
   same_first pair first is = ap (pair_or first) is
 
   -- the pairs without the first of them
@@ -110,3 +111,13 @@ module _ {C : Type 0} where
       subst (λ (ps : Placed C). IsLog limits (pushed + 1) after (end + d) (octets + more) (count + 1) ps) (sym now_is)
       (subst (λ (n : ℕ). IsLog limits (pushed + 1) after (end + d) (octets + n) (count + 1) (pairs ++ (end, e) ∷ [])) (sym more_is)
       (subst (λ (n : ℕ). IsLog limits (pushed + 1) n (end + d) (octets + e.octets) (count + 1) (pairs ++ (end, e) ∷ [])) (sym after_is) (appended limits pushed last end octets count d e pairs log linked fit is)))
+
+  -- a log with an entry put into it, by way of one that has made room for it
+  pub put_told : (now log made new : LogState C) (e : Logged C) → log ≡ now → made.limits ≡ log.limits → made.pushed ≡ log.pushed → newest_run log.limits (made.entries ++ e ∷ []) ≡ newest_run log.limits (log.entries ++ e ∷ [])
+      → new ≡ record made { pushed = made.pushed + 1; entries = newest_run made.limits (made.entries ++ e ∷ []) } → new ≡ record now { pushed = now.pushed + 1; entries = newest_run now.limits (now.entries ++ e ∷ []) }
+  put_told now log made new e first limits_are pushed_is run new_is =
+      let limits : made.limits ≡ now.limits = limits_are ∙ ap (λ (h : LogState C). h.limits) first in
+      let pushed : made.pushed + 1 ≡ now.pushed + 1 = ap (λ (n : ℕ). n + 1) pushed_is ∙ ap (λ (h : LogState C). h.pushed + 1) first in
+      let entries : newest_run made.limits (made.entries ++ e ∷ []) ≡ newest_run now.limits (now.entries ++ e ∷ []) =
+      ap (λ (l : Limits). newest_run l (made.entries ++ e ∷ [])) limits_are ∙ run ∙ ap (λ (h : LogState C). newest_run h.limits (h.entries ++ e ∷ [])) first in
+      new_is ∙ (λ i. record { limits = limits i; pushed = pushed i; entries = entries i })

@@ -29,6 +29,17 @@ added a b c h k l short =
     (λ (e : a ≤ b). let d = up a b h k e in ⊎_elim (λ (f : c < b). let g = round b c k l f in ⊎_elim (λ (n : c < a). let m = round a c h l n in omega arith) (λ (n : a ≤ c). absurd (omega arith)) (cases_lt c a)) (λ (f : b ≤ c). let g = up b c k l f in let m = up a c h l (omega arith) in omega arith) (cases_lt c b))
     (cases_lt b a)
 
+not_below : (p x : ℕ) → x ≤ p → is_lt (nat_cmp p x) ≡ false
+not_below p x h = ⊎_elim (λ (less : x < p). ap is_lt (greater_is p x less)) (λ (most : p ≤ x). ap is_lt (equal_is p x (omega (arith, most, h)))) (cases_lt x p)
+
+-- pairs after two places are those after the greater one
+is_above : (p q x : ℕ) → q ≤ p → is_lt (nat_cmp p x) ≡ true → is_lt (nat_cmp q x) ≡ true
+is_above p q x h e =
+    ⊎_elim (λ (less : p < x). ap is_lt (less_is q x (omega (arith, less, h)))) (λ (most : x ≤ p). absurd (clash (sym e ∙ not_below p x most))) (cases_lt p x)
+  where
+    clash : true ≡ false → ⊥
+    clash e = cc
+
 module _ {C : Type 0} where
   last_fits : (last : ℕ) (e : Logged C) (es : List (Logged C)) → AreLinked (e ∷ es) → EndAt last (e ∷ es) → last < 2 ^ 32
   last_fits last e [] linked ends = let after = linked.0.after in omega (arith, after, ends)
@@ -182,17 +193,6 @@ module _ {C : Type 0} where
       let some = placed.0 in
       let at = placed.1 in
       none_from serial last (entries_of (pair ∷ pairs)) linked ends near (omega (arith, some, at, far))
-
-  not_below : (p x : ℕ) → x ≤ p → is_lt (nat_cmp p x) ≡ false
-  not_below p x h = ⊎_elim (λ (less : x < p). ap is_lt (greater_is p x less)) (λ (most : p ≤ x). ap is_lt (equal_is p x (omega (arith, most, h)))) (cases_lt x p)
-
-  -- pairs after two places are those after the greater one
-  is_above : (p q x : ℕ) → q ≤ p → is_lt (nat_cmp p x) ≡ true → is_lt (nat_cmp q x) ≡ true
-  is_above p q x h e =
-      ⊎_elim (λ (less : p < x). ap is_lt (less_is q x (omega (arith, less, h)))) (λ (most : x ≤ p). absurd (clash (sym e ∙ not_below p x most))) (cases_lt p x)
-    where
-      clash : true ≡ false → ⊥
-      clash e = cc
 
   pub above_lower : (p q : ℕ) (pairs : Placed C) → q ≤ p → pairs_above nat_cmp p pairs ≡ pairs_above nat_cmp q (pairs_above nat_cmp p pairs)
   above_lower p q pairs h =

@@ -111,7 +111,7 @@ impl<C: Drop> SerialLog<C> {
 
     /// Lets entries go, the oldest first, until the others are within the limits together with one more, or none is left.
     fn make_room(&mut self, alloc: Global, entry: &Entry<C>) -> Result<(), NoMemory>
-        requires linked { AreLinked (self.old.entries ++ entry.now ∷ []) }
+        requires { AreLinked (self.old.entries ++ entry.now ∷ []) }
         ensures same { OnOk result ((self.new.limits ≡ self.old.limits) × (self.new.pushed ≡ self.old.pushed)) }
         ensures linked { OnOk result (AreLinked (self.new.entries ++ entry.now ∷ [])) }
         ensures run { OnOk result (newest_run self.old.limits (self.new.entries ++ entry.now ∷ []) ≡ newest_run self.old.limits (self.old.entries ++ entry.now ∷ [])) }

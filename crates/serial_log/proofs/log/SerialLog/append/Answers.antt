@@ -9,8 +9,8 @@ use Rattle.serial_log.proofs.PlaceLemmas.{put_behind, entries_push}
 use Rattle.serial_log.proofs.LogLemmas.{appended_as}
 use Rattle.serial_log.proofs.log.SerialLog.append.Goals as goal
 
-pub sum-requires : goal.sum-requires
-sum-requires g c =
+pub sum-self-inside-requires : goal.sum-self-inside-requires
+sum-self-inside-requires g c =
     let log = c.args.self.now in
     let fit : fits log.limits (log.entries ++ c.args.entry ∷ []) ≡ true = sym c.has_room.ensures ∙ c.if-not-has_room.false in
     let most = (fits_parts log.limits (log.entries ++ c.args.entry ∷ []) fit).1 in
@@ -28,7 +28,7 @@ invariant_of-self-2 g c =
     let fit : fits inside.limits (entries_of pairs ++ c.args.entry ∷ []) ≡ true = ap (λ (h : LogState _). fits h.limits (h.entries ++ c.args.entry ∷ [])) c.self.view_is ∙ sym c.has_room.ensures ∙ c.if-not-has_room.false in
     let now : c.in_ok-tree.tree.pairs ≡ pairs ++ (inside.end, c.args.entry) ∷ [] =
     c.in_ok-tree.ensures.pairs ∙ ap (λ (p : ℕ). pairs_with nat_cmp p c.args.entry pairs) c.new.ensures ∙ put_behind inside.end c.args.entry pairs c.self.invariant.placed c.self.invariant.linked in
-    subst (λ (n : ℕ). IsLog inside.limits (inside.pushed + 1) c.after-last.result.0 (inside.end + c.from.result) n (inside.count + 1) c.in_ok-tree.tree.pairs) (sym c.sum.ensures)
+    subst (λ (n : ℕ). IsLog inside.limits (inside.pushed + 1) c.after-last.result.0 (inside.end + c.from.result) n (inside.count + 1) c.in_ok-tree.tree.pairs) (sym c.sum-self-inside.ensures)
     (appended_as inside.limits inside.pushed inside.last.0 inside.end inside.octets inside.count c.from.result c.after-last.result.0 c.octets-octets.result c.args.entry pairs c.in_ok-tree.tree.pairs c.self.invariant linked fit (c.from.ensures ∙ c.rise-rise.ensures) c.after-last.ensures c.octets-octets.ensures now)
 
 pub returns : goal.returns
