@@ -59,24 +59,6 @@ module _ {C : Type 0} where
         far = log.far;
       }
 
-  -- the first of pairs, and how far up the ring all lead
-  pub rise_is : (end : ℕ) (pairs : Placed C) (pair : ℕ × Logged C) → ArePlaced end pairs → Some pair ≡ first_pair pairs → (pair.0 ≤ end) × (end - pair.0 ≡ rise_of (entries_of pairs))
-  rise_is end [] pair placed is = absurd (cc)
-  rise_is end (first ∷ pairs) pair placed is =
-      let here = placed.1 in
-      let same : pair.0 ≡ first.0 = ap (λ (o : Option (ℕ × Logged C)). place_in o) is in (
-        omega (arith, here, same),
-        omega (arith, here, same),
-      )
-    where
-      place_in : Option (ℕ × Logged C) → ℕ
-      place_in None = 0
-      place_in (Some p) = p.0
-
-  pub no_rise : (pairs : Placed C) → None ≡ first_pair pairs → pairs ≡ []
-  no_rise [] is = refl
-  no_rise (first ∷ pairs) is = absurd (cc)
-
   -- the first of pairs, whatever it is called
   pair_or : ℕ × Logged C → Option (ℕ × Logged C) → ℕ × Logged C
   pair_or d None = d
