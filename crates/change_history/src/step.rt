@@ -150,7 +150,9 @@ fn plus_set(octets: u64, set: &RRset) -> u64
     let head = owner.wire().len() as u64 + 10;
     let mut sum = octets;
     for rdata in set.data() {
-        sum = sum.saturating_add(head + rdata.octets().len() as u64).min(MOST);
+        sum = sum
+            .saturating_add(head + rdata.octets().len() as u64)
+            .min(MOST);
     }
     sum
 }
