@@ -9,6 +9,7 @@ import base64
 import hashlib
 import hmac
 import os
+import random
 import shutil
 import socket
 import struct
@@ -69,9 +70,16 @@ def deploy(port, *words):
 
 
 def free_port():
-    with socket.socket() as own:
-        own.bind(("127.0.0.1", 0))
-        return own.getsockname()[1]
+    """A port that is free by TCP and UDP, below those that the system gives to clients."""
+    for port in random.sample(range(20_000, 30_000), 200):
+        with socket.socket() as stream, socket.socket(type=socket.SOCK_DGRAM) as datagrams:
+            try:
+                stream.bind(("127.0.0.1", port))
+                datagrams.bind(("127.0.0.1", port))
+            except OSError:
+                continue
+            return port
+    raise RuntimeError("no free port")
 
 
 def zone_of(port, *words):
@@ -83,7 +91,7 @@ def zone_of(port, *words):
 
 
 def serial_of(port):
-    done = subprocess.run(["dig", "@127.0.0.1", "-p", str(port), "+short", "+tries=1", "+timeout=1", "example.test", "SOA"], capture_output=True, text=True, timeout=30)
+    done = subprocess.run(["dig", "@127.0.0.1", "-p", str(port), "+short", "+tcp", "+tries=1", "+timeout=1", "example.test", "SOA"], capture_output=True, text=True, timeout=30)
     return done.stdout.split()[2:3]
 
 
